@@ -1,5 +1,5 @@
 -- Ways around a node along the rows of an overlay.
-use Rattle.std.proofs.Common.{ℕ, zero, suc, ◌≡◌, ◌<◌, List, [], ◌∷◌, length, map, Option, Some, None, All, Contains, slice_index, ap, sym, subst, ◌∙◌, arith}
+use Rattle.std.proofs.Common.{ℕ, ◌≡◌, List, length, map, Option, Some, None, All, Contains, slice_index, ap, sym, subst, ◌∙◌}
 use Rattle.std.specs.List.{slice_get}
 use Rattle.std.specs.Option.{IfSome, IsSomeAnd}
 use Rattle.std.proofs.lemmas.List.Elements.{All-contains}
@@ -15,6 +15,7 @@ use Rattle.ch_overlay.specs.declared.source.Seen.{Seen}
 use Rattle.ch_overlay.specs.Overlay.{Overlay}
 use Rattle.ch_overlay.specs.Source as sources
 use Rattle.ch_overlay.specs.Finding.{row_among}
+use Rattle.ch_overlay.specs.Pairs.{target_at}
 use Rattle.ch_witness.specs.declared.way.Way.{Way}
 use Rattle.ch_witness.specs.Kept.{Kept, AreKept, IsKept}
 use Rattle.ch_witness.specs.Ways.{AreWays, way_at}
@@ -45,15 +46,6 @@ module _ (o : Overlay) (v u : ℕ) where
   met : (t : ℕ) (sum : Cost) (way : Option Way) → IsSomeAnd way (λ (w : Way). w.cost ≼ sum) → IfSome way (λ (w : Way). Walk (SeenArc (row_in o) v) u t w.cost) → HasWay (row_in o) v u t sum
   met t sum None found leads = absurd found
   met t sum (Some w) found leads = record { cost = w.cost; way = leads; at_most = found }
-
-  -- a target of the search, by its pair
-  target_at : (pairs : List Shortcut) (k : ℕ) (p : Shortcut) → slice_get pairs k ≡ Some p → (k < length (map (λ (q : Shortcut). q.to) pairs)) × (slice_index (map (λ (q : Shortcut). q.to) pairs) k ≡ p.to)
-  target_at [] k p is = absurd (cc)
-  target_at (q ∷ pairs) zero p is = (omega arith, ap (λ (x : Option Shortcut). to_of x) is) where
-    to_of : Option Shortcut → ℕ
-    to_of None = 0
-    to_of (Some s) = s.to
-  target_at (q ∷ pairs) (suc k) p is = let rest = target_at pairs k p is in (omega (arith, rest.0), rest.1)
 
   -- so each pair whose way was found has one
   pub have_ways : (owed : List Shortcut) (ways : List (Option Way)) → AreOwed o v u owed → AreAround o v u (map (λ p. p.to) owed) ways → AreFound owed ways (length owed) → HaveWays o v owed

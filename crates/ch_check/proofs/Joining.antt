@@ -1,5 +1,5 @@
 -- The verdicts on the pairs from one neighbour, and on all pairs.
-use Rattle.std.proofs.Common.{ℕ, ◌≡◌, ◌≢◌, ◌+◌, ◌<◌, List, [], ◌∷◌, ◌++◌, length, get_or, take, Contains, refl, ap, sym, subst, ◌∙◌, arith, inl, inr}
+use Rattle.std.proofs.Common.{ℕ, ◌≡◌, ◌≢◌, ◌+◌, ◌<◌, List, [], ◌∷◌, ◌++◌, length, get_or, take, Some, Contains, refl, ap, sym, subst, ◌∙◌, arith, inl, inr}
 use Rattle.std.proofs.lemmas.List.{take_more}
 use Rattle.std.proofs.lemmas.List.Elements.{All-contains, Contains-append_left, Contains-append_right, Contains-append_cases, Contains-push, Contains-push_cases}
 use Rattle.ch_cost.specs.declared.cost.Cost.{Cost}
@@ -14,11 +14,12 @@ use Rattle.ch_laws.specs.Rows.{Row, Rises}
 use Rattle.ch_laws.specs.Theorems.{VerdictsAreLawful}
 use Rattle.ch_laws.specs.Verdicts.{AreVerdicts, HasWay, IsForShortcut, ListsThrough, SeenArc}
 use Rattle.ch_overlay.specs.Overlay.{Overlay, IsEntry, state_of}
-use Rattle.ch_check.specs.Pairs.{AreJoined, AreSorted, HaveWays, IsJoined, IsOpenRow, IsPairOf, Joins, LeadsDirectly, row_in}
+use Rattle.ch_overlay.specs.Entries.{last_is_past, one_entry}
+use Rattle.ch_overlay.specs.Pairs.{IsPairOf}
+use Rattle.ch_overlay.specs.Ranges.{AllPairs-append, AllPairs-take}
+use Rattle.ch_check.specs.Pairs.{AreJoined, AreSorted, HaveWays, IsJoined, IsOpenRow, Joins, LeadsDirectly, row_in}
 use Rattle.ch_check.specs.Replay.{Replay, IsReplay, MayPut}
 use Rattle.ch_check.specs.Searching.{AreOwed}
-use Rattle.ch_check.proofs.Entries.{last_is_past, one_entry}
-use Rattle.ch_check.proofs.Ranges.{AllPairs-append, AllPairs-take}
 use Rattle.ch_check.proofs.Reading.{are_read}
 
 -- From one neighbour
@@ -35,17 +36,17 @@ module _ (o : Overlay) (v : ℕ) (row first : Row) (into : Entry) (mid_row : IsO
   pub are_owed : AreOwed o v into.other owed
   are_owed p h =
       let has = are.from_owed p h in
-      let is = has.2.is in (
+      let is = has.2.2 in (
         ap (λ (s : Shortcut). s.from) is,
         λ e. end_apart has.0 has.1 (sym (ap (λ (s : Shortcut). s.to) is) ∙ e),
-        subst (λ (c : Cost). IsWithin c o.bound) (sym (ap (λ (s : Shortcut). s.cost) is)) has.2.within,
+        subst (λ (c : Cost). IsWithin c o.bound) (sym (ap (λ (s : Shortcut). s.cost) is)) has.2.1,
       )
 
-  through_pair : (out : Entry) → Contains row.out out → (p : Shortcut) → IsPairOf o.bound into out p → ListsThrough row p.from p.to p.cost
-  through_pair out here p is = subst (λ (s : Shortcut). ListsThrough row s.from s.to s.cost) (sym is.is) (record {
+  through_pair : (out : Entry) → Contains row.out out → (p : Shortcut) → IsPairOf o.bound into out (Some p) → ListsThrough row p.from p.to p.cost
+  through_pair out here p is = subst (λ (s : Shortcut). ListsThrough row s.from s.to s.cost) (sym is.2) (record {
     into = into.cost;
     out = out.cost;
-    apart = is.apart;
+    apart = is.0;
     first = record { entry = into; among = among; other = refl; costs = refl };
     second = record { entry = out; among = here; other = refl; costs = refl };
     adds = refl;
@@ -56,24 +57,23 @@ module _ (o : Overlay) (v : ℕ) (row first : Row) (into : Entry) (mid_row : IsO
       let has = are.from_put p h in
       record {
         through = through_pair has.0 has.1 p has.2;
-        within = subst (λ (s : Shortcut). IsWithin s.cost o.bound) (sym has.2.is) has.2.within;
+        within = subst (λ (s : Shortcut). IsWithin s.cost o.bound) (sym has.2.2) has.2.1;
         first_row = first;
-        first_read = ap (row_in o) (ap (λ (s : Shortcut). s.from) has.2.is) ∙ start_row.read;
+        first_read = ap (row_in o) (ap (λ (s : Shortcut). s.from) has.2.2) ∙ start_row.read;
         less = λ unranked c listed. are.less p h c listed;
       }
 
   -- the pair that the row joins
-  pair_is : (w : ℕ) (sum : Cost) → (t : ListsThrough row into.other w sum) → IsWithin sum o.bound → IsPairOf o.bound into t.second.entry (record { from = into.other; to = w; cost = sum })
+  pair_is : (w : ℕ) (sum : Cost) → (t : ListsThrough row into.other w sum) → IsWithin sum o.bound → IsPairOf o.bound into t.second.entry (Some (record { from = into.other; to = w; cost = sum }))
   pair_is w sum t within =
       let out = t.second.entry in
       let same : t.first.entry ≡ into = one_entry row.inn mid_row.inn_rises t.first.entry into t.first.among among t.first.other in
       let arc_in : t.into ≡ into.cost = sym t.first.costs ∙ ap (λ (e : Entry). e.cost) same in
-      let total : sum ≡ into.cost ⊕ out.cost = t.adds ∙ ap (λ (c : Cost). c ⊕ t.out) arc_in ∙ ap (λ (c : Cost). into.cost ⊕ c) (sym t.second.costs) in
-      record {
-        is = made into.other w out.other sum (into.cost ⊕ out.cost) (sym t.second.other) total;
-        apart = λ e. t.apart (e ∙ t.second.other);
-        within = subst (λ (c : Cost). IsWithin c o.bound) total within;
-      }
+      let total : sum ≡ into.cost ⊕ out.cost = t.adds ∙ ap (λ (c : Cost). c ⊕ t.out) arc_in ∙ ap (λ (c : Cost). into.cost ⊕ c) (sym t.second.costs) in (
+        λ e. t.apart (e ∙ t.second.other),
+        subst (λ (c : Cost). IsWithin c o.bound) total within,
+        made into.other w out.other sum (into.cost ⊕ out.cost) (sym t.second.other) total,
+      )
     where
       pair : ℕ → ℕ → Cost → Shortcut
       pair u y c = record { from = u; to = y; cost = c }
@@ -96,7 +96,7 @@ module _ (o : Overlay) (v : ℕ) (row first : Row) (into : Entry) (mid_row : IsO
 
   pub is_joined : HaveWays o v owed → IsJoined o v row into put
   is_joined ways = record {
-    from = λ p h. ap (λ (s : Shortcut). s.from) ((are.from_put p h).2.is);
+    from = λ p h. ap (λ (s : Shortcut). s.from) ((are.from_put p h).2.2);
     rising = are.rising;
     shortcuts = shortcut_is;
     ways = λ w sum t within none.

@@ -1,11 +1,7 @@
-mod Entries
-mod Numbers
-mod Ranges
 mod Ranking
 mod Replaying
 mod Sorting
 mod Around
-mod Cutoffs
 mod Joining
 mod Making
 mod Outcomes

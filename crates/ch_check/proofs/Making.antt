@@ -1,5 +1,5 @@
 -- A hierarchy whose links are the arcs of rows that are over is made of them.
-use Rattle.std.proofs.Common.{ℕ, ◌≡◌, ◌≢◌, ◌<◌, ◌⊎◌, List, length, get_or, slice_index, All, AllPairs, Contains, arith, ap, sym, subst, ◌∙◌, inl, inr}
+use Rattle.std.proofs.Common.{ℕ, ◌≡◌, ◌≢◌, ◌<◌, List, length, slice_index, All, AllPairs, Contains, arith, sym, subst, inl, inr}
 use Rattle.std.proofs.lemmas.Bool.{cases_lt, cases_eq}
 use Rattle.std.proofs.lemmas.List.Elements.{All-contains}
 use Rattle.ch_graph.specs.declared.link.Link.{Link}
@@ -7,11 +7,12 @@ use Rattle.ch_graph.specs.declared.version.Version.TheVariants.{Two}
 use Rattle.ch_graph.specs.Limits.{bound_of}
 use Rattle.ch_graph.specs.Hierarchy.{Hierarchy, IsRight, IsWellMade}
 use Rattle.ch_laws.specs.declared.entry.Entry.{Entry}
-use Rattle.ch_laws.specs.Contraction.{Before, IsOver, IsMade}
-use Rattle.ch_laws.specs.Members.{contains_place, place_of}
+use Rattle.ch_laws.specs.Contraction.{IsOver, IsMade}
+use Rattle.ch_laws.specs.Members.{contains_place}
 use Rattle.ch_laws.specs.Orders.{before_not_both}
 use Rattle.ch_laws.specs.Theorems.{AlwaysRight}
 use Rattle.ch_overlay.specs.Overlay.{Overlay, IsOverlay, row_at, state_of}
+use Rattle.ch_overlay.specs.Order.{either_before}
 use Rattle.ch_check.specs.Comparing.{AreLinked, IsArc, entry_of, link_in, link_out}
 use Rattle.ch_check.specs.Ranks.{AreInOrder}
 use Rattle.ch_check.specs.Replay.{Replay, IsReplay}
@@ -32,24 +33,6 @@ in_order ranks order low once are x inside =
       ]
     ] in
     contains_place order k 0 x k_in is
-
--- of two nodes in an order without repeats the one of the earlier place comes before the other
-before_by_place : (order : List ℕ) (x y p q : ℕ) → AllPairs (λ x y. x ≢ y) order → p < q → q < length order → get_or order p 0 ≡ x → get_or order q 0 ≡ y → Before order x y
-before_by_place order x y p q once less inside here there = record {
-  place = p;
-  within = omega (arith, less, inside);
-  here = here;
-  not_yet = λ k low is. once k q 0 (omega (arith, low, less)) inside (is ∙ sym there);
-}
-
-either_before : (order : List ℕ) (x y : ℕ) → AllPairs (λ x y. x ≢ y) order → x ≢ y → Contains order x → Contains order y → Before order x y ⊎ Before order y x
-either_before order x y once apart first second = elim (cases_lt first.0 second.0) [
-  | inl less ↦ inl (before_by_place order x y first.0 second.0 once less second.1 (place_of order x first) (place_of order y second))
-  | inr at_most ↦ elim (cases_eq first.0 second.0) [
-    | inl here ↦ absurd (apart (sym (place_of order x first) ∙ ap (λ k. get_or order k 0) here ∙ place_of order y second))
-    | inr other ↦ inr (before_by_place order y x second.0 first.0 once (omega (arith, at_most, other)) first.1 (place_of order y second) (place_of order x first))
-  ]
-]
 
 -- each arc is a link, by the row of the end that comes first
 arc_is_link : (o : Overlay) (links : List Link) → IsOverlay o → IsOver (state_of o) → AreLinked links o → (l : Link) → IsArc o l → Contains links l

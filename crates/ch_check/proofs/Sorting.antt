@@ -1,5 +1,5 @@
 -- What is due for the pairs of an arc, one by one.
-use Rattle.std.proofs.Common.{ℕ, ◌≡◌, ◌+◌, ◌<◌, List, [], ◌∷◌, ◌++◌, length, get_or, take, Contains, ap, sym, subst, ◌∙◌, arith, inl, inr}
+use Rattle.std.proofs.Common.{ℕ, ◌≡◌, ◌+◌, ◌<◌, List, [], ◌∷◌, ◌++◌, length, get_or, take, Some, Contains, ap, sym, subst, ◌∙◌, arith, inl, inr}
 use Rattle.std.proofs.lemmas.List.{take_more}
 use Rattle.std.proofs.lemmas.List.Elements.{Contains-append_left, Contains-push, Contains-push_cases, Contains-get_or}
 use Rattle.std.proofs.lemmas.List.Quantifiers.{all_pairs_push}
@@ -10,9 +10,10 @@ use Rattle.ch_laws.specs.Members.{contains_none}
 use Rattle.ch_laws.specs.Rows.{Row, Rises}
 use Rattle.ch_check.specs.declared.share.Share.{Share}
 use Rattle.ch_check.specs.declared.share.Share.TheVariants.{Spared, Put, Owed}
-use Rattle.ch_check.specs.Pairs.{AreSorted, CostMore, IsAdded, IsDue, IsPairAmong, IsPairOf, LeadsDirectly, over}
-use Rattle.ch_check.proofs.Entries.{last_is_past}
-use Rattle.ch_check.proofs.Ranges.{AllPairs-take}
+use Rattle.ch_check.specs.Pairs.{AreSorted, CostMore, IsAdded, IsDue, IsPairAmong, LeadsDirectly}
+use Rattle.ch_overlay.specs.Pairs.{IsPairOf, over}
+use Rattle.ch_overlay.specs.Entries.{last_is_past}
+use Rattle.ch_overlay.specs.Ranges.{AllPairs-take}
 
 pub sorted_none : (bound : Cost) (first : Row) (into : Entry) → AreSorted bound first into [] [] []
 sorted_none bound first into = record {
@@ -28,24 +29,24 @@ module _ (bound : Cost) (first : Row) (into : Entry) (outs : List Entry) (out : 
   among_more p has = (has.0, Contains-append_left outs (out ∷ []) has.0 has.1, has.2)
 
   -- one more pair, at the end of a list
-  pushed : (ps : List Shortcut) (q : Shortcut) → IsPairOf bound into out q → ((p : Shortcut) → Contains ps p → IsPairAmong bound into outs p) → (p : Shortcut) → Contains (ps ++ q ∷ []) p → IsPairAmong bound into (outs ++ out ∷ []) p
+  pushed : (ps : List Shortcut) (q : Shortcut) → IsPairOf bound into out (Some q) → ((p : Shortcut) → Contains ps p → IsPairAmong bound into outs p) → (p : Shortcut) → Contains (ps ++ q ∷ []) p → IsPairAmong bound into (outs ++ out ∷ []) p
   pushed ps q is each p among = elim (Contains-push_cases ps q p among) [
     | inl old ↦ among_more p (each p old)
     | inr here ↦ subst (λ (s : Shortcut). IsPairAmong bound into (outs ++ out ∷ []) s) here (out, Contains-push outs out, is)
   ]
 
   -- the pair of the last arc is this one
-  same_pair : (o : Entry) (p q : Shortcut) → out ≡ o → IsPairOf bound into o p → IsPairOf bound into out q → q ≡ p
-  same_pair o p q here is last = last.is ∙ ap (λ (e : Entry). over into e) here ∙ sym is.is
+  same_pair : (o : Entry) (p q : Shortcut) → out ≡ o → IsPairOf bound into o (Some p) → IsPairOf bound into out (Some q) → q ≡ p
+  same_pair o p q here is last = last.2 ∙ ap (λ (e : Entry). over into e) here ∙ sym is.2
 
-  below : (q : Shortcut) → IsPairOf bound into out q → (p : Shortcut) → Contains put p → p.to < q.to
+  below : (q : Shortcut) → IsPairOf bound into out (Some q) → (p : Shortcut) → Contains put p → p.to < q.to
   below q is p among =
       let has = are.from_put p among in
-      let end : p.to ≡ has.0.other = ap (λ (s : Shortcut). s.to) has.2.is in
-      let last : q.to ≡ out.other = ap (λ (s : Shortcut). s.to) is.is in
+      let end : p.to ≡ has.0.other = ap (λ (s : Shortcut). s.to) has.2.2 in
+      let last : q.to ≡ out.other = ap (λ (s : Shortcut). s.to) is.2 in
       omega (arith, last_is_past outs out rises has.0 has.1, end, last)
 
-  spared : ((p : Shortcut) → IsPairOf bound into out p → LeadsDirectly first.out p) → AreSorted bound first into (outs ++ out ∷ []) put owed
+  spared : ((p : Shortcut) → IsPairOf bound into out (Some p) → LeadsDirectly first.out p) → AreSorted bound first into (outs ++ out ∷ []) put owed
   spared direct = record {
     from_put = λ p among. among_more p (are.from_put p among);
     less = are.less;
@@ -53,11 +54,11 @@ module _ (bound : Cost) (first : Row) (into : Entry) (outs : List Entry) (out : 
     from_owed = λ p among. among_more p (are.from_owed p among);
     every = λ o p among is. elim (Contains-push_cases outs out o among) [
       | inl old ↦ are.every o p old is
-      | inr here ↦ inr (direct p (subst (λ (e : Entry). IsPairOf bound into e p) (sym here) is))
+      | inr here ↦ inr (direct p (subst (λ (e : Entry). IsPairOf bound into e (Some p)) (sym here) is))
     ];
   }
 
-  put_one : (q : Shortcut) → IsPairOf bound into out q → CostMore first.out q → AreSorted bound first into (outs ++ out ∷ []) (put ++ q ∷ []) owed
+  put_one : (q : Shortcut) → IsPairOf bound into out (Some q) → CostMore first.out q → AreSorted bound first into (outs ++ out ∷ []) (put ++ q ∷ []) owed
   put_one q pair more = record {
     from_put = pushed put q pair are.from_put;
     less = λ p among. elim (Contains-push_cases put q p among) [
@@ -78,7 +79,7 @@ module _ (bound : Cost) (first : Row) (into : Entry) (outs : List Entry) (out : 
     ];
   }
 
-  owe_one : (q : Shortcut) → IsPairOf bound into out q → AreSorted bound first into (outs ++ out ∷ []) put (owed ++ q ∷ [])
+  owe_one : (q : Shortcut) → IsPairOf bound into out (Some q) → AreSorted bound first into (outs ++ out ∷ []) put (owed ++ q ∷ [])
   owe_one q pair = record {
     from_put = λ p among. among_more p (are.from_put p among);
     less = are.less;

@@ -1,14 +1,15 @@
 -- The pairs by way of a node, and what is due for each.
-use Rattle.std.specs.Prelude.{ℕ, ◌≡◌, ◌≢◌, ◌<◌, ◌⊎◌, List, [], ◌∷◌, ◌++◌, length, Option, Some, None, AllPairs, Contains, slice_index_or}
+use Rattle.std.specs.Prelude.{ℕ, ◌≡◌, ◌<◌, ◌⊎◌, List, [], ◌∷◌, ◌++◌, length, Option, Some, None, AllPairs, Contains}
 use Rattle.std.specs.List.{slice_get}
 use Rattle.ch_cost.specs.declared.cost.Cost.{Cost}
-use Rattle.ch_cost.specs.Cost.{◌⊕◌, ◌≼◌, ◌≺◌, IsWithin}
+use Rattle.ch_cost.specs.Cost.{◌≼◌, ◌≺◌, IsWithin}
 use Rattle.ch_laws.specs.declared.entry.Entry.{Entry}
 use Rattle.ch_laws.specs.declared.shortcut.Shortcut.{Shortcut}
 use Rattle.ch_laws.specs.Contraction.{IsAlive, IsFor, NoShortcut}
 use Rattle.ch_laws.specs.Rows.{Row, Rises, Lists}
 use Rattle.ch_laws.specs.Verdicts.{HasWay, IsForShortcut, ListsThrough}
 use Rattle.ch_overlay.specs.Overlay.{Overlay, AreEntries, state_of}
+use Rattle.ch_overlay.specs.Pairs.{IsPairOf}
 use Rattle.ch_check.specs.declared.share.Share.{Share}
 use Rattle.ch_check.specs.declared.share.Share.TheVariants.{Spared, Put, Owed}
 
@@ -26,21 +27,6 @@ pub record IsOpenRow (o : Overlay) (x : ℕ) (r : Row) : Type 0 where
   pub entries : AreEntries (length o.rows) o.bound x r
   pub inns : (e : Entry) → Contains r.inn e → IsAlive (state_of o) e.other
 
--- the arc over both of these
-abbrev pub over : Entry → Entry → Shortcut
-over into out = record { from = into.other; to = out.other; cost = into.cost ⊕ out.cost }
-
--- what the two arcs join: two different nodes, at a sum that isn't heavy
-pub record IsPairOf (bound : Cost) (into out : Entry) (p : Shortcut) : Type 0 where
-  pub is : p ≡ over into out
-  pub apart : into.other ≢ out.other
-  pub within : IsWithin (into.cost ⊕ out.cost) bound
-
--- at this place is an entry for the node
-pub record IsPlaceOf (entries : List Entry) (x k : ℕ) : Type 0 where
-  pub within : k < length entries
-  pub here : (d : Entry) → (slice_index_or entries k d).other ≡ x
-
 -- one of these arcs leads to where the pair does, and costs no more
 pub record LeadsDirectly (outs : List Entry) (p : Shortcut) : Type 0 where
   pub cost : Cost
@@ -53,9 +39,9 @@ CostMore outs p = (c : Cost) → Lists outs p.to c → p.cost ≺ c
 
 -- what is due for the pair of the two arcs: nothing, a shortcut, or a way
 abbrev pub IsDue : Cost → Row → Entry → Entry → Share → Type 0
-IsDue bound first into out Spared = (p : Shortcut) → IsPairOf bound into out p → LeadsDirectly first.out p
-IsDue bound first into out (Put p) = IsPairOf bound into out p × CostMore first.out p
-IsDue bound first into out (Owed p) = IsPairOf bound into out p
+IsDue bound first into out Spared = (p : Shortcut) → IsPairOf bound into out (Some p) → LeadsDirectly first.out p
+IsDue bound first into out (Put p) = IsPairOf bound into out (Some p) × CostMore first.out p
+IsDue bound first into out (Owed p) = IsPairOf bound into out (Some p)
 
 -- a pair is added to those that it is due to
 abbrev pub IsAdded : Share → List Shortcut → List Shortcut → List Shortcut → List Shortcut → Type 0
@@ -65,7 +51,7 @@ IsAdded (Owed p) put owed new_put new_owed = (new_put ≡ put) × (new_owed ≡ 
 
 -- the pair is that of the arc into the node and one of these out of it
 abbrev pub IsPairAmong : Cost → Entry → List Entry → Shortcut → Type 0
-IsPairAmong bound into outs p = (out : Entry) × Contains outs out × IsPairOf bound into out p
+IsPairAmong bound into outs p = (out : Entry) × Contains outs out × IsPairOf bound into out (Some p)
 
 -- The pairs of an arc into a node and these out of it: for each there is a direct arc, or it is put, or a way is owed.
 pub record AreSorted (bound : Cost) (first : Row) (into : Entry) (outs : List Entry) (put owed : List Shortcut) : Type 0 where
@@ -73,7 +59,7 @@ pub record AreSorted (bound : Cost) (first : Row) (into : Entry) (outs : List En
   pub less : (p : Shortcut) → Contains put p → CostMore first.out p
   pub rising : AllPairs (λ p q. p.to < q.to) put
   pub from_owed : (p : Shortcut) → Contains owed p → IsPairAmong bound into outs p
-  pub every : (out : Entry) (p : Shortcut) → Contains outs out → IsPairOf bound into out p → (Contains put p ⊎ Contains owed p) ⊎ LeadsDirectly first.out p
+  pub every : (out : Entry) (p : Shortcut) → Contains outs out → IsPairOf bound into out (Some p) → (Contains put p ⊎ Contains owed p) ⊎ LeadsDirectly first.out p
 
 -- a way leads around v for each of these pairs
 abbrev pub HaveWays : Overlay → ℕ → List Shortcut → Type 0

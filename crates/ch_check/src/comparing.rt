@@ -4,10 +4,9 @@ ghost use Rattle.ch_laws.specs.Rows.{Rises};
 ghost use Rattle.ch_check.specs.Comparing.{AreLinked, IsArc, IsLinked, link_in, link_of, link_out, entry_of};
 
 use crate::fault::Fault;
-use crate::pairs::place_of;
 use ch_graph::{Hierarchy, Link};
 use ch_laws::Entry;
-use ch_overlay::{Overlay, Row};
+use ch_overlay::{Overlay, Row, entry_for};
 
 /// Compares all rows with the links of a hierarchy, both ways. Fails at the first arc that isn't a link, or link that isn't
 /// an arc.
@@ -120,8 +119,8 @@ fn has_entry(entries: &[Entry], other: u32, link: &Link) -> bool
     requires { Rises entries.now }
     ensures { IsTrue result → Contains entries.now (entry_of other link.now) }
 {
-    let Some(place) = place_of(entries, other) else {
+    let Some(entry) = entry_for(entries, other) else {
         return false;
     };
-    is_same(link, &entries[place])
+    is_same(link, entry)
 }

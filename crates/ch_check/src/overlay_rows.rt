@@ -28,6 +28,7 @@ impl<'a> Model for OverlayRows<'a> {
 impl<'a> OverlayRows<'a> {
     ghost use Rattle.ch_overlay.specs.Source.{IsBound};
 
+    /// Reads the rows of this overlay.
     pub fn new(overlay: &'a Overlay) -> OverlayRows<'a>
         requires { IsBound overlay.now.bound }
         ensures { result ≡ overlay.now }

@@ -1,17 +1,14 @@
-ghost use Rattle.std.specs.Prelude.{◌≡◌, ◌≢◌, Contains, IfNone, IfSome, IsFalse, IsTrue, OnOk, SomeIff};
-ghost use Rattle.ch_cost.specs.Cost.{◌⊕◌, IsWithin};
-ghost use Rattle.ch_laws.specs.declared.shortcut.Shortcut.{Shortcut};
-ghost use Rattle.ch_laws.specs.declared.entry.Entry.{Entry};
+ghost use Rattle.std.specs.Prelude.{◌≡◌, IsFalse, IsTrue, OnOk};
 ghost use Rattle.ch_laws.specs.Rows.{Rises};
 ghost use Rattle.ch_overlay.specs.Source.{IsBound};
-ghost use Rattle.ch_check.specs.Pairs.{AreSorted, CostMore, IsAdded, IsDue, IsPairOf, IsPlaceOf, LeadsDirectly};
+ghost use Rattle.ch_check.specs.Pairs.{AreSorted, CostMore, IsAdded, IsDue, LeadsDirectly};
 
 use crate::desk::NeighbourPairs;
 use crate::share::Share;
-use ch_cost::{Cost, NarrowCost};
+use ch_cost::Cost;
 use ch_graph::Hierarchy;
 use ch_laws::{Entry, Shortcut};
-use ch_overlay::Row;
+use ch_overlay::{Row, entry_for, light_pair};
 use std::alloc::AllocError;
 
 /// Finds what is due for each pair of an arc into a node and one of those out of it. `first` is the row of the neighbour
@@ -82,55 +79,16 @@ fn add(share: Share, put: &mut Vec<Shortcut>, owed: &mut Vec<Shortcut>) -> Resul
     }
 }
 
-/// The pair of two arcs, unless it is heavy or they join a node with itself.
-fn light_pair(bound: Cost, into: &Entry, out: &Entry) -> Option<Shortcut>
-    requires limit { IsBound bound }
-    ensures none { IfNone result ((p : Shortcut) → IsPairOf bound into.now out.now p → ⊥) }
-    ensures some { IfSome result (IsPairOf bound into.now out.now) }
-{
-    if into.other == out.other {
-        return None;
-    }
-    let Some(cost) = light_cost(bound, into, out) else {
-        return None;
-    };
-    Some(Shortcut {
-        from: into.other,
-        to: out.other,
-        cost: NarrowCost::of(cost),
-    })
-}
-
-/// What two arcs cost together, unless that is heavy.
-fn light_cost(bound: Cost, into: &Entry, out: &Entry) -> Option<Cost>
-    ensures { SomeIff result (IsWithin (into.now.cost ⊕ out.now.cost) bound) (into.now.cost ⊕ out.now.cost) }
-{
-    into.cost.cost().plus_within(out.cost.cost(), bound)
-}
-
 /// Whether one of these arcs leads where the pair does and costs no more.
 fn has_direct(outs: &[Entry], pair: &Shortcut) -> bool
     requires rises { Rises outs.now }
     ensures yes { IsTrue result → LeadsDirectly outs.now pair.now }
     ensures no { IsFalse result → CostMore outs.now pair.now }
 {
-    let Some(place) = place_of(outs, pair.to) else {
+    let Some(entry) = entry_for(outs, pair.to) else {
         return false;
     };
-    let cost = outs[place].cost.cost();
-    cost.is_at_most(pair.cost.cost())
-}
-
-/// The place of the entry for a node, or `None` where there is none. Takes time by the logarithm of their number.
-pub fn place_of(entries: &[Entry], node: u32) -> Option<usize>
-    requires { Rises entries.now }
-    ensures found { IfSome result (IsPlaceOf entries.now node) }
-    ensures none { IfNone result ((e : Entry) → Contains entries.now e → e.other ≢ node) }
-{
-    match entries.binary_search_by_key(&node, |entry| entry.other) {
-        Ok(place) => Some(place),
-        Err(_) => None,
-    }
+    entry.cost.cost().is_at_most(pair.cost.cost())
 }
 
 /// Whether the hierarchy asks for a shortcut for the pair by way of this node: it has the link, or a lighter one, which a

@@ -1,9 +1,7 @@
-ghost use Rattle.std.specs.Prelude.{◌≡◌, ◌≢◌, Ok, Err, Contains, IfOk, IsTrue, OnOk, Some, length, map};
+ghost use Rattle.std.specs.Prelude.{◌≡◌, ◌≢◌, Ok, Err, IfOk, IsTrue, OnOk, Some, length, map};
 ghost use Rattle.std.specs.List.{slice_get};
 ghost use Rattle.std.specs.Option.{IsSomeAnd};
-ghost use Rattle.ch_cost.specs.declared.cost.Cost.{Cost};
-ghost use Rattle.ch_cost.specs.Cost.{◌≼◌, IsWithin};
-ghost use Rattle.ch_laws.specs.declared.shortcut.Shortcut.{Shortcut};
+ghost use Rattle.ch_cost.specs.Cost.{◌≼◌};
 ghost use Rattle.ch_overlay.specs.Source.{IsBound};
 ghost use Rattle.ch_witness.specs.declared.error.SearchError.TheVariants.{Unseen};
 ghost use Rattle.ch_witness.specs.Kept.{kept_of};
@@ -17,7 +15,7 @@ use crate::fault::Fault;
 use crate::overlay_rows::OverlayRows;
 use ch_cost::Cost;
 use ch_laws::Shortcut;
-use ch_overlay::Overlay;
+use ch_overlay::{Overlay, find_ends, greatest_cost};
 use ch_witness::{Aim, Rule, SearchError, Searcher, Traced, Way};
 use std::alloc::{AllocError, Global};
 use std::mem;
@@ -76,7 +74,7 @@ fn search_ways(
     let rule = Rule {
         from,
         avoid: via,
-        cutoff: greatest(owed),
+        cutoff: greatest_cost(owed),
     };
     let earlier = mem::replace(&mut targets.earlier, Traced::new(alloc));
     let mut rows = OverlayRows::new(overlay);
@@ -132,17 +130,6 @@ fn is_met(pair: &Shortcut, way: &Option<Way>) -> bool
     way.cost.is_at_most(pair.cost.cost())
 }
 
-/// The nodes to which the pairs lead. They take the place of what the list had.
-fn find_ends(pairs: &[Shortcut], ends: &mut Vec<u32>) -> Result<(), AllocError>
-    ensures { OnOk result (ends.new.items ≡ map (λ p. p.to) pairs.now) }
-{
-    ends.clear();
-    'pairs: for pair in pairs {
-        ends.push(pair.to)?;
-    }
-    Ok(())
-}
-
 /// What a search may know of the ends of these pairs, whose middle it avoids. It takes the place of what the list had.
 fn find_aims(
     overlay: &Overlay,
@@ -173,25 +160,4 @@ fn least_last_arc(overlay: &Overlay, pair: &Shortcut, via: u32) -> Cost {
         }
     }
     least
-}
-
-/// What the most costly pair costs, or nothing where there is none.
-fn greatest(pairs: &[Shortcut]) -> Cost
-    ensures most { (p : Shortcut) → Contains pairs.now p → p.cost ≼ result }
-    ensures within { (bound : Cost) → ((p : Shortcut) → Contains pairs.now p → IsWithin p.cost bound) → IsWithin result bound }
-{
-    let mut most = Cost::ZERO;
-    'pairs: for pair in pairs {
-        most = greater(most, pair.cost.cost());
-    }
-    most
-}
-
-/// The greater of two costs.
-fn greater(a: Cost, b: Cost) -> Cost
-    ensures first { a ≼ result }
-    ensures second { b ≼ result }
-    ensures within { (bound : Cost) → IsWithin a bound → IsWithin b bound → IsWithin result bound }
-{
-    if a.is_at_most(b) { b } else { a }
 }

@@ -1,23 +1,27 @@
 -- What a check says of the text of a graph and of the file of a hierarchy, which were read.
-use Rattle.std.proofs.Common.{ℕ, ◌≡◌, ◌<◌, List, ◌++◌, length, take, [], Option, Some, None, Ok, arith, refl, sym, ap, subst, ◌∙◌, length-append, append-nil}
+use Rattle.std.proofs.Common.{ℕ, ◌≡◌, ◌<◌, List, ◌++◌, length, take, [], Option, Some, None, Ok, Err, arith, inl, inr, refl, sym, ap, subst, ◌∙◌, length-append, append-nil}
 use Rattle.std.specs.Prelude.{⊤, IfSome}
-use Rattle.std.specs.Io.KnownBytes.{Appends}
+use Rattle.std.specs.Io.KnownBytes.{Appends, Keeps}
 use Rattle.std.proofs.Math.Seq.{take-append_seam}
 use Rattle.counted_io.specs.Handing.{HandsOn, HandsOnPart}
 use Rattle.ch_graph.specs.Graph.{Graph}
 use Rattle.ch_graph.specs.Hierarchy.{Hierarchy, IsWellMade}
 use Rattle.ch_graph.specs.declared.version.Version.TheVariants.{One, Two}
+use Rattle.grfile.specs.Outcome.{FromText}
 use Rattle.grfile.specs.Reading.{graph_of}
-use Rattle.hierfile.specs.Bytes.{OfBytes, IsFaultOf}
+use Rattle.grfile.specs.declared.error.GrError.{GrError}
+use Rattle.hierfile.specs.Bytes.{IsFaultOf}
 use Rattle.hierfile.specs.Fault.{first_fault}
 use Rattle.hierfile.specs.Spelling.{bytes_of}
 use Rattle.hierfile.specs.declared.error.HierError.{HierError}
-use Rattle.hierfile.specs.declared.error.HierError.TheVariants as faults
+use Rattle.outcomes.specs.Cases.{text_case, file_case}
+use Rattle.outcomes.specs.Causes.{of_graph, of_hierarchy}
+use Rattle.outcomes.specs.declared.cause.Cause.{Cause}
+use Rattle.outcomes.specs.declared.cause.Cause.TheVariants as causes
+use Rattle.outcomes.specs.declared.cause.Input.TheVariants as inputs
 use Rattle.ch_answer.specs.Written.{IfTold, WritesFirst}
 use Rattle.ch_verify.specs.Verdict.{Judges, AreOf, Says, IsVerdictLine, verdict_line}
 use Rattle.ch_verify.specs.Refusal.{BreaksOff, RefusesCheck}
-use Rattle.ch_verify.specs.declared.error.VerifyError.{VerifyError}
-use Rattle.ch_verify.specs.declared.error.VerifyError.TheVariants as errors
 use Rattle.ch_verify.specs.declared.verdict.Verdict.{Verdict}
 use Rattle.ch_verify.specs.declared.verdict.Verdict.TheVariants.{Right, Wrong, NotShown}
 
@@ -74,33 +78,24 @@ is_old g h (Some text) (Some bytes) read one = record {
 
 -- where the file was refused
 
-of_known : (e : HierError) (file : Option (List ℕ)) → IsFaultOf first_fault file e → IfSome file (λ bytes. OfBytes e (first_fault bytes ≡ Some e))
-of_known e None fault = tt
-of_known faults.OutOfMemory (Some bytes) fault = fault
-of_known faults.Read (Some bytes) fault = fault
-of_known faults.BadMagic (Some bytes) fault = fault
-of_known faults.Truncated (Some bytes) fault = fault
-of_known faults.TooBig (Some bytes) fault = fault
-of_known faults.BoundTooBig (Some bytes) fault = fault
-of_known faults.RankRange (Some bytes) fault = fault
-of_known faults.RankTwice (Some bytes) fault = fault
-of_known faults.LinkEnds (Some bytes) fault = fault
-of_known faults.LinkOrder (Some bytes) fault = fault
-of_known faults.LinkWeight (Some bytes) fault = fault
-of_known faults.MiddleRange (Some bytes) fault = fault
-of_known faults.MiddleRank (Some bytes) fault = fault
-of_known faults.HalfMissing (Some bytes) fault = fault
-of_known faults.HalfSum (Some bytes) fault = fault
-of_known faults.Trailing (Some bytes) fault = fault
-
 with_graph : (P : List ℕ → Type 0) (g : Graph) (graph file : Option (List ℕ)) → IfSome graph (λ text. graph_of text ≡ Ok g) → IfSome file P → IfTold graph file (λ text bytes. (k : Graph) × (graph_of text ≡ Ok k) × P bytes)
 with_graph P g None file reads fault = tt
 with_graph P g (Some text) None reads fault = tt
 with_graph P g (Some text) (Some bytes) reads fault = (g, reads, fault)
 
-pub file_refused : (e : HierError) (g : Graph) (graph file : Option (List ℕ)) → IfSome graph (λ text. graph_of text ≡ Ok g) → IsFaultOf first_fault file e
-    → IfTold graph file (λ text bytes. (k : Graph) × (graph_of text ≡ Ok k) × OfBytes e (first_fault bytes ≡ Some e))
-file_refused e g graph file reads fault = with_graph (λ bytes. OfBytes e (first_fault bytes ≡ Some e)) g graph file reads (of_known e file fault)
+pub file_refused : (e : HierError) (g : Graph) (graph file old new : Option (List ℕ)) → IfSome graph (λ text. graph_of text ≡ Ok g) → IsFaultOf first_fault file e → Keeps old new → RefusesCheck graph file old new (of_hierarchy e)
+file_refused e g graph file old new reads fault keeps =
+    file_case e (RefusesCheck graph file old new) keeps (inr refl, keeps) (λ own. (with_graph (λ bytes. first_fault bytes ≡ Some e) g graph file reads (own (IfSome file (λ bytes. first_fault bytes ≡ Some e)) fault), keeps))
+
+-- where the text was
+
+read_fault : (fault : GrError) (P : List ℕ → Type 0) (graph : Option (List ℕ)) → IfSome graph (λ text. FromText fault.kind (P text)) → ((F : Type 0) → FromText fault.kind F → F) → IfSome graph P
+read_fault fault P None told own = tt
+read_fault fault P (Some text) told own = own (P text) told
+
+pub text_refused : (fault : GrError) (graph file old new : Option (List ℕ)) → IfSome graph (λ text. FromText fault.kind (graph_of text ≡ Err fault)) → Keeps old new → RefusesCheck graph file old new (of_graph fault)
+text_refused fault graph file old new told keeps =
+    text_case fault.kind inputs.Graph (causes.Graph fault) (RefusesCheck graph file old new) keeps (inl refl, keeps) (λ own. (read_fault fault (λ text. graph_of text ≡ Err fault) graph told own, keeps))
 
 -- where the line was written, or not
 
@@ -126,10 +121,16 @@ of_told P Q None second f told = tt
 of_told P Q (Some a) None f told = tt
 of_told P Q (Some a) (Some b) f told = f a b told
 
-pub breaks : (v : Verdict) (graph file old new : Option (List ℕ)) (e : VerifyError) → IfTold graph file (Says v) → BreaksOff v old new e → RefusesCheck graph file old new e
-breaks v graph file old new (errors.Graph fault) said off = absurd off
-breaks v graph file old new (errors.Hierarchy fault) said off = absurd off
-breaks v graph file old new errors.OldVersion said off = absurd off
-breaks v graph file old new errors.OutOfMemory said off = off
-breaks v graph file old new (errors.Write fault) said off =
+pub breaks : (v : Verdict) (graph file old new : Option (List ℕ)) (cause : Cause) → IfTold graph file (Says v) → BreaksOff v old new cause → RefusesCheck graph file old new cause
+breaks v graph file old new (causes.Graph fault) said off = absurd off
+breaks v graph file old new (causes.Queries fault) said off = absurd off
+breaks v graph file old new (causes.Hierarchy fault) said off = absurd off
+breaks v graph file old new causes.OldVersion said off = absurd off
+breaks v graph file old new causes.TooLong said off = absurd off
+breaks v graph file old new causes.Memory said off = off
+breaks v graph file old new (causes.Read input) said off = absurd off
+breaks v graph file old new (causes.Write fault) said off =
     of_told (Says v) (λ text bytes. WritesFirst (IsVerdictLine text bytes) old new fault.written) graph file (λ text bytes holds. (verdict_line v, (v, holds, refl), off.0, off.1)) said
+breaks v graph file old new causes.Flush said off = absurd off
+breaks v graph file old new causes.Options said off = absurd off
+breaks v graph file old new causes.Mixed said off = absurd off

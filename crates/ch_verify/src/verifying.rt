@@ -2,16 +2,16 @@ ghost use Rattle.std.specs.Prelude.{◌≡◌, OnOk, IfOk, IfErr};
 ghost use Rattle.std.specs.Io.KnownBytes.{Appends};
 ghost use Rattle.ch_graph.specs.declared.version.Version.TheVariants.{One, Two};
 ghost use Rattle.ch_answer.specs.Written.{IfTold};
+ghost use Rattle.outcomes.specs.declared.cause.Cause.TheVariants.{OldVersion};
 ghost use Rattle.ch_verify.specs.Refusal.{BreaksOff, RefusesCheck};
-ghost use Rattle.ch_verify.specs.declared.error.VerifyError.TheVariants.{OldVersion};
 ghost use Rattle.ch_verify.specs.Verdict.{Judges, Says, verdict_line};
 
-use crate::error::VerifyError;
 use crate::verdict::{Doubt, Refutation, Verdict};
 use ch_check::{CheckError, Watch, check_watched, is_refuted_by};
 use ch_graph::{Graph, Hierarchy};
 use counted_io::{MOST_CALLS, WriteCalls};
 use grfile::read_graph;
+use outcomes::Cause;
 use std::alloc::{AllocError, Global};
 use std::io::{Read, Write};
 
@@ -23,7 +23,7 @@ use std::io::{Read, Write};
 /// Where the check ends at a pair of nodes, their distance in the graph is compared with that in the hierarchy, and if these
 /// differ the verdict is [`Verdict::Wrong`].
 ///
-/// A file of version 1, whose costs count no arcs, is refused ([`VerifyError::OldVersion`]). Nothing is written at a refusal,
+/// A file of version 1, whose costs count no arcs, is refused ([`Cause::OldVersion`]). Nothing is written at a refusal,
 /// unless it is the write that failed. Takes memory for the graph, the hierarchy and the rows of
 /// [`check`](ch_check::check), whose time it takes too.
 pub fn verify<G: Read, H: Read, W: Write, V: Watch>(
@@ -32,12 +32,15 @@ pub fn verify<G: Read, H: Read, W: Write, V: Watch>(
     hier: &mut H,
     out: &mut W,
     watch: &V,
-) -> Result<Verdict, VerifyError>
+) -> Result<Verdict, Cause>
     ensures says { IfOk result (λ verdict. IfTold (G.remaining gr.old) (H.remaining hier.old) (Says verdict)) }
     ensures written { IfOk result (λ verdict. Appends (W.contents out.old) (W.contents out.new) (verdict_line verdict)) }
     ensures refused { IfErr result (RefusesCheck (G.remaining gr.old) (H.remaining hier.old) (W.contents out.old) (W.contents out.new)) }
 {
-    let graph = read_graph(alloc, gr)?;
+    let graph = match read_graph(alloc, gr) {
+        Ok(graph) => graph,
+        Err(fault) => return Err(Cause::of_graph(fault)),
+    };
     let hierarchy = hierfile::read(alloc, hier)?;
     let _well_made = hierarchy.nodes();
     refuse_old(&hierarchy)?;
@@ -49,19 +52,19 @@ pub fn verify<G: Read, H: Read, W: Write, V: Watch>(
 }
 
 // Refuses a hierarchy of version 1.
-fn refuse_old(hierarchy: &Hierarchy) -> Result<(), VerifyError>
+fn refuse_old(hierarchy: &Hierarchy) -> Result<(), Cause>
     ensures new { OnOk result (hierarchy.now.version ≡ Two) }
     ensures old { IfErr result (λ e. (e ≡ OldVersion) × (hierarchy.now.version ≡ One)) }
 {
     if hierarchy.version() == 2 {
         Ok(())
     } else {
-        Err(VerifyError::OldVersion)
+        Err(Cause::OldVersion)
     }
 }
 
 // Writes the line of a verdict.
-fn write_line<W: Write>(alloc: Global, verdict: Verdict, out: &mut W) -> Result<(), VerifyError>
+fn write_line<W: Write>(alloc: Global, verdict: Verdict, out: &mut W) -> Result<(), Cause>
     ensures ok { OnOk result (Appends (W.contents out.old) (W.contents out.new) (verdict_line verdict)) }
     ensures err { IfErr result (BreaksOff verdict (W.contents out.old) (W.contents out.new)) }
 {

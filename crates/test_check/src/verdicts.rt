@@ -1,7 +1,8 @@
 //! Checks of files against texts of graphs: what is found and written, and what is refused.
-use ch_verify::{Doubt, Refutation, Unwatched, Verdict, VerifyError, WriteFault, verify};
+use ch_verify::{Doubt, Refutation, Unwatched, Verdict, WriteFault, verify};
 use grfile::{GrError, GrErrorKind};
 use hierfile::HierError;
+use outcomes::{Cause, Input};
 use std::alloc::{AllocError, Global};
 use std::io::{self, ErrorKind, Read};
 
@@ -130,7 +131,7 @@ fn is_found(
     alloc: Global,
     mut text: &[u8],
     mut file: &[u8],
-    end: Result<Verdict, VerifyError>,
+    end: Result<Verdict, Cause>,
     line: &[u8],
 ) -> bool {
     let mut out = Vec::new(alloc);
@@ -193,26 +194,18 @@ fn files_to_the_byte(rt: HostRuntime) {
     }
 }
 
-const OUT_OF_RANGE: VerifyError = VerifyError::Graph(GrError {
+const OUT_OF_RANGE: Cause = Cause::Graph(GrError {
     kind: GrErrorKind::NodeRange,
     line: 2,
 });
 
 /// Texts, files, and why they are refused. The text is read first.
-const REFUSED: [(&[u8], &[u8], VerifyError); 5] = [
-    (ONE_ARC_TEXT, ONE_ARC_V1, VerifyError::OldVersion),
-    (b"p sp 3 1\na 1 2 7\n", ONE_ARC_V1, VerifyError::OldVersion),
+const REFUSED: [(&[u8], &[u8], Cause); 5] = [
+    (ONE_ARC_TEXT, ONE_ARC_V1, Cause::OldVersion),
+    (b"p sp 3 1\na 1 2 7\n", ONE_ARC_V1, Cause::OldVersion),
     (b"p sp 2 1\na 1 3 7\n", b"RCH3", OUT_OF_RANGE),
-    (
-        ONE_ARC_TEXT,
-        b"RCH3",
-        VerifyError::Hierarchy(HierError::BadMagic),
-    ),
-    (
-        ONE_ARC_TEXT,
-        b"",
-        VerifyError::Hierarchy(HierError::Truncated),
-    ),
+    (ONE_ARC_TEXT, b"RCH3", Cause::Hierarchy(HierError::BadMagic)),
+    (ONE_ARC_TEXT, b"", Cause::Hierarchy(HierError::Truncated)),
 ];
 
 #[test]
@@ -232,11 +225,6 @@ impl Read for Broken {
     }
 }
 
-const UNREAD: GrError = GrError {
-    kind: GrErrorKind::Read,
-    line: 1,
-};
-
 #[test]
 fn failed_reads_and_writes(rt: HostRuntime) {
     let alloc = rt.alloc();
@@ -244,11 +232,11 @@ fn failed_reads_and_writes(rt: HostRuntime) {
     let mut room = [0u8; 4];
     let mut out = room.as_mut_slice();
     let unread = verify(alloc, &mut Broken, &mut file, &mut out, &Unwatched);
-    assert!(rt; unread == Err(VerifyError::Graph(UNREAD)));
+    assert!(rt; unread == Err(Cause::Read(Input::Graph)));
     let unread = verify(alloc, &mut text, &mut Broken, &mut out, &Unwatched);
-    assert!(rt; unread == Err(VerifyError::Hierarchy(HierError::Read)));
+    assert!(rt; unread == Err(Cause::Read(Input::Hierarchy)));
     let (mut text, mut file) = (ONE_ARC_TEXT, ONE_ARC);
     let written = verify(alloc, &mut text, &mut file, &mut out, &Unwatched);
-    assert!(rt; written == Err(VerifyError::Write(WriteFault { written: 4 })));
+    assert!(rt; written == Err(Cause::Write(WriteFault { written: 4 })));
     assert!(rt; room.as_slice() == b"righ".as_slice());
 }

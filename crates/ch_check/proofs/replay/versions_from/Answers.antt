@@ -1,5 +1,5 @@
 use Rattle.std.proofs.Common.{ap, sym, ◌++◌, ◌∷◌, [], ◌∙◌, ◌+◌}
-use Rattle.ch_check.proofs.Ranges.{range_with_len-more}
+use Rattle.ch_overlay.specs.Ranges.{range_with_len-more}
 use Rattle.ch_check.proofs.replay.versions_from.Goals as goal
 
 pub loop-i-preserved : goal.loop-i-preserved

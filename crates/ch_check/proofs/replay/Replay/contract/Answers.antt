@@ -6,8 +6,9 @@ use Rattle.std.proofs.lemmas.List.FromFn.{length-range_with_len}
 use Rattle.ch_laws.specs.Contraction.{State, contracted}
 use Rattle.ch_overlay.specs.Overlay.{state_of}
 use Rattle.ch_overlay.specs.Change.{changed_nodes}
+use Rattle.ch_overlay.specs.Versions.{versions-above, versions-next, versions-rise}
 use Rattle.ch_check.specs.Replay.{Replay, MayPut}
-use Rattle.ch_check.proofs.Replaying.{few_changes, replay_goes_on, versions-above, versions-next, versions-rise}
+use Rattle.ch_check.proofs.Replaying.{few_changes, replay_goes_on}
 use Rattle.ch_check.proofs.replay.Replay.contract.Goals as goal
 
 versions : (c : goal.After-drop-versions) → c.as_slice.result.now ≡ range_with_len c.self.inside.next (length c.rows-count.result.now)
