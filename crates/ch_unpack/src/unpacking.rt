@@ -4,7 +4,6 @@ ghost use Rattle.ch_unpack.specs.Unpacking.{IsUnpacked, IsTooLong};
 
 use crate::error::UnpackError;
 use ch_graph::{Hierarchy, LinkId, Parts, links_unfold};
-use smallvec::SmallVec;
 use std::alloc::{AllocError, Global};
 
 /// Returns the nodes of the route from `source` along the links at these places: the source, and then the heads of
@@ -66,7 +65,7 @@ pub fn unpack(
 // links ahead together at most as many as there is room for. Else it goes no further: each link ahead represents one arc or
 // more, so the route has more than it may have.
 fn turn_off(
-    ahead: &mut SmallVec<LinkId, 32>,
+    ahead: &mut Vec<LinkId>,
     nodes: usize,
     room: usize,
     second: LinkId,
@@ -85,7 +84,7 @@ fn turn_off(
 }
 
 /// The same places, the last first.
-fn last_first(alloc: Global, places: &[LinkId]) -> Result<SmallVec<LinkId, 32>, AllocError>
+fn last_first(alloc: Global, places: &[LinkId]) -> Result<Vec<LinkId>, AllocError>
     ensures { IfOk result (λ ahead. reverse ahead.items ≡ places.now) }
 {
     places.iter().rev().copied().collect(alloc)

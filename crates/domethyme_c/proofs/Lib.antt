@@ -1,0 +1,2 @@
+mod Seeds
+pub mod Steps

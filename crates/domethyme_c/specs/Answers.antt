@@ -1,0 +1,175 @@
+-- What each call answers, of the hierarchy that its handle has.
+use Rattle.std.specs.Prelude.{ℕ, ◌≡◌, ◌+◌, ◌*◌, ◌<◌, ◌≤◌, List, ◌++◌, ◌∷◌, ◌/◌, ◌%◌, All, map, length, slice_index, slice_index_or, drop, Option, Some, None, IsSome}
+use Rattle.ch_cost.specs.declared.cost.Cost.{Cost}
+use Rattle.ch_cost.specs.Cost.{length_of, arcs_of, of_walk}
+use Rattle.ch_graph.specs.declared.version.Version.TheVariants.{One}
+use Rattle.ch_graph.specs.Graph.{Graph, IsLeastLength}
+use Rattle.ch_graph.specs.Hierarchy.{Hierarchy, IsRight, version_number}
+use Rattle.ch_graph.specs.Limits.{IsGraph}
+use Rattle.ch_laws.specs.ByWeight.{IsRightByWeight}
+use Rattle.ch_query.specs.declared.seed.Seed.{Seed}
+use Rattle.ch_query.specs.Seeds.{AreSeeds, IsSeed}
+use Rattle.ch_route.specs.Between.{RouteBetween, HasTooLongBetween, IsLeastBetween, IsRouteBetweenBy, IsShortestBetween}
+use Rattle.ch_route.specs.Routes.{Route, HasTooLong, IsFewestWalk, IsLeastWalk, IsLengthBy, IsRouteBy}
+use Rattle.hierfile.specs.Bytes.{OfBytes}
+use Rattle.hierfile.specs.Fault.{first_fault}
+use Rattle.hierfile.specs.Spelling.{bytes_of}
+use Rattle.hierfile.specs.declared.error.HierError.{HierError}
+use Rattle.domethyme_c.specs.Codes.{fault_code}
+use Rattle.domethyme_c.specs.declared.code.TheConstants.{OK, NO_PATH, NO_HANDLE, NODE_RANGE, NO_ROOM, OUT_OF_MEMORY, TOO_LONG, SEED_COST, NO_LENGTH}
+use Rattle.domethyme_c.specs.declared.lengths.Pair.{Pair}
+use Rattle.domethyme_c.specs.declared.route.RouteInfo.{RouteInfo}
+use Rattle.domethyme_c.specs.declared.between.BetweenInfo.{BetweenInfo}
+use Rattle.domethyme_c.specs.declared.between.SeedInfo.{SeedInfo}
+
+-- a call of an open handle answers by its hierarchy; of a closed one it says so
+abbrev pub Answers : Option Hierarchy → ℕ → (Hierarchy → Type 0) → Type 0
+Answers None code P = code ≡ NO_HANDLE
+Answers (Some h) code P = P h
+
+-- A file
+
+-- the bytes are those of the hierarchy that the handle has, or have this first fault and the handle is closed
+pub data IsOpened (bytes : List ℕ) (code : ℕ) (held : Option Hierarchy) : Type 0 where
+  opened : code ≡ OK → (h : Hierarchy) → held ≡ Some h → bytes ≡ bytes_of h → IsOpened bytes code held
+  refused : (e : HierError) → code ≡ fault_code e → OfBytes e (first_fault bytes ≡ Some e) → held ≡ None → IsOpened bytes code held
+
+-- another handle has the same hierarchy afterwards, or what it had
+pub data IsBeside (held : Option Hierarchy) (code : ℕ) (old new : Option Hierarchy) : Type 0 where
+  opened : code ≡ OK → IsSome held → new ≡ held → IsBeside held code old new
+  closed : code ≡ NO_HANDLE → held ≡ None → new ≡ old → IsBeside held code old new
+  no_memory : code ≡ OUT_OF_MEMORY → IsSome held → new ≡ old → IsBeside held code old new
+
+-- a number of the hierarchy
+pub record IsCount (count code new : ℕ) : Type 0 where
+  pub ok : code ≡ OK
+  pub written : new ≡ count
+
+-- One pair
+
+abbrev pub AreNodes : Hierarchy → ℕ → ℕ → Type 0
+AreNodes h from to = (from < length h.ranks) × (to < length h.ranks)
+
+-- The length by the hierarchy, or none where it has none: where it is right for a graph, be it by weight alone, the least
+-- over all walks.
+pub record IsLength (h : Hierarchy) (from to : ℕ) (n : Option ℕ) : Type 0 where
+  pub found : IsLengthBy h from to n
+  pub exact : (g : Graph) → IsRight g h → IsLeastLength g from to n
+  pub by_weight : (g : Graph) → IsRightByWeight g h → IsLeastLength g from to n
+
+pub data IsLengthAnswer (h : Hierarchy) (from to code old new : ℕ) : Type 0 where
+  found : code ≡ OK → IsLength h from to (Some new) → IsLengthAnswer h from to code old new
+  none : code ≡ NO_PATH → IsLength h from to None → new ≡ old → IsLengthAnswer h from to code old new
+  out_of_range : code ≡ NODE_RANGE → (AreNodes h from to → ⊥) → new ≡ old → IsLengthAnswer h from to code old new
+  no_memory : code ≡ OUT_OF_MEMORY → new ≡ old → IsLengthAnswer h from to code old new
+
+-- Many pairs
+
+-- a length, or the number that stands for none
+abbrev pub or_none : Option ℕ → ℕ
+or_none (Some n) = n
+or_none None = NO_LENGTH
+
+-- what is written of a pair
+pub record IsLengthOrNone (h : Hierarchy) (from to n : ℕ) : Type 0 where
+  pub length : Option ℕ
+  pub is : IsLength h from to length
+  pub written : n ≡ or_none length
+
+-- so many numbers are written, each of which is right, and the others stay
+pub record AreWritten (count : ℕ) (Is : ℕ → ℕ → Type 0) (old new : List ℕ) : Type 0 where
+  pub room : length new ≡ length old
+  pub each : (k : ℕ) → k < count → Is k (slice_index new k)
+  pub rest : (k : ℕ) → count ≤ k → slice_index new k ≡ slice_index old k
+
+-- What is asked for: how many numbers, whether all nodes are in range, and which numbers are right.
+pub data AreAnswered (count : ℕ) (InRange : Type 0) (Is : ℕ → ℕ → Type 0) (code : ℕ) (old new : List ℕ) : Type 0 where
+  found : code ≡ OK → AreWritten count Is old new → AreAnswered count InRange Is code old new
+  no_room : code ≡ NO_ROOM → length old < count → new ≡ old → AreAnswered count InRange Is code old new
+  out_of_range : code ≡ NODE_RANGE → (InRange → ⊥) → new ≡ old → AreAnswered count InRange Is code old new
+  no_memory : code ≡ OUT_OF_MEMORY → AreAnswered count InRange Is code old new
+
+-- the length of each pair, in order
+abbrev pub IsLengthsAnswer : Hierarchy → List Pair → ℕ → List ℕ → List ℕ → Type 0
+IsLengthsAnswer h pairs = AreAnswered (length pairs) (All (λ (p : Pair). AreNodes h p.from p.to) pairs) (λ k n. (d : Pair) → IsLengthOrNone h (slice_index_or pairs k d).from (slice_index_or pairs k d).to n)
+
+-- the length from each source to each target, row by row
+abbrev pub IsTableAnswer : Hierarchy → List ℕ → List ℕ → ℕ → List ℕ → List ℕ → Type 0
+IsTableAnswer h sources targets =
+    AreAnswered (length sources * length targets) (All (λ v. v < length h.ranks) sources × All (λ v. v < length h.ranks) targets)
+    (λ k n. IsLengthOrNone h (slice_index sources (k / length targets)) (slice_index targets (k % length targets)) n)
+
+-- Routes
+
+-- the nodes are written at the array's beginning, or have no room
+pub data IsWritten (nodes : List ℕ) (code : ℕ) (old new : List ℕ) : Type 0 where
+  all : code ≡ OK → length nodes ≤ length old → new ≡ nodes ++ drop (length nodes) old → IsWritten nodes code old new
+  no_room : code ≡ NO_ROOM → length old < length nodes → new ≡ old → IsWritten nodes code old new
+
+-- The route by the hierarchy, or none where it has none: where it is right for a graph, a least walk with the fewest arcs,
+-- and where it is right by weight a least walk.
+pub record IsRoute (h : Hierarchy) (from to : ℕ) (r : Option Route) : Type 0 where
+  pub found : IsRouteBy h from to r
+  pub exact : (g : Graph) → IsGraph g → IsRight g h → IsFewestWalk g from to r
+  pub by_weight : (g : Graph) → IsRightByWeight g h → IsLeastWalk g from to r
+
+-- the hierarchy is right for no graph, in the sense of its version
+pub record IsWrong (h : Hierarchy) : Type 0 where
+  pub never : (g : Graph) → IsGraph g → IsRight g h → ⊥
+  pub never_by_weight : h.version ≡ One → (g : Graph) → IsGraph g → IsRightByWeight g h → ⊥
+
+abbrev pub info_of : Route → RouteInfo
+info_of r = record { length = length_of r.cost; nodes = length r.nodes }
+
+pub data IsRouteAnswer (h : Hierarchy) (from to code : ℕ) (old new : RouteInfo) (nodes written : List ℕ) : Type 0 where
+  found : (r : Route) → IsRoute h from to (Some r) → new ≡ info_of r → IsWritten r.nodes code nodes written → IsRouteAnswer h from to code old new nodes written
+  none : code ≡ NO_PATH → IsRoute h from to None → new ≡ old → written ≡ nodes → IsRouteAnswer h from to code old new nodes written
+  out_of_range : code ≡ NODE_RANGE → (AreNodes h from to → ⊥) → new ≡ old → written ≡ nodes → IsRouteAnswer h from to code old new nodes written
+  too_long : code ≡ TOO_LONG → HasTooLong h from to → IsWrong h → new ≡ old → written ≡ nodes → IsRouteAnswer h from to code old new nodes written
+  no_memory : code ≡ OUT_OF_MEMORY → new ≡ old → written ≡ nodes → IsRouteAnswer h from to code old new nodes written
+
+-- Between several starts and several ends
+
+abbrev pub seed_of : SeedInfo → Seed
+seed_of s = record { node = s.node; cost = of_walk s.length s.arcs }
+
+pub record IsBetween (h : Hierarchy) (starts ends : List Seed) (r : Option RouteBetween) : Type 0 where
+  pub found : IsRouteBetweenBy h starts ends r
+  pub exact : (g : Graph) → IsGraph g → IsRight g h → IsLeastBetween g starts ends r
+  pub by_weight : (g : Graph) → IsRightByWeight g h → IsShortestBetween IsLeastWalk g starts ends r
+
+abbrev pub between_info_of : RouteBetween → BetweenInfo
+between_info_of r = record { length = length_of r.cost; start = r.start; end = r.end; nodes = length r.nodes }
+
+-- of seeds of the hierarchy
+pub data IsFoundBetween (h : Hierarchy) (starts ends : List Seed) (code : ℕ) (old new : BetweenInfo) (nodes written : List ℕ) : Type 0 where
+  found : (r : RouteBetween) → IsBetween h starts ends (Some r) → new ≡ between_info_of r → IsWritten r.nodes code nodes written → IsFoundBetween h starts ends code old new nodes written
+  none : code ≡ NO_PATH → IsBetween h starts ends None → new ≡ old → written ≡ nodes → IsFoundBetween h starts ends code old new nodes written
+  too_long : code ≡ TOO_LONG → HasTooLongBetween h starts ends → IsWrong h → new ≡ old → written ≡ nodes → IsFoundBetween h starts ends code old new nodes written
+  no_memory : code ≡ OUT_OF_MEMORY → new ≡ old → written ≡ nodes → IsFoundBetween h starts ends code old new nodes written
+
+-- why one seed is none of the hierarchy
+pub data IsSeedFault (h : Hierarchy) (seed : SeedInfo) (code : ℕ) : Type 0 where
+  out_of_range : code ≡ NODE_RANGE → (seed.node < length h.ranks → ⊥) → IsSeedFault h seed code
+  costly : code ≡ SEED_COST → (IsSeed h (seed_of seed) → ⊥) → IsSeedFault h seed code
+
+-- why not all are seeds of the hierarchy, or none was made of them
+pub data IsSeedRefusal (h : Hierarchy) (seeds : List SeedInfo) (code : ℕ) : Type 0 where
+  out_of_range : code ≡ NODE_RANGE → (All (λ (s : SeedInfo). s.node < length h.ranks) seeds → ⊥) → IsSeedRefusal h seeds code
+  costly : code ≡ SEED_COST → (All (λ (s : SeedInfo). IsSeed h (seed_of s)) seeds → ⊥) → IsSeedRefusal h seeds code
+  no_memory : code ≡ OUT_OF_MEMORY → IsSeedRefusal h seeds code
+
+pub data IsBetweenAnswer (h : Hierarchy) (starts ends : List SeedInfo) (code : ℕ) (old new : BetweenInfo) (nodes written : List ℕ) : Type 0 where
+  answered : IsFoundBetween h (map seed_of starts) (map seed_of ends) code old new nodes written → IsBetweenAnswer h starts ends code old new nodes written
+  no_start : IsSeedRefusal h starts code → new ≡ old → written ≡ nodes → IsBetweenAnswer h starts ends code old new nodes written
+  no_end : IsSeedRefusal h ends code → new ≡ old → written ≡ nodes → IsBetweenAnswer h starts ends code old new nodes written
+
+-- Texts
+
+-- some bytes with a zero behind them are written, or have no room; their count is told
+pub record IsText (count : ℕ) (old new : List ℕ) : Type 0 where
+  pub text : List ℕ
+  pub short : length text < 80
+  pub told : count ≡ length text + 1
+  pub fits : count ≤ length old → new ≡ text ++ 0 ∷ drop count old
+  pub no_room : length old < count → new ≡ old

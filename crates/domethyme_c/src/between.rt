@@ -1,0 +1,138 @@
+ghost use Rattle.std.specs.Prelude.{◌≡◌, IfErr, IfOk, map};
+ghost use Rattle.ch_query.specs.Seeds.{AreSeeds, IsSeed};
+ghost use Rattle.domethyme_c.specs.Answers.{Answers, IsBetweenAnswer, IsFoundBetween, IsSeedFault, IsSeedRefusal, seed_of};
+
+use crate::code::{NO_HANDLE, NO_PATH, NODE_RANGE, OUT_OF_MEMORY, SEED_COST, TOO_LONG};
+use crate::engine::Engine;
+use crate::handle::Handle;
+use crate::route::write_nodes;
+use ch_cost::Cost;
+use ch_route::{Seed, UnpackError};
+use std::alloc::Global;
+
+// What a seed may cost at most.
+const LONGEST: u64 = 1 << 57;
+
+const MOST_ARCS: u64 = 1 << 25;
+
+/// Where a query may begin or end, and what that costs.
+#[repr(C)]
+#[derive(Clone, Copy)]
+pub struct SeedInfo {
+    pub length: u64,
+    pub node: u32,
+    pub arcs: u32,
+}
+
+/// Which start and which end a route has, how long the three are together, and how many nodes the route has.
+#[repr(C)]
+#[derive(Drop)]
+pub struct BetweenInfo {
+    pub length: u64,
+    pub start: usize,
+    pub end: usize,
+    pub nodes: usize,
+}
+
+/// A shortest path from one of several starts to one of several ends.
+#[unsafe(no_mangle)]
+pub extern "C" fn domethyme_between(
+    alloc: Global,
+    handle: &mut Handle,
+    starts: &[SeedInfo],
+    ends: &[SeedInfo],
+    route: &mut BetweenInfo,
+    nodes: &mut [u32],
+) -> u32
+    ensures kept { handle.new.held.hierarchy ≡ handle.old.held.hierarchy }
+    ensures answer { Answers handle.old.held.hierarchy result (λ h. IsBetweenAnswer h starts.now ends.now result route.old route.new nodes.old nodes.new) }
+{
+    let Some(mut engine) = handle.take(alloc) else {
+        return NO_HANDLE;
+    };
+    let code = check_seeds(alloc, &mut engine, starts, ends, route, nodes);
+    handle.put(alloc, engine);
+    code
+}
+
+fn check_seeds(
+    alloc: Global,
+    engine: &mut Engine,
+    starts: &[SeedInfo],
+    ends: &[SeedInfo],
+    info: &mut BetweenInfo,
+    nodes: &mut [u32],
+) -> u32
+    ensures kept { engine.new ≡ engine.old }
+    ensures answer { IsBetweenAnswer engine.old starts.now ends.now result info.old info.new nodes.old nodes.new }
+{
+    let starts = match seeds_of(alloc, engine, starts) {
+        Ok(starts) => starts,
+        Err(code) => return code,
+    };
+    let ends = match seeds_of(alloc, engine, ends) {
+        Ok(ends) => ends,
+        Err(code) => return code,
+    };
+    answer_between(engine, starts.as_slice(), ends.as_slice(), info, nodes)
+}
+
+fn answer_between(
+    engine: &mut Engine,
+    starts: &[Seed],
+    ends: &[Seed],
+    info: &mut BetweenInfo,
+    nodes: &mut [u32],
+) -> u32
+    requires starts { AreSeeds engine.old starts.now }
+    requires ends { AreSeeds engine.old ends.now }
+    ensures kept { engine.new ≡ engine.old }
+    ensures answer { IsFoundBetween engine.old starts.now ends.now result info.old info.new nodes.old nodes.new }
+{
+    match engine.between(starts, ends) {
+        Ok(Some(route)) => {
+            *info = BetweenInfo {
+                length: route.cost.length(),
+                start: route.start,
+                end: route.end,
+                nodes: route.nodes.len(),
+            };
+            write_nodes(route.nodes.as_slice(), nodes)
+        }
+        Ok(None) => NO_PATH,
+        Err(UnpackError::TooLong) => TOO_LONG,
+        Err(UnpackError::OutOfMemory) => OUT_OF_MEMORY,
+    }
+}
+
+// The seeds, or the code of the first that is none.
+fn seeds_of(alloc: Global, engine: &Engine, infos: &[SeedInfo]) -> Result<Vec<Seed>, u32>
+    ensures ok { IfOk result (λ seeds. (seeds.items ≡ map seed_of infos.now) × AreSeeds engine.now seeds.items) }
+    ensures err { IfErr result (IsSeedRefusal engine.now infos.now) }
+{
+    let mut seeds = Vec::new(alloc);
+    'infos: for info in infos {
+        let seed = seed_of(engine, info)?;
+        if seeds.push(seed).is_err() {
+            return Err(OUT_OF_MEMORY);
+        }
+    }
+    Ok(seeds)
+}
+
+fn seed_of(engine: &Engine, info: &SeedInfo) -> Result<Seed, u32>
+    ensures ok { IfOk result (λ seed. (seed ≡ seed_of info.now) × IsSeed engine.now seed) }
+    ensures err { IfErr result (IsSeedFault engine.now info.now) }
+{
+    let cost = Cost::of_walk(info.length, u64::from(info.arcs));
+    if info.node >= engine.nodes() {
+        return Err(NODE_RANGE);
+    }
+    if (cost.length() > LONGEST) | (cost.arcs() > MOST_ARCS) {
+        return Err(SEED_COST);
+    }
+    Ok(Seed {
+        node: info.node,
+        cost,
+    })
+}

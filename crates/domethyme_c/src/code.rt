@@ -1,0 +1,48 @@
+ghost use Rattle.std.specs.Prelude.{◌≡◌};
+ghost use Rattle.domethyme_c.specs.Codes.{fault_code};
+
+use hierfile::HierError;
+
+/// The call did what it was asked.
+pub const OK: u32 = 0;
+/// No path leads from the source to the target.
+pub const NO_PATH: u32 = 1;
+/// The handle is closed.
+pub const NO_HANDLE: u32 = 2;
+/// A node isn't below the number of nodes.
+pub const NODE_RANGE: u32 = 3;
+/// An array is too short for the answer.
+pub const NO_ROOM: u32 = 4;
+/// Memory was refused.
+pub const OUT_OF_MEMORY: u32 = 5;
+/// The route would repeat a node.
+pub const TOO_LONG: u32 = 6;
+/// A start or an end has a length above 2^57, or more than 2^25 arcs.
+pub const SEED_COST: u32 = 7;
+
+/// Stands for a length where there is no path.
+pub const NO_LENGTH: u64 = 0xffff_ffff_ffff_ffff;
+
+/// The code of a file's error.
+pub(crate) fn code_of(error: HierError) -> u32
+    ensures { result ≡ fault_code error }
+{
+    match error {
+        HierError::OutOfMemory => OUT_OF_MEMORY,
+        HierError::Read => 34,
+        HierError::BadMagic => 35,
+        HierError::Truncated => 36,
+        HierError::TooBig => 37,
+        HierError::BoundTooBig => 38,
+        HierError::RankRange => 39,
+        HierError::RankTwice => 40,
+        HierError::LinkEnds => 41,
+        HierError::LinkOrder => 42,
+        HierError::LinkWeight => 43,
+        HierError::MiddleRange => 44,
+        HierError::MiddleRank => 45,
+        HierError::HalfMissing => 46,
+        HierError::HalfSum => 47,
+        HierError::Trailing => 48,
+    }
+}

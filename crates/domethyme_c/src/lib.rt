@@ -1,0 +1,23 @@
+//! The router as a library for C: `libdomethyme`, whose header is `packaging/library/domethyme.h`.
+//!
+//! Each export gives C one call of `ch_route` or `hierfile`, with their clauses in one, `answer`. A [`Handle`] is the
+//! caller's, one pointer, and owns an engine on the heap or is closed. Codes are in `code.rt` and `specs/Codes.antt`.
+#![tactic(auto)]
+
+mod between;
+mod code;
+mod engine;
+mod handle;
+mod held;
+mod lengths;
+mod opening;
+mod route;
+mod text;
+
+pub use between::{BetweenInfo, SeedInfo};
+pub use code::{
+    NO_HANDLE, NO_LENGTH, NO_PATH, NO_ROOM, NODE_RANGE, OK, OUT_OF_MEMORY, SEED_COST, TOO_LONG,
+};
+pub use handle::Handle;
+pub use lengths::Pair;
+pub use route::RouteInfo;
