@@ -260,8 +260,5 @@ fault-routed h (Some bytes) (Some pairs_text) (Err fault) (Err t) e (Err x) spel
 
 -- what was refused is no refusal of the build
 
-pub graph_refused : (r : Result ⊤ ServiceError) (fault : GrError) (e : BuildError) → r ≡ Err (GraphFault fault) → r ≡ Err (Build e) → ⊥
-graph_refused r fault e was is = cc
-
 pub pairs_refused : (r : Result ⊤ ServiceError) (fault : GrError) (e : BuildError) → r ≡ Err (Queries fault) → r ≡ Err (Build e) → ⊥
 pairs_refused r fault e was is = cc

@@ -1,6 +1,6 @@
 -- What a build says of its options.
 use Rattle.std.proofs.Common.{rules, ℕ, ◌≡◌}
-use Rattle.std.specs.Prelude.{◌↔◌, ⊤, Result, Ok, Err, IfErr, OnOk, IsErrAnd}
+use Rattle.std.specs.Prelude.{◌↔◌, ⊤, Result, Ok, Err, IfErr, OnOk}
 use Rattle.ch_workers.specs.Options.{AreBad, AreGood}
 use Rattle.ch_workers.specs.declared.options.Options.{Options}
 use Rattle.ch_workers.specs.declared.error.BuildError.{BuildError}
@@ -30,11 +30,6 @@ pub ready-built : {T : Type 0} (built : Result T BuildError) (b : T) (o : Option
 ready-built built b o lists (Ok x) was bad = tt
 ready-built built b o lists (Err e) was bad = if_built (AreGood o lists) e (built-good built b o lists (Ok tt) was bad)
 
--- and its refusal is propagated
-pub refused-bad : {T : Type 0} (built : Result T BuildError) (x : BuildError) (o : Options) (lists : ℕ) (r : Result ⊤ ServiceError) → built ≡ Err x → IsErrAnd r (λ s. s ≡ Build x) → (built ≡ Err BadOptions) ↔ AreBad o lists
-    → (e : BuildError) → r ≡ Err (Build e) → (e ≡ BadOptions) ↔ AreBad o lists
-refused-bad built x o lists (Ok y) was is bad e same = absurd is
-refused-bad built x o lists (Err y) was is bad e same = (
-  λ worst. bad.0 (cc),
-  λ worse. let refused : built ≡ Err BadOptions = bad.1 worse in cc,
-)
+-- and its refusal says whether they were
+pub refused-bad : {T : Type 0} (built : Result T BuildError) (x : BuildError) (o : Options) (lists : ℕ) → built ≡ Err x → (built ≡ Err BadOptions) ↔ AreBad o lists → (x ≡ BadOptions) ↔ AreBad o lists
+refused-bad built x o lists was bad = (λ worst. bad.0 (cc), λ worse. let refused : built ≡ Err BadOptions = bad.1 worse in cc)

@@ -1,60 +1,21 @@
 -- Why a refusal says by its cause what its call says of it.
 use Rattle.std.proofs.Common.{ℕ, ◌≡◌, List, length, Option, inl, inr, refl, ap}
 use Rattle.std.specs.Prelude.{Some, None, IfSome, Ok, Err}
-use Rattle.grfile.specs.Outcome.{FromText}
 use Rattle.grfile.specs.Reading.{graph_of, pairs_of}
-use Rattle.grfile.specs.declared.error.GrErrorKind.{GrErrorKind}
-use Rattle.grfile.specs.declared.error.GrErrorKind.TheVariants as kinds
-use Rattle.hierfile.specs.Bytes.{OfBytes}
 use Rattle.hierfile.specs.Fault.{first_fault}
-use Rattle.hierfile.specs.declared.error.HierError.{HierError}
-use Rattle.hierfile.specs.declared.error.HierError.TheVariants as faults
+use Rattle.outcomes.specs.Cases.{text_case, file_case}
+use Rattle.outcomes.specs.declared.cause.Cause.TheVariants as causes
+use Rattle.outcomes.specs.declared.cause.Input.TheVariants as inputs
 use Rattle.ch_workers.specs.declared.error.BuildError.TheVariants as building
 use Rattle.ch_unpack.specs.declared.error.UnpackError.TheVariants as unpacking
-use Rattle.ch_service.specs.declared.cause.Cause.{Cause}
-use Rattle.ch_service.specs.declared.cause.Cause.TheVariants as causes
 use Rattle.ch_service.specs.declared.error.ServiceError.{ServiceError}
 use Rattle.ch_service.specs.declared.error.ServiceError.TheVariants.{Graph, Queries, Hierarchy, Build, Unpack, Write, OutOfMemory}
 use Rattle.ch_service.specs.Answer.{AnswersFirst}
-use Rattle.ch_service.specs.Cause.{of_text, of_file, cause_of}
+use Rattle.ch_service.specs.Cause.{cause_of}
 use Rattle.ch_service.specs.Joined.{graph_part, pairs_part}
 use Rattle.ch_service.specs.Outcome.{IfTold, IsFaultOf, IsFaultOfJoined, IsPreparingFault, IsRoutingFault, KeepsAtFault, KeepsUnlessWriting, BreaksOff, StopsShort, ComesOfTexts, ComesOfPreparing, ComesOfRouting}
 use Rattle.ch_service.specs.Refusals.{RefusesAnswers, RefusesPreparing, RefusesRoutes, AnswersTell, JoinedAnswersTell, PreparationsTell, RoutesTell}
 use Rattle.ch_service.specs.Route.{Prepares, RoutesFirst, RoutesToTooLong}
-
--- a fault of a text is one of its own, or out of memory or a failed read
-text_case : (kind : GrErrorKind) (own : Cause) (P : Cause → Type 0) → P causes.Memory → P causes.Read → (((F : Type 0) → FromText kind F → F) → P own) → P (of_text kind own)
-text_case kinds.OutOfMemory own P memory read other = memory
-text_case kinds.Read own P memory read other = read
-text_case kinds.UnknownLine own P memory read other = other (λ F f. f)
-text_case kinds.NoProblemLine own P memory read other = other (λ F f. f)
-text_case kinds.SecondProblemLine own P memory read other = other (λ F f. f)
-text_case kinds.FieldCount own P memory read other = other (λ F f. f)
-text_case kinds.NotANumber own P memory read other = other (λ F f. f)
-text_case kinds.NodeRange own P memory read other = other (λ F f. f)
-text_case kinds.WeightTooBig own P memory read other = other (λ F f. f)
-text_case kinds.TooManyNodes own P memory read other = other (λ F f. f)
-text_case kinds.TooManyArcs own P memory read other = other (λ F f. f)
-text_case kinds.ArcCount own P memory read other = other (λ F f. f)
-
--- and so is one of a hierarchy's file
-file_case : (e : HierError) (P : Cause → Type 0) → P causes.Memory → P causes.Read → (((F : Type 0) → OfBytes e F → F) → P (causes.Hierarchy e)) → P (of_file e)
-file_case faults.OutOfMemory P memory read other = memory
-file_case faults.Read P memory read other = read
-file_case faults.BadMagic P memory read other = other (λ F f. f)
-file_case faults.Truncated P memory read other = other (λ F f. f)
-file_case faults.TooBig P memory read other = other (λ F f. f)
-file_case faults.BoundTooBig P memory read other = other (λ F f. f)
-file_case faults.RankRange P memory read other = other (λ F f. f)
-file_case faults.RankTwice P memory read other = other (λ F f. f)
-file_case faults.LinkEnds P memory read other = other (λ F f. f)
-file_case faults.LinkOrder P memory read other = other (λ F f. f)
-file_case faults.LinkWeight P memory read other = other (λ F f. f)
-file_case faults.MiddleRange P memory read other = other (λ F f. f)
-file_case faults.MiddleRank P memory read other = other (λ F f. f)
-file_case faults.HalfMissing P memory read other = other (λ F f. f)
-file_case faults.HalfSum P memory read other = other (λ F f. f)
-file_case faults.Trailing P memory read other = other (λ F f. f)
 
 -- what is so of all texts, and what follows of texts that are known
 
@@ -76,9 +37,9 @@ of_some (Some a) P Q f told = f a told
 answers : (graph pairs old new : Option (List ℕ)) (e : ServiceError) → (e ≡ Build building.BadOptions → ⊥) → ComesOfTexts e → IfTold graph pairs (λ g p. IsFaultOf g p e) → KeepsAtFault old new e
     → IfTold graph pairs (λ g p. StopsShort (AnswersFirst g p) (λ _. ⊥) old new e) → RefusesAnswers graph pairs old new (cause_of e)
 answers graph pairs old new (Graph fault) good c f k s =
-    text_case fault.kind (causes.Graph fault) (RefusesAnswers graph pairs old new) (of_all graph pairs _ (λ g p. inl k)) k (λ own. (of_told graph pairs _ _ (λ g p. own (graph_of g ≡ Err fault)) f, k))
+    text_case fault.kind inputs.Graph (causes.Graph fault) (RefusesAnswers graph pairs old new) (of_all graph pairs _ (λ g p. inl k)) (inl refl, k) (λ own. (of_told graph pairs _ _ (λ g p. own (graph_of g ≡ Err fault)) f, k))
 answers graph pairs old new (Queries fault) good c f k s =
-    text_case fault.kind (causes.Queries fault) (RefusesAnswers graph pairs old new) (of_all graph pairs _ (λ g p. inl k)) k
+    text_case fault.kind inputs.Queries (causes.Queries fault) (RefusesAnswers graph pairs old new) (of_all graph pairs _ (λ g p. inl k)) (inr refl, k)
     (λ own. (of_told graph pairs _ _ (λ g p h. (h.0, h.1, own (pairs_of h.0.nodes p ≡ Err fault) h.2)) f, k))
 answers graph pairs old new (Hierarchy fault) good c f k s = absurd c
 answers graph pairs old new (Build building.OutOfMemory) good c f k s = of_all graph pairs _ (λ g p. inl k)
@@ -112,7 +73,7 @@ joined-tell (Some text) old new (Err e) good c f k s = joined text old new e (λ
 -- where a hierarchy is prepared
 preparing : (graph old new : Option (List ℕ)) (e : ServiceError) → (e ≡ Build building.BadOptions → ⊥) → ComesOfPreparing e → IfSome graph (λ g. IsPreparingFault g e) → KeepsUnlessWriting old new e → IfSome graph (λ g. BreaksOff (Prepares g) old new e)
     → RefusesPreparing graph old new (cause_of e)
-preparing graph old new (Graph fault) good c f k b = text_case fault.kind (causes.Graph fault) (RefusesPreparing graph old new) k k (λ own. (of_some graph _ _ (λ g. own (graph_of g ≡ Err fault)) f, k))
+preparing graph old new (Graph fault) good c f k b = text_case fault.kind inputs.Graph (causes.Graph fault) (RefusesPreparing graph old new) k (refl, k) (λ own. (of_some graph _ _ (λ g. own (graph_of g ≡ Err fault)) f, k))
 preparing graph old new (Queries fault) good c f k b = absurd c
 preparing graph old new (Hierarchy fault) good c f k b = absurd c
 preparing graph old new (Build building.OutOfMemory) good c f k b = k
@@ -131,10 +92,10 @@ routes : (file pairs old new : Option (List ℕ)) (e : ServiceError) → ComesOf
     → RefusesRoutes file pairs old new (cause_of e)
 routes file pairs old new (Graph fault) c f k s = absurd c
 routes file pairs old new (Queries fault) c f k s =
-    text_case fault.kind (causes.Queries fault) (RefusesRoutes file pairs old new) (of_all file pairs _ (λ b p. inl k)) k
+    text_case fault.kind inputs.Queries (causes.Queries fault) (RefusesRoutes file pairs old new) (of_all file pairs _ (λ b p. inl k)) (inr refl, k)
     (λ own. (of_told file pairs _ _ (λ b p h. (h.0, h.1, own (pairs_of (length h.0.ranks) p ≡ Err fault) h.2)) f, k))
 routes file pairs old new (Hierarchy fault) c f k s =
-    file_case fault (RefusesRoutes file pairs old new) (of_all file pairs _ (λ b p. inl k)) k (λ own. (of_told file pairs _ _ (λ b p. own (first_fault b ≡ Some fault)) f, k))
+    file_case fault (RefusesRoutes file pairs old new) (of_all file pairs _ (λ b p. inl k)) (inl refl, k) (λ own. (of_told file pairs _ _ (λ b p. own (first_fault b ≡ Some fault)) f, k))
 routes file pairs old new (Build e) c f k s = absurd c
 routes file pairs old new (Unpack unpacking.OutOfMemory) c f k s = of_told file pairs _ _ (λ b p w. inr w) s
 routes file pairs old new (Unpack unpacking.TooLong) c f k s = s

@@ -2,5 +2,6 @@ pub mod Answer
 pub mod Cause
 pub mod Joined
 pub mod Outcome
+pub mod Preparation
 pub mod Refusals
 pub mod Route

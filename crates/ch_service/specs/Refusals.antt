@@ -6,8 +6,9 @@ use Rattle.ch_graph.specs.Hierarchy.{Hierarchy}
 use Rattle.grfile.specs.Reading.{graph_of, pairs_of}
 use Rattle.hierfile.specs.Fault.{first_fault}
 use Rattle.ch_workers.specs.declared.error.BuildError.TheVariants.{BadOptions}
-use Rattle.ch_service.specs.declared.cause.Cause.{Cause}
-use Rattle.ch_service.specs.declared.cause.Cause.TheVariants.{Graph as GraphFault, Queries, Hierarchy as HierarchyFault, TooLong, Memory, Read, Write, Options, Mixed}
+use Rattle.outcomes.specs.declared.cause.Cause.{Cause}
+use Rattle.outcomes.specs.declared.cause.Cause.TheVariants.{Graph as GraphFault, Queries, Hierarchy as HierarchyFault, TooLong, Memory, Read, Write, Mixed}
+use Rattle.outcomes.specs.declared.cause.Input.TheVariants as inputs
 use Rattle.ch_service.specs.declared.error.ServiceError.{ServiceError}
 use Rattle.ch_service.specs.declared.error.ServiceError.TheVariants.{Build}
 use Rattle.ch_service.specs.Answer.{AnswersFirst}
@@ -20,37 +21,30 @@ use Rattle.ch_service.specs.Route.{Spells, Prepares, RoutesFirst, RoutesToTooLon
 abbrev pub RefusesAnswers : Option (List ℕ) → Option (List ℕ) → Option (List ℕ) → Option (List ℕ) → Cause → Type 0
 RefusesAnswers graph pairs old new (GraphFault fault) = IfTold graph pairs (λ graph_text pairs_text. graph_of graph_text ≡ Err fault) × Keeps old new
 RefusesAnswers graph pairs old new (Queries fault) = IfTold graph pairs (λ graph_text pairs_text. (g : Graph) × (graph_of graph_text ≡ Ok g) × (pairs_of g.nodes pairs_text ≡ Err fault)) × Keeps old new
-RefusesAnswers graph pairs old new (HierarchyFault fault) = ⊥
-RefusesAnswers graph pairs old new TooLong = ⊥
 RefusesAnswers graph pairs old new Memory = IfTold graph pairs (λ graph_text pairs_text. Keeps old new ⊎ Writes (AnswersFirst graph_text pairs_text) old new)
-RefusesAnswers graph pairs old new Read = Keeps old new
+RefusesAnswers graph pairs old new (Read input) = ((input ≡ inputs.Graph) ⊎ (input ≡ inputs.Queries)) × Keeps old new
 RefusesAnswers graph pairs old new (Write fault) = IfTold graph pairs (λ graph_text pairs_text. WritesFirst (AnswersFirst graph_text pairs_text) old new fault.written)
-RefusesAnswers graph pairs old new Options = ⊥
 RefusesAnswers graph pairs old new Mixed = IfTold graph pairs AreTexts × Keeps old new
+RefusesAnswers graph pairs old new cause = ⊥
 
 -- where a hierarchy is prepared from the text of a graph
 abbrev pub RefusesPreparing : Option (List ℕ) → Option (List ℕ) → Option (List ℕ) → Cause → Type 0
 RefusesPreparing graph old new (GraphFault fault) = IfSome graph (λ graph_text. graph_of graph_text ≡ Err fault) × Keeps old new
-RefusesPreparing graph old new (Queries fault) = ⊥
-RefusesPreparing graph old new (HierarchyFault fault) = ⊥
-RefusesPreparing graph old new TooLong = ⊥
 RefusesPreparing graph old new Memory = Keeps old new
-RefusesPreparing graph old new Read = Keeps old new
+RefusesPreparing graph old new (Read input) = (input ≡ inputs.Graph) × Keeps old new
 RefusesPreparing graph old new (Write fault) = IfSome graph (λ graph_text. WritesFirst (Prepares graph_text) old new fault.written)
-RefusesPreparing graph old new Options = ⊥
 RefusesPreparing graph old new Mixed = IfSome graph IsGraphText × Keeps old new
+RefusesPreparing graph old new cause = ⊥
 
 -- where pairs are answered by the file of a hierarchy
 abbrev pub RefusesRoutes : Option (List ℕ) → Option (List ℕ) → Option (List ℕ) → Option (List ℕ) → Cause → Type 0
-RefusesRoutes file pairs old new (GraphFault fault) = ⊥
 RefusesRoutes file pairs old new (Queries fault) = IfTold file pairs (λ bytes pairs_text. (h : Hierarchy) × Spells bytes h × (pairs_of (length h.ranks) pairs_text ≡ Err fault)) × Keeps old new
 RefusesRoutes file pairs old new (HierarchyFault fault) = IfTold file pairs (λ bytes pairs_text. first_fault bytes ≡ Some fault) × Keeps old new
 RefusesRoutes file pairs old new TooLong = IfTold file pairs (λ bytes pairs_text. Writes (RoutesToTooLong bytes pairs_text) old new)
 RefusesRoutes file pairs old new Memory = IfTold file pairs (λ bytes pairs_text. Keeps old new ⊎ Writes (RoutesFirst bytes pairs_text) old new)
-RefusesRoutes file pairs old new Read = Keeps old new
+RefusesRoutes file pairs old new (Read input) = ((input ≡ inputs.Hierarchy) ⊎ (input ≡ inputs.Queries)) × Keeps old new
 RefusesRoutes file pairs old new (Write fault) = IfTold file pairs (λ bytes pairs_text. WritesFirst (RoutesFirst bytes pairs_text) old new fault.written)
-RefusesRoutes file pairs old new Options = ⊥
-RefusesRoutes file pairs old new Mixed = ⊥
+RefusesRoutes file pairs old new cause = ⊥
 
 -- no refusal of a build is that of its options
 abbrev pub NotBad : Result ⊤ ServiceError → Type 0

@@ -1,12 +1,14 @@
 ghost use Rattle.std.specs.Prelude.{◌≡◌, Some};
-ghost use Rattle.ch_service.specs.Cause.{cause_of, shown};
+ghost use Rattle.ch_service.specs.Cause.{cause_of};
 ghost use Rattle.ch_service.specs.declared.error.ServiceError.TheVariants.{Build, OutOfMemory, Unpack, Write};
+ghost use Rattle.outcomes.specs.Causes.{shown};
 
 use ch_route::UnpackError;
 use ch_workers::BuildError;
 use counted_io::WriteFault;
 use grfile::GrError;
 use hierfile::HierError;
+use outcomes::Cause;
 use std::alloc::AllocError;
 use std::error::Error;
 use std::fmt;
@@ -31,6 +33,30 @@ pub enum ServiceError {
     Write(WriteFault),
     /// Memory ran out beside the reading, the build and the search for a route.
     OutOfMemory,
+}
+
+impl ServiceError {
+    /// Returns what it comes of.
+    pub fn cause(&self) -> Cause
+        ensures { result ≡ cause_of self.now }
+    {
+        match self {
+            ServiceError::Graph(fault) => Cause::of_graph(*fault),
+            ServiceError::Queries(fault) => Cause::of_queries(*fault),
+            ServiceError::Hierarchy(fault) => Cause::of_hierarchy(*fault),
+            ServiceError::Build(fault) => match fault {
+                BuildError::OutOfMemory => Cause::Memory,
+                BuildError::BadOptions => Cause::Options,
+                BuildError::Mixed => Cause::Mixed,
+            },
+            ServiceError::Unpack(fault) => match fault {
+                UnpackError::OutOfMemory => Cause::Memory,
+                UnpackError::TooLong => Cause::TooLong,
+            },
+            ServiceError::Write(fault) => Cause::Write(*fault),
+            ServiceError::OutOfMemory => Cause::Memory,
+        }
+    }
 }
 
 impl fmt::Display for ServiceError {

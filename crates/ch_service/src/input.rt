@@ -75,7 +75,7 @@ fn read_piece<R: Read>(
 }
 
 /// Returns the refusal of texts that were read from the bytes of one whole input. Bytes in memory have no failed
-/// read; if one were reported of them, it would be one of the input behind its last byte.
+/// read; if one is reported of them, it is reported at the end of the input.
 pub fn of_whole(text: &[u8], refusal: ServiceError) -> ServiceError
     ensures { result ≡ of_whole text.now refusal }
 {

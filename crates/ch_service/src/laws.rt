@@ -1,3 +1,5 @@
+//! Laws, which do nothing when they run: why routes are exact, and what a cause shows.
+
 ghost use Rattle.ch_graph.specs.declared.version.Version.TheVariants.{One, Two};
 ghost use Rattle.ch_service.specs.Refusals.{AnswersTell, JoinedAnswersTell, PreparationsTell, RoutesTell};
 ghost use Rattle.ch_service.specs.Route.{FirstRoutesAreExact, RightRoutesAreLeast, RoutesAreExact, RoutesHaveFewestArcs};
@@ -7,7 +9,7 @@ use grfile::{spelled_graphs_are_in_range, spelled_pairs_are_in_range};
 use hierfile::hierarchies_have_one_spelling;
 
 /// Routes of a hierarchy that is right for a graph are least walks of that graph, and it is enough that it is right by
-/// weight, as in version 1. It does nothing when it runs.
+/// weight, as in version 1.
 pub fn right_routes_are_least()
     ensures least { RightRoutesAreLeast Two }
     ensures by_weight { RightRoutesAreLeast One }
@@ -19,7 +21,7 @@ pub fn right_routes_are_least()
 /// [`route`](crate::route), reading those bytes, answers each pair with the least length of a walk in that graph and the
 /// nodes along a walk of exactly that length, and returns none exactly where there is no walk. Of all least walks it names
 /// one with the fewest arcs. By a file of version 1 whose hierarchy is right by weight routes are exact too, but they
-/// needn't have the fewest arcs. It does nothing when it runs.
+/// needn't have the fewest arcs.
 pub fn routes_are_exact()
     ensures exact { RoutesAreExact Two }
     ensures fewest { RoutesHaveFewestArcs }
@@ -31,7 +33,7 @@ pub fn routes_are_exact()
     routes_are_least();
 }
 
-/// And so are the first of them, where a call was refused later. It does nothing when it runs.
+/// And so are the first of them, where a call was refused later.
 pub fn first_routes_are_exact()
     ensures exact { FirstRoutesAreExact Two }
     ensures by_weight { FirstRoutesAreExact One }
@@ -42,7 +44,7 @@ pub fn first_routes_are_exact()
     routes_are_least();
 }
 
-/// By its cause alone a refusal shows which text is at fault, and what was written. It does nothing when it runs.
+/// By its cause alone a refusal shows which text is at fault, and what was written.
 pub fn causes_tell_refusals()
     ensures answers { AnswersTell }
     ensures joined { JoinedAnswersTell }

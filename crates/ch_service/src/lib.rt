@@ -24,7 +24,6 @@
 #![tactic(auto)]
 
 mod answering;
-mod cause;
 mod error;
 mod in_memory;
 mod input;
@@ -36,12 +35,12 @@ mod refusing;
 mod routing;
 
 pub use answering::{answer, answer_joined};
-pub use cause::Cause;
 pub use counted_io::WriteFault;
 pub use error::ServiceError;
 pub use in_memory::routes_in_memory;
 pub use laws::{
     causes_tell_refusals, first_routes_are_exact, right_routes_are_least, routes_are_exact,
 };
+pub use outcomes::Cause;
 pub use preparing::{prepare, prepare_beside};
 pub use routing::route;

@@ -1,11 +1,5 @@
-ghost use Rattle.std.specs.Prelude.{◌≡◌, ◌↔◌, [], All, OnOk, IfErr, IfSome, vec_len};
-ghost use Rattle.grfile.specs.Taken.{StopsAtReached};
-ghost use Rattle.ch_service.specs.Outcome.{Writes, ComesOfPreparing, IsPreparingFault, IfBuilt, IfTextFault, KeepsUnlessWriting, BreaksOff};
-ghost use Rattle.ch_service.specs.Route.{Prepares};
-ghost use Rattle.ch_service.specs.declared.error.ServiceError.TheVariants.{Build};
-ghost use Rattle.ch_workers.specs.Options.{AreBad, AreGood};
-ghost use Rattle.ch_workers.specs.declared.error.BuildError.{BuildError};
-ghost use Rattle.ch_workers.specs.declared.error.BuildError.TheVariants.{BadOptions};
+ghost use Rattle.std.specs.Prelude.{◌≡◌, [], All, vec_len};
+ghost use Rattle.ch_service.specs.Preparation.{IsPreparation};
 
 use crate::error::ServiceError;
 use crate::refusing::refuse;
@@ -34,20 +28,8 @@ pub fn prepare<G: Read, W: Write, P: Gate, R: Threads + Wait + Sync>(
     gate: &P,
 ) -> Result<(), ServiceError>
     requires untold { All (λ list. All (λ estimator. heard estimator ≡ []) list.items) lists.items }
-    ensures prepares { OnOk result (IfSome (G.remaining gr.old)
-        (λ text. Writes (Prepares text) (W.contents out.old) (W.contents out.new))) }
-    ensures good { OnOk result (AreGood options (vec_len lists)) }
+    ensures prepared { IsPreparation result options (vec_len lists) (G.remaining gr.old) (G.remaining gr.new) (W.contents out.old) (W.contents out.new) }
     ensures leases { leases.new ≡ record leases.old { out = 0 } }
-
-    // At a refusal.
-    ensures bad { (e : BuildError) → result ≡ Err (Build e) → (e ≡ BadOptions) ↔ AreBad options (vec_len lists) }
-    ensures ready { IfErr result (IfBuilt (AreGood options (vec_len lists))) }
-    ensures kinds { IfErr result ComesOfPreparing }
-    ensures fault { IfErr result (λ e. IfSome (G.remaining gr.old) (λ text. IsPreparingFault text e)) }
-    ensures reached { IfErr result (IfTextFault (StopsAtReached (G.remaining gr.old) (G.remaining gr.new)) (λ _. ⊥)) }
-    ensures untouched { IfErr result (KeepsUnlessWriting (W.contents out.old) (W.contents out.new)) }
-    ensures broken { IfErr result (λ e. IfSome (G.remaining gr.old)
-        (λ text. BreaksOff (Prepares text) (W.contents out.old) (W.contents out.new) e)) }
 {
     let mut disposal = Disposal::new();
     let prepared = prepare_beside(
@@ -79,20 +61,8 @@ pub fn prepare_beside<G: Read, W: Write, P: Gate, R: Threads + Wait + Sync>(
     disposal: &mut Disposal,
 ) -> Result<(), ServiceError>
     requires untold { All (λ list. All (λ estimator. heard estimator ≡ []) list.items) lists.items }
-    ensures prepares { OnOk result (IfSome (G.remaining gr.old)
-        (λ text. Writes (Prepares text) (W.contents out.old) (W.contents out.new))) }
-    ensures good { OnOk result (AreGood options (vec_len lists)) }
+    ensures prepared { IsPreparation result options (vec_len lists) (G.remaining gr.old) (G.remaining gr.new) (W.contents out.old) (W.contents out.new) }
     ensures leases { leases.new ≡ record leases.old { out = 0 } }
-
-    // At a refusal.
-    ensures bad { (e : BuildError) → result ≡ Err (Build e) → (e ≡ BadOptions) ↔ AreBad options (vec_len lists) }
-    ensures ready { IfErr result (IfBuilt (AreGood options (vec_len lists))) }
-    ensures kinds { IfErr result ComesOfPreparing }
-    ensures fault { IfErr result (λ e. IfSome (G.remaining gr.old) (λ text. IsPreparingFault text e)) }
-    ensures reached { IfErr result (IfTextFault (StopsAtReached (G.remaining gr.old) (G.remaining gr.new)) (λ _. ⊥)) }
-    ensures untouched { IfErr result (KeepsUnlessWriting (W.contents out.old) (W.contents out.new)) }
-    ensures broken { IfErr result (λ e. IfSome (G.remaining gr.old)
-        (λ text. BreaksOff (Prepares text) (W.contents out.old) (W.contents out.new) e)) }
 {
     let graph = match read_graph(alloc, gr) {
         Ok(graph) => graph,

@@ -1,8 +1,6 @@
-use Rattle.std.proofs.Common.{rules, arith}
-use Rattle.std.proofs.lemmas.Grind.{common_steps}
 use Rattle.ch_service.specs.Answer.{IsLeastWalk, IsFewestWalk}
 use Rattle.ch_service.proofs.Exact.{prepared-in_memory}
-use Rattle.std.proofs.Common.{List, ℕ, ap, subst, sym}
+use Rattle.std.proofs.Common.{rules, List, ℕ, ap, subst, sym}
 use Rattle.std.specs.Prelude.{Err}
 use Rattle.std.proofs.lemmas.Result.{err_from_is_err_and}
 use Rattle.ch_service.specs.Route.{Prepares}
@@ -13,30 +11,32 @@ use Rattle.ch_service.proofs.in_memory.routes_in_memory.Goals as goal
 pub returns-clause-exact : goal.returns-clause-exact
 returns-clause-exact g c =
     prepared-in_memory IsLeastWalk c.args.graph.now c.args.pairs.now c.new-file.result.items c.prepare.new.out.items c.as_slice-bytes.result.now c.new-text.result.items c.route.new.out.items
-    (search rules) (search rules) (search rules) c.in_ok-prepare.ensures.prepares c.in_ok-route.ensures.exact
+    (search rules) (search rules) (search rules) c.in_ok-prepare.ensures.prepared.prepares c.in_ok-route.ensures.exact
 
 pub returns-clause-fewest : goal.returns-clause-fewest
 returns-clause-fewest g c =
     prepared-in_memory IsFewestWalk c.args.graph.now c.args.pairs.now c.new-file.result.items c.prepare.new.out.items c.as_slice-bytes.result.now c.new-text.result.items c.route.new.out.items
-    (search rules) (search rules) (search rules) c.in_ok-prepare.ensures.prepares c.in_ok-route.ensures.fewest
+    (search rules) (search rules) (search rules) c.in_ok-prepare.ensures.prepared.prepares c.in_ok-route.ensures.fewest
 
 pub returns-in_err-prepare-clause-bad : goal.returns-in_err-prepare-clause-bad
-returns-in_err-prepare-clause-bad g c = search rules
+returns-in_err-prepare-clause-bad g c e is =
+    let exit = err_from_is_err_and c.from_residual.result c.from_residual.ensures.1 in
+    c.in_err-prepare.ensures.prepared.bad e (ap Err (cc))
 
 pub returns-clause-good : goal.returns-clause-good
-returns-clause-good c = grind (arith, common_steps) steps 200000
+returns-clause-good g c = c.in_ok-prepare.ensures.prepared.good
 
 pub returns-in_err-prepare-clause-fault : goal.returns-in_err-prepare-clause-fault
 returns-in_err-prepare-clause-fault g c =
     let exit = err_from_is_err_and c.from_residual.result c.from_residual.ensures.1 in
-    rw (exit.1, exit.2) (refused-preparing c.args.graph.now c.args.pairs.now c.in_err-prepare.field-0.0 c.in_err-prepare.ensures.kinds c.in_err-prepare.ensures.fault)
+    rw (exit.1, exit.2) (refused-preparing c.args.graph.now c.args.pairs.now c.in_err-prepare.field-0.0 c.in_err-prepare.ensures.prepared.kinds c.in_err-prepare.ensures.prepared.fault)
 
 pub returns-in_err-route-clause-fault : goal.returns-in_err-route-clause-fault
 returns-in_err-route-clause-fault g c =
     let exit = err_from_is_err_and c.from_residual-in_err-route.result c.from_residual-in_err-route.ensures.1 in
     let text : List ℕ = c.args.graph.now in
     let file : List ℕ = c.as_slice-bytes.result.now in
-    let written : Prepares text c.prepare.new.out.items = all_of (Prepares text) c.new-file.result.items c.prepare.new.out.items (search rules) c.in_ok-prepare.ensures.prepares in
+    let written : Prepares text c.prepare.new.out.items = all_of (Prepares text) c.new-file.result.items c.prepare.new.out.items (search rules) c.in_ok-prepare.ensures.prepared.prepares in
     let p : Prepares text file = subst (Prepares text) (sym c.as_slice-bytes.ensures.value) written in
     rw (exit.1, exit.2) (refused-routing c.hierarchies_have_one_spelling.ensures c.spellings_have_no_fault.ensures c.spelled_graphs_are_in_range.ensures text c.args.pairs.now file p c.in_err-route.field-0.0 c.in_err-route.ensures.kinds c.in_err-route.ensures.fault
     (λ is. c.in_err-route.ensures.never_long (ap Err is) text p))
