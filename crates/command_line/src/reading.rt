@@ -177,7 +177,7 @@ fn with<'a>(
     program.subcommand(command?)
 }
 
-// The command line, which is refused where its arguments name no command.
+// The command line, which is refused if its arguments name no command.
 fn with_a_command(program: Command<'_>) -> Command<'_>
     ensures local { (out-Command result).has_globals ≡ (out-Command program.entry).has_globals }
     ensures needs { (out-Command result).subcommand_required ≡ true }
@@ -226,6 +226,7 @@ fn route<'a>(alloc: Global) -> Result<Command<'a>, AllocError>
 {
     Command::new(alloc, "route")
         .about("Finds shortest paths, as answer does, using a prepared hierarchy")
+        .after_help(ROUTING)
         .arg(explain(alloc))?
         .arg(file(alloc, "HIER", HIER))?
         .arg(file(alloc, "QUERIES", QUERIES))
@@ -355,28 +356,35 @@ const ORDER: &str =
     "Which nodes are contracted first: with edges those that leave the fewest arcs; neighbours also counts contracted neighbours, and depth the depth of a node: try depth first";
 
 const STINT: &str =
-    "Number of contractions after which a thread uses the next order, the requested one first and then the others: 1 to 1099511627776; without it a thread keeps the requested one";
+    "Switch a thread to its next order after C contractions, the requested one first and then the others: 1 to 1099511627776; without it a thread keeps the requested one";
 
 const PROGRESS: &str =
     "Show on standard error how many nodes are contracted and how long the rest may take, if that is a terminal, and at the end what was made";
 
 const EXPLAIN: &str =
-    "Explain a refusal in more lines on standard error, as is done if that is a terminal";
+    "Explain a refusal in more lines on standard error, as is done if that is a terminal, or with ROUTECLI_EXPLAIN=1";
 
 const HIER: &str = "Hierarchy file that prepare wrote";
 
 const STATUSES: &str =
-    "Exit status: 0 success, 2 command line, 3 graph file, 4 hierarchy file, 5 query file, 6 out of memory, 7 read or write failed, 8 threads disagree, 9 hierarchy is wrong, 10 not shown to be right";
+    "Exit status: 0 success, 2 command line, 3 graph file, 4 hierarchy file, 5 query file, 6 out of memory, 7 read or write failed, 8 threads disagree, 9 hierarchy is wrong, 10 not shown to be right\n\n\
+Example: routecli prepare --order depth net.gr net.rch && routecli route net.rch net.pairs";
 
 const PREPARING: &str =
-    "Options never affect whether answers are right, only the time that preparing takes and the size of OUT.";
+    "Options never affect whether answers are right, only the time that preparing takes and the size of OUT.\n\n\
+Example: routecli prepare --order depth net.gr net.rch";
+
+const ROUTING: &str = "Example: routecli route net.rch net.pairs\n\n\
+With a first pair from node 1 to node 3 it may print r 1 3 700 2 1 2 3: the pair, the length, 2 arcs, and 3 nodes.";
 
 const SERVING: &str =
     "q S T asks for a shortest path, d S T for its length, b S C .. : T D .. for the shortest path from any start S to any end T, with the lengths C and D added.\n\n\
-A comment line gets c; an invalid line gets e and the error's name.";
+A comment line gets c; an invalid line gets e and the error's name.\n\n\
+Example: echo d 1 3 | routecli serve net.rch";
 
 const INFORMING: &str =
-    "The file is read to its end, and refused if route refuses it; the bound is the greatest length that a path may have.";
+    "The file is read to its end, and refused if route refuses it; the bound is the greatest length that a path may have.\n\n\
+Example: routecli info net.rch";
 
 const CHECKED: &str = "Hierarchy file to check";
 
@@ -385,8 +393,10 @@ const CHECK_PROGRESS: &str =
 
 const CHECKING: &str =
     "It prints right, with status 0; wrong: and what shows that, with status 9; or not shown: and where, with status 10, which is no proof that the file is wrong.\n\n\
-From a file that is right, route and serve answer with shortest paths of GRAPH.";
+From a file that is right, route and serve answer with shortest paths of GRAPH.\n\n\
+Example: routecli check net.gr net.rch";
 
 const ANSWERING: &str =
     "With - for both files, standard input has both texts, separated by a line that is %.\n\n\
-It prepares the graph for every call: for more than a few thousand nodes use prepare once, and then route.";
+It prepares the graph for every call: for more than a few thousand nodes use prepare once, and then route.\n\n\
+Example: routecli answer net.gr net.pairs";

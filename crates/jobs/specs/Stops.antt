@@ -8,6 +8,7 @@ use Rattle.jobs.specs.declared.job.Stop.TheVariants as stops
 abbrev pub HasStatus : Stop → ℕ → Type 0
 HasStatus (stops.Told text) status = (status ≡ 0) ⊎ (status ≡ 7)
 HasStatus (stops.Refused text) status = status ≡ 2
+HasStatus stops.NotText status = status ≡ 2
 HasStatus stops.OneFile status = status ≡ 2
 HasStatus stops.OutOfMemory status = status ≡ 6
 

@@ -51,7 +51,7 @@ pub struct Check<'a> {
 pub struct Call<'a> {
     /// The job.
     pub job: Job<'a>,
-    /// Whether a refusal is explained also where standard error is no terminal.
+    /// Whether a refusal is explained even if standard error is no terminal.
     pub explain: bool,
 }
 
@@ -62,6 +62,8 @@ pub enum Stop {
     Told(String),
     /// The arguments were refused.
     Refused(String),
+    /// An argument isn't text in UTF-8.
+    NotText,
     /// The graph and the file that is made for its hierarchy are one file.
     OneFile,
     /// Out of memory.

@@ -24,5 +24,5 @@ pub use job::{Call, Check, Job, Stop};
 pub use orders::{Order, Orders};
 pub use preparation::Preparation;
 pub use stint::Stint;
-pub use stopping::{end, show_stop};
+pub use stopping::show_stop;
 pub use workers::Workers;

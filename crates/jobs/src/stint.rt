@@ -12,7 +12,7 @@ impl Stint {
     /// The greatest number of commits.
     pub const MAX: u64 = 1_099_511_627_776;
 
-    /// Returns this many commits, or `None` where that is none or more than the greatest number.
+    /// Returns this many commits, or `None` if that is none or more than the greatest number.
     pub fn new(commits: u64) -> Option<Stint>
         ensures commits { IfSome result (λ stint. stint.commits ≡ commits) }
         ensures outside { IfNone result ((commits ≡ 0) ⊎ (2 ^ 40 < commits)) }

@@ -19,13 +19,14 @@ pub fn show_stop<W: Write, E: Write>(stop: &Stop, out: &mut W, err: &mut E) -> u
             let _ = err.write_all(text.as_bytes());
             2
         }
+        Stop::NotText => end(2, "an argument isn't text in UTF-8", err),
         Stop::OneFile => end(2, "GRAPH and OUT are one file", err),
         Stop::OutOfMemory => end(6, "memory", err),
     }
 }
 
-/// Writes a line of the program's own and returns the status. A line that can't be written is not reported.
-pub fn end<E: Write>(status: u8, line: &str, err: &mut E) -> u8
+// Writes a line of the program's own and returns the status. A line that can't be written is not reported.
+fn end<E: Write>(status: u8, line: &str, err: &mut E) -> u8
     ensures { result ≡ status }
 {
     let _ = writeln!(err, "routecli: {line}");

@@ -11,7 +11,7 @@ impl Workers {
     /// The greatest number.
     pub const MAX: u32 = 64;
 
-    /// Returns this many workers, or `None` where that is more than the greatest number.
+    /// Returns this many workers, or `None` if that is more than the greatest number.
     pub fn new(count: u32) -> Option<Workers>
         ensures count { IfSome result (λ workers. workers.count ≡ count) }
         ensures few { IfNone result (64 < count) }

@@ -1,5 +1,5 @@
+mod Joining
 mod OneForEach
 mod Putting
+mod Outcomes
 mod Statuses
-mod Stops
-mod Verdicts

@@ -1,55 +1,56 @@
--- What the status of a preparation says where its bytes are put at a destination.
+-- What the outcome of a preparation says where its bytes are put at a destination.
 use Rattle.std.proofs.Common.{ℕ, ◌≡◌, List, [], Option, refl, sym, subst, inl, inr, ap, ◌∙◌}
 use Rattle.std.specs.Prelude.{◌⊎◌, Some, None, option_map, IfSome}
-use Rattle.ch_service.specs.declared.cause.Cause.{Cause}
-use Rattle.ch_service.specs.declared.cause.Cause.TheVariants as causes
-use Rattle.ch_service.specs.Outcome.{Writes}
-use Rattle.ch_service.specs.Refusals.{RefusesPreparing}
+use Rattle.outcomes.specs.Outcomes.{status_after}
+use Rattle.outcomes.specs.declared.cause.Cause.TheVariants as causes
+use Rattle.outcomes.specs.declared.outcome.Outcome.{Outcome}
+use Rattle.outcomes.specs.declared.outcome.Outcome.TheVariants.{Done, Wrong, NotShown, Refused}
+use Rattle.ch_service.specs.Outcome.{IsGraphText, Writes}
 use Rattle.ch_service.specs.Route.{Prepares}
 use Rattle.performing.specs.Destination.{HasPrepared}
-use Rattle.performing.specs.Status.{TellsPrepared}
+use Rattle.performing.specs.Status.{IsPreparingStatus, TellsPrepared, TellsPut}
+use Rattle.performing.proofs.Outcomes.{is_done, is_refused}
+use Rattle.performing.proofs.Statuses.{preparing_end}
 
 -- what was written, where the bytes aren't known
 untold_file : (graph old new : Option (List ℕ)) → IfSome graph (λ text. Writes (Prepares text) old new) → IfSome graph (λ text. Writes (Prepares text) None None)
 untold_file None old new file = tt
 untold_file (Some text) old new file = (file.0, file.1, tt)
 
-untold_refusal : (graph old new : Option (List ℕ)) (c : Cause) → RefusesPreparing graph old new c → RefusesPreparing graph None None c
-untold_refusal graph old new (causes.Graph fault) f = (f.0, tt)
-untold_refusal graph old new (causes.Queries fault) f = absurd f
-untold_refusal graph old new (causes.Hierarchy fault) f = absurd f
-untold_refusal graph old new causes.TooLong f = absurd f
-untold_refusal graph old new causes.Memory f = tt
-untold_refusal graph old new causes.Read f = tt
-untold_refusal None old new (causes.Write fault) f = tt
-untold_refusal (Some text) old new (causes.Write fault) f = (f.0, f.1, f.2, tt)
-untold_refusal graph old new causes.Options f = absurd f
-untold_refusal graph old new causes.Mixed f = (f.0, tt)
+-- what an outcome says of the text alone
+untold : (outcome : Outcome) (graph old new : Option (List ℕ)) → TellsPrepared outcome graph old new → TellsPut outcome graph
+untold Done graph old new t = is_done _ _ (untold_file graph old new (t.done refl))
+untold Wrong graph old new t = absurd (t.no_verdict.0 refl)
+untold NotShown graph old new t = absurd (t.no_verdict.1 refl)
+untold (Refused (causes.Graph fault)) graph old new t = is_refused (causes.Graph fault) _ _ ((t.refused (causes.Graph fault) refl).0, tt)
+untold (Refused (causes.Queries fault)) graph old new t = absurd (t.refused (causes.Queries fault) refl)
+untold (Refused (causes.Hierarchy fault)) graph old new t = absurd (t.refused (causes.Hierarchy fault) refl)
+untold (Refused causes.OldVersion) graph old new t = absurd (t.refused causes.OldVersion refl)
+untold (Refused causes.TooLong) graph old new t = absurd (t.refused causes.TooLong refl)
+untold (Refused causes.Memory) graph old new t = is_refused causes.Memory _ _ tt
+untold (Refused (causes.Read input)) graph old new t = is_refused (causes.Read input) _ _ ((t.refused (causes.Read input) refl).0, tt)
+untold (Refused (causes.Write fault)) None old new t = is_refused (causes.Write fault) _ _ tt
+untold (Refused (causes.Write fault)) (Some text) old new t = let part = t.refused (causes.Write fault) refl in is_refused (causes.Write fault) _ _ (part.0, part.1, part.2, tt)
+untold (Refused causes.Flush) graph old new t = absurd (t.refused causes.Flush refl)
+untold (Refused causes.Options) graph old new t = absurd (t.refused causes.Options refl)
+untold (Refused causes.Mixed) graph old new t = is_refused causes.Mixed _ _ ((t.refused causes.Mixed refl).0, tt)
 
--- what a status says of the text alone
-untold : (graph old new : Option (List ℕ)) (status : ℕ) → TellsPrepared status graph old new → TellsPrepared status graph None None
-untold graph old new status ends = record {
-  done = λ is. untold_file graph old new (ends.done is);
-  refused = λ other. let why = ends.refused other in (why.0, why.1, untold_refusal graph old new why.0 why.2);
-}
+-- a text of which a hierarchy was prepared spells a graph
+is_text : (graph old new : Option (List ℕ)) → IfSome graph (λ text. Writes (Prepares text) old new) → IfSome graph IsGraphText
+is_text None old new file = tt
+is_text (Some text) old new file = (file.1.graph, file.1.graph_reads)
 
--- where memory ran out before the text was read
-pub no_memory : (graph : Option (List ℕ)) (status : ℕ) → status ≡ 6 → TellsPrepared status graph None None
-no_memory graph status is = record { done = λ zero. absurd (cc); refused = λ other. (causes.Memory, is, tt) }
+-- what the outcome says of the text once the draft was put or thrown away, and its status
+pub finished : (graph old new : Option (List ℕ)) (prepared result : Outcome) → (result ≡ prepared) ⊎ ((prepared ≡ Done) × (result ≡ Refused causes.Flush)) → TellsPrepared prepared graph old new → TellsPut result graph × IsPreparingStatus (status_after result)
+finished graph old new prepared result (inl is) t = subst (λ (o : Outcome). TellsPut o graph × IsPreparingStatus (status_after o)) (sym is) (untold prepared graph old new t, (preparing_end prepared graph old new t).0)
+finished graph old new prepared result (inr failed) t =
+    subst (λ (o : Outcome). TellsPut o graph × IsPreparingStatus (status_after o)) (sym failed.1)
+    (is_text graph old new (t.done failed.0), inr (inr (inr (inl refl))))
 
--- where a file can't be put: 7 says nothing of the text, since a read may have failed
-refused_destination : (graph : Option (List ℕ)) → TellsPrepared 7 graph None None
-refused_destination graph = record { done = λ seven. absurd (cc); refused = λ other. (causes.Read, refl, tt) }
-
--- what the status says of the text once the draft was put or thrown away
-pub finished : (graph old new : Option (List ℕ)) (status result : ℕ) → (result ≡ status) ⊎ ((status ≡ 0) × (result ≡ 7)) → TellsPrepared status graph old new → TellsPrepared result graph None None
-finished graph old new status result (inl is) ends = subst (λ n. TellsPrepared n graph None None) (sym is) (untold graph old new status ends)
-finished graph old new status result (inr failed) ends = subst (λ n. TellsPrepared n graph None None) (sym failed.1) (refused_destination graph)
-
--- where it is 0, so was that of the work
-pub was_done : (status result : ℕ) → (result ≡ status) ⊎ ((status ≡ 0) × (result ≡ 7)) → result ≡ 0 → status ≡ 0
-was_done status result (inl is) zero = sym is ∙ zero
-was_done status result (inr failed) zero = failed.0
+-- where it is done, so was the work
+pub was_done : (prepared result : Outcome) → (result ≡ prepared) ⊎ ((prepared ≡ Done) × (result ≡ Refused causes.Flush)) → result ≡ Done → prepared ≡ Done
+was_done prepared result (inl is) done = sym is ∙ done
+was_done prepared result (inr failed) done = failed.0
 
 -- all bytes of a draft that was empty
 whole : (graph : List ℕ) (new : Option (List ℕ)) (stands : Option (Option (List ℕ))) → stands ≡ option_map Some new → Writes (Prepares graph) (Some []) new → (bytes : List ℕ) × Prepares graph bytes × (stands ≡ Some (Some bytes))

@@ -1,12 +1,18 @@
--- How the program ends.
-use Rattle.std.specs.Prelude.{ℕ, ◌≡◌, ◌≢◌, ◌⊎◌, List, Option, Some, IfSome, Result, Ok, Err, ⊤}
+-- What the outcome of a job says, and its status.
+use Rattle.std.specs.Prelude.{ℕ, ◌≡◌, ◌⊎◌, List, Option, Some, None, option_map, IfSome, MatchBool, Result, Ok, Err, ⊤}
 use Rattle.std.specs.Io.KnownBytes.{Appends}
-use Rattle.ch_service.specs.declared.cause.Cause.{Cause}
-use Rattle.ch_service.specs.declared.cause.Cause.TheVariants as causes
+use Rattle.outcomes.specs.Causes.{of_hierarchy}
+use Rattle.outcomes.specs.Outcomes.{Ends, status_after}
+use Rattle.outcomes.specs.declared.cause.Cause.{Cause}
+use Rattle.outcomes.specs.declared.cause.Cause.TheVariants as causes
+use Rattle.outcomes.specs.declared.cause.Input.TheVariants as inputs
+use Rattle.outcomes.specs.declared.outcome.Outcome.{Outcome}
+use Rattle.outcomes.specs.declared.outcome.Outcome.TheVariants as outcomes
 use Rattle.ch_service.specs.declared.error.ServiceError.{ServiceError}
 use Rattle.ch_service.specs.Answer.{AnswersByFewest}
-use Rattle.ch_service.specs.Cause.{cause_of, of_file, of_text}
-use Rattle.ch_service.specs.Outcome.{IfTold, Writes}
+use Rattle.ch_service.specs.Cause.{cause_of}
+use Rattle.ch_service.specs.Joined.{graph_part, pairs_part}
+use Rattle.ch_service.specs.Outcome.{IfTold, IsGraphText, Writes}
 use Rattle.ch_service.specs.Refusals.{RefusesAnswers, RefusesPreparing, RefusesRoutes}
 use Rattle.ch_service.specs.Route.{Prepares, Routes}
 use Rattle.ch_serve.specs.Serving.{IsFileFault, KeepsBefore, Serves, ServesFirst, StopsServing}
@@ -14,104 +20,94 @@ use Rattle.ch_serve.specs.declared.error.ServeError.{ServeError}
 use Rattle.ch_serve.specs.declared.error.ServeError.TheVariants as stops
 use Rattle.ch_verify.specs.Refusal.{RefusesCheck}
 use Rattle.ch_verify.specs.Verdict.{IsWrong, Says, verdict_line}
-use Rattle.ch_verify.specs.declared.error.VerifyError.{VerifyError}
-use Rattle.ch_verify.specs.declared.error.VerifyError.TheVariants as unchecked
+use Rattle.ch_verify.specs.declared.verdict.Doubt.{Doubt}
+use Rattle.ch_verify.specs.declared.verdict.Refutation.{Refutation}
 use Rattle.ch_verify.specs.declared.verdict.Verdict.{Verdict}
-use Rattle.ch_verify.specs.declared.verdict.Verdict.TheVariants.{Right, Wrong, NotShown}
+use Rattle.ch_verify.specs.declared.verdict.Verdict.TheVariants as verdicts
 use Rattle.hierinfo.specs.Info.{Informs, RefusesInfo}
-use Rattle.hierinfo.specs.declared.error.InfoError.{InfoError}
-use Rattle.hierinfo.specs.declared.error.InfoError.TheVariants as infos
+use Rattle.jobs.specs.Job.{is_joined}
 use Rattle.jobs.specs.declared.job.Job.{Job}
 use Rattle.jobs.specs.declared.job.Job.TheVariants.{Answer, Prepare, Route, Serve, Info, Check}
 
--- The status of a refusal, by what it comes of. A route that is too long is a fault of the hierarchy, and bad options
--- would be one of the command line.
-abbrev pub status_of : Cause → ℕ
-status_of causes.Options = 2
-status_of (causes.Graph fault) = 3
-status_of (causes.Hierarchy fault) = 4
-status_of causes.TooLong = 4
-status_of (causes.Queries fault) = 5
-status_of causes.Memory = 6
-status_of causes.Read = 7
-status_of (causes.Write fault) = 7
-status_of causes.Mixed = 8
+-- after a call that prepares or answers
+abbrev pub outcome_of : Result ⊤ ServiceError → Outcome
+outcome_of (Ok done) = outcomes.Done
+outcome_of (Err e) = outcomes.Refused (cause_of e)
 
--- the status after a call
-abbrev pub status_after : Result ⊤ ServiceError → ℕ
-status_after (Ok done) = 0
-status_after (Err e) = status_of (cause_of e)
+-- what a service comes of that ended before its requests did
+abbrev pub stop_cause : ServeError → Cause
+stop_cause (stops.Hierarchy fault) = of_hierarchy fault
+stop_cause stops.OutOfMemory = causes.Memory
+stop_cause stops.Read = causes.Read inputs.Requests
+stop_cause (stops.Write fault) = causes.Write fault
+stop_cause stops.Flush = causes.Flush
 
--- What a status says: that all is done, or that a refusal has this status, and what it says by what it comes of.
-pub record Ends (status : ℕ) (Done : Type 0) (Refuses : Cause → Type 0) : Type 0 where
-  pub done : status ≡ 0 → Done
-  pub refused : status ≢ 0 → (cause : Cause) × (status ≡ status_of cause) × Refuses cause
+-- after a check that came to a verdict
+abbrev pub outcome_found : Verdict → Outcome
+outcome_found verdicts.Right = outcomes.Done
+outcome_found (verdicts.Wrong refutation) = outcomes.Wrong
+outcome_found (verdicts.NotShown doubt) = outcomes.NotShown
 
--- what the status of an answering job says of the texts of the graph and the pairs, and of what was written
-abbrev pub Tells : ℕ → Option (List ℕ) → Option (List ℕ) → Option (List ℕ) → Option (List ℕ) → Type 0
-Tells status graph pairs old new = Ends status (IfTold graph pairs (λ graph_text pairs_text. Writes (AnswersByFewest graph_text pairs_text) old new)) (RefusesAnswers graph pairs old new)
+-- What the outcome of an answering job says of the texts of the graph and the pairs, and of what was written.
+abbrev pub TellsAnswers : Outcome → Option (List ℕ) → Option (List ℕ) → Option (List ℕ) → Option (List ℕ) → Type 0
+TellsAnswers outcome graph pairs old new = Ends outcome (IfTold graph pairs (λ graph_text pairs_text. Writes (AnswersByFewest graph_text pairs_text) old new)) (RefusesAnswers graph pairs old new)
 
 -- that of a preparing job, of the text of the graph
-abbrev pub TellsPrepared : ℕ → Option (List ℕ) → Option (List ℕ) → Option (List ℕ) → Type 0
-TellsPrepared status graph old new = Ends status (IfSome graph (λ graph_text. Writes (Prepares graph_text) old new)) (RefusesPreparing graph old new)
+abbrev pub TellsPrepared : Outcome → Option (List ℕ) → Option (List ℕ) → Option (List ℕ) → Type 0
+TellsPrepared outcome graph old new = Ends outcome (IfSome graph (λ graph_text. Writes (Prepares graph_text) old new)) (RefusesPreparing graph old new)
 
--- and that of a routing job, of the file of the hierarchy and the text of the pairs
-abbrev pub TellsRouted : ℕ → Option (List ℕ) → Option (List ℕ) → Option (List ℕ) → Option (List ℕ) → Type 0
-TellsRouted status file pairs old new = Ends status (IfTold file pairs (λ bytes pairs_text. Writes (Routes bytes pairs_text) old new)) (RefusesRoutes file pairs old new)
+-- the same of one whose file is put in its place, or can't be
+abbrev pub TellsPut : Outcome → Option (List ℕ) → Type 0
+TellsPut (outcomes.Refused causes.Flush) graph = IfSome graph IsGraphText
+TellsPut outcome graph = TellsPrepared outcome graph None None
 
--- the status of a service that ended before its requests did
-abbrev pub status_stopped : ServeError → ℕ
-status_stopped (stops.Hierarchy fault) = status_of (of_file fault)
-status_stopped stops.OutOfMemory = 6
-status_stopped stops.Read = 7
-status_stopped (stops.Write fault) = 7
-status_stopped stops.Flush = 7
+-- that of a routing job, of the file of the hierarchy and the text of the pairs
+abbrev pub TellsRouted : Outcome → Option (List ℕ) → Option (List ℕ) → Option (List ℕ) → Option (List ℕ) → Type 0
+TellsRouted outcome file pairs old new = Ends outcome (IfTold file pairs (λ bytes pairs_text. Writes (Routes bytes pairs_text) old new)) (RefusesRoutes file pairs old new)
 
--- and that of a serving job, of the file of the hierarchy and of the requests that a reader had and has left
-pub record TellsServed (status : ℕ) (file had left old new : Option (List ℕ)) : Type 0 where
-  pub done : status ≡ 0 → IfTold file had (λ bytes requests_text. Writes (Serves bytes requests_text) old new)
-  pub refused : status ≢ 0 → (e : ServeError) × (status ≡ status_stopped e) × KeepsBefore old new e × IfSome file (λ bytes. IsFileFault bytes e) × IfSome file (λ bytes. StopsServing (λ count. ServesFirst count bytes) had left old new e)
+-- where a service ended before its requests did, of the file of the hierarchy and of the requests that a reader had and has left
+abbrev pub StopsBy : Option (List ℕ) → Option (List ℕ) → Option (List ℕ) → Option (List ℕ) → Option (List ℕ) → Cause → Type 0
+StopsBy file had left old new cause = (e : ServeError) × (cause ≡ stop_cause e) × KeepsBefore old new e × IfSome file (λ bytes. IsFileFault bytes e) × IfSome file (λ bytes. StopsServing (λ count. ServesFirst count bytes) had left old new e)
 
--- the status where what a hierarchy file has isn't printed, or not all
-abbrev pub status_uninformed : InfoError → ℕ
-status_uninformed (infos.Hierarchy fault) = status_of (of_file fault)
-status_uninformed infos.OutOfMemory = 6
-status_uninformed (infos.Write fault) = 7
+-- that of a serving job
+abbrev pub TellsServed : Outcome → Option (List ℕ) → Option (List ℕ) → Option (List ℕ) → Option (List ℕ) → Option (List ℕ) → Type 0
+TellsServed outcome file had left old new = Ends outcome (IfTold file had (λ bytes requests_text. Writes (Serves bytes requests_text) old new)) (StopsBy file had left old new)
 
--- and that of a job that prints it
-pub record TellsInfo (status : ℕ) (file old new : Option (List ℕ)) : Type 0 where
-  pub done : status ≡ 0 → IfSome file (λ bytes. Writes (Informs bytes) old new)
-  pub refused : status ≢ 0 → (e : InfoError) × (status ≡ status_uninformed e) × RefusesInfo file old new e
+-- that of a job that prints what a hierarchy file has
+abbrev pub TellsInfo : Outcome → Option (List ℕ) → Option (List ℕ) → Option (List ℕ) → Type 0
+TellsInfo outcome file old new = Ends outcome (IfSome file (λ bytes. Writes (Informs bytes) old new)) (RefusesInfo file old new)
 
--- the status of a verdict
-abbrev pub status_found : Verdict → ℕ
-status_found Right = 0
-status_found (Wrong refutation) = 9
-status_found (NotShown doubt) = 10
+-- And that of a checking job, of the text of the graph and the file of the hierarchy. Done: it is right for that graph.
+-- Wrong: it isn't. These and NotShown come of a verdict, whose line is written.
+pub record TellsChecked (outcome : Outcome) (graph file old new : Option (List ℕ)) : Type 0 where
+  pub right : outcome ≡ outcomes.Done → IfTold graph file Prepares × Appends old new (verdict_line verdicts.Right)
+  pub wrong : outcome ≡ outcomes.Wrong → (refutation : Refutation) × IfTold graph file IsWrong × Appends old new (verdict_line (verdicts.Wrong refutation))
+  pub not_shown : outcome ≡ outcomes.NotShown → (doubt : Doubt) × IfTold graph file (Says (verdicts.NotShown doubt)) × Appends old new (verdict_line (verdicts.NotShown doubt))
+  pub refused : (cause : Cause) → outcome ≡ outcomes.Refused cause → RefusesCheck graph file old new cause
 
--- and where there is none, or its line isn't written
-abbrev pub status_unchecked : VerifyError → ℕ
-status_unchecked (unchecked.Graph fault) = status_of (of_text fault.kind (causes.Graph fault))
-status_unchecked (unchecked.Hierarchy fault) = status_of (of_file fault)
-status_unchecked unchecked.OldVersion = 4
-status_unchecked unchecked.OutOfMemory = 6
-status_unchecked (unchecked.Write fault) = 7
+-- what that of any job says of what its two readers had and the second has left, and of what was written
+abbrev pub TellsOf : Job → Outcome → Option (List ℕ) → Option (List ℕ) → Option (List ℕ) → Option (List ℕ) → Option (List ℕ) → Type 0
+TellsOf (Answer graph queries) outcome first second left old new =
+    MatchBool (is_joined (Answer graph queries)) (TellsAnswers outcome (option_map graph_part first) (option_map pairs_part first) old new) (TellsAnswers outcome first second old new)
+TellsOf (Prepare preparation) outcome first second left old new = TellsPrepared outcome first old new
+TellsOf (Route hierarchy queries) outcome first second left old new = TellsRouted outcome first second old new
+TellsOf (Serve hierarchy) outcome first second left old new = TellsServed outcome first second left old new
+TellsOf (Info hierarchy) outcome first second left old new = TellsInfo outcome first old new
+TellsOf (Check check) outcome first second left old new = TellsChecked outcome first second old new
 
--- a check came to a verdict of this status, and wrote its line
-abbrev pub Finds : ℕ → Option (List ℕ) → Option (List ℕ) → Option (List ℕ) → Option (List ℕ) → Type 0
-Finds status graph file old new = (v : Verdict) × (status ≡ status_found v) × IfTold graph file (Says v) × Appends old new (verdict_line v)
+pub record Tells (job : Job) (outcome : Outcome) (first second left old new : Option (List ℕ)) : Type 0 where
+  pub of_job : TellsOf job outcome first second left old new
 
--- What the status of a checking job says of the text of the graph and the file of the hierarchy. 0: it is right for that
--- graph. 9: it isn't. These and 10 come of a verdict, and any other of a refusal.
-pub record TellsChecked (status : ℕ) (graph file old new : Option (List ℕ)) : Type 0 where
-  pub right : status ≡ 0 → IfTold graph file Prepares
-  pub wrong : status ≡ 9 → IfTold graph file IsWrong
-  pub ended : Finds status graph file old new ⊎ ((e : VerifyError) × (status ≡ status_unchecked e) × RefusesCheck graph file old new e)
+-- there is an outcome of this status of which this holds
+abbrev pub EndsWith : ℕ → (Outcome → Type 0) → Type 0
+EndsWith status Says = (outcome : Outcome) × (status ≡ status_after outcome) × Says outcome
 
--- Where a check of a file against the text of a graph ends with 0, and routing by that file does too, what is written are
--- answers over that graph by least walks with the fewest arcs, whoever made the file.
-abbrev pub CheckedRoutesAreExact : Type 0
-CheckedRoutesAreExact = (graph_text bytes pairs_text : List ℕ) (before after old new : Option (List ℕ)) → TellsChecked 0 (Some graph_text) (Some bytes) before after → TellsRouted 0 (Some bytes) (Some pairs_text) old new
+-- Where a job that tells this of the text of a graph and of a file ended with status 0, and routing by that file did too,
+-- what is written are answers over that graph by least walks with the fewest arcs.
+abbrev pub RoutesAreExactAfter : (List ℕ → List ℕ → Outcome → Type 0) → Type 0
+RoutesAreExactAfter TellsFile = (graph_text bytes pairs_text : List ℕ) (old new : Option (List ℕ))
+    → EndsWith 0 (TellsFile graph_text bytes)
+    → EndsWith 0 (λ outcome. TellsRouted outcome (Some bytes) (Some pairs_text) old new)
     → Writes (AnswersByFewest graph_text pairs_text) old new
 
 -- with which an answering job may end

@@ -1,16 +1,17 @@
 ghost use Rattle.std.specs.Prelude.{◌≡◌, [], IfOk};
-ghost use Rattle.std.specs.Io.KnownBytes.{Keeps};
 ghost use Rattle.ch_workers.specs.Options.{AreGood};
 ghost use Rattle.ch_workers.specs.declared.options.TheConstants.Options.{PLAIN};
 ghost use Rattle.jobs.specs.Orders.{stint_of};
-ghost use Rattle.performing.specs.Status.{IsPreparingStatus, TellsPrepared, status_after};
+ghost use Rattle.outcomes.specs.Outcomes.{status_after};
+ghost use Rattle.performing.specs.Status.{IsPreparingStatus, TellsPrepared, outcome_of};
 
 use crate::lists::a_list_each;
-use crate::status::status_after;
+use crate::outcome::outcome_of;
 use ch_estimate::{Depth, EdgeDifference, Estimator, Lease, Leases, Neighbours};
 use ch_service::{ServiceError, causes_tell_refusals, prepare_beside};
 use ch_workers::{Disposal, Gate, Options};
 use jobs::{Order, Preparation, Stint, Workers};
+use outcomes::Outcome;
 use std::alloc::{AllocError, Global};
 use std::io::{Read, Write};
 use std::sync::Wait;
@@ -30,72 +31,40 @@ pub fn options(workers: Workers, seed: u64, stint: Stint) -> Options
     }
 }
 
-/// Prepares a hierarchy of a graph, and returns the program's exit status.
+/// Prepares a hierarchy of a graph.
 ///
-/// `graph` gives the graph's text, and `out` gets the hierarchy. Of a refusal one line goes to `err`. The workers pass the
-/// gate. Takes the time and memory of [`prepare`](ch_service::prepare).
-pub fn perform_preparation<G: Read, W: Write, E: Write, P: Gate, R: Threads + Wait + Sync>(
+/// `graph` gives the graph's text, and `out` gets the hierarchy. The workers pass the gate. Takes the time and memory of
+/// [`prepare`](ch_service::prepare).
+pub fn perform_preparation<G: Read, W: Write, P: Gate, R: Threads + Wait + Sync>(
     rt: &R,
     alloc: Global,
     preparation: &Preparation<'_>,
     graph: &mut G,
     out: &mut W,
-    err: &mut E,
     gate: &P,
-) -> u8
+) -> Outcome
     ensures told { TellsPrepared result (G.remaining graph.old) (W.contents out.old) (W.contents out.new) }
-    ensures status { IsPreparingStatus result }
-    ensures mixed { result ≡ 8 → Keeps (W.contents out.old) (W.contents out.new) }
-    ensures quiet { result ≡ 0 → err.new ≡ err.old }
+    ensures status { IsPreparingStatus (status_after result) }
 {
     let mut disposal = Disposal::new();
-    let status = perform_preparation_beside(
-        rt,
-        alloc,
-        preparation,
-        graph,
-        out,
-        err,
-        gate,
-        &mut disposal,
-    );
+    let prepared = prepare_by(rt, alloc, preparation, graph, out, gate, &mut disposal);
     disposal.wait(rt);
-    status
+    outcome_of(prepared)
 }
 
-/// Prepares a hierarchy as [`perform_preparation`] does. What the build needs no longer may still be dropped after it has
-/// returned: `disposal` waits for that.
-pub fn perform_preparation_beside<G: Read, W: Write, E: Write, P: Gate, R: Threads + Wait + Sync>(
+/// Prepares a hierarchy of a graph by workers, each with an estimator for each of its orders. What the build needs no longer may
+/// still be dropped after it has returned: `disposal` waits for that. Takes memory for the estimators, and then that of
+/// `prepare_beside`.
+pub(crate) fn prepare_by<G: Read, W: Write, P: Gate, R: Threads + Wait + Sync>(
     rt: &R,
     alloc: Global,
     preparation: &Preparation<'_>,
     graph: &mut G,
     out: &mut W,
-    err: &mut E,
-    gate: &P,
-    disposal: &mut Disposal,
-) -> u8
-    ensures told { TellsPrepared result (G.remaining graph.old) (W.contents out.old) (W.contents out.new) }
-    ensures status { IsPreparingStatus result }
-    ensures mixed { result ≡ 8 → Keeps (W.contents out.old) (W.contents out.new) }
-    ensures quiet { result ≡ 0 → err.new ≡ err.old }
-{
-    let prepared = prepare_by(rt, alloc, graph, out, preparation, gate, disposal);
-    status_after(prepared, err)
-}
-
-// Prepares a hierarchy of a graph by workers, each with an estimator for each of its orders. Takes memory for the
-// estimators, and then that of `prepare_beside`.
-fn prepare_by<G: Read, W: Write, P: Gate, R: Threads + Wait + Sync>(
-    rt: &R,
-    alloc: Global,
-    graph: &mut G,
-    out: &mut W,
-    preparation: &Preparation<'_>,
     gate: &P,
     disposal: &mut Disposal,
 ) -> Result<(), ServiceError>
-    ensures { TellsPrepared (status_after result) (G.remaining graph.old) (W.contents out.old) (W.contents out.new) }
+    ensures { TellsPrepared (outcome_of result) (G.remaining graph.old) (W.contents out.old) (W.contents out.new) }
 {
     causes_tell_refusals();
     let options = options(preparation.workers, preparation.seed, preparation.stint());

@@ -1,73 +1,69 @@
-ghost use Rattle.std.specs.Prelude.{◌≡◌, ◌≢◌, ◌⊎◌, Some, None, option_map};
+ghost use Rattle.std.specs.Prelude.{◌≡◌, ◌≢◌, ◌⊎◌, Some, option_map};
+ghost use Rattle.outcomes.specs.Outcomes.{status_after};
+ghost use Rattle.outcomes.specs.declared.cause.Cause.TheVariants.{Flush};
+ghost use Rattle.outcomes.specs.declared.outcome.Outcome.TheVariants.{Done, Refused};
 ghost use Rattle.performing.specs.Destination.{HasPrepared};
-ghost use Rattle.performing.specs.Status.{IsPreparingStatus, TellsPrepared};
+ghost use Rattle.performing.specs.Status.{IsPreparingStatus, TellsPut};
 
-use crate::preparing::perform_preparation_beside;
+use crate::outcome::outcome_of;
+use crate::preparing::prepare_by;
 use ch_workers::{Disposal, Gate};
-use jobs::{Preparation, end};
+use jobs::Preparation;
+use outcomes::{Cause, Outcome};
 use std::alloc::Global;
-use std::io::{Read, Write};
+use std::io::Read;
 use std::sync::Wait;
 use std::thread::Threads;
 use whole_file::Destination;
 
-/// Prepares a hierarchy and puts it at its destination, whole, and returns the program's exit status.
+/// Prepares a hierarchy and puts it at its destination, whole.
 ///
-/// `graph` gives the graph's text. With status 0 the hierarchy file is at the destination, and with any other
-/// status what was there before. The status says of the text what it says in
-/// [`perform_preparation`](crate::perform_preparation). The workers pass the gate. Of a refusal one line goes to `err`.
-pub fn prepare_whole<G: Read, D: Destination, E: Write, P: Gate, R: Threads + Wait + Sync>(
+/// `graph` gives the graph's text. If it is done, the hierarchy file is at the destination, and else what was there
+/// before. The outcome says of the text what it says in [`perform_preparation`](crate::perform_preparation); where the file
+/// can't be put there, it is [`Cause::Flush`]. The workers pass the gate.
+pub fn prepare_whole<G: Read, D: Destination, P: Gate, R: Threads + Wait + Sync>(
     rt: &R,
     alloc: Global,
     preparation: &Preparation<'_>,
     graph: &mut G,
     destination: &mut D,
-    err: &mut E,
     gate: &P,
-) -> u8
-    ensures done { result ≡ 0 → HasPrepared (G.remaining graph.old) (D.stands destination.old) (D.stands destination.new) }
-    ensures kept { result ≢ 0 → D.stands destination.new ≡ D.stands destination.old }
-    ensures told { TellsPrepared result (G.remaining graph.old) None None }
-    ensures status { IsPreparingStatus result }
-    ensures quiet { result ≡ 0 → err.new ≡ err.old }
+) -> Outcome
+    ensures done { result ≡ Done → HasPrepared (G.remaining graph.old) (D.stands destination.old) (D.stands destination.new) }
+    ensures kept { result ≢ Done → D.stands destination.new ≡ D.stands destination.old }
+    ensures told { TellsPut result (G.remaining graph.old) }
+    ensures status { IsPreparingStatus (status_after result) }
 {
     let Ok(mut draft) = destination.draft() else {
-        return end(6, "memory", err);
+        return Outcome::Refused(Cause::Memory);
     };
     let mut disposal = Disposal::new();
-    let status = perform_preparation_beside(
+    let prepared = prepare_by(
         rt,
         alloc,
         preparation,
         graph,
         &mut draft,
-        err,
         gate,
         &mut disposal,
     );
-    let status = finish(destination, draft, status, err);
+    let outcome = finish(destination, draft, outcome_of(prepared));
     disposal.wait(rt);
-    status
+    outcome
 }
 
 // Puts the draft of a job that is done at its destination, and throws any other away.
-fn finish<D: Destination, E: Write>(
-    destination: &mut D,
-    draft: D::PendingFile,
-    status: u8,
-    err: &mut E,
-) -> u8
-    ensures done { result ≡ 0 → D.stands destination.new ≡ option_map Some (D.PendingFile.contents draft) }
-    ensures kept { result ≢ 0 → D.stands destination.new ≡ D.stands destination.old }
-    ensures status { (result ≡ status) ⊎ ((status ≡ 0) × (result ≡ 7)) }
-    ensures quiet { result ≡ 0 → err.new ≡ err.old }
+fn finish<D: Destination>(destination: &mut D, draft: D::PendingFile, prepared: Outcome) -> Outcome
+    ensures done { result ≡ Done → D.stands destination.new ≡ option_map Some (D.PendingFile.contents draft) }
+    ensures kept { result ≢ Done → D.stands destination.new ≡ D.stands destination.old }
+    ensures outcome { (result ≡ prepared) ⊎ ((prepared ≡ Done) × (result ≡ Refused Flush)) }
 {
-    if status != 0 {
+    let Outcome::Done = prepared else {
         destination.throw_away(draft);
-        return status;
-    }
+        return prepared;
+    };
     match destination.put(draft) {
-        Ok(()) => 0,
-        Err(_) => end(7, "write", err),
+        Ok(()) => Outcome::Done,
+        Err(_) => Outcome::Refused(Cause::Flush),
     }
 }

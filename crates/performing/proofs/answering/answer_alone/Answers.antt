@@ -1,5 +1,5 @@
 use Rattle.std.proofs.Common.{rules}
-use Rattle.performing.proofs.Statuses.{told, not_bad, wants_memory, unwritten}
+use Rattle.performing.proofs.Outcomes.{told, not_bad, wants_memory, unwritten}
 use Rattle.performing.proofs.answering.answer_alone.Goals as goal
 
 pub returns : goal.returns

@@ -1,9 +1,10 @@
-use Rattle.performing.proofs.Statuses.{after, joined_told, answering_end}
+use Rattle.performing.proofs.Outcomes.{after, joined_told}
+use Rattle.performing.proofs.Statuses.{answering_end}
 use Rattle.performing.proofs.answering.perform_joined.Goals as goal
 
 tells : goal.returns-clause-told
 tells g c =
-    after c.answer_joined.result _ _ _ c.status_after.ensures.status (joined_told _ _ _ c.answer_joined.result c.answer_joined.ensures.fewest
+    after _ _ _ _ c.outcome_of.ensures (joined_told _ _ _ c.answer_joined.result c.answer_joined.ensures.fewest
     (c.causes_tell_refusals.ensures.joined _ _ _ c.answer_joined.result c.answer_joined.ensures.good c.answer_joined.ensures.kinds c.answer_joined.ensures.fault c.answer_joined.ensures.untouched c.answer_joined.ensures.stops))
 
 pub returns-clause-told : goal.returns-clause-told
@@ -11,6 +12,3 @@ returns-clause-told g c = tells g c
 
 pub returns-clause-status : goal.returns-clause-status
 returns-clause-status g c = (answering_end _ _ _ _ _ (tells g c)).0
-
-pub returns-clause-mixed : goal.returns-clause-mixed
-returns-clause-mixed g c = (answering_end _ _ _ _ _ (tells g c)).1

@@ -1,9 +1,10 @@
-use Rattle.performing.proofs.Statuses.{told, after, routing_end}
+use Rattle.performing.proofs.Outcomes.{after, told}
+use Rattle.performing.proofs.Statuses.{routing_end}
 use Rattle.performing.proofs.routing.perform_route.Goals as goal
 
 tells : goal.returns-clause-told
 tells g c =
-    after c.route.result _ _ _ c.status_after.ensures.status (told c.route.result _ _ c.route.ensures.routes
+    after _ _ _ _ c.outcome_of.ensures (told c.route.result _ _ c.route.ensures.routes
     (c.causes_tell_refusals.ensures.routes _ _ _ _ c.route.result c.route.ensures.kinds c.route.ensures.fault c.route.ensures.untouched c.route.ensures.stops))
 
 pub returns-clause-told : goal.returns-clause-told

@@ -1,19 +1,15 @@
-use Rattle.std.proofs.Common.{refl, sym, subst, ◌∙◌}
-use Rattle.performing.specs.Status.{IsServingStatus}
-use Rattle.performing.proofs.Stops.{some_stop, stop_status}
+use Rattle.performing.proofs.Outcomes.{is_done, is_refused}
+use Rattle.performing.proofs.Statuses.{serving_end}
 use Rattle.performing.proofs.serving.perform_service.Goals as goal
 
 pub returns-in-Ok-clause-told : goal.returns-in-Ok-clause-told
-returns-in-Ok-clause-told g c = record { done = λ is. c.in-Ok.ensures.serves; refused = λ other. absurd (other refl) }
+returns-in-Ok-clause-told g c = is_done _ _ c.in-Ok.ensures.serves
+
+tells : goal.returns-in-Err-clause-told
+tells g c = is_refused _ _ _ (c.in-Err.error, c.stop_cause.ensures, c.in-Err.ensures.untouched, c.in-Err.ensures.fault, c.in-Err.ensures.stops)
 
 pub returns-in-Err-clause-told : goal.returns-in-Err-clause-told
-returns-in-Err-clause-told g c = record {
-  done = λ is. absurd (some_stop c.in-Err.error (sym c.report_stop.ensures ∙ is));
-  refused = λ other. (c.in-Err.error, c.report_stop.ensures, c.in-Err.ensures.untouched, c.in-Err.ensures.fault, c.in-Err.ensures.stops);
-}
+returns-in-Err-clause-told g c = tells g c
 
 pub returns-in-Err-clause-status : goal.returns-in-Err-clause-status
-returns-in-Err-clause-status g c = subst (λ n. IsServingStatus n) (sym c.report_stop.ensures) (stop_status c.in-Err.error)
-
-pub returns-in-Err-clause-quiet : goal.returns-in-Err-clause-quiet
-returns-in-Err-clause-quiet g c is = absurd (some_stop c.in-Err.error (sym c.report_stop.ensures ∙ is))
+returns-in-Err-clause-status g c = (serving_end _ _ _ _ _ _ (tells g c)).0
