@@ -1,84 +1,118 @@
-use crate::fields::{field, is, number_of};
+use crate::fields::{field, number_of};
 use crate::hints::{Text, hint};
 use crate::look::Look;
 use crate::shown::Shown;
+use grfile::GrError;
+use hierfile::HierError;
 use jobs::Job;
-use std::alloc::Global;
+use outcomes::{Cause, Input, Outcome};
 use std::fs;
 use std::io::{Error, Write};
 use std::rt::Files;
 
-/// What a read or a write failed at, for the line that names it.
+/// What couldn't be opened, read, written or flushed, and why.
 #[derive(Clone, Copy)]
-pub struct Trouble<'a> {
-    failed: Option<(&'a str, Error)>,
+pub struct Failure<'a> {
+    /// Its name: a file, a folder, or standard input or output.
+    pub name: &'a str,
+    /// Why it failed.
+    pub error: Error,
 }
 
-impl<'a> Trouble<'a> {
-    /// Nothing failed.
-    pub fn none() -> Trouble<'a> {
-        Trouble { failed: None }
-    }
-
-    /// Keeps the name of what failed and why, if it failed, and nothing did before.
-    pub fn note(&mut self, name: &'a str, failure: Option<Error>) {
-        if let (None, Some(error)) = (self.failed, failure) {
-            self.failed = Some((name, error));
+impl<'a> Failure<'a> {
+    /// Returns the failure of what has this name, if it failed.
+    pub fn of(name: &'a str, error: Option<Error>) -> Option<Failure<'a>> {
+        match error {
+            Some(error) => Some(Failure { name, error }),
+            None => None,
         }
     }
 }
 
-/// Explains the line that the program has written at a refusal, in some more lines.
+/// How a job ended, and what failed at it.
+#[derive(Clone, Copy)]
+pub struct Ended<'a> {
+    /// How it ended.
+    pub outcome: Outcome,
+    /// What failed, if something did.
+    pub failure: Option<Failure<'a>>,
+}
+
+/// Explains how a job ended, in some lines below the one that the program prints at a refusal.
 ///
-/// `said` is that line. The files of the job are looked at once more, where they are regular files. Where nothing is known
-/// that would help, nothing is written.
+/// The files of the job are read once more, if they are regular files. If nothing is known that would help, nothing is written.
 pub fn explain<R: Files + AllocGlobal, E: Write>(
     rt: &R,
     job: &Job<'_>,
-    said: &[u8],
-    trouble: &Trouble<'_>,
+    ended: &Ended<'_>,
     err: &mut E,
 ) {
-    let part = field(said, 1);
-    let name = field(said, 2);
-    if is(part, "read") || is(part, "write") {
-        explain_trouble(trouble, err);
-    } else if is(part, "memory") {
-        let _ = writeln!(
-            err,
-            "  the system refused memory: is a limit set, or is the machine too small for this network?"
-        );
-    } else if is(part, "hierarchy:") {
-        if let Some(path) = hierarchy_of(job) {
-            explain_hierarchy(rt, path, name, err);
-        }
-    } else if is(part, "graph:") || is(part, "queries:") {
-        explain_text(rt, job, is(part, "queries:"), name, field(said, 4), err);
+    match ended.outcome {
+        Outcome::Done => {}
+        Outcome::Wrong | Outcome::NotShown => explain_verdict(job, ended.outcome, err),
+        Outcome::Refused(cause) => match cause {
+            Cause::Read(_) | Cause::Write(_) | Cause::Flush => explain_failure(ended.failure, err),
+            _ => explain_cause(rt, job, &cause, err),
+        },
     }
 }
 
-/// Explains what a check found whose hierarchy wasn't shown to be right, by its status: 9 or 10.
-pub fn explain_verdict<E: Write>(job: &Job<'_>, status: u8, err: &mut E) {
+// Explains what a check found whose hierarchy wasn't shown to be right.
+fn explain_verdict<E: Write>(job: &Job<'_>, outcome: Outcome, err: &mut E) {
     let Job::Check(check) = job else {
         return;
     };
     let (graph, hierarchy) = (check.graph, check.hierarchy);
-    if status == 9 {
-        let _ = writeln!(
+    let _ = if outcome == Outcome::Wrong {
+        writeln!(
             err,
             "  {hierarchy} gives wrong answers for {graph}: is it of another graph? prepare it again"
-        );
-    } else if status == 10 {
-        let _ = writeln!(
+        )
+    } else {
+        writeln!(
             err,
             "  {hierarchy} may be right or wrong for {graph}: prepare it again to be sure"
-        );
+        )
+    };
+}
+
+// Explains a refusal that no failed call is behind.
+fn explain_cause<R: Files + AllocGlobal, E: Write>(
+    rt: &R,
+    job: &Job<'_>,
+    cause: &Cause,
+    err: &mut E,
+) {
+    let hierarchy = path_of(job, Input::Hierarchy).unwrap_or("the hierarchy");
+    match cause {
+        Cause::Graph(fault) => explain_text(rt, job, Input::Graph, *fault, err),
+        Cause::Queries(fault) => explain_text(rt, job, Input::Queries, *fault, err),
+        Cause::Hierarchy(fault) => explain_hierarchy(rt, hierarchy, *fault, err),
+        Cause::OldVersion => {
+            let _ = writeln!(
+                err,
+                "  {hierarchy} is of version 1, which can't be checked: prepare it again"
+            );
+        }
+        Cause::TooLong => {
+            let _ = writeln!(
+                err,
+                "  {hierarchy} is the hierarchy of no graph: prepare it again"
+            );
+        }
+        Cause::Memory => {
+            let _ = writeln!(
+                err,
+                "  the system refused memory: is a limit set, or is the machine too small for this network?"
+            );
+        }
+        _ => {}
     }
 }
 
-// Names the file, and why it couldn't be read or written.
-fn explain_trouble<E: Write>(trouble: &Trouble<'_>, err: &mut E) {
-    let Some((name, error)) = trouble.failed else {
+// Names what couldn't be read or written, and says why.
+fn explain_failure<E: Write>(failure: Option<Failure<'_>>, err: &mut E) {
+    let Some(Failure { name, error }) = failure else {
         return;
     };
     let _ = writeln!(err, "  {name}: {error}");
@@ -90,32 +124,19 @@ fn explain_trouble<E: Write>(trouble: &Trouble<'_>, err: &mut E) {
     }
 }
 
-// The file of the job's hierarchy, if it reads one.
-fn hierarchy_of<'a>(job: &Job<'a>) -> Option<&'a str> {
-    match job {
-        Job::Route { hierarchy, .. } | Job::Serve { hierarchy } | Job::Info { hierarchy } => {
-            Some(hierarchy)
-        }
-        Job::Check(check) => Some(check.hierarchy),
-        Job::Answer { .. } | Job::Prepare(_) => None,
-    }
-}
-
-// The file of the job's graph, if it reads one by its name.
-fn graph_of<'a>(job: &Job<'a>) -> Option<&'a str> {
-    match job {
-        Job::Answer { graph, .. } if !job.is_joined() => Some(graph),
-        Job::Prepare(preparation) => Some(preparation.graph),
-        Job::Check(check) => Some(check.graph),
-        _ => None,
-    }
-}
-
-// The file of the job's pairs, if it reads one by its name.
-fn pairs_of<'a>(job: &Job<'a>) -> Option<&'a str> {
-    match job {
-        Job::Answer { queries, .. } if !job.is_joined() => Some(queries),
-        Job::Route { queries, .. } => Some(queries),
+// The file of an input of the job, if it reads one by its name.
+fn path_of<'a>(job: &Job<'a>, input: Input) -> Option<&'a str> {
+    match (input, *job) {
+        (_, Job::Answer { .. }) if job.is_joined() => None,
+        (Input::Graph, Job::Answer { graph, .. }) => Some(graph),
+        (Input::Graph, Job::Prepare(preparation)) => Some(preparation.graph),
+        (Input::Graph, Job::Check(check)) => Some(check.graph),
+        (Input::Queries, Job::Answer { queries, .. } | Job::Route { queries, .. }) => Some(queries),
+        (
+            Input::Hierarchy,
+            Job::Route { hierarchy, .. } | Job::Serve { hierarchy } | Job::Info { hierarchy },
+        ) => Some(hierarchy),
+        (Input::Hierarchy, Job::Check(check)) => Some(check.hierarchy),
         _ => None,
     }
 }
@@ -124,24 +145,19 @@ fn pairs_of<'a>(job: &Job<'a>) -> Option<&'a str> {
 fn explain_text<R: Files + AllocGlobal, E: Write>(
     rt: &R,
     job: &Job<'_>,
-    is_pairs: bool,
-    name: &[u8],
-    number: &[u8],
+    input: Input,
+    fault: GrError,
     err: &mut E,
 ) {
-    let path = if is_pairs {
-        pairs_of(job)
-    } else {
-        graph_of(job)
-    };
-    let wanted = number_of(number).unwrap_or(0);
+    let path = path_of(job, input);
     let look = match path {
-        Some(path) => Look::at(rt, path, wanted),
+        Some(path) => Look::at(rt, path, fault.line),
         None => Look::none(rt.alloc()),
     };
     if let Some(path) = path {
-        show_line(path, wanted, &look, err);
+        show_line(path, fault.line, &look, err);
     }
+    let is_pairs = input == Input::Queries;
     let nodes = if is_pairs {
         nodes_of(rt, job)
     } else {
@@ -156,7 +172,7 @@ fn explain_text<R: Files + AllocGlobal, E: Write>(
         line: look.line.as_slice(),
         items: look.items,
     };
-    hint(name, &text, err);
+    hint(fault.kind, &text, err);
 }
 
 // Shows the line that has the fault.
@@ -171,11 +187,11 @@ fn show_line<E: Write>(path: &str, number: u64, look: &Look, err: &mut E) {
 
 // How many nodes the pairs may name: those of the hierarchy, or of the graph.
 fn nodes_of<R: Files + AllocGlobal>(rt: &R, job: &Job<'_>) -> Option<u64> {
-    if let Some(path) = hierarchy_of(job) {
+    if let Some(path) = path_of(job, Input::Hierarchy) {
         let look = Look::at_head(rt, path);
         return word_at(look.head.as_slice(), 4).map(u64::from);
     }
-    let look = Look::at(rt, graph_of(job)?, 0);
+    let look = Look::at(rt, path_of(job, Input::Graph)?, 0);
     number_of(field(look.problem.as_slice(), 2))
 }
 
@@ -183,41 +199,30 @@ fn nodes_of<R: Files + AllocGlobal>(rt: &R, job: &Job<'_>) -> Option<u64> {
 fn explain_hierarchy<R: Files + AllocGlobal, E: Write>(
     rt: &R,
     path: &str,
-    name: &[u8],
+    fault: HierError,
     err: &mut E,
 ) {
     let look = Look::at_head(rt, path);
     let head = look.head.as_slice();
-    if is(name, "BadMagic") {
-        let _ = writeln!(err, "  {path}: {}", magic_hint(head));
-    } else if is(name, "Truncated") && head.len() >= 24 && head.starts_with(b"RCH") {
-        let have = size_of(rt, path);
-        let wanted = announced(head);
-        let _ = writeln!(
-            err,
-            "  {path} has {have} bytes, and its first ones announce {wanted}: copy it again, or prepare it again"
-        );
-    } else if is(name, "Truncated") {
-        let _ = writeln!(
+    let _ = match fault {
+        HierError::BadMagic => writeln!(err, "  {path}: {}", magic_hint(head)),
+        HierError::Truncated if head.len() >= 24 && head.starts_with(b"RCH") => {
+            let have = size_of(rt, path);
+            let wanted = announced(head);
+            writeln!(
+                err,
+                "  {path} has {have} bytes, and its first ones announce {wanted}: copy it again, or prepare it again"
+            )
+        }
+        HierError::Truncated => writeln!(
             err,
             "  {path} ends too early: copy it again, or prepare it again"
-        );
-    } else if is(name, "OldVersion") {
-        let _ = writeln!(
-            err,
-            "  {path} is of version 1, which can't be checked: prepare it again"
-        );
-    } else if is(name, "TooLong") {
-        let _ = writeln!(
-            err,
-            "  {path} is the hierarchy of no graph: prepare it again"
-        );
-    } else {
-        let _ = writeln!(
+        ),
+        _ => writeln!(
             err,
             "  {path} is damaged, or wasn't made by prepare: copy it again, or prepare it again"
-        );
-    }
+        ),
+    };
 }
 
 // What a file is that begins with no magic.

@@ -1,16 +1,8 @@
-/// The field of this number, from 0, of a line, or nothing where the line has fewer.
-pub(crate) fn field(line: &[u8], number: u32) -> &[u8] {
-    let mut count = 0u32;
-    for part in line.split(is_blank) {
-        if part.is_empty() {
-            continue;
-        }
-        if count == number {
-            return part;
-        }
-        count = count.saturating_add(1);
-    }
-    b""
+use bstr::ByteSlice;
+
+/// The field of this number, from 0, of a line, or nothing if the line has fewer.
+pub(crate) fn field(line: &[u8], number: usize) -> &[u8] {
+    line.fields().nth(number).unwrap_or(b"")
 }
 
 /// Whether the field is this word.
@@ -35,9 +27,4 @@ pub(crate) fn is_number(field: &[u8]) -> bool {
         }
     }
     !field.is_empty()
-}
-
-// Whether it parts fields.
-fn is_blank(byte: &u8) -> bool {
-    matches!(*byte, b' ' | b'\t' | b'\r' | b'\n')
 }

@@ -1,5 +1,6 @@
 use crate::fields::{field, is, is_number, number_of};
 use crate::shown::Shown;
+use grfile::GrErrorKind;
 use std::io::Write;
 
 /// What is known of a text that was refused.
@@ -37,25 +38,22 @@ impl Text<'_> {
     }
 }
 
-/// Writes what was expected where the text has this fault, and what may be done.
-pub(crate) fn hint<E: Write>(fault: &[u8], text: &Text<'_>, err: &mut E) {
+/// Writes what was expected in place of this fault of the text, and what may be done.
+pub(crate) fn hint<E: Write>(fault: GrErrorKind, text: &Text<'_>, err: &mut E) {
     if has_returns_alone(text.head) {
         let _ = writeln!(
             err,
             "  lines end with a line feed, and here with a carriage return alone"
         );
-    } else if is(fault, "UnknownLine") {
-        hint_of_kind(text, err);
-    } else if is(fault, "NoProblemLine") {
-        hint_of_beginning(text, err);
-    } else if is(fault, "NotANumber") {
-        hint_of_number(text, err);
-    } else if is(fault, "NodeRange") {
-        hint_of_node(text, err);
-    } else if is(fault, "ArcCount") {
-        hint_of_count(text, err);
-    } else {
-        hint_of_limit(fault, text, err);
+        return;
+    }
+    match fault {
+        GrErrorKind::UnknownLine => hint_of_kind(text, err),
+        GrErrorKind::NoProblemLine => hint_of_beginning(text, err),
+        GrErrorKind::NotANumber => hint_of_number(text, err),
+        GrErrorKind::NodeRange => hint_of_node(text, err),
+        GrErrorKind::ArcCount => hint_of_count(text, err),
+        _ => hint_of_limit(fault, text, err),
     }
 }
 
@@ -138,7 +136,7 @@ fn hint_of_beginning<E: Write>(text: &Text<'_>, err: &mut E) {
 }
 
 // The first field that is no number, and its place, from 1.
-fn wrong_field<'a>(line: &'a [u8]) -> (&'a [u8], u32) {
+fn wrong_field<'a>(line: &'a [u8]) -> (&'a [u8], usize) {
     let first = if is(field(line, 0), "a") || is(field(line, 0), "q") {
         1
     } else if is(field(line, 1), "sp") {
@@ -146,7 +144,7 @@ fn wrong_field<'a>(line: &'a [u8]) -> (&'a [u8], u32) {
     } else {
         4
     };
-    for place in first..5u32 {
+    for place in first..5usize {
         let one = field(line, place);
         if !is_number(one) {
             return (one, place);
@@ -182,7 +180,7 @@ fn hint_of_number<E: Write>(text: &Text<'_>, err: &mut E) {
 }
 
 fn hint_of_node<E: Write>(text: &Text<'_>, err: &mut E) {
-    for place in 1..3u32 {
+    for place in 1..3usize {
         let node = field(text.line, place);
         if number_of(node) == Some(0) {
             let _ = writeln!(
@@ -196,7 +194,7 @@ fn hint_of_node<E: Write>(text: &Text<'_>, err: &mut E) {
         let _ = writeln!(err, "  nodes are numbered from 1");
         return;
     };
-    for place in 1..3u32 {
+    for place in 1..3usize {
         let node = field(text.line, place);
         if number_of(node).unwrap_or(u64::MAX) > nodes && is_number(node) {
             let _ = writeln!(
@@ -241,20 +239,19 @@ fn hint_of_count<E: Write>(text: &Text<'_>, err: &mut E) {
     }
 }
 
-fn hint_of_limit<E: Write>(fault: &[u8], text: &Text<'_>, err: &mut E) {
+fn hint_of_limit<E: Write>(fault: GrErrorKind, text: &Text<'_>, err: &mut E) {
     let (form, item) = (text.form(), text.item());
-    if is(fault, "SecondProblemLine") {
-        let _ = writeln!(err, "  a text has one line \"{form}\"");
-    } else if is(fault, "FieldCount") {
-        let _ = writeln!(
+    let _ = match fault {
+        GrErrorKind::SecondProblemLine => writeln!(err, "  a text has one line \"{form}\""),
+        GrErrorKind::FieldCount => writeln!(
             err,
             "  expected: the fields of \"{form}\" or \"{item}\", and no more"
-        );
-    } else if is(fault, "WeightTooBig") {
-        let _ = writeln!(err, "  a weight is at most 4294967295: scale all weights");
-    } else if is(fault, "TooManyNodes") {
-        let _ = writeln!(err, "  the limit is 33554432 nodes");
-    } else if is(fault, "TooManyArcs") {
-        let _ = writeln!(err, "  the limit is 134217728 lines \"{item}\"");
-    }
+        ),
+        GrErrorKind::WeightTooBig => {
+            writeln!(err, "  a weight is at most 4294967295: scale all weights")
+        }
+        GrErrorKind::TooManyNodes => writeln!(err, "  the limit is 33554432 nodes"),
+        GrErrorKind::TooManyArcs => writeln!(err, "  the limit is 134217728 lines \"{item}\""),
+        _ => Ok(()),
+    };
 }

@@ -1,8 +1,8 @@
-//! What a user at a terminal sees beside results: how far a preparation has come, and lines that explain a refusal.
+//! What a user at a terminal sees beside results: how far a preparation has come, and lines that explain how a job ended.
 //!
-//! Builds on `ch_workers`, whose workers pass a gate at each commit, and on `jobs` for what was asked. No contract speaks of what is
-//! shown, and nothing rests on it. What a [`Watched`] or [`Kept`] reader or writer passes on is what the one behind it does, so
-//! all that is promised of a text holds through it.
+//! Builds on `ch_workers`, whose workers pass a gate at each commit, on `jobs` for what was asked, and on `outcomes`, `grfile`
+//! and `hierfile` for how it ended. No contract speaks of what is shown, and nothing rests on it. What a [`Watched`] or [`Kept`]
+//! reader or writer passes on is what the one behind it does, so all that is promised of a text holds through it.
 //!
 //! **Progress.** A [`Meter`] is a gate that counts the commits: some times a second the worker that passes writes one line to
 //! standard error, in the place of the one before. A [`Watched`] reader passes on a graph's text, and reports to the meter how many
@@ -16,12 +16,13 @@
 //! ```
 //!
 //! **Explanations.** The program prints one line of its own at a refusal, and its status; that is fixed. At a terminal, or where it is
-//! asked for, [`explain`] says which file it was, which line of its text, what was expected, and what to do. [`Heard`] keeps the
-//! program's line while it is written, [`Kept`] the failure of a reader or a writer, and [`Trouble`] the file that it came of. A
-//! regular file is looked at once more by its name; a pipe has been read. [`warn_of`] says before the work that a file can't be made.
+//! asked for, [`explain`] says which file it was, which line of its text, what was expected, and what to do. It is given the
+//! [`Outcome`](outcomes::Outcome), and what failed at a read, a write or a flush, which [`Kept`] keeps ([`Ended`]). A regular
+//! file is read once more by its name; a pipe isn't. [`warn_of`] warns before the work that a file can't be written.
 //!
 //! ```rust
-//! explain(rt, &job, b"routecli: graph: NodeRange line 2\n", &trouble, &mut err);
+//! let outcome = Outcome::Refused(Cause::Graph(GrError { kind: GrErrorKind::NodeRange, line: 2 }));
+//! explain(rt, &job, &Ended { outcome, failure: None }, &mut err);
 //! // net.gr:2: a 1 3 7
 //! //   node 3 isn't there: nodes are 1 to 2
 //! ```
@@ -30,7 +31,6 @@
 mod explaining;
 mod fields;
 mod files;
-mod heard;
 mod hints;
 mod kept;
 mod look;
@@ -39,9 +39,8 @@ mod progress;
 mod shown;
 mod watched;
 
-pub use explaining::{Trouble, explain, explain_verdict};
+pub use explaining::{Ended, Failure, explain};
 pub use files::warn_of;
-pub use heard::Heard;
 pub use kept::Kept;
 pub use meter::{Cleared, Meter};
 pub use progress::{Progress, write_end, write_line};

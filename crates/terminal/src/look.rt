@@ -47,7 +47,7 @@ impl Look {
         Look::new(alloc, 0)
     }
 
-    /// Looks at the file once more, up to this line, or to its end where the line is 0. Nothing is found in what can't be
+    /// Looks at the file once more, up to this line, or to its end if the line is 0. Nothing is found in what can't be
     /// read, and in what is no regular file: a pipe has been read, and waits forever.
     pub(crate) fn at<R: Files + AllocGlobal>(rt: &R, path: &str, wanted: u64) -> Look {
         let mut look = Look::new(rt.alloc(), wanted);
@@ -133,7 +133,7 @@ fn opened<R: Files>(rt: &R, path: &str) -> Option<R::File> {
     fs::open(rt, path).ok()
 }
 
-// Makes a copy of a line, or of a part of it where memory runs out.
+// Makes a copy of a line, or of a part of it if memory runs out.
 fn copy(line: &[u8], to: &mut Vec<u8>) {
     to.clear();
     let _ = to.extend_from_slice(line);

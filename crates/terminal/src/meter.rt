@@ -26,7 +26,7 @@ pub struct Meter<'a, R> {
 }
 
 impl<'a, R: Clock> Meter<'a, R> {
-    /// Returns a meter that begins now. Fails where the clock does.
+    /// Returns a meter that begins now. Fails if the clock does.
     pub fn new(clock: &'a R, err: Stderr) -> io::Result<Meter<'a, R>> {
         Ok(Meter {
             clock,
@@ -54,7 +54,7 @@ impl<'a, R: Clock> Meter<'a, R> {
         self.commits.load(Ordering::SeqCst)
     }
 
-    /// Returns how many milliseconds have passed since it began, or 0 where the clock fails.
+    /// Returns how many milliseconds have passed since it began, or 0 if the clock fails.
     pub fn millis(&self) -> u64 {
         let Ok(elapsed) = self.begun.elapsed(self.clock) else {
             return 0;

@@ -11,7 +11,7 @@ const LAST: u128 = 90;
 pub struct Progress {
     /// How many nodes are contracted.
     pub done: u64,
-    /// How many there are, or 0 where that isn't known.
+    /// How many there are, or 0 if that isn't known.
     pub nodes: u64,
     /// How many milliseconds it has taken so far, with the reading of the graph.
     pub millis: u64,
@@ -21,7 +21,7 @@ pub struct Progress {
 
 /// Writes how far a preparation has come, in one line, which takes the place of the line before.
 ///
-/// The terminal is asked to cut the line at its right edge rather than wrap it, so that each line stays one. Where the number
+/// The terminal is asked to cut the line at its right edge rather than wrap it, so that each line stays one. If the number
 /// of nodes is known, the line has a percentage, and from the sixth second of contraction on, up to 90 percent, the time that
 /// is left by the pace so far.
 pub fn write_line<W: Write>(out: &mut W, progress: &Progress) {

@@ -3,7 +3,7 @@ use std::io::{self, Read};
 use std::time::Clock;
 
 /// A reader of a graph's text that reports to a meter how many nodes the text announces. It gives what the reader behind
-/// it gives, to the byte, and fails where that one does.
+/// it gives, to the byte, and fails if that one does.
 #[derive(Drop)]
 pub struct Watched<'a, G, R> {
     graph: G,

@@ -7,7 +7,7 @@ const NONE: u64 = 0xffff_ffff;
 const MAGICS: [[u8; 4]; 2] = [*b"RCH1", *b"RCH2"];
 
 /// The bytes of a hierarchy file, and the numbers behind the magic: a slow and plain reader, written from the list of
-/// faults in `docs/FORMATS.md` and from nothing else. It keeps nothing but the bytes, and looks at them again for all.
+/// faults in `docs/REFERENCE.md` and from nothing else. It keeps nothing but the bytes, and looks at them again for all.
 #[derive(Clone, Copy)]
 struct File<'a> {
     bytes: &'a [u8],

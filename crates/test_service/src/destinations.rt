@@ -109,16 +109,8 @@ fn is_ended<G: Read, D: Destination, R: Threads + Wait + Sync>(
     line: &[u8],
 ) -> bool {
     let mut err = Vec::new(alloc);
-    let ended = prepare_whole(
-        rt,
-        alloc,
-        &preparing(),
-        graph,
-        destination,
-        &mut err,
-        &OpenGate,
-    );
-    (ended == status) & (err.as_slice() == line)
+    let ended = prepare_whole(rt, alloc, &preparing(), graph, destination, &OpenGate);
+    (ended.report(&mut err) == status) & (err.as_slice() == line)
 }
 
 /// The graph's text, whether the destination refuses it, the status, what is there then, and the line on standard error.

@@ -4,7 +4,8 @@ use ch_service::ServiceError;
 use ch_unpack::UnpackError;
 use ch_workers::BuildError;
 use jobs::{Job, Order, Preparation, Stint, Workers};
-use performing::{perform, report};
+use outcomes::Outcome;
+use performing::perform;
 use std::alloc::Global;
 use std::sync::Wait;
 use std::test::Fail;
@@ -244,7 +245,7 @@ const REPORTED: [(ServiceError, u8, &[u8]); 3] = [
 
 fn is_reported(alloc: Global, error: &ServiceError, status: u8, line: &[u8]) -> bool {
     let mut err = Vec::new(alloc);
-    let reported = report(error, &mut err);
+    let reported = Outcome::Refused(error.cause()).report(&mut err);
     (reported == status) & (err.as_slice() == line)
 }
 

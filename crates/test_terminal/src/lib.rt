@@ -1,5 +1,8 @@
-//! Tests of the lines that show how far a preparation has come, and of the meter behind them. It has no code but tests.
+//! Tests of what `terminal` shows: the lines of progress, the meter behind them, and why a flush failed. It has no code but
+//! tests.
 #![tactic(auto)]
 
+#[cfg(test)]
+mod endings;
 #[cfg(test)]
 mod meters;

@@ -11,14 +11,14 @@ pub trait Destination {
     /// What gathers the bytes.
     type PendingFile: Write + Drop;
 
-    /// What is there, where the destination shows it: nothing, or these bytes.
+    /// What is there, if the destination shows it: nothing, or these bytes.
     ghost stands: { Self → Option (Option (List ℕ)) } = { λ _. None };
 
-    /// A draft without bytes. It shows its bytes where the destination shows what is there.
+    /// A draft without bytes. It shows its bytes if the destination shows what is there.
     fn draft(&self) -> Result<Self::PendingFile, AllocError>
         ensures { IfOk result (λ draft. Self.PendingFile.contents draft ≡ option_map (λ _. []) (stands self.now)) };
 
-    /// Puts the bytes of the draft there. Where that fails, the draft is thrown away, and what was there stays.
+    /// Puts the bytes of the draft there. If that fails, the draft is thrown away, and what was there stays.
     fn put(&mut self, draft: Self::PendingFile) -> io::Result<()>
         ensures put { OnOk result (stands self.new ≡ option_map Some (Self.PendingFile.contents draft)) }
         ensures kept { OnErr result (stands self.new ≡ stands self.old) };

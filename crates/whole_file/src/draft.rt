@@ -143,7 +143,7 @@ impl<R: Files> Write for PendingFile<'_, R> {
     }
 }
 
-// Where the file is that is opened by this path: what the links at its end lead to.
+// The path of the file that is opened by this path: what the links at its end lead to.
 fn target_of<R: Files + AllocGlobal>(rt: &R, path: &str) -> Result<PathBuf, AllocError> {
     let mut target = PathBuf::from_str(rt.alloc(), path)?;
     for _ in 0..MOST_LINKS {

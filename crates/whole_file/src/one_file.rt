@@ -5,7 +5,7 @@ use std::rt::Files;
 /// Whether both paths lead to one regular file, whatever their names are: by a link, by another way through the folders,
 /// or by another name of the file.
 ///
-/// Where nothing is at one of them, or something that can't be looked at, they don't.
+/// If nothing is at one of them, or something that can't be looked at, they don't.
 pub fn is_one_file<R: Files>(files: &R, first: &str, second: &str) -> bool {
     match (fs::metadata(files, first), fs::metadata(files, second)) {
         (Ok(first), Ok(second)) => {

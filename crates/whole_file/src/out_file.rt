@@ -6,10 +6,10 @@ use std::rt::Files;
 
 /// The destination at a path of the file system.
 ///
-/// Where nothing is there, or a regular file, or a link to one, the draft is a file beside it, in the same folder,
+/// If nothing is there, or a regular file, or a link to one, the draft is a file beside it, in the same folder,
 /// under a name that nobody has; it is synced, and takes the file's name in one step. A file that is replaced has to be
-/// one that may be written; its permissions are kept, and its owner where the system lets it. What else is there, as a
-/// pipe, a terminal or a device, and the program's own standard output, is written straight, and may be left with a part.
+/// one that may be written; its permissions are kept, and its owner if the system lets it. A pipe, a
+/// terminal, a device and the program's own standard output are written directly, and partial output may remain there.
 /// A program that is killed may leave the file beside; no later draft takes it.
 #[derive(Drop)]
 pub struct OutFile<'a, R: Files> {
