@@ -1,4 +1,5 @@
-"""Shortest paths in road networks from Python, by the proved program `routecli`.
+"""Shortest paths in road networks from Python: prepared by the program `routecli`, answered by the library libdomethyme, both
+proved.
 
     import domethyme
 
@@ -11,8 +12,8 @@
         hierarchy.matrix(sources, targets)                               # a table of lengths
     domethyme.check("town.gr", "town.rch")                               # the file is right for the graph, or an error
 
-Nodes are numbered from 0, as rows are; node n is node n + 1 of a file. Who has keys of their own gives them as `keys`, and
-then asks and is answered by them. Weights are whole numbers from 0 to 4,294,967,295 in a unit of the user's own, such as
+Nodes are numbered from 0, as rows are; node n is node n + 1 of a file. Pass your own keys as `keys`, and all methods take and
+return them. Weights are whole numbers from 0 to 4,294,967,295 in a unit of the user's own, such as
 milliseconds or centimetres, and lengths are sums of them.
 
 One question at a time (`length`, `route`, `between`) needs Python alone. Arrays and `nearest` need numpy, and frames
@@ -29,8 +30,9 @@ from .errors import (
     GraphError,
     HierarchyError,
     HierarchyNotFound,
+    LibraryError,
+    LibraryNotFound,
     NetworkError,
-    NoAnswer,
     NoSuchNode,
     NotShown,
     OutOfMemory,
@@ -60,9 +62,10 @@ __all__ = [
     "HierarchyError",
     "HierarchyNotFound",
     "Keys",
+    "LibraryError",
+    "LibraryNotFound",
     "Network",
     "NetworkError",
-    "NoAnswer",
     "NoSuchNode",
     "NO_WAY",
     "NotShown",

@@ -3,8 +3,9 @@
     DomethymeError
     ├── ProgramError         `routecli` can't be run, or ended in a way that no input explains
     │   ├── ProgramNotFound  there is no such program (also a FileNotFoundError)
-    │   ├── ProgramStopped   it ended while a question was open, three times in a row
-    │   └── NoAnswer         it didn't answer within the timeout (also a TimeoutError)
+    │   └── ProgramStopped   it was ended by a signal
+    ├── LibraryError         the library libdomethyme refused a question
+    │   └── LibraryNotFound  there is no such library (also a FileNotFoundError)
     ├── GraphError           the text of a graph is refused
     ├── HierarchyError       a file of a hierarchy is refused
     │   ├── HierarchyNotFound  there is no such file (also a FileNotFoundError)
@@ -13,7 +14,7 @@
     ├── FileError            a file is refused by this package and not by the program
     │   └── NetworkError     a file of a network (nodes, arcs), or of places or pairs in one
     ├── NoSuchNode           a node or key that the hierarchy doesn't have (also a ValueError and a LookupError)
-    ├── OutOfMemory          the program ran out of memory (also a MemoryError)
+    ├── OutOfMemory          the program or the library ran out of memory (also a MemoryError)
     └── ReadWriteError       a read or write failed (also an OSError)
 
 Arguments that can't be used at all, such as arrays of a wrong shape, raise a plain ValueError, and a package that is
@@ -48,11 +49,15 @@ class ProgramNotFound(ProgramError, FileNotFoundError):
 
 
 class ProgramStopped(ProgramError):
-    """The program ended while a question was open, and did so again when it was started anew."""
+    """The program was ended by a signal."""
 
 
-class NoAnswer(ProgramError, TimeoutError):
-    """The program didn't answer within the timeout."""
+class LibraryError(DomethymeError):
+    """The library libdomethyme refused a question that this package takes for a right one."""
+
+
+class LibraryNotFound(LibraryError, FileNotFoundError):
+    """There is no library libdomethyme where it was looked for, or it is another one."""
 
 
 class GraphError(DomethymeError):
@@ -106,7 +111,7 @@ class NoSuchNode(DomethymeError, ValueError, LookupError):
 
 
 class OutOfMemory(DomethymeError, MemoryError):
-    """The program ran out of memory."""
+    """The program or the library ran out of memory."""
 
 
 class ReadWriteError(DomethymeError, OSError):

@@ -182,7 +182,7 @@ def prepare(
     keys = graph.keys if isinstance(graph, Graph) else None
     if keys is not None and keys.can_be_saved():
         keys.save(hierarchy)
-    return Hierarchy(hierarchy, program, keys=keys)
+    return Hierarchy(hierarchy, keys=keys)
 
 
 @contextlib.contextmanager

@@ -1,16 +1,15 @@
 """A file of a hierarchy, and the questions that it answers."""
 import functools
 import os
-import stat
 import threading
 from collections.abc import Hashable, Iterable, Mapping, Sequence
 from typing import TYPE_CHECKING, Any, Literal, NamedTuple, Union, overload
 
-from .errors import HierarchyError, HierarchyNotFound, NoSuchNode, ProgramError, os_reason
+from .errors import NoSuchNode
 from .keys import Keys, keys_path
-from .lines import Answer, answer_to
-from .process import Process
-from .program import StrPath, find_program
+from .opening import looked_at, opened, read_at
+from .program import StrPath
+from .router import Answer, Router
 
 if TYPE_CHECKING:
     import numpy as np
@@ -20,20 +19,14 @@ if TYPE_CHECKING:
     from .routes import Routes
     from .sweeps import Sweeps
 
-MOST_ENDS = 8
 MOST_ADDED = (1 << 32) - 1
-HEAD_BYTES = 24
-LINK_BYTES = {b"RCH1": 20, b"RCH2": 24}
 
 # How many metres away the nearest node may be.
 WITHIN = 1000.0
 
-# Up to so many lengths of a matrix are asked of the program one by one.
-FEW_LENGTHS = 2_000
-
 Ends = Union[Mapping[Any, int], Iterable[Any]]
 Rows = Union["NDArray[Any]", Sequence[Any]]
-By = Literal["serve", "sweeps"]
+By = Literal["library", "sweeps"]
 
 
 class Route(NamedTuple):
@@ -63,12 +56,11 @@ class Route(NamedTuple):
 
 
 class Hierarchy:
-    """A file that `routecli prepare` wrote, and a process of `routecli serve` that answers by it.
+    """A file that `routecli prepare` wrote, in memory, and the questions that it answers.
 
-    The process is started at the first question, is started anew where it has ended, and is ended by `close`, by the end
-    of a with-block, and at the end of Python. It keeps the file that was there when the object was made, also after another
-    one has taken its name. Several threads may ask at a time: they take turns. After a fork, and where the object was
-    pickled, each process of Python has a process of `serve` of its own.
+    The library libdomethyme answers, in this process. It has read the file when the object was made, so another file that takes
+    its name later changes nothing. Several threads may ask at once, and other threads of Python go on meanwhile. A child of a fork
+    has the hierarchy too. Where the object is pickled, the file is opened anew.
 
     Nodes are numbered from 0, as rows of arrays are: node n is node n + 1 of a file. With `keys` all methods take and give
     the user's own keys in their place. Lengths are whole numbers in the unit of the graph's weights.
@@ -83,24 +75,20 @@ class Hierarchy:
     def __init__(
         self,
         path: StrPath,
-        program: StrPath | None = None,
         *,
         keys: "Keys | Mapping[Any, int] | Iterable[Hashable] | None" = None,
         network: "Network | StrPath | None" = None,
-        timeout: float | None = None,
     ) -> None:
-        """Opens the file and looks at its head; no process is started yet.
+        """Reads the file, which takes 0.4 seconds for a million nodes, and some 200 bytes of memory a node.
 
-        program   the path of `routecli`, else it is looked for (find_program)
         keys      a key for each node, in order, or a mapping from keys to nodes from 0; Keys.saved has those that Graph.prepare
                   saved, and others that contradict them are refused
         network   the network of the nodes: a Network, or the beginning of its files' names
-        timeout   the seconds that may pass without a part of a reply before NoAnswer is raised; None waits for ever
 
-        Raises HierarchyNotFound, HierarchyError, ProgramNotFound, NetworkError, and ValueError for keys that don't fit.
+        Raises HierarchyNotFound, HierarchyError, OutOfMemory, LibraryNotFound, NetworkError, and ValueError for keys that don't
+        fit.
         """
-        self.path, self.program, self.timeout = path, find_program(program), timeout
-        self._name = os.fspath(path)
+        self.path, self._name = path, os.fspath(path)
         self._file = opened(self._name)
         try:
             self.nodes, self.links = looked_at(self._file.fileno(), self._name)
@@ -108,13 +96,12 @@ class Hierarchy:
             if self.keys is not None and os.path.exists(keys_path(path)):
                 self.keys.need_fitting(path)
             self.network = network_of(network)
+            self._router = Router(read_at(self._file.fileno(), 0, os.fstat(self._file.fileno()).st_size), self._name)
         except BaseException:
             self._file.close()
             raise
-        self._process = Process(self.program, self._file, self._name, timeout)
         self._sweeps: "Sweeps | None" = None
         self._sweeps_lock = threading.Lock()
-        self._closed = False
 
     def __enter__(self) -> "Hierarchy":
         return self
@@ -130,38 +117,31 @@ class Hierarchy:
         return f"<Hierarchy {self._name} of {self.nodes} nodes and {self.links} links>"
 
     def __reduce__(self) -> tuple[Any, ...]:
-        more = {"keys": self.keys, "network": self.network, "timeout": self.timeout}
-        return functools.partial(Hierarchy, **more), (self.path, self.program)
+        return functools.partial(Hierarchy, keys=self.keys, network=self.network), (self.path,)
 
     def close(self) -> None:
-        """Ends the process and closes the file. Questions then raise ValueError, as those of a closed file do."""
-        self._closed = True
-        self._process.close()
+        """Frees the memory. Questions then raise ValueError, as those of a closed file do."""
+        self._router.close()
         self._file.close()
 
     # One question
 
     def length(self, source: Hashable, target: Hashable) -> int | None:
         """The least length from one node to another, None where there is no way. Raises NoSuchNode."""
-        start, end = self._node(source), self._node(target)
-        answer = self._answer(b"d %d %d" % (start + 1, end + 1))
-        return None if answer is None else answer.length
+        return self._router.length(self._node(source), self._node(target))
 
     def route(self, source: Hashable, target: Hashable) -> Route | None:
         """A shortest path from one node to another, None where there is no way. Raises NoSuchNode."""
-        start, end = self._node(source), self._node(target)
-        return self._route(self._answer(b"q %d %d" % (start + 1, end + 1)))
+        return self._route(self._router.route(self._node(source), self._node(target)))
 
     def between(self, starts: Ends, ends: Ends) -> Route | None:
         """A route of the least whole length from one of several nodes to one of several, None where there is no way.
 
-        `starts` and `ends` are 1 to 8 nodes each: a mapping from nodes to the length that is added there, rows of (node,
-        added length), or nodes alone with 0 added. Added lengths are whole numbers from 0 to 4294967295. The route's source
-        and target are those that were taken, and its length has what was added. Raises NoSuchNode and ValueError.
+        `starts` and `ends` are a node or more each: a mapping from nodes to the length that is added there, rows of (node, added
+        length), or nodes alone with 0 added. Added lengths are whole numbers from 0 to 4294967295. The route's source and target
+        are those that were taken, and its length has what was added. Raises NoSuchNode and ValueError.
         """
-        sides = self._ends("starts", starts), self._ends("ends", ends)
-        words = [b" ".join(b"%d %d" % (node + 1, added) for node, added in side) for side in sides]
-        return self._route(self._answer(b"b " + b" : ".join(words)))
+        return self._route(self._router.between(self._ends("starts", starts), self._ends("ends", ends)))
 
     # Many questions
 
@@ -173,24 +153,23 @@ class Hierarchy:
         """The least lengths of many pairs, an array of int64 of shape (n,), -1 where there is no way.
 
         `pairs` are rows (from, to): an array of shape (n, 2), a list, or a frame of pandas with two columns or with the
-        columns `from` and `to`; for a frame the lengths are a Series of Int64 with its index, missing where there is no way. Some 30
-        microseconds each. Raises NoSuchNode, with the row, and ValueError for what can't be pairs.
+        columns `from` and `to`; for a frame the lengths are a Series of Int64 with its index, missing where there is no way. As many
+        threads ask as there are processors. Raises NoSuchNode, with the row, and ValueError for what can't be pairs.
         """
-        from . import arrays
+        from . import arrays, many
 
-        found = arrays.pairs_of(pairs, self.keys, self.nodes)
-        return arrays.like_frame(self._replies(b"d", found).lengths, pairs)
+        return arrays.like_frame(many.lengths(self._router, arrays.pairs_of(pairs, self.keys, self.nodes)), pairs)
 
     def routes(self, pairs: Any) -> "Routes":
-        """The Routes of many pairs, which are given as for `lengths`."""
+        """The Routes of many pairs, which are given and asked for as for `lengths`."""
         import numpy as np
 
-        from . import arrays, routes
+        from . import arrays, many, routes
 
-        found = arrays.pairs_of(pairs, self.keys, self.nodes)
-        replies = self._replies(b"q", found)
-        offsets = np.concatenate([[0], np.cumsum(replies.counts)])
-        return routes.Routes(replies.lengths, replies.nodes, offsets, found, self.keys, routes.index_of(pairs))
+        asked = arrays.pairs_of(pairs, self.keys, self.nodes)
+        found = many.routes(self._router, asked)
+        offsets = np.concatenate([[0], np.cumsum(found.counts)])
+        return routes.Routes(found.lengths, found.nodes, offsets, asked, self.keys, routes.index_of(pairs))
 
     @overload
     def matrix(self, sources: Rows, targets: "Rows | None" = None, by: By | None = None) -> "NDArray[np.int64]": ...
@@ -201,25 +180,20 @@ class Hierarchy:
         is no way. Without targets they are the sources. Where one of the two is a Series or Index of pandas the table is a
         DataFrame of Int64, missing where there is no way, whose axes are the sources and the targets.
 
-        by   "serve": `routecli serve` is asked for each length, some 30 microseconds each.
+        by   "library" (None): the library is asked for each length, by as many threads as there are processors.
              "sweeps": all are computed here, by numpy, from the links of the file, which are read once. That is no part of
-             what is proved of `routecli`, and is tested against it. For large tables it is many times as fast.
-             None: "serve" for up to 2,000 lengths, "sweeps" for more.
+             what is proved, and is tested against it. For tables of many thousand places it is several times as fast.
 
         Raises NoSuchNode and ValueError.
         """
-        from . import arrays
+        from . import arrays, many
 
         targets = sources if targets is None else targets
         starts = arrays.nodes_of("sources", sources, self.keys, self.nodes)
         ends = arrays.nodes_of("targets", targets, self.keys, self.nodes)
-        by = by or ("serve" if len(starts) * len(ends) <= FEW_LENGTHS else "sweeps")
-        if by not in ("serve", "sweeps"):
-            raise ValueError(f"a matrix is made by serve or by sweeps, and not by {by!r}")
-        if by == "serve":
-            table = self._replies(b"d", arrays.each_to_each(starts, ends)).lengths.reshape(len(starts), len(ends))
-        else:
-            table = self._swept().lengths(starts, ends)
+        if by not in ("library", "sweeps", None):
+            raise ValueError(f"a matrix is made by library or by sweeps, and not by {by!r}")
+        table = self._swept().lengths(starts, ends) if by == "sweeps" else many.table(self._router, starts, ends)
         return arrays.like_axes(table, sources, targets)
 
     @overload
@@ -259,79 +233,29 @@ class Hierarchy:
         """One side of `between`: nodes from 0, and what is added at each."""
         rows = ends.items() if isinstance(ends, Mapping) else [row if is_pair(row) else (row, 0) for row in ends]
         found = [(self._node(node), whole(name, added)) for node, added in rows]
-        if not 1 <= len(found) <= MOST_ENDS:
-            raise ValueError(f"{name} have to be 1 to {MOST_ENDS} nodes, and are {len(found)}")
+        if not found:
+            raise ValueError(f"{name} have to be a node or more")
         if not all(0 <= added <= MOST_ADDED for _, added in found):
             raise ValueError(f"the lengths added at {name} have to be from 0 to {MOST_ADDED}")
         return found
 
-    def _answer(self, request: bytes) -> Answer | None:
-        """The answer to a request, None where there is no way."""
-        self._need_open()
-        try:
-            return answer_to(request, self._process.one(request + b"\n").rstrip(b"\n"))
-        except ProgramError:
-            self._process.close()
-            raise
-
     def _route(self, answer: Answer | None) -> Route | None:
         if answer is None:
             return None
-        numbers = [node - 1 for node in answer.nodes]
+        numbers = answer.nodes
         nodes: list[Any] = list(numbers) if self.keys is None else [self.keys.key(number) for number in numbers]
         return Route(nodes[0], nodes[-1], answer.length, nodes, numbers)
-
-    def _replies(self, kind: bytes, pairs: Any) -> Any:
-        """The Replies to a line of this kind for each pair."""
-        from . import replies
-
-        self._need_open()
-        return replies.asked(self._process, kind, pairs)
 
     def _swept(self) -> "Sweeps":
         """The Sweeps of the file, which is read for them once."""
         from .sweeps import Sweeps
 
-        self._need_open()
+        if self._file.closed:
+            raise ValueError(f"the hierarchy {self._name} is closed")
         with self._sweeps_lock:
             if self._sweeps is None:
-                self._process.start()
                 self._sweeps = Sweeps.read(self._file.fileno(), self._name)
             return self._sweeps
-
-    def _need_open(self) -> None:
-        if self._closed:
-            raise ValueError(f"the hierarchy {self._name} is closed")
-
-
-def opened(name: str) -> Any:
-    """The open file of a hierarchy, which has to be a regular one: it is read again for each process."""
-    try:
-        file = open(name, "rb", buffering=0, opener=at_once)
-    except FileNotFoundError as error:
-        raise HierarchyNotFound(f"{name}: {os_reason(error)}", 7) from error
-    except OSError as error:
-        raise HierarchyError(f"{name}: {os_reason(error)}", 7) from error
-    if not stat.S_ISREG(os.fstat(file.fileno()).st_mode):
-        file.close()
-        raise HierarchyError(f"{name}: is no regular file", 7)
-    return file
-
-
-def at_once(name: str, flags: int) -> int:
-    """Opens a file without a wait: a pipe that nobody writes to is none that is waited for."""
-    return os.open(name, flags | os.O_NONBLOCK)
-
-
-def looked_at(file: int, name: str) -> tuple[int, int]:
-    """The numbers of nodes and links of a file, by its head, which has to fit its size."""
-    head, size = os.pread(file, HEAD_BYTES, 0), os.fstat(file).st_size
-    if head[:4] not in LINK_BYTES:
-        raise HierarchyError(f"{name}: is no file that `routecli prepare` wrote", 4)
-    nodes, links = int.from_bytes(head[4:8], "big"), int.from_bytes(head[8:16], "big")
-    if size != HEAD_BYTES + 4 * nodes + LINK_BYTES[head[:4]] * links:
-        raise HierarchyError(f"{name}: has {size} bytes, and its head announces others: prepare it anew", 4)
-    return nodes, links
 
 
 def network_of(network: "Network | StrPath | None") -> "Network | None":

@@ -6,8 +6,8 @@ the nodes above the sources, lowest first, and one over the nodes above the targ
 a node is a row of an array with a column for each source, and the nodes of one level are taken at a time. The nodes above
 the sources and the targets are looked for first, so the time depends on them and not on the size of the network.
 
-This reads the file of a hierarchy by itself and is no part of what is proved of `routecli`; it is tested against the
-lengths that `routecli serve` gives.
+This reads the file of a hierarchy by itself and is no part of what is proved; it is tested against the
+lengths that the library returns.
 """
 import itertools
 import os
@@ -19,20 +19,19 @@ from numpy.typing import NDArray
 
 from .errors import HierarchyError
 from .lines import NO_WAY as NO_WAY
+from .opening import HEAD_BYTES, read_at
 
 Numbers = NDArray[np.int64]
 Nodes = NDArray[np.int32]
 
 # No length is as great: there are at most 2^25 nodes, and an arc weighs less than 2^32. It may be added to without a wrap.
 FAR = np.int64(1 << 60)
-HEAD_BYTES = 24
 FIELDS = [("start", ">u4"), ("end", ">u4"), ("weight", ">i8"), ("arcs", ">u4"), ("middle", ">u4")]
 LINKS = {b"RCH1": np.dtype(FIELDS[:3] + FIELDS[4:]), b"RCH2": np.dtype(FIELDS)}
 
 # So many lengths are worked on at a time, 8 bytes each, and so many links of a file.
 CELLS = 1 << 22
 LINKS_AT_A_TIME = 1 << 20
-AT_ONCE = 1 << 30
 
 
 class Seeds(NamedTuple):
@@ -176,12 +175,6 @@ class Sweeps:
             ends = side.ends[side.of(front)]
             front = np.unique(ends[~is_reached[ends]])
         return np.concatenate(found) if found else nodes
-
-
-def read_at(file: int, place: int, size: int) -> bytes:
-    """Bytes of an open file; many take several reads."""
-    parts = [os.pread(file, min(AT_ONCE, size - begin), place + begin) for begin in range(0, size, AT_ONCE)]
-    return b"".join(parts)
 
 
 def side_of(nodes: int, low: Nodes, high: Nodes, weights: Numbers) -> Side:

@@ -83,7 +83,7 @@ class Table:
 
 
 def wrong_column(name: str, columns: list[str]) -> str:
-    """What is wrong where a column isn't there once."""
+    """The error of a missing or repeated column."""
     if name in columns:
         return f"has two columns {name}"
     found = ", ".join(columns[:MOST_COLUMNS]) + ", ..." * (len(columns) > MOST_COLUMNS)

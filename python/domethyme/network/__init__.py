@@ -9,4 +9,5 @@
     grid        an index of the earth by cells, and the search for the nearest things
     levels      what maps show, by kind of road
     sphere      lengths, lines and nearest points on a sphere
+    threads     long arrays, part by part, by several threads
 """

@@ -25,6 +25,7 @@ from .grid import Grid, ranges
 from .levels import KINDS
 from .mapped import Column, Kind, MappedFile
 from .tables import ENDS, Arc, Files, Point, attribution_of, points_of, read_node_table, rows_of_arcs
+from .threads import by_parts
 
 VERSION = 2
 UNITS = index.UNITS
@@ -42,8 +43,10 @@ class Arrays(NamedTuple):
     node_osm                 the ids of OpenStreetMap, or NO_OSM
     node_lon, node_lat       in units of a degree
     node_ends                numbers in ENDS
-    arc_texts                of shape (arcs, 6): numbers of texts, in the order of TEXTS
+    arc_row                  the row of texts of an arc
     arc_edge, arc_along      the edge that an arc lies on, and whether it leads along it
+    row_texts                rows of numbers of texts, in the order of TEXTS, and two zeros: different ones that arcs have, in the
+                             order of these numbers
     edge_begin, points       the points of edge e are points[edge_begin[e]:edge_begin[e + 1]], of shape (.., 2), lon and lat
     text_begin, text_bytes   text t is text_bytes[text_begin[t]:text_begin[t + 1]] in UTF-8; the first is what the data asks to
                              be said, "" for nothing
@@ -61,9 +64,10 @@ class Arrays(NamedTuple):
     arc_seconds: NDArray[np.float64]
     arc_metres: NDArray[np.float64]
     arc_osm: NDArray[np.int64]
-    arc_texts: NDArray[np.int32]
+    arc_row: NDArray[np.int32]
     arc_edge: NDArray[np.int32]
     arc_along: NDArray[np.bool_]
+    row_texts: NDArray[np.int32]
     edge_begin: NDArray[np.int64]
     points: NDArray[np.int32]
     text_begin: NDArray[np.int64]
@@ -107,11 +111,12 @@ class Builder:
         edges = edges_of(self._lines, arc_osm)
         texts = [self._attribution.encode(), *(text.encode("utf-8", "replace") for text in self._texts)]
         rows = np.array(self._rows, dtype=np.int32).reshape(-1, len(TEXTS))
+        rows, row = index.rows_of_texts(rows, np.array(self._row_of_arc, dtype=np.int64))
         found = Arrays(
             np.array([VERSION]), np.array(sizes, dtype=np.int64), whole(osm, "osm"), units(lon, 180), units(lat, 90),
             np.array(ends, dtype=np.uint8), whole(starts, "from").astype(np.int32), whole(stops, "to").astype(np.int32),
             whole(weights, "weight"), np.array(seconds, dtype=np.float64), np.array(metres, dtype=np.float64), arc_osm,
-            rows[np.array(self._row_of_arc, dtype=np.int64)], *edges,
+            row, *edges[:2], rows, *edges[2:],
             np.cumsum([0, *map(len, texts)], dtype=np.int64), np.frombuffer(b"".join(texts), dtype=np.uint8),
         )
         if problem := wrong(found):
@@ -165,31 +170,31 @@ def wrong(arrays: Arrays) -> str | None:
     nodes, arcs, edges = len(arrays.node_osm), len(arrays.arc_from), len(arrays.edge_begin) - 1
     shapes: dict[str, tuple[int, ...]] = {name: (nodes,) for name in ("node_osm", "node_lon", "node_lat", "node_ends")}
     shapes.update((name, (arcs,)) for name in Arrays._fields if name.startswith("arc_"))
-    shapes.update(version=(1,), sizes=(2,), arc_texts=(arcs, len(TEXTS)), points=(len(arrays.points), 2))
+    shapes.update(version=(1,), sizes=(2,), row_texts=(len(arrays.row_texts), index.ROW), points=(len(arrays.points), 2))
     for name, shape in shapes.items():
         if getattr(arrays, name).shape != shape:
             return f"{name} has another size"
     for name, begin, end in (("edge", arrays.edge_begin, len(arrays.points)), ("text", arrays.text_begin, len(arrays.text_bytes))):
         if begin.ndim != 1 or len(begin) < 1 or begin[0] != 0 or begin[-1] != end or (np.diff(begin) < (name == "edge") * 2).any():
             return f"{name}_begin has wrong offsets"
-    for name, (low, high) in limits_of(nodes, edges, len(arrays.text_begin) - 1).items():
+    for name, (low, high) in limits_of(nodes, edges, len(arrays.row_texts), len(arrays.text_begin) - 1).items():
         values = getattr(arrays, name)
         if values.size and not (values.min() >= low and values.max() <= high):
             return f"{name} isn't from {low:g} to {high:g}"
     return None
 
 
-def limits_of(nodes: int, edges: int, texts: int) -> dict[str, tuple[float, float]]:
-    """The least and greatest value of arrays of a network with so many nodes, edges and texts."""
+def limits_of(nodes: int, edges: int, rows: int, texts: int) -> dict[str, tuple[float, float]]:
+    """The least and greatest value of arrays of a network with so many nodes, edges, rows of texts and texts."""
     return {
         "node_lon": (-180 * UNITS, 180 * UNITS), "node_lat": (-90 * UNITS, 90 * UNITS), "node_ends": (0, len(ENDS) - 1),
         "arc_from": (1, nodes), "arc_to": (1, nodes), "arc_weight": (0, HEAVIEST), "arc_edge": (0, edges - 1),
-        "arc_texts": (0, texts - 1), "arc_seconds": (0, 1e12), "arc_metres": (0, 1e12), "points": (-180 * UNITS, 180 * UNITS),
+        "arc_row": (0, rows - 1), "row_texts": (0, texts - 1), "arc_seconds": (0, 1e12), "arc_metres": (0, 1e12),
+        "points": (-180 * UNITS, 180 * UNITS),
     }
 
 
-# The arrays of the file. `about` has the numbers of ABOUT; rows of texts have two more columns, which are 0. The others are those of
-# Arrays, and of index.py. A text's bytes and offsets come as they are.
+# The arrays of the file. `about` has the numbers of ABOUT. The others are those of Arrays, and of index.py. A text's bytes and offsets come as they are.
 ABOUT = (
     "nodes_size", "arcs_size", "unit", "begins", "ends", "node_height", "edge_height", "west", "south", "east", "north",
     *(f"shown_{kind}" for kind in range(len(KINDS))),
@@ -199,7 +204,7 @@ FORM = {
     "node_osm": Kind("<i8"), "node_lon": Kind("<i4"), "node_lat": Kind("<i4"), "node_ends": Kind("|u1"),
     "arc_from": Kind("<i4"), "arc_to": Kind("<i4"), "arc_weight": Kind("<i8"), "arc_seconds": Kind("<f8"),
     "arc_metres": Kind("<f8"), "arc_osm": Kind("<i8"), "arc_row": Kind("<i4"), "arc_edge": Kind("<i4"), "arc_along": Kind("|b1"),
-    "row_texts": Kind("<i4", 8), "edge_begin": Kind("<i8"), "points": Kind("<i4", 2),
+    "row_texts": Kind("<i4", index.ROW), "edge_begin": Kind("<i8"), "points": Kind("<i4", 2),
     "text_begin": Kind("<i8"), "text_bytes": Kind("|u1"),
     "out_begin": Kind("<i8"), "out_arcs": Kind("<i4"), "edge_first": Kind("<i8"), "edge_arcs": Kind("<i4"), "degrees": Kind("|u1"),
     "node_keys": Kind("<i8"), "node_cells": Kind("<i8"), "node_things": Kind("<i4"),
@@ -218,9 +223,8 @@ def write(file: IO[bytes], arrays: Arrays) -> None:
 
 def written(arrays: Arrays) -> Iterator[tuple[str, NDArray[Any]]]:
     """The arrays of the file in their order."""
-    texts = texts_of(arrays.text_begin, arrays.text_bytes)
     steps, edges = index.steps_in(arrays.edge_begin)
-    levels = index.levels(arrays, steps, edges, texts)
+    levels = index.levels(arrays, steps, edges)
     edge_grid = index.edge_grid(arrays.points, steps, edges)
     del steps, edges
     node_grid = index.node_grid(arrays.node_lon, arrays.node_lat)
@@ -230,11 +234,8 @@ def written(arrays: Arrays) -> Iterator[tuple[str, NDArray[Any]]]:
         round(node_grid.height * UNITS), round(edge_grid.height * UNITS), *index.box_of(arrays.points), *levels.shown_from,
     ]
     yield "about", np.array(numbers, dtype=np.int64)
-    rows, row = index.rows_of_texts(arrays.arc_texts, len(texts))
-    known = {"arc_row": row, "row_texts": np.pad(rows, ((0, 0), (0, 8 - len(TEXTS))))}
     for name in list(FORM)[1 : list(FORM).index("out_begin")]:
-        yield name, known[name] if name in known else getattr(arrays, name)
-    del known, rows, row
+        yield name, getattr(arrays, name)
     yield from zip(("out_begin", "out_arcs"), index.arcs_from(arrays))
     yield from zip(("edge_first", "edge_arcs"), index.arcs_on(arrays))
     yield "degrees", index.degrees_of(arrays)
@@ -243,16 +244,13 @@ def written(arrays: Arrays) -> Iterator[tuple[str, NDArray[Any]]]:
     yield from zip(("step_begin", "step_codes", "step_points", "step_edges"), levels[:4])
 
 
-def texts_of(begins: NDArray[np.int64], whole: NDArray[np.uint8]) -> list[str]:
-    """A list of texts by its offsets and bytes."""
-    joined, places = whole.tobytes(), begins.tolist()
-    return [joined[begin:end].decode() for begin, end in zip(places, places[1:])]
-
-
 def unit_of(arrays: Arrays) -> str:
     """What the weights of arcs are: `duration` in milliseconds, `distance` in centimetres, or `weight` for anything else."""
     for name, factor, values in (("duration", 1000.0, arrays.arc_seconds), ("distance", 100.0, arrays.arc_metres)):
-        if (np.abs(arrays.arc_weight - factor * values) <= 1.01).all():
+        def is_near(part: slice) -> bool:
+            return bool((np.abs(arrays.arc_weight[part] - factor * values[part]) <= 1.01).all())
+
+        if all(by_parts(is_near, len(values))):
             return name
     return "weight"
 
@@ -297,6 +295,7 @@ class Mapped:
     NetworkError for a file that is refused, and where it is damaged, in all that reads it.
 
     about           the numbers of ABOUT, by their names
+    arc_texts       the numbers of texts of each arc, in the order of TEXTS
     texts           the list of texts, of which the first is what the data asks to be said
     out_begin, ..   as in index.py
     node_grid, edge_grid    nodes, counted from 0, and edges, by their places
@@ -310,7 +309,8 @@ class Mapped:
         self.arc_from, self.arc_to, self.arc_weight = found["arc_from"], found["arc_to"], found["arc_weight"]
         self.arc_seconds, self.arc_metres, self.arc_osm = found["arc_seconds"], found["arc_metres"], found["arc_osm"]
         self.arc_edge, self.arc_along = found["arc_edge"], found["arc_along"]
-        self.arc_texts = TextsOfArcs(found["arc_row"], found["row_texts"])
+        self.arc_row, self.row_texts = found["arc_row"], found["row_texts"]
+        self.arc_texts = TextsOfArcs(self.arc_row, self.row_texts)
         self.edge_begin, self.points = found["edge_begin"], found["points"]
         self.text_begin, self.text_bytes = found["text_begin"], found["text_bytes"]
         self.texts = Texts(self.text_begin, self.text_bytes)
@@ -354,8 +354,7 @@ class Mapped:
         size = {name: len(column) for name, column in found.items()}
         nodes, arcs, edges = size["node_osm"], size["arc_from"], size["edge_begin"] - 1
         limits: dict[str, tuple[float, float]] = {
-            **{name: limit for name, limit in limits_of(nodes, edges, size["text_begin"] - 1).items() if name in found},
-            "arc_row": (0, size["row_texts"] - 1), "row_texts": (0, size["text_begin"] - 2),
+            **limits_of(nodes, edges, size["row_texts"], size["text_begin"] - 1),
             "out_arcs": (0, arcs - 1), "edge_arcs": (0, arcs - 1), "node_things": (0, nodes - 1), "edge_things": (0, edges - 1),
             "step_points": (0, size["points"] - 2), "step_edges": (0, edges - 1),
         }

@@ -19,12 +19,18 @@ from numpy.typing import NDArray
 
 from .sphere import Floats
 from .tables import EARTH_RADIUS
+from .threads import firsts, sort
 
 SHIFT = 32
+# Of a cell's column and of a thing, where both are packed in 64 bits with the cell's band. The lowest bands, of 0.0025 degrees, are
+# 72,000 with at most 144,000 cells, and a network has fewer things than 2**29.
+COLUMN_BITS, THING_BITS = 18, 29
 # Things that are looked at together, and from how many on a lesser circle is tried before.
 MOST, CROWD = 1 << 14, 1 << 12
 # Places that are looked at together, and how often the circle around them is made wider before they are looked at alone.
 PLACES, ROUNDS = 1 << 10, 4
+# So few are looked at alone.
+FEW = 3
 # The degrees from which on circles are so wide that it is worth while to look how wide they are in each band.
 FAR = 0.5
 # How many times as wide as a band is high a circle may be for its cells to be found one by one.
@@ -163,7 +169,9 @@ class Grid(NamedTuple):
         nodes, away = np.full(len(lon), -1, dtype=np.int64), np.full(len(lon), np.inf)
         for begin in range(0, len(lon), PLACES):
             part = slice(begin, begin + PLACES)
-            left = self._near_ones(lon[part], lat[part], metres, nodes[part], away[part])
+            left = np.arange(len(lon[part]))
+            if len(left) > FEW:
+                left = self._near_ones(lon[part], lat[part], offset(metres, begin), nodes[part], away[part])
             for row in (left + begin).tolist():
                 place = np.array([row])
                 found = self.nearest((float(lon[row]), float(lat[row])), 1, lambda some: metres(np.repeat(place, len(some)), some))
@@ -189,6 +197,11 @@ class Grid(NamedTuple):
             left = left[is_left]
         nodes[left], away[left] = -1, np.inf
         return left
+
+
+def offset(metres: MetresOfPairs, begin: int) -> MetresOfPairs:
+    """The metres by numbers of places that count from `begin`."""
+    return lambda places, things: metres(places + begin, things)
 
 
 def ranges(begins: NDArray[Any], counts: NDArray[Any]) -> tuple[Ints, Ints]:
@@ -243,14 +256,20 @@ def cells_of(lon: Floats, lat: Floats, height: float) -> Ints:
     return found
 
 
-def gathered(cells: Ints, things: NDArray[Any], height: float, margin: float) -> Grid:
-    """The grid of things, which rise, that are listed in these cells; one that is in a cell several times is listed once."""
-    order = np.argsort(cells, kind="stable")
-    cells, things = cells[order], things[order]
-    is_other = np.ones(len(cells), dtype=bool)
-    is_other[1:] = (cells[1:] != cells[:-1]) | (things[1:] != things[:-1])
-    cells, things = cells[is_other], things[is_other]
-    is_first = np.ones(len(cells), dtype=bool)
-    is_first[1:] = cells[1:] != cells[:-1]
-    begins = np.append(np.flatnonzero(is_first), len(cells)).astype(np.int64)
-    return Grid(height, margin, cells[is_first], begins, things)
+def packed(cells: Ints, things: NDArray[Any]) -> NDArray[np.uint64]:
+    """Things and the cells in which they are listed, each pair a number, in the order of cells and then of things."""
+    bands, mask = cells >> SHIFT, (1 << COLUMN_BITS) - 1
+    found: NDArray[np.uint64] = ((bands << COLUMN_BITS | cells & mask) << THING_BITS | things).view(np.uint64)
+    return found
+
+
+def gathered(lists: list[NDArray[np.uint64]], height: float, margin: float) -> Grid:
+    """The grid of things in lists of them, `packed`; one that is in a cell several times is listed once."""
+    pairs = np.concatenate(lists)
+    lists.clear()
+    sort(pairs)
+    pairs = pairs[firsts(pairs)]
+    begins = np.append(np.flatnonzero(firsts(pairs >> np.uint64(THING_BITS))), len(pairs)).astype(np.int64)
+    cells = (pairs[begins[:-1]] >> np.uint64(THING_BITS)).astype(np.int64)
+    keys = (cells >> COLUMN_BITS << SHIFT) + (cells & (1 << COLUMN_BITS) - 1)
+    return Grid(height, margin, keys, begins, (pairs & np.uint64((1 << THING_BITS) - 1)).astype(np.int32))

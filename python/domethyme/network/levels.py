@@ -5,10 +5,13 @@ A step leads from one point of a line to the next, and is in the cell of its mid
 """
 import itertools
 import math
+from collections.abc import Callable
 from typing import NamedTuple
 
 import numpy as np
 from numpy.typing import NDArray
+
+from .threads import by_parts, firsts, sort
 
 KINDS: tuple[tuple[str, ...], ...] = (
     ("motorway", "trunk"), ("primary",), ("secondary",), ("tertiary",), ("unclassified", "residential", "living_street"), ()
@@ -17,6 +20,8 @@ KINDS: tuple[tuple[str, ...], ...] = (
 CODED = 15
 MANY = 10_000
 MOST_LAT = 85.0511
+# Of the number of a step, of which there are fewer than 2**31.
+STEP_BITS = 31
 
 Ints = NDArray[np.int64]
 Floats = NDArray[np.float64]
@@ -61,20 +66,36 @@ def codes_of(plane: Floats) -> NDArray[np.uint32]:
     return (spread(cells[:, 0]) | spread(cells[:, 1]) << 1).astype(np.uint32)
 
 
-def levels_of(codes: NDArray[np.uint32], steps: NDArray[np.int32], edges: NDArray[np.int32], kinds: NDArray[np.uint8]) -> Levels:
-    """The levels of steps with these cells, edges and kinds."""
-    orders = []
-    for kind in range(len(KINDS)):
-        chosen = np.flatnonzero(kinds == kind)
-        orders.append(chosen[np.argsort(codes[chosen], kind="stable")])
-    begins = np.cumsum([0, *map(len, orders)], dtype=np.int64)
-    order = np.concatenate(orders)
-    sorted_codes = codes[order]
+def levels_of(
+    codes: Callable[[slice], NDArray[np.uint32]], kinds: NDArray[np.uint8], steps: NDArray[np.int32], edges: NDArray[np.int32]
+) -> Levels:
+    """The levels of steps, by the cells of those in a slice, the kinds of edges, and the edge of each step."""
+    # a step's kind, cell and number, from the highest bits on
+    order = np.empty(len(steps), np.uint64)
+    found = np.empty(len(steps), np.uint32), np.empty(len(steps), np.int32), np.empty(len(steps), np.int32)
+
+    def pack(part: slice) -> None:
+        order[part] = kinds[edges[part]]
+        order[part] <<= np.uint64(2 * CODED)
+        order[part] |= codes(part)
+        order[part] <<= np.uint64(STEP_BITS)
+        order[part] |= np.arange(part.start, part.stop, dtype=np.uint64)
+
+    def unpack(part: slice) -> None:
+        number = (order[part] & np.uint64((1 << STEP_BITS) - 1)).astype(np.int64)
+        found[0][part] = order[part] >> np.uint64(STEP_BITS) & np.uint64((1 << 2 * CODED) - 1)
+        found[1][part], found[2][part] = steps[number], edges[number]
+
+    by_parts(pack, len(order))
+    sort(order)
+    by_parts(unpack, len(order))
+    of_kinds = np.arange(len(KINDS) + 1, dtype=np.uint64) << np.uint64(2 * CODED + STEP_BITS)
+    begins = np.searchsorted(order, of_kinds).astype(np.int64)
     crowds: list[Crowd] = []
     for low, high in itertools.pairwise(begins.tolist()):
-        cells, counts = np.unique(sorted_codes[low:high], return_counts=True)
-        crowds.append((cells, counts))
-    return Levels(begins, sorted_codes, steps[order], edges[order], shown_from(crowds))
+        places = np.flatnonzero(firsts(found[0][low:high]))
+        crowds.append((found[0][low:high][places], np.diff(np.append(places, high - low))))
+    return Levels(begins, *found, shown_from(crowds))
 
 
 def shown_from(crowds: list[Crowd]) -> list[int]:

@@ -22,6 +22,7 @@ import numpy as np
 from numpy.typing import NDArray
 
 from ..errors import NetworkError, os_reason
+from .threads import by_parts
 
 MAGIC = b"\x89DMNET\r\n"
 BLOCK = 1 << 14
@@ -58,7 +59,7 @@ def write(file: IO[bytes], form: Form, version: int, arrays: Iterable[tuple[str,
             raise ValueError(f"array {name} has rows of another length")
         rows.append(len(values))
         whole = values.reshape(-1).view(np.uint8)
-        sums += [zlib.crc32(whole[begin : begin + BLOCK].data) for begin in range(0, len(whole), BLOCK)]
+        sums += sums_of(whole)
         place += file.write(whole.data) + file.write(bytes(-len(whole) % ALIGNED))
     tail = np.array(rows, "<u8").tobytes() + np.array(sums, "<u4").tobytes()
     file.write(tail)
@@ -68,6 +69,14 @@ def write(file: IO[bytes], form: Form, version: int, arrays: Iterable[tuple[str,
     file.seek(0)
     file.write(head.tobytes())
     file.seek(0, os.SEEK_END)
+
+
+def sums_of(whole: NDArray[np.uint8]) -> list[int]:
+    """The CRC-32 of each block of bytes."""
+    def sums(part: slice) -> list[int]:
+        return [zlib.crc32(whole[begin : min(begin + BLOCK, part.stop)].data) for begin in range(part.start, part.stop, BLOCK)]
+
+    return [each for found in by_parts(sums, len(whole), BLOCK << 8) for each in found]
 
 
 class MappedFile:
@@ -203,9 +212,9 @@ class Column:
             blocks = numbers >> self._shift
             if blocks.min() < 0:
                 raise IndexError(f"{self._name} has no rows below 0")
-            new = blocks[~self._good[blocks]]
-            if new.size:
-                self._verify(np.unique(new))
+            is_good = self._good[blocks]
+            if not is_good.all():
+                self._verify(np.unique(blocks[~is_good]))
 
     def _verify(self, blocks: NDArray[Any]) -> None:
         if len(blocks):

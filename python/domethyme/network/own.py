@@ -26,6 +26,7 @@ from ..errors import NetworkError
 from ..program import StrPath
 from ..texts import HEAVIEST, MOST_LINES, MOST_NODES, number, read_graph, reading, shown, table, whole_number
 from .binary import NO_OSM, TEXTS, UNITS, VERSION, Arrays, Mapped, arrays_of, in_memory, units, wrong
+from .index import rows_of_texts
 from .sphere import metres, on_sphere
 from .tables import ENDS, Files, points_of, read_coordinates
 
@@ -199,10 +200,11 @@ def arrays_by(nodes: Nodes, arcs: Arcs, attribution: str = "", sizes: tuple[int,
     names: dict[str, int] = {}
     texts = np.array([[names.setdefault(text, len(names) + 1) for text in row] for row in arcs.texts], dtype=np.int32)
     encoded = [text.encode("utf-8", "replace") for text in (attribution, *names)]
+    row_texts, row = rows_of_texts(texts, arcs.row)
     found = Arrays(
         np.array([VERSION]), np.array(sizes), nodes.osm, nodes.places[:, 0].copy(), nodes.places[:, 1].copy(), nodes.ends,
         arcs.starts.astype(np.int32), arcs.ends.astype(np.int32), arcs.weights, arcs.seconds, arcs.metres, arcs.osm,
-        texts[arcs.row], edge, is_along, np.append(0, np.cumsum(counts)), arcs.points[rows],
+        row, edge, is_along, row_texts, np.append(0, np.cumsum(counts)), arcs.points[rows],
         np.cumsum([0, *map(len, encoded)], dtype=np.int64), np.frombuffer(b"".join(encoded), dtype=np.uint8),
     )
     if problem := wrong(found):

@@ -18,13 +18,9 @@ def on_sphere(lon: ArrayLike, lat: ArrayLike) -> Floats:
     """The point of each place in degrees, of shape (places, 3)."""
     east, north = np.radians(lon), np.radians(lat)
     away = np.cos(north)
-    return np.stack((away * np.cos(east), away * np.sin(east), np.sin(north)), axis=-1)
-
-
-def place_of(point: ArrayLike) -> Point:
-    """The place (lon, lat) of a point that isn't the sphere's centre."""
-    x, y, z = (float(part) for part in np.asarray(point))
-    return math.degrees(math.atan2(y, x)), math.degrees(math.atan2(z, math.hypot(x, y)))
+    found = np.empty((*east.shape, 3))
+    found[..., 0], found[..., 1], found[..., 2] = away * np.cos(east), away * np.sin(east), np.sin(north)
+    return found
 
 
 def angles(begins: Floats, ends: Floats) -> Floats:
@@ -39,9 +35,10 @@ def metres(begins: Floats, ends: Floats) -> Floats:
     return EARTH_RADIUS * angles(begins, ends)
 
 
-def points_along(begins: Floats, ends: Floats, shares: Floats) -> Floats:
-    """The points at shares, from 0 to 1, of the ways from points to others."""
-    whole = angles(begins, ends)
+def points_along(begins: Floats, ends: Floats, shares: Floats, whole: Floats | None = None) -> Floats:
+    """The points at shares, from 0 to 1, of the ways from points to others; `whole` are the angles between these, where they are
+    known."""
+    whole = angles(begins, ends) if whole is None else whole
     least = np.maximum(np.sin(whole), 1e-300)
     before = np.where(whole > 0, np.sin((1 - shares) * whole) / least, 1 - shares)
     behind = np.where(whole > 0, np.sin(shares * whole) / least, shares)
@@ -55,8 +52,20 @@ def between(begin: Point, end: Point, share: float) -> Point:
         return begin
     if share >= 1.0:
         return end
-    ends = on_sphere([begin[0], end[0]], [begin[1], end[1]])
-    return place_of(points_along(ends[:1], ends[1:], np.array([share]))[0])
+    one, other = point_of(*begin), point_of(*end)
+    whole = 2 * math.asin(min(1.0, math.dist(one, other) / 2))
+    least = max(math.sin(whole), 1e-300)
+    before = math.sin((1 - share) * whole) / least if whole else 1 - share
+    behind = math.sin(share * whole) / least if whole else share
+    x, y, z = (there * before + here * behind for there, here in zip(one, other))
+    return math.degrees(math.atan2(y, x)), math.degrees(math.atan2(z, math.hypot(x, y)))
+
+
+def point_of(lon: float, lat: float) -> tuple[float, float, float]:
+    """The point of one place in degrees. For a single one it takes a tenth of what arrays do."""
+    east, north = math.radians(lon), math.radians(lat)
+    away = math.cos(north)
+    return away * math.cos(east), away * math.sin(east), math.sin(north)
 
 
 def frame_of(lon: float, lat: float) -> Floats:
@@ -79,7 +88,7 @@ def nearest_on(frame: Floats, begins: Floats, ends: Floats) -> tuple[Floats, Flo
     one, other = one[:, :2] / one[:, 2:], other[:, :2] / other[:, 2:]
     steps = other - one
     squares = np.einsum("ij,ij->i", steps, steps)
-    shares = np.clip(-np.einsum("ij,ij->i", one, steps) / np.maximum(squares, 1e-300), 0, 1)
+    shares = np.minimum(np.maximum(-np.einsum("ij,ij->i", one, steps) / np.maximum(squares, 1e-300), 0), 1)
     feet = one + steps * shares[:, None]
     return EARTH_RADIUS * np.arctan(np.sqrt(np.einsum("ij,ij->i", feet, feet))), shares
 

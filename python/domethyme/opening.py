@@ -1,0 +1,47 @@
+"""Opens and reads the file of a hierarchy."""
+import os
+import stat
+from typing import IO
+
+from .errors import HierarchyError, HierarchyNotFound, os_reason
+
+HEAD_BYTES = 24
+LINK_BYTES = {b"RCH1": 20, b"RCH2": 24}
+# Bytes that are read at once: a call reads no more than 2 GiB.
+AT_ONCE = 1 << 30
+
+
+def opened(name: str) -> IO[bytes]:
+    """The open file of a hierarchy, which has to be a regular one: it is read again for each process."""
+    try:
+        file = open(name, "rb", buffering=0, opener=at_once)
+    except FileNotFoundError as error:
+        raise HierarchyNotFound(f"{name}: {os_reason(error)}", 7) from error
+    except OSError as error:
+        raise HierarchyError(f"{name}: {os_reason(error)}", 7) from error
+    if not stat.S_ISREG(os.fstat(file.fileno()).st_mode):
+        file.close()
+        raise HierarchyError(f"{name}: is no regular file", 7)
+    return file
+
+
+def at_once(name: str, flags: int) -> int:
+    """Opens a file without a wait: a pipe that nobody writes to is none that is waited for."""
+    return os.open(name, flags | os.O_NONBLOCK)
+
+
+def looked_at(file: int, name: str) -> tuple[int, int]:
+    """The numbers of nodes and links of a file, by its head, which has to fit its size."""
+    head, size = os.pread(file, HEAD_BYTES, 0), os.fstat(file).st_size
+    if head[:4] not in LINK_BYTES:
+        raise HierarchyError(f"{name}: is no file that `routecli prepare` wrote", 4)
+    nodes, links = int.from_bytes(head[4:8], "big"), int.from_bytes(head[8:16], "big")
+    if size != HEAD_BYTES + 4 * nodes + LINK_BYTES[head[:4]] * links:
+        raise HierarchyError(f"{name}: has {size} bytes, and its head announces others: prepare it anew", 4)
+    return nodes, links
+
+
+def read_at(file: int, place: int, size: int) -> bytes:
+    """Bytes of an open file, as far as it has them."""
+    parts = [os.pread(file, min(AT_ONCE, size - begin), place + begin) for begin in range(0, size, AT_ONCE)]
+    return parts[0] if len(parts) == 1 else b"".join(parts)

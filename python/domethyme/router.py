@@ -1,0 +1,231 @@
+"""A hierarchy in the memory of this process, asked through the library libdomethyme.
+
+Several threads may ask at once, each by a seat: a handle of the library with room for its answers. A question borrows a seat.
+Where all are taken it waits, and another one of the same hierarchy is made. Other threads of Python go on while the library
+works. After a fork the child has its parent's hierarchy, in the same pages of memory. Nodes are numbered from 0. Needs Python
+alone.
+"""
+import contextlib
+import ctypes
+import os
+import queue
+import weakref
+from collections.abc import Iterator, Sequence
+from ctypes import addressof, byref
+from typing import NamedTuple
+
+from .errors import DomethymeError, HierarchyError, LibraryError, OutOfMemory
+from .library import (
+    FIRST_FAULT, NO_PATH, NO_ROOM, OK, OUT_OF_MEMORY, TOO_LONG, BetweenInfo, Handle, RouteInfo, Seed, loaded, text_of
+)
+
+# How many nodes of a route a seat has room for at first.
+ROOM = 1 << 10
+
+
+class Answer(NamedTuple):
+    """A shortest path: its ends, its length, with what is added at its ends, and its nodes."""
+
+    source: int
+    target: int
+    length: int
+    nodes: list[int]
+
+
+class Seat:
+    """A handle of the library, and what its calls write to. One thread has it at a time."""
+
+    def __init__(self, name: str) -> None:
+        """It is closed; `name` is the hierarchy's in messages."""
+        self.name, self._library, self._handle = name, loaded(), Handle()
+        self._at, self._number, self._length = byref(self._handle), ctypes.c_uint32(), ctypes.c_uint64()
+        self._length_at, self._ask_length = byref(self._length), self._library.domethyme_length
+        self.route_info, self.between_info = RouteInfo(), BetweenInfo()
+        self._make_room(ROOM)
+
+    def open(self, data: bytes) -> None:
+        """Opens the bytes of a file. Raises HierarchyError, with the file's first fault, and OutOfMemory."""
+        self._need(self._library.domethyme_open(self._at, data, len(data)))
+
+    def beside(self) -> "Seat | None":
+        """Another seat of the same hierarchy, None where there is no memory for one."""
+        other = Seat(self.name)
+        return None if self._library.domethyme_beside(self._at, other._at) else other
+
+    def close(self) -> None:
+        self._library.domethyme_close(self._at)
+
+    @property
+    def count(self) -> int:
+        """The number of nodes."""
+        self._need(self._library.domethyme_nodes(self._at, byref(self._number)))
+        return self._number.value
+
+    @property
+    def version(self) -> int:
+        """The version of the file."""
+        self._need(self._library.domethyme_version(self._at, byref(self._number)))
+        return self._number.value
+
+    def length(self, source: int, target: int) -> int | None:
+        """The least length from one node to another, None where there is no path."""
+        code = self._ask_length(self._at, source, target, self._length_at)
+        return self._length.value if code == OK or self._is_path(code) else None
+
+    def route(self, source: int, target: int) -> bool:
+        """Whether there is a path. A shortest one, of the fewest arcs, is in `route_info` and at the beginning of `nodes`."""
+        info = self.route_info
+        while True:
+            code = self._library.domethyme_route(self._at, source, target, byref(info), self._nodes_at, self._room)
+            if code != NO_ROOM:
+                return self._is_path(code)
+            self._make_room(2 * info.nodes)
+
+    def between(self, starts: "ctypes.Array[Seed]", ends: "ctypes.Array[Seed]", with_nodes: bool = True) -> bool:
+        """The same from one of several starts to one of several ends, of the least whole length, in `between_info` and `nodes`, or
+        without nodes."""
+        info, sides = self.between_info, (addressof(starts), len(starts), addressof(ends), len(ends))
+        while True:
+            room = self._room if with_nodes else 0
+            code = self._library.domethyme_between(self._at, *sides, byref(info), self._nodes_at, room)
+            if code != NO_ROOM:
+                return self._is_path(code)
+            if not with_nodes:
+                return True
+            self._make_room(2 * info.nodes)
+
+    def lengths(self, pairs: int, count: int, lengths: int) -> None:
+        """Writes the least length of each pair of an array, NO_LENGTH where there is no path, to another; both by their
+        addresses."""
+        self._need(self._library.domethyme_lengths(self._at, pairs, count, lengths, count))
+
+    def table(self, sources: int, rows: int, targets: int, columns: int, lengths: int) -> None:
+        """The same of each source and target, row by row."""
+        self._need(self._library.domethyme_table(self._at, sources, rows, targets, columns, lengths, rows * columns))
+
+    def _make_room(self, room: int) -> None:
+        self.nodes, self._room = (ctypes.c_uint32 * room)(), room
+        self._nodes_at = addressof(self.nodes)
+
+    def _is_path(self, code: int) -> bool:
+        """Whether a code says that there is a path. Raises the error of one that says neither."""
+        if code == OK:
+            return True
+        if code != NO_PATH:
+            raise self._error(code)
+        return False
+
+    def _need(self, code: int) -> None:
+        if code != OK:
+            raise self._error(code)
+
+    def _error(self, code: int) -> DomethymeError:
+        said = f"{self.name}: {text_of(code)}"
+        if code == OUT_OF_MEMORY:
+            return OutOfMemory(said, 6)
+        if code == TOO_LONG or code >= FIRST_FAULT:
+            return HierarchyError(said, 4)
+        return LibraryError(said)
+
+
+class Router:
+    """A hierarchy and its seats. `nodes` is the number of nodes, and `version` that of the file."""
+
+    def __init__(self, data: bytes, name: str) -> None:
+        """Opens the bytes of a file that messages call `name`. Raises HierarchyError, with the file's first fault, OutOfMemory
+        and LibraryNotFound."""
+        self.name, seat = name, Seat(name)
+        seat.open(data)
+        self.nodes, self.version = seat.count, seat.version
+        self._idle: "queue.SimpleQueue[Seat]" = queue.SimpleQueue()
+        self._idle.put(seat)
+        self._waiting = 0
+        self._end, self._is_closed = weakref.finalize(self, close_all, self._idle), False
+        _routers.add(self)
+
+    def close(self) -> None:
+        """Frees the memory. Questions then raise ValueError."""
+        self._is_closed = True
+        self._end()
+
+    @contextlib.contextmanager
+    def seat(self) -> Iterator[Seat]:
+        """A seat that nobody else has, for a with-block."""
+        seat = self._take()
+        try:
+            yield seat
+        finally:
+            self._give(seat)
+
+    def length(self, source: int, target: int) -> int | None:
+        """The least length from one node to another, None where there is no path."""
+        seat = self._take()
+        try:
+            return seat.length(source, target)
+        finally:
+            self._give(seat)
+
+    def route(self, source: int, target: int) -> Answer | None:
+        """A shortest path, and of all of them one with the fewest arcs; None where there is none."""
+        with self.seat() as seat:
+            if not seat.route(source, target):
+                return None
+            return Answer(source, target, seat.route_info.length, seat.nodes[: seat.route_info.nodes])
+
+    def between(self, starts: Sequence[tuple[int, int]], ends: Sequence[tuple[int, int]], with_nodes: bool = True) -> Answer | None:
+        """The same from one of several nodes to one of several, each with a length that is added there, of the least whole length;
+        or without its nodes."""
+        some, others = seeds_of(starts), seeds_of(ends)
+        with self.seat() as seat:
+            if not seat.between(some, others, with_nodes):
+                return None
+            info = seat.between_info
+            nodes = seat.nodes[: info.nodes] if with_nodes else []
+            return Answer(starts[info.start][0], ends[info.end][0], info.length, nodes)
+
+    def _take(self) -> Seat:
+        """A seat. Where all are taken it waits for one, and another one is made."""
+        if self._is_closed:
+            raise ValueError(f"the hierarchy {self.name} is closed")
+        try:
+            return self._idle.get_nowait()
+        except queue.Empty:
+            self._waiting += 1
+            return self._idle.get()
+
+    def _give(self, seat: Seat) -> None:
+        """Gives a seat back. If another thread waits it makes one more, since that thread comes too late for this one where its
+        owner takes it again at once."""
+        if self._waiting > 0 and not self._is_closed and (other := seat.beside()) is not None:
+            self._waiting -= 1
+            self._idle.put(other)
+        self._idle.put(seat)
+        if self._is_closed:
+            close_all(self._idle)
+
+    def _keep_after_fork(self) -> None:
+        """In a child after a fork: where other threads had all seats, which are as those left them, it is closed."""
+        self._is_closed = self._is_closed or self._idle.empty()
+
+
+def seeds_of(rows: Sequence[tuple[int, int]]) -> "ctypes.Array[Seed]":
+    """Starts or ends: a node and a length that is added there in each row."""
+    return (Seed * len(rows))(*[Seed(added, node, 0) for node, added in rows])
+
+
+def close_all(idle: "queue.SimpleQueue[Seat]") -> None:
+    """Closes the seats that aren't taken."""
+    with contextlib.suppress(queue.Empty):
+        while True:
+            idle.get_nowait().close()
+
+
+_routers: "weakref.WeakSet[Router]" = weakref.WeakSet()
+
+
+def _keep_all() -> None:
+    for each in list(_routers):
+        each._keep_after_fork()
+
+
+os.register_at_fork(after_in_child=_keep_all)
