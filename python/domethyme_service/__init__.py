@@ -1,4 +1,4 @@
-"""A routing service over HTTP: workers of the proved program `routecli serve`, and OSRM's API before them.
+"""A routing service over HTTP: a hierarchy in memory, which the proved library answers by, and OSRM's API before it.
 
     command     the command line
     master      the process that holds the socket and starts a keeper for each generation of files
@@ -22,12 +22,11 @@
     lines       polylines, and simpler lines
     legs        the least way between two places on roads
     bearings    the nearest point of a road that leads in a wanted direction
-    tables      tables of durations and distances, by the links of the hierarchy's file or by the program
+    tables      tables of durations and distances, by the links of the hierarchy's file or by questions
     roads       a network's roads: the piece of road nearest to a place
     tiles       the roads for the page's map
     page        the page at `/`: its files, and what it asks
     snapshot    the files of a generation, opened and compared
-    workers     the processes of `routecli serve`, the queues before them, and replies that are compared with their requests
-    replies     what a line of reply says
+    questions   what the hierarchy is asked
     errors      Refused: what a request is answered where it can't be answered as it asks
 """

@@ -1,7 +1,7 @@
 """The command `domethyme-serve`: a routing service over HTTP.
 
 HIERARCHY is the file that `routecli prepare` wrote. The service answers http://127.0.0.1:PORT/ until it is ended. SIGHUP
-reads the files of those names anew, while requests go on; SIGTERM and an interrupt answer what was asked, and then end it.
+reads the files again, and requests are answered meanwhile; SIGTERM and an interrupt answer those received, and end the service.
 
 Exit status: 0; 1 if it can't start, with one line on standard error; 2 for invalid arguments.
 """
@@ -22,32 +22,39 @@ from .metrics import Board
 from .server import Ways
 from .snapshot import Files
 
+EXAMPLES = """examples:
+  %(prog)s net.rch --network net
+  %(prog)s net.rch --network net --checked net.gr --fronts 4 --port 8080
+  curl 'http://127.0.0.1:5000/route/v1/car/9.5215,47.1410;9.6090,47.1020?overview=false'"""
+
 log = logging.getLogger("domethyme_service")
 
 
 def parser() -> argparse.ArgumentParser:
     """The words of the command."""
-    shape = argparse.RawDescriptionHelpFormatter
-    words = argparse.ArgumentParser(prog="domethyme-serve", description=__doc__, formatter_class=shape)
-    words.add_argument("hierarchy", metavar="HIERARCHY", help="the file of a hierarchy")
-    words.add_argument("--checked", metavar="GRAPH", help="the graph for which the hierarchy has to be right, proved at each start")
-    words.add_argument("--network", help="the beginning of the names of its network's files: places on roads, and OSRM's API")
-    words.add_argument("--within", type=number(0, 10_000_000), default=1000, help="metres from a place to a road (1000)")
-    words.add_argument("--host", default="127.0.0.1", help="the address to listen at (127.0.0.1)")
-    words.add_argument("--port", type=number(0, 65535), default=5000, help="the port, 0 for any that is free (5000)")
-    words.add_argument("--workers", type=number(1, 64), default=1, help="processes of routecli serve (1)")
-    words.add_argument("--fronts", type=number(1, 64), default=1, help="processes that answer, each with its workers (1)")
-    words.add_argument("--tables", choices=("fast", "proved"), default="fast", help="how tables of many cells are made (fast)")
-    words.add_argument("--table-cells", type=number(1, 4_000_000), default=1_000_000, help="cells that a table may have (1000000)")
-    words.add_argument("--program", help="routecli: by default that of ROUTECLI, on PATH, or built here")
-    words.add_argument("--connections", type=number(1, 100_000), default=2000, help="how many at once, for each front (2000)")
-    words.add_argument("--client-connections", type=number(1, 100_000), help="those from one address elsewhere (half of them)")
-    words.add_argument("--head-seconds", type=number(1, 3600), default=10, help="in which a head has to come whole (10)")
+    words = argparse.ArgumentParser(
+        prog="domethyme-serve", description=__doc__, epilog=EXAMPLES, formatter_class=argparse.RawDescriptionHelpFormatter
+    )
+    add = words.add_argument
+    add("hierarchy", metavar="HIERARCHY", help="the file of a hierarchy")
+    add("--checked", metavar="GRAPH", help="the graph for which the hierarchy has to be right, proved at each start")
+    add("--network", metavar="NETWORK", help="the beginning of its network's file names: places on roads, OSRM's API")
+    add("--within", metavar="METRES", type=number(0, 10_000_000), default=1000, help="metres from a place to a road (1000)")
+    add("--host", metavar="ADDRESS", default="127.0.0.1", help="the address to listen at (127.0.0.1)")
+    add("--port", metavar="PORT", type=number(0, 65535), default=5000, help="the port, 0 for any that is free (5000)")
+    add("--fronts", metavar="N", type=number(1, 64), default=1, help="processes that answer (1)")
+    add("--workers", type=number(1, 64), help=argparse.SUPPRESS)
+    add("--tables", choices=("fast", "proved"), default="fast", help="how tables of many cells are made (fast)")
+    add("--table-cells", metavar="N", type=number(1, 4_000_000), default=1_000_000, help="cells of a table (1000000)")
+    add("--program", metavar="FILE", help="routecli, for --checked: by default that of ROUTECLI, on PATH, or built here")
+    add("--connections", metavar="N", type=number(1, 100_000), default=2000, help="how many at once, for each front (2000)")
+    add("--client-connections", metavar="N", type=number(1, 100_000), help="those of one address elsewhere (half)")
+    add("--head-seconds", metavar="S", type=number(1, 3600), default=10, help="in which a head has to come whole (10)")
     host = "a host that requests may be for, * for any; several times"
-    words.add_argument("--allowed-host", metavar="NAME", action="append", default=[], help=host)
-    words.add_argument("--cors", metavar="ORIGIN", default="none", help="the origin whose pages may ask, * for any (none)")
-    words.add_argument("--access-log", action="store_true", help="a line of JSON on standard error for each request")
-    words.add_argument("--log-places", action="store_true", help="with the path and the caller's address in it")
+    add("--allowed-host", metavar="NAME", action="append", default=[], help=host)
+    add("--cors", metavar="ORIGIN", default="none", help="the origin whose pages may ask, * for any (none)")
+    add("--access-log", action="store_true", help="a line of JSON on standard error for each request")
+    add("--log-places", action="store_true", help="with the path and the caller's address in it")
     return words
 
 
@@ -78,13 +85,16 @@ def set_logs(access: bool) -> None:
 
 def run(words: argparse.Namespace) -> int:
     """Runs the service; returns the exit status. Raises Unable or a DomethymeError where it can't begin."""
-    files = Files(find_program(words.program), words.hierarchy, words.network, words.tables == "fast", words.checked)
-    connections = most_connections(words.connections, words.workers)
+    if words.workers is not None:
+        log.warning("--workers has no effect any more: --fronts says how many processes answer")
+    program = None if words.checked is None else find_program(words.program)
+    files = Files(words.hierarchy, words.network, words.tables == "fast", words.checked, program)
+    connections = most_connections(words.connections)
     client = words.client_connections or max(1, words.connections // 2)
     bounds = Bounds(connections, min(client, connections), words.head_seconds)
     ways = Ways(Allowed.of(words.allowed_host, words.cors), words.log_places, words.within, words.table_cells)
     with listener(words.host, words.port) as listening:
-        setting = Setting(listening, Board(rows_needed(words.fronts)), words.fronts, words.workers, bounds, ways)
+        setting = Setting(listening, Board(rows_needed(words.fronts)), words.fronts, bounds, ways)
         return Master(setting, files).run()
 
 

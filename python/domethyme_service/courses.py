@@ -14,7 +14,7 @@ from domethyme.network.network import Floats
 from domethyme.network.tables import Point
 
 from .legs import Leg
-from .lines import bearing, encoded, simplified
+from .lines import Line, bearing, encoded, simplified
 from .osrm_answer import Figures, Geometry
 from .roads import Roads, steps_of
 from .work import Budget
@@ -25,8 +25,6 @@ SHOWN = 1_000_000
 UNITS_OF_ANSWERS = {"duration": 1000, "distance": 100}
 
 Ints = NDArray[np.int64]
-# Points (lon, lat), as lists.
-Line = list[list[float]]
 
 
 class Course:
@@ -164,11 +162,11 @@ def simpler(lines: Sequence[Line], budget: Budget) -> list[Line]:
     return [simplified(array, far, budget).tolist() for array in arrays]
 
 
-def shaped(line: Line, shape: str) -> Geometry:
-    """A line as a polyline, or as GeoJSON."""
+def shaped(lines: Sequence[Line], shape: str) -> list[Geometry]:
+    """Lines as polylines, or as GeoJSON."""
     if shape == "geojson":
-        return {"type": "LineString", "coordinates": line}
-    return encoded(np.array(line), 6 if shape == "polyline6" else 5)
+        return [{"type": "LineString", "coordinates": line} for line in lines]
+    return list(encoded(lines, 6 if shape == "polyline6" else 5))
 
 
 def annotation(course: Course, names: list[str]) -> dict[str, list[float]]:

@@ -72,7 +72,7 @@ ENDPOINTS = (
              "this path has no parameters", "POST"),
     Endpoint("/nodes/lengths", "/nodes/lengths", "a length for each line of the body, as a line of JSON", (),
              "this path has no parameters", "POST"),
-    Endpoint("/health", "/health", "200, or 503 without workers or while it ends", None),
+    Endpoint("/health", "/health", "200, or 503 while it ends", None),
     Endpoint("/metrics", "/metrics", "the text format 0.0.4 of Prometheus", None),
 )
 BY_NAME = {endpoint.name: endpoint for endpoint in ENDPOINTS}

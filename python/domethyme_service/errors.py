@@ -19,10 +19,6 @@ class Unable(Exception):
     """The service can't begin, or not by new files: what is wrong, in a line."""
 
 
-class WorkerFault(Unable):
-    """A worker can't be started: the file of the hierarchy is refused, or there is no such program."""
-
-
 def invalid_query(message: str) -> Refused:
     """A parameter that isn't known, or the wrong shape of a request."""
     return Refused(400, "InvalidQuery", message)

@@ -1,5 +1,4 @@
-"""A front: a process that accepts connections and answers them, with workers of its own. It was forked with the network opened.
-"""
+"""A front: a process that accepts connections and answers them. It was forked with the hierarchy and the network opened."""
 import asyncio
 import logging
 import os
@@ -12,27 +11,26 @@ from .connection import Bounds, Server
 from .errors import Unable
 from .listening import Acceptor
 from .metrics import Board, Row
+from .questions import Questions
 from .server import Service, Ways
 from .snapshot import Generation, Snapshot
-from .workers import Limits, Pool
 
 SECONDS_TO_DRAIN = 30.0
 IDLE_AT_THE_END = 1.0
 # Seconds between two beats, by which is seen that the front does its work.
 BEAT = 0.5
-# Seconds after which a thread that works lets single requests in.
+# Seconds after which a thread that works yields to single requests.
 SWITCH = 0.0005
 log = logging.getLogger("domethyme_service")
 
 
 class Setting(NamedTuple):
     """What all fronts of a service have in common: the socket that they accept from, the memory of their figures, their number,
-    their workers, limits and ways."""
+    limits and ways."""
 
     listening: socket.socket
     board: Board
     fronts: int
-    workers: int
     bounds: Bounds
     ways: Ways
 
@@ -47,12 +45,11 @@ class Front:
     async def run(self) -> None:
         """Serves until it is told to end. Raises Unable where it can't begin."""
         sys.setswitchinterval(SWITCH)
-        setting, loop = self.setting, asyncio.get_running_loop()
+        setting, snapshot, loop = self.setting, self.snapshot, asyncio.get_running_loop()
         loop.add_signal_handler(signal.SIGTERM, self.end.set)
         loop.add_reader(self.parent, self._orphaned)
-        pool = Pool(self.snapshot.source, setting.workers, Limits(), self.row)
-        await pool.start()
-        service = Service(Generation(pool, self.snapshot.roads, self.snapshot.sweeps), setting.board, self.row, setting.ways)
+        questions = Questions(snapshot.router, snapshot.links, self.row)
+        service = Service(Generation(questions, snapshot.roads, snapshot.sweeps), setting.board, self.row, setting.ways)
         self.server = Server(service.handle, setting.bounds)
         service.connections = lambda: len(self.server.connections)
         acceptor = Acceptor(setting.listening, self.server, self._leaves_to_others)
@@ -64,7 +61,6 @@ class Front:
         service.publish()
         await self._drain()
         beating.cancel()
-        await pool.close()
         service.desk.close()
 
     def _orphaned(self) -> None:

@@ -23,7 +23,7 @@ LOOK = 0.05
 # Seconds without a beat of a front after which it is killed, and those that one look may add: where all of the machine stood
 # still, or this process did, it isn't the front's fault.
 SILENCE, MOST_OF_A_LOOK = 10.0, 0.5
-SECONDS_TO_BEGIN = 120.0
+SECONDS_TO_BEGIN = 30.0
 PAUSE = 1.0
 log = logging.getLogger("domethyme_service")
 
@@ -81,7 +81,7 @@ class Keeper:
                 self._end(now)
             elif not self.is_ready and all(child.is_ready for child in self.children):
                 self.is_ready = True
-                self._tell(f"ready {self.snapshot.source.sizes[0]}")
+                self._tell(f"ready {self.snapshot.router.nodes}")
         return 0 if self.is_ready or self.is_ending else 1
 
     def end(self, _number: int, _frame: FrameType | None) -> None:

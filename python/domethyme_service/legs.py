@@ -1,18 +1,16 @@
-"""The least way between two points on roads, by `b` requests of the program.
+"""The least way between two points on roads, by least ways between the nodes that they lead to.
 
 The graph is cut at both points. A least way there stays on an arc from the one point to the other, or leaves the first point's
 edge by the end of an arc and comes to the second's by the start of one, with a least route of the graph between, which is what
-the program replies. So the least of all these is least in the graph that is cut.
+is asked for. So the least of all these is least in the graph that is cut.
 """
 from typing import NamedTuple
 
 from domethyme.lines import Answer
 
 from .errors import Refused
-from .replies import length_of, route_of
+from .questions import Questions
 from .roads import NONE, Roads, Spot
-
-SIDES = 8
 
 
 class Leg(NamedTuple):
@@ -29,9 +27,18 @@ class Leg(NamedTuple):
 STAYS = Leg(0, [], [], 0.0, 1.0)
 
 
-def requests(start: Spot, end: Spot) -> list[bytes]:
-    """The lines to ask for a leg: one, but where a point has more than SIDES exits or entries."""
-    return [] if is_at(start, end) else requests_by(sides_of(start.exits), sides_of(end.entries))
+def leg_between(questions: Questions, roads: Roads, start: Spot, end: Spot) -> Leg | None:
+    """The leg between two points; None where there is no way. Raises Refused."""
+    return STAYS if is_at(start, end) else leg_of(roads, start, end, questions.between(start.exits, end.entries))
+
+
+def weight_between(questions: Questions, roads: Roads, start: Spot, end: Spot) -> int | None:
+    """The weight of the leg, without its parts; None where there is no way. Raises Refused."""
+    if is_at(start, end):
+        return 0
+    straight, route = along_one_arc(roads, start, end), questions.between(start.exits, end.entries, with_nodes=False)
+    weights = [each for each in (straight and straight.weight, route and route.length) if each is not None]
+    return min(weights, default=None)
 
 
 def is_at(start: Spot, end: Spot) -> bool:
@@ -39,35 +46,12 @@ def is_at(start: Spot, end: Spot) -> bool:
     return bool(start.copies) and start.copies == end.copies
 
 
-def requests_by(exits: list[bytes], entries: list[bytes]) -> list[bytes]:
-    return [b"b " + some + b" : " + others for some in exits for others in entries]
-
-
-def sides_of(sides: dict[int, tuple[int, int]]) -> list[bytes]:
-    """Exits or entries as requests have them, up to SIDES in one."""
-    rows = [b"%d %d" % (node, sides[node][0]) for node in sorted(sides)]
-    return [b" ".join(rows[begin : begin + SIDES]) for begin in range(0, len(rows), SIDES)]
-
-
-def leg_of(roads: Roads, start: Spot, end: Spot, replies: list[bytes]) -> Leg | None:
-    """The leg by the replies to its lines; None where there is no way."""
-    if is_at(start, end):
-        return STAYS
-    found = [route for route in map(route_of, replies) if route is not None]
+def leg_of(roads: Roads, start: Spot, end: Spot, route: Answer | None) -> Leg | None:
+    """The leg by the least route between the points' nodes, None where there is none; and None where there is no way."""
     straight = along_one_arc(roads, start, end)
-    route = min(found, key=lambda each: each.length) if found else None
     if route is None or straight is not None and straight.weight <= route.length:
         return straight
     return driven(roads, start, end, route)
-
-
-def least_weight(roads: Roads, start: Spot, end: Spot, replies: list[bytes]) -> int | None:
-    """The weight of the leg by the replies to its lines, without its parts; None where there is no way."""
-    if is_at(start, end):
-        return 0
-    straight = along_one_arc(roads, start, end)
-    weights = [weight for weight in map(length_of, replies) if weight is not None]
-    return min([*weights, *([] if straight is None else [straight.weight])], default=None)
 
 
 def along_one_arc(roads: Roads, start: Spot, end: Spot) -> Leg | None:

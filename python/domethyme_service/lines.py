@@ -1,6 +1,7 @@
 """Lines of places: polylines as texts, and simpler lines."""
 import itertools
 import math
+from collections.abc import Sequence
 
 import numpy as np
 
@@ -9,22 +10,32 @@ from domethyme.network.tables import Point
 
 from .work import Budget
 
+# Points (lon, lat), as lists.
+Line = list[list[float]]
 # The bits of a number in a polyline, five in a sign: the steps of 360 degrees to seven digits have 33.
 SHIFTS = np.arange(0, 40, 5)
 
 
-def encoded(points: Floats, digits: int) -> str:
-    """The polyline of points (lon, lat), of shape (count, 2), with so many digits behind the point."""
-    whole = np.rint(points[:, ::-1] * 10**digits).astype(np.int64)
-    steps = np.diff(whole, axis=0, prepend=np.zeros((1, 2), dtype=np.int64)).ravel()
-    rest = np.where(steps < 0, ~(steps << 1), steps << 1)[:, None] >> SHIFTS
+def encoded(lines: Sequence[Line], digits: int) -> list[str]:
+    """The polylines of lines of points (lon, lat), with so many digits behind the point. Many short ones take little longer than
+    one of all their points."""
+    whole = np.rint(np.array(list(itertools.chain.from_iterable(lines)))[:, ::-1] * 10**digits).astype(np.int64)
+    counts = [len(line) for line in lines]
+    ends = np.cumsum(counts)
+    begins = ends - counts
+    steps = whole.copy()
+    steps[1:] -= whole[:-1]
+    steps[begins] = whole[begins]
+    values = steps.ravel()
+    rest = np.where(values < 0, ~(values << 1), values << 1)[:, None] >> SHIFTS
     is_sign = rest > 0
     is_sign[:, 0] = True
     has_more = np.zeros_like(is_sign)
     has_more[:, :-1] = rest[:, 1:] > 0
     signs = (rest & 0x1F) + 63 + 0x20 * has_more
-    text: bytes = signs[is_sign].astype(np.uint8).tobytes()
-    return text.decode("ascii")
+    text = signs[is_sign].astype(np.uint8).tobytes().decode("ascii")
+    cuts = np.cumsum(is_sign.sum(axis=1))[2 * ends - 1].tolist()
+    return [text[begin:end] for begin, end in zip([0, *cuts], cuts)]
 
 
 def decoded(text: str, digits: int) -> list[Point]:

@@ -11,8 +11,8 @@ from collections.abc import Callable
 from .errors import Unable
 
 BACKLOG = 1024
-# Descriptors that a front keeps for all but connections, and for each of its workers.
-KEPT_BACK, OF_A_WORKER = 64, 4
+# Descriptors that a front keeps for all but connections.
+KEPT_BACK = 64
 # Connections that are accepted in a turn of the event loop, and the seconds until a front that can't accept looks again.
 ACCEPTS, PAUSE = 4, 0.05
 FULL = {errno.EMFILE, errno.ENFILE, errno.ENOBUFS, errno.ENOMEM}
@@ -57,17 +57,17 @@ def address_of(listening: socket.socket) -> str:
     return f"http://{f'[{host}]' if ':' in host else host}:{port}/"
 
 
-def most_connections(wanted: int, workers: int) -> int:
+def most_connections(wanted: int) -> int:
     """Raises the limit of descriptors as far as it may be; returns how many of the connections that are wanted it leaves room
     for."""
     soft, hard = resource.getrlimit(resource.RLIMIT_NOFILE)
-    needed = wanted + KEPT_BACK + OF_A_WORKER * workers
+    needed = wanted + KEPT_BACK
     if needed > soft:
         more = min(needed, hard) if hard != resource.RLIM_INFINITY else needed
         with contextlib.suppress(OSError, ValueError):
             resource.setrlimit(resource.RLIMIT_NOFILE, (more, hard))
             soft = more
-    room = max(1, soft - KEPT_BACK - OF_A_WORKER * workers)
+    room = max(1, soft - KEPT_BACK)
     if room < wanted:
         log.warning("a front has at most %d connections: %d descriptors are all that it may have", room, soft)
     return min(wanted, room)

@@ -16,10 +16,10 @@ BOUNDS = (0.001, 0.0025, 0.005, 0.01, 0.025, 0.05, 0.1, 0.25, 0.5, 1.0, 2.5, 5.0
 STATUSES = (200, 204, 400, 403, 404, 405, 408, 413, 415, 421, 429, 499, 500, 503, 504, 505)
 NAMES = (*(endpoint.name for endpoint in ENDPOINTS), "other")
 # Names without `domethyme_`. The first is no figure of the page, but changes while the process does its work.
-GAUGES = ("beat", "workers_ready", "lines_open", "lines_waiting", "bulk_lines_waiting", "connections", "fronts")
+GAUGES = ("beat", "connections", "fronts")
 COUNTERS = (
-    "lines_total", "worker_restarts_total", "worker_wrong_replies_total", "worker_silences_total", "front_restarts_total",
-    "front_silences_total", "reloads_total", "reloads_refused_total", "work_stopped_total",
+    "questions_total", "front_restarts_total", "front_silences_total", "reloads_total", "reloads_refused_total",
+    "work_stopped_total",
 )
 SINGLES = (*GAUGES, *COUNTERS)
 REQUESTS_AT = len(SINGLES)
@@ -52,8 +52,8 @@ class Figure:
 class Row:
     """What one process has done and has under way."""
 
-    beat, workers_ready, lines_open, lines_waiting, bulk_waiting, connections, fronts = map(Figure, GAUGES)
-    lines, restarts, wrong, silent, front_restarts, front_silences, reloads, refused, stopped = map(Figure, COUNTERS)
+    beat, connections, fronts = map(Figure, GAUGES)
+    questions, front_restarts, front_silences, reloads, refused, stopped = map(Figure, COUNTERS)
 
     def __init__(self, cells: Cells | None = None) -> None:
         """By default one that no other process sees."""

@@ -1,77 +1,60 @@
 """Routes and lengths between nodes by their numbers, from 1, as in files: one pair, or a batch of pairs as NDJSON.
 
-A batch is read in blocks of ROWS lines. A block of good lines is parsed by one call of `json`, is asked in jobs of many lines, and
-its replies are joined to one piece of the answer. A block with a fault is parsed line by line. The event loop runs between blocks.
+A batch is read in blocks of ROWS lines. A block of good lines is parsed by one call of `json`. A block with a fault is parsed line
+by line. The event loop runs between blocks, and between the questions of one.
 """
 import asyncio
 import json
 from collections.abc import AsyncGenerator, Iterator, Sequence
-from typing import NamedTuple
+
+from domethyme.lines import NO_WAY, Answer
 
 from .errors import Refused, invalid_query, invalid_value
 from .parameters import node_of
-from .replies import is_no_way
-from .workers import Pool
+from .questions import Pair, Questions
 
 LONGEST_LINE = 256
 # Lines of a block, and the bytes of a body that are split at once. 256 faulty lines take some 3 ms.
 ROWS, PIECE = 256, 1 << 14
-# Blocks of a batch that are asked ahead of the one that is written: the queue has room for those of all batches.
-AHEAD = 1
-
-Pair = tuple[int, int]
 
 
-async def pair(pool: Pool, kind: bytes, source: int, target: int) -> bytes:
-    """The answer for one pair of nodes as JSON: the route (kind `q`), or the length alone (`d`). Raises Refused."""
-    replies = await pool.ask([b"%b %d %d" % (kind, source, target)])
-    return answer(kind, source, target, replies[0])
+def route_between(questions: Questions, source: int, target: int) -> bytes:
+    """The route of a pair of nodes as JSON: `length`, `arcs` and `nodes` are null where there is no way. Raises Refused."""
+    return route_told((source, target), questions.route(source, target))
 
 
-def answer(kind: bytes, source: int, target: int, reply: bytes) -> bytes:
-    """An answer as JSON: `length` is null where there is no way. Raises Refused for a request that the program couldn't answer."""
-    length, arcs, line = b"null", b"null", b"null"
-    if not is_no_way(reply):
-        words = reply.split(b" ", 5)
-        if not b"".join(words[1:]).replace(b" ", b"").isdigit() or len(words) != (6 if kind == b"q" else 4):
-            raise Refused(500, "InternalError", "the program's reply can't be read")
-        length = words[3]
-        if kind == b"q":
-            arcs, line = words[4], b"[" + words[5].replace(b" ", b",") + b"]"
-    more = b',"arcs":%b,"nodes":%b' % (arcs, line) if kind == b"q" else b""
-    return b'{"from":%d,"to":%d,"length":%b%b}' % (source, target, length, more)
+def length_between(questions: Questions, source: int, target: int) -> bytes:
+    """The length alone. Raises Refused."""
+    length = questions.length(source, target)
+    return length_told((source, target), NO_WAY if length is None else length)
 
 
-class Block(NamedTuple):
-    """Lines of a body that follow one another: the number of the first one, and for each its pair or what is wrong with it."""
+def route_told(pair: Pair, route: Answer | None) -> bytes:
+    if route is None:
+        return b'{"from":%d,"to":%d,"length":null,"arcs":null,"nodes":null}' % pair
+    nodes = ",".join(map(str, route.nodes)).encode()
+    return b'{"from":%d,"to":%d,"length":%d,"arcs":%d,"nodes":[%b]}' % (*pair, route.length, len(route.nodes) - 1, nodes)
 
-    first: int
-    rows: Sequence[Pair | Refused]
-    replies: "asyncio.Future[list[bytes]]"
+
+def length_told(pair: Pair, length: int) -> bytes:
+    if length == NO_WAY:
+        return b'{"from":%d,"to":%d,"length":null}' % pair
+    return b'{"from":%d,"to":%d,"length":%d}' % (*pair, length)
 
 
-async def batch(pool: Pool, kind: bytes, body: bytes) -> AsyncGenerator[bytes, None]:
-    """The answer to lines `{"from": S, "to": T}`, in order, a piece for each block; a fault is reported in its line.
-    Raises Refused where no worker replies."""
-    open_: list[Block] = []
+async def batch(questions: Questions, has_routes: bool, body: bytes) -> AsyncGenerator[bytes, None]:
+    """The answer to lines `{"from": S, "to": T}`, in order, a piece for each block; a fault is reported in its line. Raises
+    Refused where a question can't be answered."""
     first = 1
-    try:
-        for lines in blocks_of(body):
-            rows = rows_of(lines, pool.nodes)
-            requests = [b"%b %d %d" % (kind, *ends) for ends in rows if not isinstance(ends, Refused)]
-            open_.append(Block(first, rows, asyncio.ensure_future(pool.ask_all(requests))))
-            first += len(lines)
-            await asyncio.sleep(0)
-            if len(open_) > AHEAD:
-                yield piece_of(kind, open_[0], await open_[0].replies)
-                del open_[0]
-        for block in open_:
-            yield piece_of(kind, block, await block.replies)
-            await asyncio.sleep(0)
-    finally:
-        for block in open_:
-            block.replies.cancel()
-        await asyncio.gather(*(block.replies for block in open_), return_exceptions=True)
+    for lines in blocks_of(body):
+        rows = rows_of(lines, questions.nodes)
+        pairs = [ends for ends in rows if not isinstance(ends, Refused)]
+        told = map(route_told, pairs, await questions.routes(pairs)) if has_routes else map(
+            length_told, pairs, await questions.lengths(pairs)
+        )
+        yield b"".join(line_of(ends, told, row) for row, ends in enumerate(rows, first))
+        first += len(lines)
+        await asyncio.sleep(0)
 
 
 def blocks_of(body: bytes) -> Iterator[list[bytes]]:
@@ -127,29 +110,9 @@ def pair_of(line: bytes, nodes: int) -> Pair | Refused:
         return refused
 
 
-def piece_of(kind: bytes, block: Block, replies: list[bytes]) -> bytes:
-    """The lines of the answer for a block, by the replies to its pairs, in order."""
-    if kind == b"d" and len(replies) == len(block.rows) and (quick := lengths_of(replies)) is not None:
-        return quick
-    following = iter(replies)
-    return b"".join(line_of(kind, ends, following, row) for row, ends in enumerate(block.rows, block.first))
-
-
-def lengths_of(replies: list[bytes]) -> bytes | None:
-    """The lines of the answer for replies that are all lengths, `d S T LENGTH`; None where one is another."""
-    words = b" ".join(replies).split(b" ")
-    sources, targets, lengths = words[1::4], words[2::4], words[3::4]
-    if len(words) != 4 * len(replies) or set(words[::4]) != {b"d"} or not b"".join(sources + targets + lengths).isdigit():
-        return None
-    return b"".join(map(b'{"from":%b,"to":%b,"length":%b}\n'.__mod__, zip(sources, targets, lengths)))
-
-
-def line_of(kind: bytes, ends: Pair | Refused, replies: Iterator[bytes], row: int) -> bytes:
-    """One line of the answer; the next reply is taken where there is one for it."""
-    try:
-        if isinstance(ends, Refused):
-            raise ends
-        return answer(kind, *ends, next(replies)) + b"\n"
-    except Refused as refused:
-        found = {"code": refused.code, "message": refused.message, "line": row}
-        return json.dumps(found, separators=(",", ":")).encode() + b"\n"
+def line_of(ends: Pair | Refused, told: Iterator[bytes], row: int) -> bytes:
+    """One line of the answer; the next one that is told is taken where there is one for it."""
+    if not isinstance(ends, Refused):
+        return next(told) + b"\n"
+    found = {"code": ends.code, "message": ends.message, "line": row}
+    return json.dumps(found, separators=(",", ":")).encode() + b"\n"

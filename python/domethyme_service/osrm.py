@@ -4,6 +4,7 @@ done at the Desk."""
 import asyncio
 import base64
 import functools
+import itertools
 from collections.abc import Sequence
 from typing import NamedTuple
 
@@ -16,27 +17,27 @@ from .endpoints import (
     ANNOTATIONS, BEARINGS, DESTINATIONS, GENERATE_HINTS, GEOMETRIES, NUMBER, OVERVIEW, RADIUSES, SKIP_WAYPOINTS, SOURCES, STEPS
 )
 from .errors import Refused
-from .legs import Leg, leg_of, requests
+from .legs import Leg, leg_between
 from .osrm_answer import RouteLeg, Waypoint
 from .osrm_request import Request
 from .osrm_steps import steps_of_leg
+from .questions import Questions
 from .roads import Roads, Spot
 from .tables import Wanted, table_by_cells, table_by_sweeps
 from .texts import list_of, object_of, text_of
 from .work import Budget, Desk
-from .workers import Pool
 
-# So many places, and bytes of the program's replies, are no work for the Desk. A place so many degrees off the roads' box is.
-FEW_PLACES, FEW_BYTES, NEAR = 3, 20_000, 0.2
-# A route of more legs is asked behind single requests.
-FEW_LEGS = 8
+# So many places, and arcs of a route, are no work for the Desk. A place so many degrees off the roads' box is.
+FEW_PLACES, FEW_ARCS, NEAR = 3, 2_000, 0.2
+# Legs that are asked for without a look at others.
+FEW_LEGS = 4
 
 
 class Means(NamedTuple):
-    """What a front answers by. Without `sweeps` the program is asked for all cells of tables; `cells` are those that a table may
-    have."""
+    """What a front answers by. Without `sweeps` the hierarchy is asked for all cells of tables; `cells` are those that a table
+    may have."""
 
-    pool: Pool
+    questions: Questions
     roads: Roads
     sweeps: Sweeps | None
     desk: Desk
@@ -135,27 +136,28 @@ def waypoint(request: Request, spot: Spot, nodes: list[int] | None = None) -> Wa
 async def route(means: Means, request: Request) -> str:
     """One route by all places in order, a leg for each two."""
     spots = await spots_of(means, request)
-    lines = [requests(*pair) for pair in zip(spots, spots[1:])]
-    is_bulk = len(lines) > FEW_LEGS
-    replies = await asyncio.gather(*(asked(means.pool, some, is_bulk) for some in lines))
-    work = functools.partial(route_told, means.roads, request, spots, replies)
-    if len(spots) <= FEW_PLACES and sum(len(reply) for some in replies for reply in some) <= FEW_BYTES:
+    legs = await legs_of(means, spots)
+    work = functools.partial(route_told, means.roads, request, spots, legs)
+    if len(spots) <= FEW_PLACES and sum(len(leg.arcs) for leg in legs) <= FEW_ARCS:
         return work(Budget())
     return await means.desk.do(work)
 
 
-async def asked(pool: Pool, lines: list[bytes], is_bulk: bool) -> list[bytes]:
-    return await pool.ask(lines, is_bulk) if lines else []
-
-
-def route_told(roads: Roads, request: Request, spots: list[Spot], replies: list[list[bytes]], budget: Budget) -> str:
-    """The answer by the program's replies."""
+async def legs_of(means: Means, spots: Sequence[Spot]) -> list[Leg]:
+    """The legs of a route by these points. Other requests are answered in between."""
     legs: list[Leg] = []
-    for number, some in budget.over(enumerate(replies)):
-        leg = leg_of(roads, spots[number], spots[number + 1], some)
+    for number, (start, end) in enumerate(itertools.pairwise(spots)):
+        leg = leg_between(means.questions, means.roads, start, end)
         if leg is None:
             raise Refused(400, "NoRoute", f"there is no route from place {number} to place {number + 1}")
         legs.append(leg)
+        if number % FEW_LEGS == FEW_LEGS - 1:
+            await asyncio.sleep(0)
+    return legs
+
+
+def route_told(roads: Roads, request: Request, spots: list[Spot], legs: list[Leg], budget: Budget) -> str:
+    """The answer by its legs."""
     courses = [course_of(roads, leg, budget) for leg in legs]
     told, texts = [], []
     for each in budget.over(zip(spots, spots[1:], legs, courses)):
@@ -197,7 +199,7 @@ def overview(request: Request, spots: list[Spot], courses: "list[Course | None]"
         lines = simpler(lines, budget)
     line = joined(budget.over(lines))
     if request.values[GEOMETRIES] != "geojson":
-        return text_of(shaped(line, request.values[GEOMETRIES]))
+        return text_of(shaped([line], request.values[GEOMETRIES])[0])
     parts = (text_of(line[begin : begin + 1000])[1:-1] for begin in budget.over(range(0, len(line), 1000)))
     return object_of({"type": '"LineString"', "coordinates": list_of(parts)})
 
@@ -214,7 +216,7 @@ async def table(means: Means, request: Request) -> str:
     if is_swept and means.sweeps is not None:
         found = await means.desk.do(functools.partial(table_by_sweeps, means.sweeps, means.roads, wanted, starts, stops))
     else:
-        found = await table_by_cells(means.pool, means.roads, means.desk, wanted, starts, stops)
+        found = await table_by_cells(means.questions, means.roads, means.desk, wanted, starts, stops)
     if not request.values[SKIP_WAYPOINTS]:
         found["sources"] = text_of([waypoint(request, spot) for spot in starts])
         found["destinations"] = text_of([waypoint(request, spot) for spot in stops])

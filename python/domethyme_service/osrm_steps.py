@@ -10,6 +10,7 @@ from domethyme.network.binary import TEXTS
 from domethyme.network.tables import Point
 
 from .courses import Course
+from .lines import Line
 from .osrm_answer import Coordinates, Figures, Geometry, Maneuver, Step
 from .roads import Roads
 
@@ -17,7 +18,8 @@ TURN = 45
 MODIFIERS = ((20, "straight"), (45, "slight {}"), (120, "{}"), (170, "sharp {}"), (181, "uturn"))
 JUNCTION = 3
 NAME, REF, DESTINATION = (TEXTS.index(name) for name in ("name", "ref", "destination"))
-Shape = Callable[[list[list[float]]], Geometry]
+# The geometries of lines.
+Shape = Callable[[list[Line]], list[Geometry]]
 
 
 class Names(NamedTuple):
@@ -76,17 +78,20 @@ class Guide:
         is_new[leaves] = False
         return [0, *(np.flatnonzero(is_new) + 1).tolist(), len(self.course.arcs)]
 
-    def steps(self, shape: Shape) -> list[Step]:
-        """The steps, without the arrival."""
+    def lines(self) -> list[Line]:
+        """The line of each step."""
+        return [self.course.line(begin, end) for begin, end in itertools.pairwise(self.starts)]
+
+    def steps(self, lines: list[Line], shapes: list[Geometry]) -> list[Step]:
+        """The steps, without the arrival, by their lines and the geometries of these."""
         first, last = self.course.bearings
         found = []
-        for begin, end in itertools.pairwise(self.starts):
-            line = self.course.line(begin, end)
+        for begin, end, line, shape in zip(self.starts, self.starts[1:], lines, shapes):
             # (the arc that the step is named by, behind a roundabout)
             named = begin + int(np.argmin(self.is_round[begin:end])) if begin and self.is_round[begin] else begin
             names = Names(*(self.text(named, kind) for kind in (NAME, REF, DESTINATION)))
             move = self.move(begin, end, named).at(line[0], last[begin - 1] if begin else 0, first[begin])
-            found.append(step(move, names, self.course.figures(begin, end), shape(line)))
+            found.append(step(move, names, self.course.figures(begin, end), shape))
         return found
 
     def text(self, arc: int, kind: int) -> str:
@@ -114,12 +119,14 @@ class Guide:
 def steps_of_leg(roads: Roads, course: Course | None, start: Point, end: Point, shape: Shape) -> list[Step]:
     """The steps from a point to another."""
     nothing: Figures = {"weight": 0.0, "duration": 0.0, "distance": 0.0}
-    if course is None:
-        found = [step(Move("depart").at(list(start), 0, 0), Names(""), nothing, shape([list(start)] * 2))]
-        before = 0
+    guide = None if course is None else Guide(course)
+    lines = [[list(start)] * 2] if guide is None else guide.lines()
+    *shapes, at_end = shape([*lines, [list(end)] * 2])
+    if guide is None:
+        found, before = [step(Move("depart").at(list(start), 0, 0), Names(""), nothing, shapes[0])], 0
     else:
-        found, before = Guide(course).steps(shape), course.bearings[1][-1]
-    last = step(Move("arrive").at(list(end), before, 0), Names(found[-1]["name"]), nothing, shape([list(end)] * 2))
+        found, before = guide.steps(lines, shapes), guide.course.bearings[1][-1]
+    last = step(Move("arrive").at(list(end), before, 0), Names(found[-1]["name"]), nothing, at_end)
     return [*found, last]
 
 

@@ -17,7 +17,7 @@ from numpy.typing import NDArray
 
 from domethyme import NetworkError
 from domethyme.network.binary import NO_OSM, TEXTS, UNITS, Mapped, arrays_of
-from domethyme.network.grid import Ints, ranges
+from domethyme.network.grid import Ints
 from domethyme.network.network import NodePlaces
 from domethyme.network.mapped import Column
 from domethyme.network.sphere import Floats, between, frame_of, nearest_on, on_sphere
@@ -148,7 +148,8 @@ class Roads:
         frame = frame_of(*place)
 
         def metres(edges: Ints) -> Floats:
-            return np.round(np.concatenate([self._metres(frame, part) for part in parted(edges, self.arrays.edge_begin)]), 6)
+            parts = [self._metres(frame, part) for part in parted(edges, self.arrays.edge_begin)]
+            return (parts[0] if len(parts) == 1 else np.concatenate(parts)).round(6)
 
         near = self.arrays.edge_grid.nearest(place, min(count, self.edges), metres)
         return [self._spot(edge, *self._point(frame, edge), away) for away, edge in near]
@@ -157,14 +158,15 @@ class Roads:
         """The metres from a place, by its frame, to each edge."""
         begins, ends = self.arrays.edge_begin[np.concatenate((edges, edges + 1))].reshape(2, -1)
         counts = ends - begins
-        _, rows = ranges(begins, counts)
+        behind = counts.cumsum()
+        rows = np.arange(behind[-1]) - (behind - counts - begins).repeat(counts)
         points = self.arrays.points[rows] / UNITS
         sphere = on_sphere(points[:, 0], points[:, 1])
         is_step = np.ones(len(rows), dtype=bool)
-        is_step[np.cumsum(counts) - 1] = False
-        steps = np.flatnonzero(is_step)
+        is_step[behind - 1] = False
+        steps = is_step.nonzero()[0]
         away, _ = nearest_on(frame, sphere[steps], sphere[steps + 1])
-        found: Floats = np.minimum.reduceat(away, np.cumsum(counts - 1) - counts + 1)
+        found: Floats = np.minimum.reduceat(away, behind - counts - np.arange(len(counts)))
         return found
 
     def _point(self, frame: Floats, edge: int) -> tuple[float, Point]:
@@ -173,7 +175,7 @@ class Roads:
         lon, lat = np.array(line.points).T
         sphere = on_sphere(lon, lat)
         away, shares = nearest_on(frame, sphere[:-1], sphere[1:])
-        step = int(np.round(away, 6).argmin())
+        step = int(away.round(6).argmin())
         share = float(shares[step])
         return self._fraction(line, step, share), between(line.points[step], line.points[step + 1], share)
 

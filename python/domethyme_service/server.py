@@ -32,8 +32,6 @@ MOST_FIELDS = 50
 JSON = "application/json; charset=utf-8"
 LINES = "application/x-ndjson; charset=utf-8"
 METRICS = "text/plain; version=0.0.4; charset=utf-8"
-# What the program is asked for: routes, or lengths alone.
-KINDS = {"/nodes/route": b"q", "/nodes/length": b"d", "/nodes/routes": b"q", "/nodes/lengths": b"d"}
 access_log = logging.getLogger("domethyme_service.access")
 
 
@@ -147,15 +145,16 @@ class Service:
 
     async def osrm(self, call: Call) -> web.StreamResponse:
         """An answer of OSRM's API."""
-        wanted, (pool, _, sweeps) = request_of(call.asked.path, call.asked.query, self.ways.within), call.generation
-        means = osrm.Means(pool, roads_of(call.generation), sweeps, self.desk, self.ways.cells)
+        wanted, (questions, _, sweeps) = request_of(call.asked.path, call.asked.query, self.ways.within), call.generation
+        means = osrm.Means(questions, roads_of(call.generation), sweeps, self.desk, self.ways.cells)
         return self._whole(200, await osrm.answer(means, wanted), JSON)
 
     async def pair(self, call: Call) -> web.StreamResponse:
         """The answer for a pair of nodes."""
-        pool = call.generation.pool
-        values = call.values(Context(nodes=pool.nodes))
-        return self._whole(200, await nodes.pair(pool, KINDS[call.endpoint.name], values[FROM], values[TO]), JSON)
+        questions = call.generation.questions
+        values = call.values(Context(nodes=questions.nodes))
+        told = nodes.route_between if call.endpoint.name == "/nodes/route" else nodes.length_between
+        return self._whole(200, told(questions, values[FROM], values[TO]), JSON)
 
     async def batch(self, call: Call) -> web.StreamResponse:
         """Reads the body whole, and then streams the answer: a client may write all before it reads. Batches whose bodies are on
@@ -174,7 +173,9 @@ class Service:
                 answer = web.StreamResponse(headers=self._headers(LINES))
                 self._end_if_draining(answer)
                 await answer.prepare(request)
-                await streamed(answer, request, nodes.batch(call.generation.pool, KINDS[call.endpoint.name], lines))
+                has_routes = call.endpoint.name == "/nodes/routes"
+                async with self.desk.turn():
+                    await streamed(answer, request, nodes.batch(call.generation.questions, has_routes, lines))
                 return answer
             finally:
                 self.batches -= 1
@@ -183,21 +184,18 @@ class Service:
 
     async def health(self, _call: Call) -> web.StreamResponse:
         """Whether requests are answered."""
-        pool = self.generation.pool
-        is_well = pool.ready > 0 and not self.is_draining
-        says = {"status": "ok" if is_well else "draining" if self.is_draining else "no workers"}
-        return self._json(200 if is_well else 503, {**says, "nodes": pool.nodes, "links": pool.links, "workers": pool.ready})
+        questions, says = self.generation.questions, "draining" if self.is_draining else "ok"
+        found = {"status": says, "nodes": questions.nodes, "links": questions.links}
+        return self._json(503 if self.is_draining else 200, found)
 
     def publish(self) -> None:
         """Puts what is under way on the board."""
-        pool, row = self.generation.pool, self.row
-        row.workers_ready, row.lines_open, row.lines_waiting, row.bulk_waiting = pool.ready, pool.lines_open, *pool.waiting
-        row.connections, row.fronts = self.connections(), 0 if self.is_draining else 1
+        self.row.connections, self.row.fronts = self.connections(), 0 if self.is_draining else 1
 
     async def counts_and_times(self, _call: Call) -> web.StreamResponse:
         """The page of metrics, of the whole service."""
         self.publish()
-        return self._whole(200, self.board.text(self.generation.pool.nodes), METRICS)
+        return self._whole(200, self.board.text(self.generation.questions.nodes), METRICS)
 
     def _refusal(self, refused: Refused) -> web.Response:
         answer = self._json(refused.status, {"code": refused.code, "message": refused.message})

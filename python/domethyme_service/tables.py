@@ -1,11 +1,10 @@
 """Tables of durations and distances between points on roads. Where only weights are wanted, and there are many cells, they are
-computed from the links of the hierarchy's file by sweeps (domethyme.sweeps), many times as fast as by a request of the program
-for each cell. That is no part of what is proved, and is tested against the program. Else the program is asked for each cell."""
+computed from the links of the hierarchy's file by sweeps (domethyme.sweeps), many times as fast as by a question for each cell.
+That is no part of what is proved, and is tested against it. Else the hierarchy is asked for each cell."""
 import asyncio
 import collections
-import contextlib
 import math
-from collections.abc import AsyncIterator, Iterator, Sequence
+from collections.abc import Iterator, Sequence
 from typing import NamedTuple
 
 import numpy as np
@@ -16,15 +15,15 @@ from domethyme.sweeps import NO_WAY, Numbers, Seeds, Sweeps
 from .courses import UNITS_OF_ANSWERS, figures_of, leg_figures
 from .endpoints import DESTINATIONS, FALLBACK_COORDINATE, FALLBACK_SPEED, FIGURES, SCALE_FACTOR, SOURCES
 from .errors import Refused
-from .legs import along_one_arc, is_at, least_weight, leg_of, requests_by, sides_of
+from .legs import along_one_arc, is_at, leg_between, weight_between
 from .osrm_answer import Figures
 from .parameters import Values
+from .questions import ROUTES, Questions
 from .roads import Roads, Spot
 from .texts import list_of, text_of
 from .work import Budget, Desk
-from .workers import Pool
 
-# Tables of so many cells take no longer by the program, and it is asked for them; and so many it is asked for in any case.
+# Tables of so many cells take no longer by questions, which are asked for them; and so many are asked in any case.
 FEW_CELLS, MOST_ASKED = 100, 10_000
 Row = list[float | None]
 
@@ -54,7 +53,7 @@ class Wanted(NamedTuple):
         return set(self.names) == {self.unit}
 
     def refuse_if_too_many(self, cells: int, has_sweeps: bool) -> bool:
-        """Whether the table is computed by sweeps. Raises Refused where the program would be asked for too many cells."""
+        """Whether the table is computed by sweeps. Raises Refused where too many questions would be asked."""
         is_swept = has_sweeps and self.is_of_weights and cells > FEW_CELLS
         if not is_swept and cells > MOST_ASKED:
             why = f"of annotations={self.unit} alone" if has_sweeps else "under --tables fast"
@@ -153,52 +152,31 @@ def metres_apart(one: Point, other: Point) -> float:
 
 
 async def table_by_cells(
-    pool: Pool, roads: Roads, desk: Desk, wanted: Wanted, starts: Sequence[Spot], ends: Sequence[Spot]
+    questions: Questions, roads: Roads, desk: Desk, wanted: Wanted, starts: Sequence[Spot], ends: Sequence[Spot]
 ) -> dict[str, str]:
-    """The members of the answer, by a request of the program for each cell."""
+    """The members of the answer, by a question for each cell."""
     async with desk.turn():
-        pairs = [(start, end) for start in starts for end in ends]
-        figures = [each async for each in cells(pool, roads, pairs, wanted.is_of_weights)]
-    seconds = [None if each is None else each["duration"] for each in figures]
-    metres = [None if each is None else each["distance"] for each in figures]
-    cuts = [slice(begin, begin + len(ends)) for begin in range(0, len(pairs), len(ends))]
-    return told(wanted, starts, ends, ((seconds[cut], metres[cut]) for cut in cuts))
+        rows = [await row_by_cells(questions, roads, wanted, start, ends) for start in starts]
+    return told(wanted, starts, ends, iter(rows))
 
 
-async def cells(
-    pool: Pool, roads: Roads, pairs: list[tuple[Spot, Spot]], only_weights: bool
-) -> AsyncIterator[Figures | None]:
-    """The figures of the cells of a table, in order, asked behind single requests; others are let in after each. Where weights
-    are all that is wanted, routes aren't looked at."""
-    asked_for: collections.deque[tuple[tuple[Spot, Spot], int]] = collections.deque()
-    replies: collections.deque[bytes] = collections.deque()
-
-    exits = {id(start): sides_of(start.exits) for start, _ in pairs}
-    entries = {id(end): sides_of(end.entries) for _, end in pairs}
-
-    def lines() -> Iterator[bytes]:
-        for start, end in pairs:
-            some = [] if is_at(start, end) else requests_by(exits[id(start)], entries[id(end)])
-            asked_for.append(((start, end), len(some)))
-            yield from some
-
-    async with contextlib.aclosing(pool.ask_many(lines())) as parts:
-        async for part in parts:
-            replies += part
-            while asked_for and asked_for[0][1] <= len(replies):
-                pair, count = asked_for.popleft()
-                yield cell(roads, pair, [replies.popleft() for _ in range(count)], only_weights)
-                await asyncio.sleep(0)
-    for pair, _ in asked_for:
-        yield cell(roads, pair, [], only_weights)
+async def row_by_cells(
+    questions: Questions, roads: Roads, wanted: Wanted, start: Spot, ends: Sequence[Spot]
+) -> tuple[Row, Row]:
+    """The durations and distances of a row; others are answered after some cells. Where weights are all that is wanted, routes
+    aren't looked at."""
+    found: list[Figures | None] = []
+    for number, end in enumerate(ends, 1):
+        found.append(cell(questions, roads, start, end, wanted.is_of_weights))
+        if number % ROUTES == 0 or number == len(ends):
+            await asyncio.sleep(0)
+    return [each and each["duration"] for each in found], [each and each["distance"] for each in found]
 
 
-def cell(
-    roads: Roads, pair: tuple[Spot, Spot], replies: list[bytes], only_weights: bool
-) -> Figures | None:
+def cell(questions: Questions, roads: Roads, start: Spot, end: Spot, only_weights: bool) -> Figures | None:
     """The figures of one cell, None where there is no way."""
     if only_weights:
-        weight = least_weight(roads, *pair, replies)
+        weight = weight_between(questions, roads, start, end)
         return None if weight is None else figures_of(roads, weight, 0.0, 0.0)
-    leg = leg_of(roads, *pair, replies)
+    leg = leg_between(questions, roads, start, end)
     return None if leg is None else leg_figures(roads, leg)

@@ -1,5 +1,6 @@
 // The page: two places or more, and the shortest route by them.
 
+import { Room } from "./lines.js";
 import { copy, keep, read } from "./link.js";
 import { Panel } from "./panel.js";
 import { Places } from "./places.js";
@@ -39,8 +40,10 @@ const panel = new Panel($("total"), $("steps"), (step) => {
 const places = new Places(view, $("marks"), $("places"), changed);
 
 function draw() {
-  roads.draw();
-  route.draw();
+  // The names of the route take their room first, and those of roads what is left.
+  const room = new Room(view.covered());
+  route.draw(room);
+  roads.draw(room);
   places.draw();
   scale();
 }

@@ -1,6 +1,6 @@
 // The roads, drawn on a canvas from the service's tiles.
 
-import { Room, roomFor } from "./lines.js";
+import { roomFor } from "./lines.js";
 
 const TILE = 512, MOST_KEPT = 300, MOST_AT_ONCE = 8, PAUSE = 3000;
 const WIDTHS = [3.4, 2.7, 2.2, 1.8, 1.3, 1.1];
@@ -25,7 +25,8 @@ export class Roads {
     return this.colours;
   }
 
-  draw() {
+  // Writes names where the room has place for them, and takes it.
+  draw(room) {
     const { view, pen, canvas } = this, ratio = devicePixelRatio || 1;
     const [width, height] = [Math.round(view.width * ratio), Math.round(view.height * ratio)];
     if (canvas.width !== width || canvas.height !== height) [canvas.width, canvas.height] = [width, height];
@@ -44,7 +45,7 @@ export class Roads {
       if (thick > HOLLOW) this.stroke(drawn, kind, this.inks.road, WIDTHS[kind] * thick - EDGES, ratio);
     }
     pen.setTransform(ratio, 0, 0, ratio, 0, 0);
-    if (view.zoom >= NAMES_FROM) this.write(drawn);
+    if (view.zoom >= NAMES_FROM) this.write(drawn, room);
   }
 
   // Draws the roads of a kind, of this width in pixels.
@@ -114,8 +115,8 @@ export class Roads {
   }
 
   // Writes the names of streets along them, each where it has room.
-  write(drawn) {
-    const { pen, inks } = this, room = new Room(this.view.covered()), last = new Map();
+  write(drawn, room) {
+    const { pen, inks } = this, last = new Map();
     pen.font = "12px system-ui, 'Segoe UI', Roboto, 'DejaVu Sans', sans-serif";
     pen.textAlign = "center";
     pen.textBaseline = "middle";

@@ -1,7 +1,7 @@
 // The route, drawn over the roads: its line, arrows in its direction, the names along it, and the step that is looked at. A drag
 // of the line leads it by another place.
 
-import { Room, lengths, pathOf, pointAlong, roomFor, thinned } from "./lines.js";
+import { lengths, pathOf, pointAlong, roomFor, thinned } from "./lines.js";
 import { street } from "./words.js";
 
 const SVG = "http://www.w3.org/2000/svg";
@@ -42,8 +42,9 @@ export class Route {
     return [least(lons), least(lats), most(lons), most(lats)];
   }
 
-  draw() {
-    const { view, layers } = this, room = new Room(view.covered()), lines = [], signs = [], texts = [];
+  // Writes names where the room has place for them, and takes it.
+  draw(room) {
+    const { view, layers } = this, lines = [], signs = [], texts = [];
     for (const spot of this.places) {
       const [x, y] = view.pixel(spot);
       room.take(x, y - 20, 30, 40);
