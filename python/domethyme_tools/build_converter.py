@@ -10,5 +10,5 @@ from .tool import words
 
 
 def main() -> None:
-    words(__doc__).parse_args()
+    words(__doc__, "%(prog)s").parse_args()
     print(built())

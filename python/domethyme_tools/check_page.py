@@ -37,7 +37,7 @@ try:
     from selenium.webdriver.common.action_chains import ActionChains
     from selenium.webdriver.common.by import By
     from selenium.webdriver.common.keys import Keys
-    from selenium.webdriver.support.ui import WebDriverWait
+    from selenium.webdriver.support.wait import WebDriverWait
 except ModuleNotFoundError:
     sys.exit("check_page: needs Debian's packages chromium, chromium-driver and python3-selenium")
 
@@ -105,7 +105,7 @@ SETTLING = 0.6
 
 
 def read_words() -> argparse.Namespace:
-    parser = words(__doc__)
+    parser = words(__doc__, "%(prog)s out/pages --extract out/liechtenstein-2013-08-03.osm.pbf")
     parser.add_argument("folder", metavar="FOLDER", help="where pages and pictures are left")
     parser.add_argument("--extract", metavar="MAP", help="the extract of Liechtenstein")
     return parser.parse_args()

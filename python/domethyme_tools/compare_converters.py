@@ -238,7 +238,7 @@ class Comparison:
 
 
 def read_words() -> argparse.Namespace:
-    parser = words(__doc__)
+    parser = words(__doc__, "%(prog)s map.osm.pbf out/map")
     parser.add_argument("map", metavar="MAP", help="the map that osm_to_gr has read")
     parser.add_argument("network", metavar="NETWORK", help="what it has written: the OUT of that call")
     parser.add_argument("--profile", default="car", metavar="car|FILE.json", help="the rules of the vehicle (car)")

@@ -231,7 +231,7 @@ def compare(path: pathlib.Path, folder: pathlib.Path, sources: int, seed: int, p
 
 
 def read_words() -> argparse.Namespace:
-    parser = words(__doc__)
+    parser = words(__doc__, "%(prog)s map.osm.pbf --sources 40 --draw 400 --seed 3")
     parser.add_argument("map", metavar="MAP", help="a .osm, .osm.bz2 or .osm.pbf file")
     parser.add_argument("--draw", type=int, default=0, metavar="N", help="add N restrictions (0)")
     parser.add_argument("--penalties", action="store_true", help="give turns penalties")

@@ -76,13 +76,14 @@ def taken_out(folder: pathlib.Path) -> bytes:
 
 
 def read_words() -> argparse.Namespace:
-    parser = words(__doc__)
-    parser.add_argument("folder", metavar="FOLDER", nargs="?", default=".", help="where the extract goes (.)")
+    parser = words(__doc__, "%(prog)s out")
+    parser.add_argument("folder", metavar="FOLDER", nargs="?", default=".", help="where the extract goes, which is made if it isn't there (.)")
     return parser.parse_args()
 
 
 def main() -> None:
     target = pathlib.Path(read_words().folder) / NAME
+    target.parent.mkdir(parents=True, exist_ok=True)
     if target.is_file() and is_extract(target.read_bytes()):
         warn(f"{target} is there already")
         return

@@ -50,7 +50,12 @@ SWAPPED = "are longitude and latitude in each other's place?"
 
 
 def read_words() -> argparse.Namespace:
-    parser = words(__doc__)
+    parser = words(
+        __doc__,
+        "%(prog)s out/li trips.csv > out/li.pairs",
+        "%(prog)s out/li places.csv --matrix -o out/li.pairs",
+        "%(prog)s out/li trips.csv --on-roads | routecli serve out/li.rch",
+    )
     parser.add_argument("network", metavar="NETWORK", help="the network, or a .co file")
     parser.add_argument("trips", metavar="TRIPS", help="the table of trips, or with --matrix of places")
     parser.add_argument("-o", dest="output", metavar="PAIRS", default="-", help="by default standard output")

@@ -9,7 +9,8 @@ import itertools
 from collections.abc import Iterable, Iterator
 from typing import Any, NamedTuple
 
-from domethyme.lines import is_reply_to, ready_of
+from domethyme.errors import DomethymeError
+from domethyme.lines import answer_to, is_reply_to, ready_of
 from domethyme.network.tables import Point, refuse_wrong_endings
 from domethyme.program import StrPath
 from domethyme.texts import reading
@@ -19,10 +20,12 @@ from .tool import Fault, packages
 with packages():
     from domethyme_service.courses import course_of, leg_figures
     from domethyme_service.errors import Refused
-    from domethyme_service.legs import SIDES, STAYS, is_at, leg_of, requests
+    from domethyme_service.legs import STAYS, is_at, leg_of
     from domethyme_service.roads import Roads, Spot
 
 Trip = tuple[int | None, Point, Point]
+# How many starts, and ends, a request has at most.
+SIDES = 8
 
 
 class RoadRoute(NamedTuple):
@@ -64,10 +67,14 @@ def request_of(start: Spot, end: Spot, path: str, row: int | None) -> bytes:
     if is_at(start, end):
         node = start.copies[0]
         return b"b %d 0 : %d 0" % (node, node)
-    lines = requests(start, end)
-    if len(lines) != 1:
+    if max(len(start.exits), len(end.entries)) > SIDES:
         raise Fault(f"begins or ends at a junction with more than {SIDES} nodes, which one line can't ask for", path, row)
-    return lines[0]
+    return b"b %b : %b" % (seeds_of(start.exits), seeds_of(end.entries))
+
+
+def seeds_of(sides: dict[int, tuple[int, int]]) -> bytes:
+    """Exits or entries as a request has them."""
+    return b" ".join(b"%d %d" % (node, sides[node][0]) for node in sorted(sides))
 
 
 def request_lines(network: StrPath, trips: Iterable[Trip], within: float, path: str) -> Iterator[str]:
@@ -97,11 +104,13 @@ def routes_on_roads(network: StrPath, replies: str, path: str, trips: Iterable[T
 def route_of(roads: Roads, trip: Trip, reply: bytes, path: str, replies: str, row: int) -> RoadRoute:
     """A trip's route by its reply, whose weights have to sum to its length."""
     start, end = spots_of(roads, trip, float("inf"), path)
-    if not is_reply_to(request_of(start, end, path, trip[0]), reply):
+    request = request_of(start, end, path, trip[0])
+    if not is_reply_to(request, reply):
         raise Fault(f"is no reply to the request of row {trip[0]}", replies, row)
     try:
-        leg = STAYS if is_at(start, end) else leg_of(roads, start, end, [reply])
-    except (Refused, ValueError) as error:
+        route = answer_to(request, reply)
+        leg = STAYS if is_at(start, end) else leg_of(roads, start, end, route)
+    except (Refused, DomethymeError, ValueError) as error:
         raise Fault(f"{error}: is it of another network?", replies, row) from error
     if leg is None:
         return RoadRoute(trip[0], None, None, None, None, None, None)

@@ -12,7 +12,7 @@ With --tables there are these too, for other programs:
   OUT.arcs.csv    from, to, weight, seconds, metres, osm, highway, name, ref, junction, destination, structure, WKT: the
                   piece of road of each arc of OUT.gr, in the same order; `osm` is the way, `name` its name or else its
                   ref, `structure` tunnel or bridge, WKT its line, longitude first
-  OUT.nodes.csvt, OUT.nodes.prj, OUT.arcs.csvt, OUT.arcs.prj    what GDAL and QGIS want to know of these tables
+  OUT.nodes.csvt, OUT.nodes.prj, OUT.arcs.csvt, OUT.arcs.prj    the types and the projection of these tables, for GDAL and QGIS
 
 Without it tables of an earlier run are removed, since they are of another network.
 
@@ -30,7 +30,7 @@ are closed, parts the roads at its node. A way is cut where the map lacks a node
 can all reach one another is kept, unless --islands is given.
 
 These are the rules of a car; those of a lorry, a bicycle and pedestrians, and what else a profile may say, are in
-tools/README.md. Not looked at: turn restrictions by a way or for some times, opening hours and other conditions, `destination`
+profiles/README.md. Not looked at: turn restrictions by a way or for some times, opening hours and other conditions, `destination`
 and other limits of who may pass, tolls, ferries.
 
 On standard error: what was left out, and the size of the network. Status 0: done. 1: bad input, reported in one line,
@@ -60,7 +60,9 @@ from .map_arrays import Folder, Places, Ways, cut, folder_beside, read_places, r
 from .road_network import (
     WEIGHTS, RoadNetwork, Roads, RowsOf, arrays_of, keep_largest, metres_of_roads, network_of, split,
 )
-from .rules import Profile, barrier_keys, conditional_keys, doubts, judged, parts_a_way, read_profile, structure_of, way_keys
+from .rules import (
+    Profile, Tags, barrier_keys, conditional_keys, doubts, judged, parts_a_way, read_profile, structure_of, way_keys,
+)
 from .tool import Fault, words
 
 Report = turns.Report
@@ -76,7 +78,7 @@ ROWS_AT_ONCE = 1 << 16
 
 class Map(NamedTuple):
     """The roads that the vehicle may take, in the map's order, their counts of nodes, these nodes and which are barriers, and the
-    turn restrictions. `rows_of` gives the rows of texts of roads by their numbers."""
+    turn restrictions. `rows_of` gives the rows of texts of roads by their numbers, as Rows."""
 
     roads: Roads
     counts: NDArray[np.uint32]
@@ -140,18 +142,28 @@ def read_restrictions(ways: Ways, profile: Profile, report: Report) -> list[turn
 
 
 class Rows:
-    """The rows of texts of labels of ways, in the order of binary.TEXTS."""
+    """The rows of texts of labels of ways: a list of texts, and for each label the numbers of its texts, in the order of
+    binary.TEXTS."""
 
     def __init__(self, ways: Ways) -> None:
-        self._labels, self._tags, self._raw = ways.labels, ways.tags, ways.texts
+        self._labels, self._tags = ways.labels, ways.tags
         self._texts = [" ".join(text.split()) for text in ways.texts]
+        self._is_set = np.array([bool(text) for text in ways.texts], np.bool_)
 
-    def __call__(self, labels: NDArray[np.int64]) -> Iterator[Sequence[str]]:
-        of_tags = [(tags["highway"], " ".join(tags.get("junction", "").split()), structure_of(tags)) for tags in self._tags]
-        for number, name, ref, destination in self._labels[labels].tolist():
-            highway, junction, structure = of_tags[number]
-            shown = self._texts[name if self._raw[name] else ref]
-            yield highway, shown, self._texts[ref], junction, self._texts[destination], structure
+    def __call__(self, labels: NDArray[np.int64]) -> tuple[list[str], NDArray[np.int32]]:
+        known: dict[str, int] = {}
+        of_text = np.array([known.setdefault(text, len(known)) for text in self._texts], np.int32)
+        of_tags = np.array([
+            [known.setdefault(text, len(known)) for text in self._texts_of(tags)] for tags in self._tags
+        ], np.int32).reshape(-1, 3)
+        tags, name, ref, destination = self._labels[labels].T
+        highway, junction, structure = of_tags[tags].T
+        shown = of_text[np.where(self._is_set[name], name, ref)]
+        return list(known), np.column_stack((highway, shown, of_text[ref], junction, of_text[destination], structure))
+
+    @staticmethod
+    def _texts_of(tags: Tags) -> tuple[str, str, str]:
+        return tags["highway"], " ".join(tags.get("junction", "").split()), structure_of(tags)
 
 
 def most_common(counted: Report) -> str:
@@ -235,14 +247,15 @@ def arcs_in(arrays: binary.Arrays) -> Iterator[Arc]:
     """The arcs, as those of the table."""
     whole, text_begin, edge_begin = arrays.text_bytes.tobytes(), arrays.text_begin.tolist(), arrays.edge_begin.tolist()
     texts = [whole[begin:end].decode() for begin, end in itertools.pairwise(text_begin)]
+    texts_of_rows = [[texts[number] for number in row] for row in arrays.row_texts[:, : len(binary.TEXTS)].tolist()]
     columns: tuple[NDArray[Any], ...] = (
         arrays.arc_from, arrays.arc_to, arrays.arc_weight, arrays.arc_seconds, arrays.arc_metres, arrays.arc_osm,
-        arrays.arc_texts, arrays.arc_edge, arrays.arc_along,
+        arrays.arc_row, arrays.arc_edge, arrays.arc_along,
     )
     for low in range(0, len(arrays.arc_from), ROWS_AT_ONCE):
         parts: list[list[Any]] = [column[low : low + ROWS_AT_ONCE].tolist() for column in columns]
         for start, end, weight, seconds, metres, osm, row, edge, along in zip(*parts):
-            highway, name, *others = (texts[number] for number in row)
+            highway, name, *others = texts_of_rows[row]
             line = (arrays.points[edge_begin[edge] : edge_begin[edge + 1]] / binary.UNITS).tolist()
             yield Arc(start, end, weight, seconds, metres, osm, highway, name, wkt_of(line if along else line[::-1]), *others)
 
@@ -269,7 +282,7 @@ def longest_arc(text: str) -> float:
 
 
 def read_words() -> argparse.Namespace:
-    parser = words(__doc__)
+    parser = words(__doc__, "%(prog)s country.osm.pbf out/country", "%(prog)s country.osm.pbf out/bicycle --profile bicycle")
     parser.add_argument("map", metavar="MAP", help="a .osm, .osm.bz2 or .osm.pbf file")
     parser.add_argument("out", metavar="OUT", help="the beginning of the names of the files")
     parser.add_argument(
@@ -289,7 +302,7 @@ def read_words() -> argparse.Namespace:
         "--attribution",
         default=OSM_ATTRIBUTION,
         metavar="TEXT",
-        help="what maps of the network have to say about the data; an empty word for nothing (%(default)s)",
+        help="the attribution that maps of the network show; empty for none (%(default)s)",
     )
     options = parser.parse_args()
     if not os.path.basename(options.out) or os.path.isdir(options.out):
@@ -315,6 +328,7 @@ def main() -> None:
             with step("arcs"):
                 arrays = arrays_of(network, options.weight, rows_of, attribution, report)
                 kilometres = metres_of_roads(network) / 1000
+            del network, rows_of
             with step("files"):
                 write_network(files[:2], files[2:4], arrays, folder, attribution)
         for file, text in zip(files[4:], names.forms.values()):

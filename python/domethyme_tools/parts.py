@@ -103,7 +103,7 @@ def number_announced(fields: list[bytes]) -> int | None:
 
 
 def fields_of(line: bytes) -> list[bytes]:
-    """The fields of a line by docs/FORMATS.md: one carriage return at its end is dropped, spaces and tabs part them."""
+    """The fields of a line by docs/REFERENCE.md: one carriage return at its end is dropped, spaces and tabs part them."""
     line = line.removesuffix(b"\n").removesuffix(b"\r")
     return [field for field in BLANKS.split(line) if field]
 

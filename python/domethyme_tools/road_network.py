@@ -5,7 +5,7 @@
     keep_largest(network, ..)  drops all but the largest set of nodes that can all reach one another
     arrays_of(network, ..)     the network as domethyme.network.binary has it
 """
-from collections.abc import Callable, Iterable, Iterator, Sequence
+from collections.abc import Callable
 from typing import Any, NamedTuple
 
 import numpy as np
@@ -14,7 +14,9 @@ from scipy.sparse import coo_matrix
 from scipy.sparse.csgraph import connected_components
 
 from domethyme.network import binary
+from domethyme.network.index import rows_of_texts
 from domethyme.network.tables import ENDS
+from domethyme.network.threads import by_parts, firsts as differs, sort
 
 from . import turns
 from .map_arrays import Places, Runs
@@ -24,11 +26,9 @@ Ints = NDArray[np.int64]
 Floats = NDArray[np.float64]
 Report = turns.Report
 Unit = Callable[[Floats, Floats], Floats]
-RowsOf = Callable[[Ints], Iterable[Sequence[str]]]
+RowsOf = Callable[[Ints], tuple[list[str], NDArray[np.int32]]]
 # Degrees by which a turn may be off the line of the road, and off the way back
 STRAIGHT, BACK = 45, 15
-# The points of edges are put in order so many edges at a time
-EDGES_AT_ONCE = 1 << 18
 
 
 class Roads(NamedTuple):
@@ -80,8 +80,8 @@ class RoadNetwork(NamedTuple):
         road = self.road()
         return np.where(self.is_back, self.roads.backward[road], self.roads.forward[road])
 
-    def with_arcs(self, chosen: NDArray[Any]) -> "RoadNetwork":
-        """The network with these of its arcs, by numbers or a mask."""
+    def with_arcs(self, chosen: "NDArray[Any] | slice") -> "RoadNetwork":
+        """The network with these of its arcs, by numbers, a mask or a slice."""
         names = ("start", "end", "piece", "is_back", "is_split", "penalty")
         return self._replace(**{name: getattr(self, name)[chosen] for name in names})
 
@@ -101,39 +101,64 @@ def network_of(
 ) -> tuple[RoadNetwork, Callable[[int], int]]:
     """The network of the runs, and a function to the node for a node of the map, -1 where there is none or it is a barrier."""
     ends = runs.ends.reshape(-1)
-    apart = is_barrier[ends]
     first = firsts(ends, len(places.osm))
-    is_new = apart | (first[ends] == np.arange(len(ends)))
+    apart = np.flatnonzero(is_barrier[ends])
+    is_new = np.zeros(len(ends), np.bool_)
+    is_new[first[first >= 0]] = True
+    is_new[apart] = True
     new = is_new.reshape(-1, 2)
-    cuts = runs.parts.astype(np.int64) - 1
-    begin = begins(new.sum(1) + cuts)
-    of_end = np.column_stack((begin[:-1], begin[:-1] + new[:, 0])).reshape(-1).astype(np.int32)
-    node = np.where(is_new, of_end, of_end[first[ends]])
-    first_cut = begin[1:] - cuts
-    # the pieces
-    run = np.repeat(np.arange(len(runs.parts), dtype=np.int32), runs.parts)
+    cuts = runs.parts.astype(np.int32) - np.int32(1)
+    begin = begins(new[:, 0].astype(np.int8) + new[:, 1] + cuts).astype(np.int32)
+    of_end = np.repeat(begin[:-1], 2)
+    of_end[1::2] += new[:, 0]
+    node = np.empty(len(ends), np.int32)
+
+    def number(part: slice) -> None:
+        node[part] = of_end[first[ends[part]]]
+
+    by_parts(number, len(ends))
+    node[apart] = of_end[apart]
+    # the pieces: each begins where the one before ends, but for the first of a run
     piece_begin = begins(runs.parts)
-    part = np.arange(len(run)) - piece_begin[run]
-    start = np.where(part == 0, node[0::2][run], first_cut[run] + part - 1).astype(np.int32)
-    is_last = part == cuts[run]
-    end = np.where(is_last, node[1::2][run], first_cut[run] + part).astype(np.int32)
+    run = np.repeat(np.arange(len(runs.parts), dtype=np.int32), runs.parts)
+    start = np.arange(len(run), dtype=np.int32) + (begin[1:] - cuts - piece_begin[:-1] - 1).astype(np.int32)[run]
+    start[piece_begin[:-1]] = node[0::2]
+    end = np.empty(len(run), np.int32)
+    end[:-1] = start[1:]
+    end[piece_begin[1:] - 1] = node[1::2]
     # the nodes
     osm = np.full(int(begin[-1]), binary.NO_OSM, np.int64)
     place = np.empty((len(osm), 2), np.int32)
-    osm[node], place[node] = places.osm[ends], places.place[ends]
-    place[end[~is_last]] = runs.points[runs.end[~is_last].astype(np.int64) - 1]
-    # the arcs
-    forward, backward = (~np.isnan(speed[runs.road])[run] for speed in (roads.forward, roads.backward))
-    count = forward.astype(np.int8) + backward
-    piece = np.repeat(np.arange(len(run), dtype=np.int32), count)
-    is_back = ~forward[piece]
-    is_back[1:] |= piece[1:] == piece[:-1]
-    found = RoadNetwork(
-        osm, place, np.zeros(len(osm), np.uint8), np.where(is_back, end[piece], start[piece]),
-        np.where(is_back, start[piece], end[piece]), piece, is_back, np.zeros(len(piece), np.bool_),
-        np.zeros(len(piece), np.int32), run, runs, roads,
-    )
+    osm[of_end[is_new]], place[of_end[is_new]] = places.osm[ends[is_new]], places.place[ends[is_new]]
+    is_cut = np.ones(len(run), np.bool_)
+    is_cut[piece_begin[1:] - 1] = False
+    place[end[is_cut]] = runs.points[runs.end[is_cut].astype(np.int64) - 1]
+    ends_of = np.zeros(len(osm), np.uint8)
+    found = RoadNetwork(osm, place, ends_of, *arcs_along(start, end, run, runs, roads), piece_run=run, runs=runs, roads=roads)
     return found, lambda number: -1 if first[number] < 0 or is_barrier[number] else int(of_end[first[number]])
+
+
+def arcs_along(
+    start: NDArray[np.int32], end: NDArray[np.int32], run: NDArray[np.int32], runs: Runs, roads: Roads
+) -> tuple[
+    NDArray[np.int32], NDArray[np.int32], NDArray[np.int32], NDArray[np.bool_], NDArray[np.bool_], NDArray[np.int32]
+]:
+    """The arcs along pieces with these ends and runs, in the columns of RoadNetwork from `start` to `penalty`."""
+    forward, backward = (~np.isnan(speed) for speed in (roads.forward, roads.backward))
+    count = (forward.astype(np.int8) + backward)[runs.road][run]
+    piece = np.repeat(np.arange(len(run), dtype=np.int32), count)
+    is_back = np.zeros(len(piece), np.bool_)
+    is_back[1:] = piece[1:] == piece[:-1]
+    ends = np.empty(len(piece), np.int32), np.empty(len(piece), np.int32)
+
+    def turn(part: slice) -> None:
+        some, back = piece[part], is_back[part]
+        back |= ~forward[runs.road[run[some]]]
+        here, there = start[some], end[some]
+        ends[0][part], ends[1][part] = np.where(back, there, here), np.where(back, here, there)
+
+    by_parts(turn, len(piece))
+    return *ends, piece, is_back, np.zeros(len(piece), np.bool_), np.zeros(len(piece), np.int32)
 
 
 # Turn restrictions
@@ -245,10 +270,9 @@ def is_first(network: RoadNetwork) -> NDArray[np.bool_]:
 
 def metres_of_roads(network: RoadNetwork) -> float:
     """The metres of the road that the pieces are of; what turn restrictions have taken apart counts once."""
-    metres = network.metres()
-    whole = metres[is_first(network) & ~network.is_split]
-    once = np.unique(network.piece[network.is_split], return_index=True)[1]
-    return in_order(whole) + in_order(metres[network.is_split][once])
+    whole, apart = network.piece[is_first(network) & ~network.is_split], np.unique(network.piece[network.is_split])
+    metres = (network.runs.metres[network.piece_run[pieces]] for pieces in (whole, apart))
+    return sum(map(in_order, metres))
 
 
 def in_order(values: Floats) -> float:
@@ -285,68 +309,159 @@ OF_PENALTY = {"time": 10, "length": 0}
 def arrays_of(
     network: RoadNetwork, kind: str, rows_of: RowsOf, attribution: str, report: Report
 ) -> binary.Arrays:
-    """The network in arrays; `rows_of` gives the rows of texts that roads name, in the order of binary.TEXTS."""
+    """The network in arrays; `rows_of` gives texts, and the rows of their numbers that roads name, in the order of
+    binary.TEXTS."""
     edge, along, edge_begin, points = edges_of(network)
-    metres, speed = network.metres(), network.speed()
-    weight = np.rint(WEIGHTS[kind](metres, speed)).astype(np.int64)
-    report["weights raised to 1"] = int((weight == 0).sum())
-    np.maximum(weight, 1, out=weight)
-    weight += network.penalty * np.int64(OF_PENALTY[kind])
-    seconds = rounded(milliseconds(metres, speed) / 1000 + network.penalty / 100, 3)
-    del speed
-    metres, road = rounded(metres, 2), network.road()
-    texts, arc_texts = texts_of(network.roads.row[road], rows_of, attribution)
+    weight, seconds, metres, osm, row = figures_of(network, kind, report)
+    texts, row_texts, arc_row = texts_of(row, rows_of, attribution)
+    del row
     encoded = [text.encode("utf-8", "replace") for text in texts]
     return binary.Arrays(
         np.array([binary.VERSION]), np.zeros(2, np.int64), network.node_osm,
         np.ascontiguousarray(network.node_place[:, 0]), np.ascontiguousarray(network.node_place[:, 1]), network.node_ends,
-        network.start + np.int32(1), network.end + np.int32(1), weight, seconds, metres, network.roads.osm[road], arc_texts,
-        edge, along, edge_begin, points,
+        network.start + np.int32(1), network.end + np.int32(1), weight, seconds, metres, osm, arc_row,
+        edge, along, row_texts, edge_begin, points,
         begins(np.array([len(text) for text in encoded], np.int64)), np.frombuffer(b"".join(encoded), np.uint8),
     )
 
 
+def figures_of(network: RoadNetwork, kind: str, report: Report) -> tuple[Ints, Floats, Floats, Ints, NDArray[np.uint32]]:
+    """The weights, seconds, metres, ways and rows of texts of the arcs."""
+    count = len(network.start)
+    weight, seconds, metres, osm = np.empty(count, np.int64), np.empty(count), np.empty(count), np.empty(count, np.int64)
+    row = np.empty(count, np.uint32)
+
+    def fill(part: slice) -> int:
+        some = network.with_arcs(part)
+        road, ways, speed = some.road(), some.metres(), some.speed()
+        weights = np.rint(WEIGHTS[kind](ways, speed)).astype(np.int64)
+        weight[part] = np.maximum(weights, 1) + some.penalty * np.int64(OF_PENALTY[kind])
+        seconds[part] = rounded(milliseconds(ways, speed) / 1000 + some.penalty / 100, 3)
+        metres[part], osm[part], row[part] = rounded(ways, 2), network.roads.osm[road], network.roads.row[road]
+        return int((weights == 0).sum())
+
+    report["weights raised to 1"] = sum(by_parts(fill, count))
+    return weight, seconds, metres, osm, row
+
+
 def texts_of(
     row_of_arc: NDArray[np.uint32], rows_of: RowsOf, attribution: str
-) -> tuple[list[str], NDArray[np.int32]]:
-    """The list of texts, in the order in which arcs have them, and the numbers of the texts of each arc."""
+) -> tuple[list[str], NDArray[np.int32], NDArray[np.int32]]:
+    """The list of texts, in the order in which arcs have them, and rows of texts and the row of each arc, as binary.Arrays has
+    them."""
     first = firsts(row_of_arc, int(row_of_arc.max(initial=0)) + 1)
-    numbers: dict[str, int] = {}
+    used = in_order_of(first)
+    texts, rows = rows_of(used)
+    come = in_order_of(firsts(rows.reshape(-1), len(texts)))
+    number = np.zeros(len(texts), np.int32)
+    number[come] = np.arange(1, len(come) + 1, dtype=np.int32)
     of_row = np.zeros((len(first), len(binary.TEXTS)), np.int32)
+    of_row[used] = number[rows]
+    return [attribution, *(texts[place] for place in come.tolist())], *rows_of_texts(of_row, row_of_arc)
+
+
+def in_order_of(first: NDArray[Any]) -> Ints:
+    """The numbers of what comes anywhere, by the place of each where it comes first, or -1."""
     used = np.flatnonzero(first >= 0)
-    used = used[np.argsort(first[used])]
-    of_used = [numbers.setdefault(text, len(numbers) + 1) for row in rows_of(used) for text in row]
-    of_row[used] = np.array(of_used, np.int32).reshape(-1, len(binary.TEXTS))
-    return [attribution, *numbers], of_row[row_of_arc]
+    return used[np.argsort(first[used])]
 
 
 def edges_of(network: RoadNetwork) -> tuple[NDArray[np.int32], NDArray[np.bool_], Ints, NDArray[np.int32]]:
     """The edge of each arc and whether it leads along it, and the edges' points, as binary.Arrays has them."""
-    runs = network.runs
     used = np.zeros(len(network.piece_run), np.bool_)
     used[network.piece] = True
-    pieces = np.flatnonzero(used)
-    begin, end = runs.begin[pieces].astype(np.int64), runs.end[pieces].astype(np.int64)
-    head, tail = place_keys(runs.points[begin]), place_keys(runs.points[end - 1])
-    is_along, is_same = head < tail, np.zeros(len(pieces), np.bool_)
-    for piece in np.flatnonzero(head == tail).tolist():
-        line = runs.points[begin[piece] : end[piece]].tolist()
-        is_along[piece], is_same[piece] = line <= line[::-1], line == line[::-1]
-    way = network.roads.osm[runs.road[network.piece_run[pieces]]]
-    same_as = np.arange(len(pieces))
+    pieces = Pieces(network, np.flatnonzero(used).astype(np.int32))
+    del used
+    is_along, is_ring, keys = pieces.looked_at()
+    is_same = np.zeros(len(keys), np.bool_)
+    for row in np.flatnonzero(is_ring).tolist():
+        line = pieces.line(row).tolist()
+        is_along[row], is_same[row] = line <= line[::-1], line == line[::-1]
+    is_edge = np.ones(len(keys), np.bool_)
+    first_of: dict[int, int] = {}
     known: dict[tuple[int, bytes], int] = {}
-    for piece in maybe_equal(way, np.minimum(head, tail), np.maximum(head, tail), end - begin):
-        line = np.array(runs.points[begin[piece] : end[piece]])
-        line = line if is_along[piece] else line[::-1]
-        same_as[piece] = known.setdefault((int(way[piece]), line.tobytes()), piece)
-    is_edge = same_as == np.arange(len(pieces))
-    edge_of = np.zeros(len(used), np.int32)
-    edge_of[pieces] = (np.cumsum(is_edge) - 1)[same_as]
-    along_of, same_of = np.zeros(len(used), np.bool_), np.zeros(len(used), np.bool_)
-    along_of[pieces], same_of[pieces] = is_along, is_same
-    along = (along_of[network.piece] ^ network.is_back) | same_of[network.piece]
-    edge_begin, points = points_of(runs.points, begin[is_edge], end[is_edge], is_along[is_edge])
-    return edge_of[network.piece], along, edge_begin, points
+    for row in maybe_equal(keys):
+        line = pieces.line(row) if is_along[row] else pieces.line(row)[::-1]
+        first = known.setdefault((pieces.way(row), line.tobytes()), row)
+        if first != row:
+            is_edge[row], first_of[row] = False, first
+    del keys, known
+    number = np.cumsum(is_edge, dtype=np.int32) - np.int32(1)
+    number[list(first_of)] = number[list(first_of.values())]
+    edge, along = pieces.of_arcs(number, is_along, is_same)
+    return edge, along, *pieces.points(is_edge, is_along)
+
+
+class Pieces:
+    """The pieces of a network with these numbers, which rise; they are counted by rows from 0."""
+
+    def __init__(self, network: RoadNetwork, pieces: NDArray[np.int32]) -> None:
+        self._network, self._runs, self._pieces = network, network.runs, pieces
+
+    def line(self, row: int) -> NDArray[np.int32]:
+        """The points of a piece."""
+        piece = self._pieces[row]
+        return np.array(self._runs.points[int(self._runs.begin[piece]) : int(self._runs.end[piece])])
+
+    def way(self, row: int) -> int:
+        """The id of a piece's way."""
+        return int(self._ways(slice(row, row + 1))[0])
+
+    def _ways(self, part: slice) -> Ints:
+        found: Ints = self._network.roads.osm[self._runs.road[self._network.piece_run[self._pieces[part]]]]
+        return found
+
+    def _bounds(self, part: slice) -> tuple[Ints, Ints]:
+        """Where the points of pieces begin and end."""
+        pieces = self._pieces[part]
+        return self._runs.begin[pieces].astype(np.int64), self._runs.end[pieces].astype(np.int64)
+
+    def looked_at(self) -> tuple[NDArray[np.bool_], NDArray[np.bool_], NDArray[np.uint64]]:
+        """Whether each piece leads to the greater of its ends, whether both are one place, and a mix of 64 bits that pieces of one way
+        have in common that lie on one line."""
+        count = len(self._pieces)
+        is_along, is_ring, keys = np.empty(count, np.bool_), np.empty(count, np.bool_), np.empty(count, np.uint64)
+
+        def look(part: slice) -> None:
+            begin, end = self._bounds(part)
+            head, tail = place_keys(self._runs.points[begin]), place_keys(self._runs.points[end - 1])
+            is_along[part], is_ring[part] = head < tail, head == tail
+            keys[part] = mixed(self._ways(part), np.minimum(head, tail), np.maximum(head, tail), end - begin)
+
+        by_parts(look, count)
+        return is_along, is_ring, keys
+
+    def of_arcs(
+        self, number: NDArray[np.int32], is_along: NDArray[np.bool_], is_same: NDArray[np.bool_]
+    ) -> tuple[NDArray[np.int32], NDArray[np.bool_]]:
+        """The number of the piece of each arc, and whether it leads along it."""
+        network, row = self._network, np.zeros(len(self._network.piece_run), np.int32)
+        row[self._pieces] = np.arange(len(self._pieces), dtype=np.int32)
+        edge, along = np.empty(len(network.piece), np.int32), np.empty(len(network.piece), np.bool_)
+
+        def fill(part: slice) -> None:
+            rows = row[network.piece[part]]
+            edge[part], along[part] = number[rows], is_along[rows] ^ network.is_back[part] | is_same[rows]
+
+        by_parts(fill, len(edge))
+        return edge, along
+
+    def points(self, chosen: NDArray[np.bool_], is_along: NDArray[np.bool_]) -> tuple[Ints, NDArray[np.int32]]:
+        """The lines of chosen pieces one after the other, each along or against its points; and where they begin."""
+        begin, end = (bounds[chosen] for bounds in self._bounds(slice(None)))
+        line_begin = begins(end - begin)
+        found = np.empty((int(line_begin[-1]), 2), np.int32)
+        step = np.where(is_along[chosen], 1, -1).astype(np.int8)
+        first = np.where(is_along[chosen], begin, end - 1)
+        del begin, end
+
+        def fill(part: slice) -> None:
+            low, high = int(line_begin[part.start]), int(line_begin[part.stop])
+            line = np.repeat(np.arange(part.start, part.stop), np.diff(line_begin[part.start : part.stop + 1]))
+            found[low:high] = self._runs.points[first[line] + step[line] * (np.arange(low, high) - line_begin[line])]
+
+        by_parts(fill, len(first))
+        return line_begin, found
 
 
 def place_keys(places: NDArray[np.int32]) -> Ints:
@@ -354,29 +469,22 @@ def place_keys(places: NDArray[np.int32]) -> Ints:
     return (places[:, 0].astype(np.int64) << 32) + places[:, 1]
 
 
-def maybe_equal(*values: Ints) -> Iterator[int]:
-    """The rows, in order, whose values may be those of another row, by a mix of 64 bits."""
-    mixed = np.zeros(len(values[0]), np.uint64)
+def mixed(*values: Ints) -> NDArray[np.uint64]:
+    """A mix of 64 bits of the values of each row."""
+    found = np.zeros(len(values[0]), np.uint64)
     for column in values:
-        mixed = (mixed ^ column.astype(np.uint64)) * np.uint64(0x9E3779B97F4A7C15)
-        mixed ^= mixed >> np.uint64(29)
-    order = np.argsort(mixed, kind="stable")
-    equal = mixed[order[1:]] == mixed[order[:-1]]
-    yield from np.unique(np.concatenate((order[1:][equal], order[:-1][equal]))).tolist()
+        found = (found ^ column.astype(np.uint64)) * np.uint64(0x9E3779B97F4A7C15)
+        found ^= found >> np.uint64(29)
+    return found
 
 
-def points_of(
-    points: NDArray[np.int32], begin: Ints, end: Ints, is_along: NDArray[np.bool_]
-) -> tuple[Ints, NDArray[np.int32]]:
-    """The lines of edges one after the other, each along or against its points; and where they begin."""
-    edge_begin = begins(end - begin)
-    found = np.empty((int(edge_begin[-1]), 2), np.int32)
-    step = np.where(is_along, 1, -1)
-    first = np.where(is_along, begin, end - 1)
-    for low in range(0, len(begin), EDGES_AT_ONCE):
-        some = slice(low, low + EDGES_AT_ONCE)
-        count = (end - begin)[some]
-        place = np.arange(int(count.sum())) - np.repeat(begins(count)[:-1], count)
-        chosen = np.repeat(first[some], count) + np.repeat(step[some], count) * place
-        found[edge_begin[low] : edge_begin[low] + len(chosen)] = points[chosen]
-    return edge_begin, found
+def maybe_equal(keys: NDArray[np.uint64]) -> list[int]:
+    """The rows, in order, that have the upper half of their key in common with another row; the lower one is lost."""
+    half = np.uint64((1 << 32) - 1)
+    keys &= ~half
+    keys |= np.arange(len(keys), dtype=np.uint64)
+    sort(keys)
+    is_equal = ~differs(keys >> np.uint64(32))
+    is_equal[:-1] |= is_equal[1:]
+    found: list[int] = np.sort(keys[is_equal] & half).tolist()
+    return found

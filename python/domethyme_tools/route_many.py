@@ -38,7 +38,7 @@ SILENT_SECONDS = 3
 
 
 def read_words() -> argparse.Namespace:
-    parser = words(__doc__)
+    parser = words(__doc__, "%(prog)s --jobs 3 net.rch net.pairs net.answers")
     parser.add_argument("hierarchy", metavar="HIERARCHY", help="a file that `routecli prepare` wrote")
     parser.add_argument("pairs", metavar="PAIRS", help="a query file; `-` is standard input")
     parser.add_argument("out", metavar="OUT", help="the file of the answers")

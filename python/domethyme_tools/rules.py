@@ -40,7 +40,7 @@ ONEWAY = {"yes": "forward", "true": "forward", "1": "forward", "-1": "backward",
 
 
 class Profile(typing.NamedTuple):
-    """The rules of a vehicle; tools/README.md says what each member means."""
+    """The rules of a vehicle; profiles/README.md says what each member means."""
 
     speeds: dict[str, float]
     maxspeed_words: dict[str, float]

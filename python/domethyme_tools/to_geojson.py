@@ -27,7 +27,7 @@ write it.
 --on-roads takes replies of `routecli serve` to the lines of `nearest --on-roads`, and needs the same TRIPS. Routes then lead
 from the nearest point of a road to another, and have no from_node and to_node.
 
-Without any answer it fails: an empty input is what a fault further up a pipe leaves.
+Without any answer it fails: an empty input is what an earlier error in a pipe leaves.
 
 --as collection is a FeatureCollection with a feature on each line; --as lines has the features alone; --as csv is a
 table for GIS programs with the line in the column WKT, without steps. A file that is written is whole or not there.
@@ -66,7 +66,7 @@ FORMS = ("collection", "lines", "csv")
 
 
 def read_words() -> argparse.Namespace:
-    parser = words(__doc__)
+    parser = words(__doc__, "routecli route out/li.rch out/li.pairs | %(prog)s out/li - --trips trips.csv -o out/li.geojson")
     parser.add_argument("network", metavar="NETWORK", help="the network that the answers are of")
     parser.add_argument("answers", metavar="ANSWERS", help="the answers of routecli")
     parser.add_argument("-o", dest="output", metavar="ROUTES", default="-", help="by default standard output")

@@ -1,4 +1,4 @@
-"""Makes the files of a network of one's own: of a table of nodes and a table of arcs, or of files of the DIMACS challenge.
+"""Makes the files of a network: of a table of nodes and a table of arcs, or of files of the DIMACS challenge.
 
 NODES is a CSV table with a row for each node and the columns lon and lat, in degrees. It may have the column node, by whose
 texts ARCS names the nodes; without it they are numbered from 1, by their rows. The columns osm, a whole number that answers
@@ -45,13 +45,13 @@ ROWS = 1 << 16
 
 
 def read_words() -> argparse.Namespace:
-    parser = words(__doc__)
+    parser = words(__doc__, "%(prog)s nodes.csv arcs.csv out/firm", "%(prog)s USA-road-d.NY.co USA-road-d.NY.gr out/ny")
     parser.add_argument("nodes", metavar="NODES", help="the table of nodes, or a .co file")
     parser.add_argument("arcs", metavar="ARCS", help="the table of arcs, or a .gr file")
     parser.add_argument("out", metavar="OUT", help="the beginning of the names of the files")
     parser.add_argument("--weight", choices=("time", "length"), default="time", help="what a weight is without the column (time)")
     parser.add_argument("--tables", action="store_true", help="write OUT.nodes.csv and OUT.arcs.csv too")
-    parser.add_argument("--attribution", metavar="TEXT", help="what maps have to say about the data (what OUT.gr says)")
+    parser.add_argument("--attribution", metavar="TEXT", help="the attribution that maps show (that in OUT.gr)")
     options = parser.parse_args()
     if not os.path.basename(options.out) or os.path.isdir(options.out):
         parser.error("OUT is the beginning of the names of files, as out/firm, and no folder")

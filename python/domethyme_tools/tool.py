@@ -5,7 +5,7 @@
                                  an interrupt, 143 after SIGTERM; a reader of standard output that went away is status 1
                                  without a line. Arguments that argparse refuses are status 2.
     warn(text)                   a line on standard error, with the tool's name
-    words(doc)                   an argparse parser whose `--help` begins with the docstring as it is
+    words(doc, *examples)        an argparse parser whose `--help` begins with the docstring as it is and ends with examples
     packages()                   `with packages(): import numpy` ends with one line and status 1 if one is missing
     tool(name)                   the words that begin another tool
 """
@@ -89,9 +89,11 @@ def spoken(path: str) -> str:
     return "standard input" if path == "-" else path
 
 
-def words(doc: str | None) -> argparse.ArgumentParser:
-    """A parser of a tool's arguments, which shows the docstring line by line."""
-    return argparse.ArgumentParser(description=doc, formatter_class=argparse.RawDescriptionHelpFormatter)
+def words(doc: str | None, *examples: str) -> argparse.ArgumentParser:
+    """A parser of a tool's arguments. Its `--help` shows the docstring line by line, and ends with calls of the tool, in which
+    `%(prog)s` is the name that it was called by."""
+    epilog = "\n  ".join(["examples:", *examples]) if examples else None
+    return argparse.ArgumentParser(description=doc, epilog=epilog, formatter_class=argparse.RawDescriptionHelpFormatter)
 
 
 def tool(name: str) -> list[str]:

@@ -189,26 +189,32 @@ def split(
     at which penalty, in the order of the first of them."""
     copies = copies_of(nodes, pairs, cost, count)
     # each arc that leads to a split node ends twice, and each that leads from one starts once for each node made that may take it
-    ends_of, first_end, last_end = np.ones(len(start), np.int32), end.copy(), end.copy()
+    ends_of, first_end, last_end = np.ones(len(start), np.int8), end.copy(), end.copy()
     there = np.repeat(copies.is_split, np.diff(pairs.into_begin))
     arcs = pairs.into[there]
     ends_of[arcs], first_end[arcs], last_end[arcs] = 2, copies.goes_to[there], copies.ends_at[there]
     leaves = np.flatnonzero(copies.is_made[pairs.turn_into] & (cost != FORBIDDEN))
     arc_out = pairs.out[pairs.turn_out[leaves]]
     leaves, arc_out = (values[np.lexsort((pairs.turn_into[leaves], arc_out))] for values in (leaves, arc_out))
-    starts_of = 1 + np.bincount(arc_out, minlength=len(start)).astype(np.int32)
+    starts_of = np.ones(len(start), np.int32)
+    starts_of += np.bincount(arc_out, minlength=len(start)).astype(np.int32)
+    total = starts_of * ends_of
+    arc, is_several = np.repeat(np.arange(len(start)), total), np.repeat(total > 1, total)
+    found = start[arc], first_end[arc], np.zeros(len(arc), np.int32)
+    # each start of those with several, with each end
+    several = np.flatnonzero(total > 1)
+    starts_of, ends_of, total = starts_of[several], ends_of[several], total[several]
     start_begin = begins(starts_of)
-    starts, penalties = np.repeat(start, starts_of), np.zeros(int(start_begin[-1]), np.int32)
+    starts, penalties = np.repeat(start[several], starts_of), np.zeros(int(start_begin[-1]), np.int32)
     is_more = np.ones(len(starts), np.bool_)
     is_more[start_begin[:-1]] = False
     starts[is_more], penalties[is_more] = copies.made[pairs.turn_into[leaves]], cost[leaves]
-    # each start with each end
-    total = starts_of * ends_of
-    arc, number = np.repeat(np.arange(len(start)), total), within(total)
-    at = start_begin[arc] + number // ends_of[arc]
-    found_end = np.where(number % ends_of[arc] == 0, first_end[arc], last_end[arc])
+    which, number = np.repeat(np.arange(len(several)), total), within(total)
+    at = start_begin[which] + number // ends_of[which]
+    found[0][is_several], found[2][is_several] = starts[at], penalties[at]
+    found[1][is_several] = np.where(number % ends_of[which] == 0, first_end[several[which]], last_end[several[which]])
     touched = np.concatenate((arcs, pairs.out[np.repeat(copies.is_split, np.diff(pairs.out_begin))]))
-    return Split(arc, starts[at], found_end, penalties[at], copies.beside, copies.ends, nodes[copies.is_split], touched)
+    return Split(arc, *found, copies.beside, copies.ends, nodes[copies.is_split], touched)
 
 
 def copies_of(nodes: Ints, pairs: Pairs, cost: NDArray[np.int32], count: int) -> Copies:

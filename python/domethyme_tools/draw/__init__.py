@@ -12,7 +12,7 @@ In the picture a browser shows a route's streets where the pointer rests on it. 
 counted in its last line. In the page a click on a route opens its streets with their metres, and a click on the
 legend goes there. Labels are at the ends of routes, and near by the names of their streets too, as far as there is
 room. Leaflet, from Debian's package libjs-leaflet, is a part of the page, with its notice. Without --tiles the page
-asks nothing of any network.
+makes no network request.
 
 OUT is whole or not there.
 
@@ -24,7 +24,7 @@ import argparse
 from domethyme.files import writing
 from domethyme.network.tables import attribution_of
 
-from ..geometry import View
+from ..geometry import Box, View
 from ..tool import spoken, warn, words
 from .page import page_of
 from .picture import picture_of
@@ -35,15 +35,19 @@ PICTURE, PAGE = ".svg", ".html"
 
 
 def read_words() -> argparse.Namespace:
-    parser = words(__doc__)
+    parser = words(
+        __doc__,
+        "%(prog)s out/li out/li.geojson out/li.svg --label trip",
+        "%(prog)s out/li out/li.geojson out/li.html --label trip",
+    )
     parser.add_argument("network", metavar="NETWORK", help="the network that the routes are in")
     parser.add_argument("routes", metavar="ROUTES", help="the routes, as GeoJSON")
     parser.add_argument("output", metavar="OUT.svg|OUT.html", help="the picture or page")
     parser.add_argument("--label", metavar="COLUMN", help="the property that names a route (default: numbers)")
-    parser.add_argument("--width", metavar="PIXELS", type=pixels, help="of the picture (default: 1000)")
+    parser.add_argument("--width", metavar="PIXELS", type=pixels, help="of the picture (default: 1000, or less if it is high)")
     parser.add_argument("--whole", action="store_true", help="the whole network, and not only around the routes")
     parser.add_argument("--tiles", metavar="URL", help="a background for the page, such as https://../{z}/{x}/{y}.png")
-    parser.add_argument("--attribution", metavar="TEXT", help="said beside the network's own: of the tiles, say")
+    parser.add_argument("--attribution", metavar="TEXT", help="shown beside the network's own, such as that of the tiles")
     options = parser.parse_args()
     if not options.output.endswith((PICTURE, PAGE)):
         parser.error(f"OUT ends neither in {PICTURE} nor in {PAGE}")
@@ -64,6 +68,11 @@ def pixels(text: str) -> int:
     return value
 
 
+def width_of(box: Box) -> int:
+    """The width of a picture whose longer side has 1000 pixels."""
+    return round(1000 * min(1, box.width / box.height))
+
+
 def main() -> None:
     options = read_words()
     routes = read_routes(options.routes, options.label)
@@ -73,7 +82,7 @@ def main() -> None:
     box, roads = scene_of(options.network, routes, options.whole, is_picture)
     attribution = ", ".join(filter(None, [attribution_of(options.network), options.attribution]))
     if is_picture:
-        text = picture_of(routes, roads, View(box, options.width or 1000), attribution)
+        text = picture_of(routes, roads, View(box, options.width or width_of(box)), attribution)
     else:
         text = page_of(routes, roads, attribution, options.tiles)
     with writing(options.output) as file:

@@ -3,6 +3,7 @@
 const data = JSON.parse(document.getElementById("data").textContent);
 const map = L.map("map", {zoomSnap: data.tiles ? 1 : 0.25, maxZoom: 20});
 const BUTTONS = 56;  // the width that the buttons at the left edge take
+const MOST_NAMED = 8;  // how many routes have labels: more would lie over the lines, and colours repeat
 
 // A line is a list of differences in millionths of a degree, longitude first.
 function places(numbers) {
@@ -79,6 +80,7 @@ function lift(lifted) {
     lifted.layer.bringToFront();
     lifted.arrows.eachLayer(arrow => arrow.bringToFront());
   }
+  if (routes.length > MOST_NAMED) drawNames(lifted ? [lifted] : []);
 }
 
 function drawEnds(route) {
@@ -113,17 +115,17 @@ function drawArrows(route, number) {
   }
 }
 
-// The label of each route at its ends, and near by the names of its streets. What would lie on another text, on an end of a
-// route or on a box at the window's edge is left out.
+// The label of each route at its ends, and near by the names of its streets; of many routes that of the one that lies over the
+// others. What would lie on another text, on an end of a route or on a box at the window's edge is left out.
 const names = L.layerGroup();
 const brush = document.createElement("canvas").getContext("2d");
 
-function drawNames() {
+function drawNames(named = routes.length > MOST_NAMED ? [] : routes) {
   names.clearLayers();
   const size = map.getSize(), shortened = text => text.length > 24 ? text.slice(0, 23).trimEnd() + "\u2026" : text;
-  const ends = routes.flatMap(route => places(route.ends).map(place => [shortened(route.label), place, "end"]));
+  const ends = named.flatMap(route => places(route.ends).map(place => [shortened(route.label), place, "end"]));
   const taken = Array.from(document.querySelectorAll(".leaflet-control"), box => box.getBoundingClientRect());
-  for (const [, place] of ends) {
+  for (const place of routes.flatMap(route => places(route.ends))) {
     const {x, y} = map.latLngToContainerPoint(place);
     taken.push({left: x - 8, top: y - 8, right: x + 8, bottom: y + 8});
   }

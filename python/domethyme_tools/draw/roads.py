@@ -118,6 +118,6 @@ def scene_of(network: str, routes: list[Drawn], is_whole: bool, is_picture: bool
 def shape_for(is_picture: bool, box: Box) -> Box:
     """The box in a shape that suits a picture, or as wide as a window, with room to move the map, for a page."""
     if is_picture:
-        return box.shaped(0.56, 1)
+        return box.shaped(0.56, 1.4)
     wide = box.shaped(0.5, 0.7)
     return wide.grown(wide.height / 4)
