@@ -2,20 +2,23 @@
 import heapq
 import http.client
 import json
-import os
 import pathlib
 import re
 import socket
 import subprocess
 import threading
+import time
 from typing import BinaryIO, NamedTuple
 
-from tool_case import TOOLS, VILLAGE, ToolCase, serving_program
+from tool_case import TOOLS, VILLAGE, ToolCase
 
 import domethyme
 from domethyme.texts import read_graph
 
 SECONDS = 20
+# KiB that a front may grow by in a round that leaves nothing, and how many rounds there are. Python's allocator and the threads'
+# arenas take some in early rounds, and more on a machine that has much to do: one of the rounds has to leave memory as it was.
+MOST_GROWN, ROUNDS = 2048, 6
 # The type of the body of a batch.
 NDJSON = {"Content-Type": "application/x-ndjson"}
 
@@ -42,15 +45,10 @@ class ServiceCase(ToolCase):
         domethyme.prepare(self.folder / "v.gr", self.folder / "v.rch", workers=1).close()
         self.graph = read_graph(self.folder / "v.gr")
 
-    def serve(self, *words, faults=(), program=None, descriptors=()):
-        """Starts the service, and returns its process, the master's, once it listens at `self.port`. The faults are those of workers:
-        the process by which the files are compared has none."""
-        program = program or serving_program()
-        environment = {**os.environ, "ROUTECLI": str(program)}
-        if faults:
-            environment["SERVE_FAULTS"] = str(self.write("faults", "".join(f"{fault}\n" for fault in ("well", *faults))))
+    def serve(self, *words, descriptors=()):
+        """Starts the service, and returns its process, the master's, once it listens at `self.port`."""
         given = [*self.command, self.folder / "v.rch", "--port", "0", "--allowed-host", "x", *words]
-        process = subprocess.Popen(list(map(str, given)), stderr=subprocess.PIPE, text=True, env=environment, pass_fds=descriptors)
+        process = subprocess.Popen(list(map(str, given)), stderr=subprocess.PIPE, text=True, pass_fds=descriptors)
         self.addCleanup(end, process)
         self.said = []
         for line in process.stderr:
@@ -84,6 +82,24 @@ class ServiceCase(ToolCase):
             while part := stream.recv(1 << 16):
                 parts.append(part)
         return b"".join(parts)
+
+    def wait_for(self, what, seconds=30):
+        """Waits until it is so, and fails with what the service has said if it isn't in time."""
+        end = time.monotonic() + seconds
+        while not what():
+            self.assertLess(time.monotonic(), end, self.said[-20:])
+            time.sleep(0.05)
+
+    def assert_level(self, process, act):
+        """Acts in rounds, until one in which no front of the service grows. Memory that each round leaves behind fails it."""
+        sizes = []
+        for _ in range(ROUNDS):
+            act()
+            sizes.append([resident(number) for number in fronts_of(process)])
+            self.assertTrue(sizes[-1], "there is a front")
+            if len(sizes) > 1 and all(new <= old + MOST_GROWN for old, new in zip(*sizes[-2:], strict=True)):
+                return
+        self.fail(f"memory grows in each round: {sizes} KiB")
 
     def value(self, name):
         """A value of /metrics."""
@@ -147,10 +163,6 @@ def children_of(number: int) -> list[int]:
 def fronts_of(process: "subprocess.Popen[str]") -> list[int]:
     """The fronts of a service: its master has started keepers, and these have started them."""
     return [front for keeper in children_of(process.pid) for front in children_of(keeper)]
-
-
-def workers_of(process: "subprocess.Popen[str]") -> list[int]:
-    return [worker for front in fronts_of(process) for worker in children_of(front)]
 
 
 def resident(number: int) -> int:

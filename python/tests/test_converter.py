@@ -6,11 +6,12 @@ import signal
 import subprocess
 import time
 import unittest
+from unittest import mock
 
 import numpy as np
 from tool_case import PYTHON, TAKES_SIGNALS, VILLAGE, ToolCase
 
-from domethyme.network import binary
+from domethyme.network import binary, threads
 from domethyme.network.tables import read_arcs, read_nodes
 from domethyme.texts import read_graph
 from domethyme_tools import map_arrays, osm_to_gr, road_network
@@ -174,6 +175,21 @@ class ArraysTests(ToolCase):
                 self.assertGreater(len(arrays.arc_from), 20)
                 self.assertLess(len(arrays.edge_begin) - 1, len(arrays.arc_from))
 
+    def test_parts(self):
+        """What threads make part by part is the same however long the parts are."""
+        for seed in range(3):
+            self.write("map.osm", drawn_map(seed))
+            wanted = self.file()
+            for size in (1, 7):
+                with self.subTest(seed=seed, size=size), mock.patch.object(threads, "PART", size):
+                    self.assertEqual(self.file(), wanted)
+
+    def file(self):
+        """The bytes of the network's file."""
+        with open(self.folder / "map.net", "wb") as file:
+            binary.write(file, self.arrays())
+        return (self.folder / "map.net").read_bytes()
+
     def arrays(self):
         options = osm_to_gr.argparse.Namespace(map=self.folder / "map.osm", longest_arc=120.0, free_turns=False, islands=True)
         with map_arrays.folder_beside(str(self.folder / "out")) as folder:
@@ -202,6 +218,43 @@ def drawn_map(seed):
         tags = f"<tag k='type' v='restriction'/><tag k='restriction' v='{value}'/>"
         lines.append(f"<relation id='{number}'>{members}{via}{tags}</relation>")
     return "\n".join([*lines, "</osm>"])
+
+
+class ThreadTests(unittest.TestCase):
+    """Parts of arrays by threads, of four numbers each."""
+
+    def setUp(self):
+        self.enterContext(mock.patch.object(threads, "PART", 4))
+        draw = random.Random(1)
+        self.rows = [[draw.randrange(20) for _ in range(count)] for count in (0, 1, 4, 5, 100)]
+
+    def test_parts_are_in_order(self):
+        for row in self.rows:
+            found = threads.by_parts(lambda part: row[part], len(row))
+            self.assertEqual([value for part in found for value in part], row)
+            self.assertTrue(all(len(part) <= 4 for part in found))
+
+    def test_the_first_fault_is_raised(self):
+        with self.assertRaisesRegex(ValueError, "^8$"):
+            threads.by_parts(lambda part: int(f"{part.start}" if part.start < 8 else self.fail_at(part)), 100)
+
+    def fail_at(self, part):
+        raise ValueError(part.start)
+
+    def test_sort(self):
+        for row in self.rows:
+            values = np.array(row, np.uint64)
+            threads.sort(values)
+            self.assertEqual(values.tolist(), sorted(row))
+
+    def test_order_of(self):
+        for row in self.rows:
+            wanted = sorted(range(len(row)), key=lambda place: row[place])
+            self.assertEqual(threads.order_of(np.array(row, np.int32)).tolist(), wanted)
+
+    def test_firsts(self):
+        self.assertEqual(threads.firsts(np.array([3, 3, 1, 3])).tolist(), [True, False, True, True])
+        self.assertEqual(threads.firsts(np.array([])).tolist(), [])
 
 
 class RoundingTests(unittest.TestCase):

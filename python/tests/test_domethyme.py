@@ -6,10 +6,10 @@ import numpy as np
 import pandas as pd
 from scipy.sparse import coo_array
 from scipy.sparse.csgraph import dijkstra
-from tool_case import ToolCase, serving_program
+from tool_case import ToolCase
 
 import domethyme
-from domethyme import process
+from domethyme import find_program, many
 from domethyme.sweeps import Seeds, Sweeps
 
 # Four nodes: two ways from 0 to 2, of 3 + 4 = 7 and of 9; back from 2 to 0 by 5; node 3 leads to 0 by 6, and nothing to it.
@@ -20,7 +20,7 @@ class DomethymeTests(ToolCase):
     def prepared(self, name, *graph, **options):
         """The hierarchy of a graph, which ends with the test."""
         domethyme.write_graph(self.folder / f"{name}.gr", *graph, nodes=options.pop("nodes", None))
-        words = {"program": serving_program(), **options}
+        words = {"program": find_program(), **options}
         hierarchy = domethyme.prepare(self.folder / f"{name}.gr", self.folder / f"{name}.rch", **words)
         self.addCleanup(hierarchy.close)
         return hierarchy
@@ -62,7 +62,7 @@ class DomethymeTests(ToolCase):
         routes = hierarchy.routes([[0, 3]])
         self.assertEqual(routes.lengths.tolist(), [12884901885])
         self.assertEqual(routes[0].tolist(), [0, 1, 2, 3])
-        for by in ("serve", "sweeps"):
+        for by in ("library", "sweeps"):
             self.assertEqual(hierarchy.matrix([0, 3], by=by).tolist(), [[0, 12884901885], [-1, 0]])
         self.assertEqual(hierarchy.between({0: 4294967295}, {3: 4294967295}).length, 5 * 4294967295)
 
@@ -81,7 +81,7 @@ class DomethymeTests(ToolCase):
                 wanted = np.where(np.isinf(wanted), -1, wanted).astype(np.int64)
                 np.testing.assert_array_equal(hierarchy.matrix(np.arange(nodes), by="sweeps"), wanted)
                 some = draw.integers(0, nodes, 7)
-                np.testing.assert_array_equal(hierarchy.matrix(some, some[:3], by="serve"), wanted[some][:, some[:3]])
+                np.testing.assert_array_equal(hierarchy.matrix(some, some[:3], by="library"), wanted[some][:, some[:3]])
                 np.testing.assert_array_equal(hierarchy.matrix(some, some[:3], by="sweeps"), wanted[some][:, some[:3]])
                 self.check_between(hierarchy, draw)
 
@@ -118,7 +118,7 @@ class DomethymeTests(ToolCase):
         lengths = [[0, 3, 7, -1], [9, 0, 4, -1], [5, 8, 0, -1], [6, 9, 13, 0]]
         hierarchy, pairs = self.square(), [[row // 4 % 4, row % 4] for row in range(1000)]
         for size in [3, 64, 1000]:
-            with self.subTest(size=size), unittest.mock.patch.object(process, "BLOCK", size):
+            with self.subTest(size=size), unittest.mock.patch.object(many, "AT_A_TIME", size):
                 routes = hierarchy.routes(pairs)
                 self.assertEqual(routes.lengths.tolist(), [lengths[start][end] for start, end in pairs])
                 for row in range(14, 1000, 16):
@@ -180,7 +180,7 @@ class DomethymeTests(ToolCase):
             (domethyme.HierarchyNotFound, f"{file}: No such file or directory", 7, lambda: domethyme.Hierarchy(file)),
             (FileNotFoundError, f"{file}: No such file or directory", 7, lambda: domethyme.Hierarchy(file)),
             (domethyme.ProgramNotFound, "no: is no program that can be run", 1,
-             lambda: domethyme.Hierarchy(file, program="no")),
+             lambda: domethyme.prepare(graph, file, program="no")),
         ]:
             with self.subTest(message=message), self.assertRaises(kind) as caught:
                 attempt()
@@ -197,20 +197,12 @@ class DomethymeTests(ToolCase):
         with self.assertRaisesRegex(domethyme.HierarchyError, r"cut.rch: has \d+ bytes, and its head"):
             domethyme.Hierarchy(cut)
         cut.write_bytes(whole[:24] + whole[28:32] * 2 + whole[32:])
-        with domethyme.Hierarchy(cut, program=serving_program()) as broken:
-            with self.assertRaises(domethyme.HierarchyError):
-                broken.matrix([0, 1], by="sweeps")
-        self.assertEqual((hierarchy.nodes, hierarchy.links), (4, (len(whole) - 24 - 16) // 24))
-
-    def test_a_hierarchy_that_the_program_refuses(self):
-        """The head is sound, and a rank stands twice: the program's own line comes with the file's name."""
-        self.square()
-        program = self.write("program", "#!/bin/sh\necho routecli: hierarchy: RankTwice >&2\nexit 4\n")
-        program.chmod(0o755)
-        with domethyme.Hierarchy(self.folder / "square.rch", program) as hierarchy:
-            with self.assertRaisesRegex(domethyme.HierarchyError, r"square.rch: routecli: hierarchy: RankTwice") as caught:
-                hierarchy.length(0, 1)
+        with self.assertRaises(domethyme.HierarchyError), open(cut, "rb") as file:
+            Sweeps.read(file.fileno(), "cut.rch")
+        with self.assertRaisesRegex(domethyme.HierarchyError, "cut.rch: two nodes have one rank") as caught:
+            domethyme.Hierarchy(cut)
         self.assertEqual(caught.exception.status, 4)
+        self.assertEqual((hierarchy.nodes, hierarchy.links), (4, (len(whole) - 24 - 16) // 24))
 
     def test_one_question_at_a_time(self):
         hierarchy = self.square()
@@ -234,7 +226,8 @@ class DomethymeTests(ToolCase):
         self.assertEqual(hierarchy.between([3], {2: 5, 0: 20}).length, 18)
         self.assertEqual(hierarchy.between([0, 1, 2], [2]).nodes, [2])
         self.assertIsNone(hierarchy.between([0, 1, 2], [3]))
-        for starts, ends, says in [([], [0], "1 to 8"), ([0] * 9, [0], "1 to 8"), ({0: -1}, [0], "from 0 to 4294967295"),
+        self.assertEqual(hierarchy.between([3] * 20 + [(3, 1)], [2] * 20).length, 13)
+        for starts, ends, says in [([], [0], "a node or more"), ([0], {}, "a node or more"), ({0: -1}, [0], "from 0 to 4294967295"),
                                    ({0: 1.5}, [0], "have to be whole numbers"),
                                    ([0], {0: 1 << 32}, "from 0 to 4294967295"), ([7], [0], "nodes 0 to 3")]:
             with self.subTest(says=says), self.assertRaisesRegex(ValueError, says):
@@ -253,7 +246,7 @@ class DomethymeTests(ToolCase):
 
     def test_keys_of_any_kind(self):
         graph = domethyme.Graph.of_keys(["a", "b", "a", ("c", 3)], ["b", ("c", 3), ("c", 3), "a"], [3, 4, 9, 5])
-        with graph.prepare(self.folder / "keys.rch", program=serving_program()) as hierarchy:
+        with graph.prepare(self.folder / "keys.rch", program=find_program()) as hierarchy:
             self.assertEqual(hierarchy.route("a", ("c", 3)).nodes, ["a", "b", ("c", 3)])
             self.assertEqual(hierarchy.routes([("a", ("c", 3)), ("b", "a")])[1].tolist(), ["b", ("c", 3), "a"])
             self.assertEqual(hierarchy.matrix(["b"], ["a", "b"]).tolist(), [[9, 0]])
@@ -266,13 +259,13 @@ class DomethymeTests(ToolCase):
         self.square()
         large = [1 << 40, -5, 7, 9]
         for keys in (large, np.array(large), dict(zip(large, range(4))), domethyme.Keys(large)):
-            with domethyme.Hierarchy(self.folder / "square.rch", serving_program(), keys=keys) as hierarchy:
+            with domethyme.Hierarchy(self.folder / "square.rch", keys=keys) as hierarchy:
                 self.assertEqual(hierarchy.routes([[1 << 40, 7]])[0].tolist(), [1 << 40, -5, 7])
                 self.assertEqual(hierarchy.length(np.int64(1 << 40), -5), 3)
         for keys, says in [([1, 1], "key 1 names two nodes"), (range(5), "has 4"), ({"a": 0, "b": 0}, "name one node"),
                            ({"a": -1}, "is no node")]:
             with self.subTest(says=says), self.assertRaisesRegex(ValueError, says):
-                domethyme.Hierarchy(self.folder / "square.rch", serving_program(), keys=keys)
+                domethyme.Hierarchy(self.folder / "square.rch", keys=keys)
 
     def test_weights_that_are_no_whole_numbers(self):
         graph = domethyme.Graph.of_keys(["a", "b"], ["b", "c"], [0.5, 2.0004], scale=1000)
@@ -282,10 +275,10 @@ class DomethymeTests(ToolCase):
                 domethyme.Graph.of_keys(["a", "b"], ["b", "c"], weights, scale=1000)
 
         graph = domethyme.Graph.of_keys(["a", "b"], ["b", "c"], [0.5, 2.0004], scale=1000)
-        with graph.prepare(self.folder / "scaled.rch", program=serving_program()) as hierarchy:
+        with graph.prepare(self.folder / "scaled.rch", program=find_program()) as hierarchy:
             lengths = [hierarchy.length("a", "c"), hierarchy.length("c", "a")]
             self.assertEqual([domethyme.unscaled(length, 1000) for length in lengths], [2.5, float("inf")])
-            for by in ("serve", "sweeps"):
+            for by in ("library", "sweeps"):
                 table = domethyme.unscaled(hierarchy.matrix(["a", "c"], by=by), 1000)
                 self.assertEqual(table.tolist(), [[0, 2.5], [float("inf"), 0]])
             frame = domethyme.unscaled(hierarchy.matrix(pd.Series(["a", "c"])), 1000)
@@ -304,7 +297,7 @@ class DomethymeTests(ToolCase):
 
     def test_frames_in_and_out(self):
         frame = pd.DataFrame({"from": ["a", "b", "a"], "to": ["b", "c", "c"], "weight": [3, 4, 9]})
-        with domethyme.Graph.of_frame(frame).prepare(self.folder / "f.rch", program=serving_program()) as hierarchy:
+        with domethyme.Graph.of_frame(frame).prepare(self.folder / "f.rch", program=find_program()) as hierarchy:
             asked = pd.DataFrame({"name": [1, 2], "from": ["a", "c"], "to": ["c", "a"]}, index=[7, 9])
             self.assertEqual(hierarchy.lengths(asked).to_dict(), {7: 7, 9: pd.NA})
             self.assertEqual(hierarchy.lengths(asked).mean(), 7)
@@ -340,14 +333,14 @@ class DomethymeTests(ToolCase):
 
     def test_keys_that_are_saved(self):
         frame = pd.DataFrame({"from": ["a", "b", 7], "to": ["b", 7, "a"], "weight": [3, 4, 5]})
-        path, program = self.folder / "firm.rch", serving_program()
+        path, program = self.folder / "firm.rch", find_program()
         domethyme.Graph.of_frame(frame).prepare(path, program=program).close()
-        with domethyme.Hierarchy(path, program, keys=domethyme.Keys.saved(path)) as hierarchy:
+        with domethyme.Hierarchy(path, keys=domethyme.Keys.saved(path)) as hierarchy:
             self.assertEqual((hierarchy.length("a", 7), hierarchy.route("b", "a").nodes), (7, ["b", 7, "a"]))
         for keys in (["a", "b", 7], {"a": 0, 7: 2}, ["x", "y", "z"]):
-            domethyme.Hierarchy(path, program, keys=keys).close()
+            domethyme.Hierarchy(path, keys=keys).close()
         with self.assertRaisesRegex(ValueError, "key 'b' names node 0 here, and node 1 in .*firm.rch.keys"):
-            domethyme.Hierarchy(path, program, keys=["b", "a", 7])
+            domethyme.Hierarchy(path, keys=["b", "a", 7])
 
         saved = (self.folder / "firm.rch.keys").read_text(encoding="utf-8")
         for text in ("", "[]", saved[:-1], saved.replace("keys 1", "keys 2"), saved.replace('"chosen":[]', '"chosen":[["a",2]]')):
@@ -358,13 +351,13 @@ class DomethymeTests(ToolCase):
         domethyme.Graph([0, 1], [1, 0], [1, 1]).prepare(path, program=program).close()
         with self.assertRaisesRegex(domethyme.FileError, "has the keys of another file than .*firm.rch"):
             domethyme.Keys.saved(path)
-        domethyme.Hierarchy(path, program, keys=["b", "a"]).close()
+        domethyme.Hierarchy(path, keys=["b", "a"]).close()
         for missing in ("nowhere", "firm.rch.keys"):
             with self.assertRaisesRegex(domethyme.FileError, "No such file"):
                 domethyme.Keys.saved(self.folder / missing)
 
     def test_keys_of_other_kinds_are_not_saved(self):
-        domethyme.Graph.of_keys([("a", 1)], ["b"], [3]).prepare(self.folder / "t.rch", program=serving_program()).close()
+        domethyme.Graph.of_keys([("a", 1)], ["b"], [3]).prepare(self.folder / "t.rch", program=find_program()).close()
         self.assertFalse((self.folder / "t.rch.keys").exists())
         with self.assertRaisesRegex(ValueError, "str or int"):
             domethyme.Keys([True, "b"]).save(self.folder / "t.rch")
@@ -372,13 +365,13 @@ class DomethymeTests(ToolCase):
     def test_a_refusal_with_its_explanation(self):
         self.write("bad.gr", "p sp 2 1\na 1 2 x\n")
         with self.assertRaises(domethyme.GraphError) as caught:
-            domethyme.prepare(self.folder / "bad.gr", self.folder / "bad.rch", program=serving_program())
+            domethyme.prepare(self.folder / "bad.gr", self.folder / "bad.rch", program=find_program())
         self.assertEqual(caught.exception.message, "routecli: graph: NotANumber line 2")
         self.assertIn("bad.gr:2: a 1 2 x", caught.exception.explanation[0])
         self.assertEqual(str(caught.exception), "\n  ".join([caught.exception.message, *caught.exception.explanation]))
         self.write("good.gr", "p sp 2 1\na 1 2 3\n")
         with self.assertRaises(domethyme.ReadWriteError) as caught:
-            domethyme.prepare(self.folder / "good.gr", self.folder / "nowhere/g.rch", program=serving_program())
+            domethyme.prepare(self.folder / "good.gr", self.folder / "nowhere/g.rch", program=find_program())
         self.assertEqual(caught.exception.message, "routecli: write")
         self.assertIn("nowhere", caught.exception.explanation[0])
 
@@ -386,7 +379,7 @@ class DomethymeTests(ToolCase):
         ring = ([0, 1, 2], [1, 2, 0])
         right, lighter, heavier, more = (domethyme.Graph(*ring, weights, nodes) for weights, nodes in
                                          [([3, 4, 5], 3), ([2, 4, 5], 3), ([3, 4, 6], 3), ([3, 4, 5], 4)])
-        path, program = self.folder / "ring.rch", serving_program()
+        path, program = self.folder / "ring.rch", find_program()
         right.prepare(path, program=program).close()
         right.write(self.folder / "ring.gr")
         for graph in (right, self.folder / "ring.gr"):
@@ -394,7 +387,7 @@ class DomethymeTests(ToolCase):
         with self.assertRaisesRegex(domethyme.WrongHierarchy, "ring.rch: wrong: pair") as caught:
             domethyme.check(lighter, path, program)
         least = {(0, 1): 2, (0, 2): 6, (1, 2): 4, (1, 0): 9, (2, 0): 5, (2, 1): 7}
-        with domethyme.Hierarchy(path, program) as hierarchy:
+        with domethyme.Hierarchy(path) as hierarchy:
             self.assertNotEqual(hierarchy.length(*caught.exception.pair), least[caught.exception.pair])
         self.assertEqual((caught.exception.status, len(caught.exception.explanation) > 0), (9, True))
         with self.assertRaisesRegex(domethyme.WrongHierarchy, "wrong: nodes") as caught:

@@ -2,7 +2,7 @@
 import math
 
 import numpy as np
-from tool_case import VILLAGE, ToolCase, serving_program
+from tool_case import VILLAGE, ToolCase
 
 import domethyme
 from domethyme.texts import read_graph
@@ -18,7 +18,7 @@ class NetworkTests(ToolCase):
         domethyme.prepare(self.folder / "v.gr", self.folder / "v.rch", workers=1).close()
 
     def hierarchy(self, **more):
-        hierarchy = domethyme.Hierarchy(self.folder / "v.rch", serving_program(), network=self.network, **more)
+        hierarchy = domethyme.Hierarchy(self.folder / "v.rch", network=self.network, **more)
         self.addCleanup(hierarchy.close)
         return hierarchy
 
@@ -38,7 +38,7 @@ class NetworkTests(ToolCase):
                 hierarchy.nearest(lon, lat)
         self.assertAlmostEqual(hierarchy.nearest(1, 0, within=2e5)[1], 108861, delta=1)
         with self.assertRaisesRegex(ValueError, "has no network"):
-            domethyme.Hierarchy(self.folder / "v.rch", serving_program()).nearest(0, 0)
+            domethyme.Hierarchy(self.folder / "v.rch").nearest(0, 0)
 
     def test_routes_on_the_road(self):
         hierarchy = self.hierarchy()

@@ -105,9 +105,10 @@ class NearestTests(ToolCase):
                 self.assertEqual([spot.edge for spot in roads.nearest(place, 2)], [edge for _, edge in away[:2]], place)
 
     def test_many_places_at_once_are_as_each_alone(self):
+        """More than are looked at together."""
         roads = self.network((180.0, 10.0), 9)
         draw, near = random.Random(2), NodePlaces.of(roads.arrays)
-        places = np.array([place_beside((180.0, 10.0), draw, draw.choice((100, 5000, 900_000))) for _ in range(300)])
+        places = np.array([place_beside((180.0, 10.0), draw, draw.choice((100, 5000, 900_000))) for _ in range(1500)])
         nodes, metres = near.at(places[:, 0], places[:, 1], "to")
         lon, lat = np.asarray(roads.arrays.node_lon) / 1e7, np.asarray(roads.arrays.node_lat) / 1e7
         for place, node, away in zip(places.tolist(), nodes.tolist(), metres.tolist()):

@@ -2,7 +2,8 @@
 import json
 
 from service_case import ServiceCase, end
-from tool_case import serving_program
+
+from domethyme import find_program
 
 TRIPS = """\
 trip,from_lon,from_lat,to_lon,to_lat
@@ -20,7 +21,7 @@ class OnRoadsTests(ServiceCase):
         self.write("trips.csv", text)
         lines = self.run_tool("nearest", "v", "trips.csv", "--on-roads").stdout
         self.assertEqual(lines.count("\n"), text.count("\n") - 1)
-        replies = self.run_program([serving_program(), "serve", "v.rch"], given=lines).stdout
+        replies = self.run_program([find_program(), "serve", "v.rch"], given=lines).stdout
         self.write("replies", replies)
         return json.loads(self.run_tool("to_geojson", "v", "replies", "--trips", "trips.csv", "--on-roads", *words).stdout)
 

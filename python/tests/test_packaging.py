@@ -1,10 +1,12 @@
-"""Tests of what goes into the Debian package: the command routecli, which may put an allocator under the program, and the list
-of libraries in packaging/copyright."""
+"""Tests of what goes into the Debian packages: the command routecli, which may put an allocator under the program, and the lists
+of libraries in packaging/copyright and packaging/library/copyright."""
 import pathlib
 import re
 import shutil
 
 from tool_case import ROOT, ToolCase
+
+from domethyme_tools.__main__ import COMMANDS
 
 PACKAGING = ROOT / "packaging"
 JEMALLOC, MIMALLOC = "libjemalloc.so.2", "libmimalloc.so.2.0"
@@ -104,29 +106,66 @@ class CommandTests(ToolCase):
             self.assertEqual(found, (f"{own}|prepare|", said))
 
 
-class CopyrightTests(ToolCase):
-    """The libraries of packaging/copyright beside crates.txt, and beside the toolchain's kit where it is on this machine."""
+class CompletionTests(ToolCase):
+    """The completions that Debian's package has for the commands domethyme-NAME."""
 
     def setUp(self):
         super().setUp()
-        self.text = (PACKAGING / "copyright").read_text(encoding="utf-8")
+        names = sorted(set(COMMANDS) - {"build_converter", "check_page"})
+        self.run_program([PACKAGING / "tool_completions", self.folder, *names])
+
+    def completed(self, *words):
+        """What bash completes the last of the words to."""
+        file = self.folder / "bash-completion/completions" / words[0]
+        script = 'source "$1"; shift; COMP_WORDS=("$@"); COMP_CWORD=$(($# - 1)); _domethyme; printf "%s\\n" "${COMPREPLY[@]}"'
+        return self.run_program(["/bin/bash", "-c", script, "bash", file, *words]).stdout.split()
+
+    def test_options_and_values(self):
+        self.assertEqual(self.completed("domethyme-nearest", "--w"), ["--within"])
+        self.assertEqual(self.completed("domethyme-serve", "net.rch", "--log"), ["--log-places"])
+        self.assertEqual(self.completed("domethyme-to-geojson", "--as", "l"), ["lines"])
+        self.assertEqual(self.completed("domethyme-serve", "--tables", ""), ["fast", "proved"])
+        self.assertEqual(self.completed("domethyme-route-many", "net"), [])
+        self.assertIn("-h", self.completed("domethyme-fetch-extract", "-"))
+
+    def test_shells_take_the_files(self):
+        files = [("zsh", self.folder / "zsh/vendor-completions/_domethyme_tools"),
+                 *(("fish", file) for file in sorted((self.folder / "fish/vendor_completions.d").iterdir()))]
+        self.assertEqual(len(files), 1 + len(COMMANDS) - 2)
+        for shell, file in files:
+            self.assertIn("domethyme-osm-to-gr" if shell == "zsh" else file.stem, file.read_text(encoding="utf-8"))
+            if shutil.which(shell):
+                self.run_program([shutil.which(shell), "-n", file])
+
+
+class CopyrightTests(ToolCase):
+    """The libraries that a crate's copyright names beside crates.txt, and beside the toolchain's kit where it is on this machine."""
+
+    FILE, CRATE, MORE_THAN = "copyright", "routecli", 5
+
+    def setUp(self):
+        super().setUp()
+        self.text = (PACKAGING / self.FILE).read_text(encoding="utf-8")
         parts = self.text.partition("\n\n")[0].split("\n .\n")
         lists = [set(re.findall(r"^  (\w+): ", part, re.M)) for part in parts]
-        self.direct, self.indirect, self.own = (names for names in lists if names)
+        self.direct, *indirect, self.own = (names for names in lists if names)
+        self.indirect = set().union(*indirect)
+        lines = (line.partition(":") for line in (ROOT / "crates.txt").read_text(encoding="utf-8").splitlines())
+        uses = {words.split()[0]: names.split() for words, colon, names in lines if colon}
+        todo = [self.CRATE]
+        for name in todo:
+            todo += [each for each in uses.get(name, []) if each not in todo]
+        self.used = {name for name in todo if name not in uses}
 
     def test_libraries_are_those_of_crates_txt(self):
-        product, _, _ = (ROOT / "crates.txt").read_text(encoding="utf-8").partition("# Crates of tests.")
-        lines = [line.partition(":") for line in product.splitlines() if line and not line.startswith("#")]
-        ours = {words.split()[0] for words, _, _ in lines}
-        used = {name for _, _, names in lines for name in names.split()} - ours
-        self.assertEqual(self.direct | (self.own & used), used)
-        self.assertGreater(len(self.direct), 5)
+        self.assertEqual(self.direct | (self.own & self.used), self.used)
+        self.assertGreater(len(self.direct), self.MORE_THAN)
 
     def test_libraries_are_those_of_the_kit(self):
         kit = kit_folder()
         if kit is None:
             return
-        todo = [*self.direct, *(self.own & {"atomic_table"})]
+        todo = [*self.used]
         for name in todo:
             uses = re.findall(r"^dep (\w+)$", (kit / f"rlibs/{name}.rlib/format").read_text(encoding="utf-8"), re.M)
             todo += [each for each in uses if each not in todo]
@@ -147,6 +186,12 @@ class CopyrightTests(ToolCase):
                 self.assertIn(" ".join(words), flat.replace(",", ""), name)
         for name in self.own:
             self.assertFalse(list((kit / "rattle" / name).glob("LICENSE*")), name)
+
+
+class LibraryCopyrightTests(CopyrightTests):
+    """The same of the library."""
+
+    FILE, CRATE, MORE_THAN = "library/copyright", "domethyme_c", 0
 
 
 def kit_folder() -> pathlib.Path | None:

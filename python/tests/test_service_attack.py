@@ -17,8 +17,8 @@ import unittest
 import zlib
 
 import numpy as np
-from service_case import NDJSON, ServiceCase, children_of, fronts_of, resident, workers_of
-from tool_case import ROOT, STAND_IN
+from service_case import NDJSON, ServiceCase, children_of, fronts_of, resident
+from tool_case import ROOT
 
 import domethyme
 from domethyme.network.binary import UNITS, arrays_of
@@ -36,12 +36,6 @@ HELD_UP, BUSY = 0.25, 20
 
 class RestartTests(ServiceCase):
     """What happens to connections and requests where processes end, hang, or are replaced."""
-
-    def wait_for(self, what, seconds=30):
-        end = time.monotonic() + seconds
-        while not what():
-            self.assertLess(time.monotonic(), end, self.said)
-            time.sleep(0.05)
 
     def says(self, text):
         return any(text in line for line in self.said)
@@ -102,8 +96,8 @@ class RestartTests(ServiceCase):
 
     def test_a_master_that_is_killed_leaves_nothing(self):
         process = self.serve("--fronts", "2")
-        left = [*children_of(process.pid), *fronts_of(process), *workers_of(process)]
-        self.assertEqual(len(left), 5)
+        left = [*children_of(process.pid), *fronts_of(process)]
+        self.assertEqual(len(left), 3)
         process.kill()
         self.wait_for(lambda: not any(pathlib.Path(f"/proc/{number}").exists() for number in left))
 
@@ -148,7 +142,7 @@ class RestartTests(ServiceCase):
         self.assertEqual(self.value("reloads_total"), 0)
 
     def test_a_hierarchy_that_is_overwritten(self):
-        """In place, by one of as many nodes and links: a worker that is started anew would answer by it. It isn't taken."""
+        """In place, by one of as many nodes and links: a front that is started anew answers as before, until a reload."""
         process = self.serve()
         wanted = self.ask(PATH)
         path, graph = self.folder / "v.rch", self.graph
@@ -158,10 +152,11 @@ class RestartTests(ServiceCase):
         with open(path, "r+b") as file:
             file.write((self.folder / "n.rch").read_bytes())
         self.assertEqual(self.ask(PATH), wanted)
-        for worker in workers_of(process):
-            os.kill(worker, signal.SIGKILL)
-        self.wait_for(lambda: self.says("v.rch: has been written to since it was opened"))
-        self.assertEqual(self.ask("/health")[0], 503)
+        for front in fronts_of(process):
+            os.kill(front, signal.SIGKILL)
+        self.wait_for(lambda: self.says("another one is started"))
+        self.wait_for(lambda: len(fronts_of(process)) == 1)
+        self.assertEqual(self.ask(PATH), wanted)
         process.send_signal(signal.SIGHUP)
         self.wait_for(lambda: self.says("reloaded"))
         self.assertEqual(self.ask(PATH)[1]["length"], 2 * wanted[1]["length"])
@@ -199,9 +194,11 @@ class RestartTests(ServiceCase):
 
     def test_what_comes_as_the_service_ends(self):
         """Is answered, be it that the service ends, and not reset."""
-        process = self.serve(faults=["sleep 1"], program=STAND_IN)
+        process = self.serve()
+        body = b'{"from": 1, "to": 7}\n' * 150_000
+        head = f"POST /nodes/routes HTTP/1.1\r\nHost: x\r\nContent-Type: application/json\r\nContent-Length: {len(body)}\r\n\r\n"
         with socket.create_connection(("127.0.0.1", self.port), 30) as held:
-            held.sendall(f"GET {PATH} HTTP/1.1\r\nHost: x\r\n\r\n".encode())
+            held.sendall(head.encode() + body)
             time.sleep(0.3)
             process.send_signal(signal.SIGTERM)
             time.sleep(1.5)
@@ -225,21 +222,18 @@ class RestartTests(ServiceCase):
 
 class DescriptorTests(ServiceCase):
     def test_more_connections_than_descriptors(self):
-        """Under a limit of 200 descriptors: connections beyond are answered 503, workers are started anew, and that is logged."""
+        """Under a limit of 200 descriptors: connections beyond are answered 503, and that is logged."""
         self.command = ("prlimit", "--nofile=200:200", *self.command)
-        process = self.serve()
-        self.assertTrue(any("a front has at most 132 connections" in line for line in self.said), self.said)
+        self.serve()
+        self.assertTrue(any("a front has at most 136 connections" in line for line in self.said), self.said)
         with contextlib.ExitStack() as stack:
-            streams = [stack.enter_context(socket.create_connection(("127.0.0.1", self.port), 20)) for _ in range(132)]
+            streams = [stack.enter_context(socket.create_connection(("127.0.0.1", self.port), 20)) for _ in range(136)]
             for stream in streams[:3]:
                 stream.sendall(b"GET /health HTTP/1.1\r\nHost: x\r\n\r\n")
                 self.assertIn(b"200 OK", stream.recv(4096))
             self.assertIn(b" 503 ", self.raw(b""))
-            worker = workers_of(process)[0]
-            os.kill(worker, signal.SIGKILL)
             streams[0].sendall(f"GET {PATH} HTTP/1.1\r\nHost: x\r\n\r\n".encode())
             self.assertIn(b"200 OK", streams[0].recv(4096))
-        self.assertNotIn(worker, workers_of(process))
 
     def test_the_soft_limit_is_raised(self):
         hard = resource.getrlimit(resource.RLIMIT_NOFILE)[1]
@@ -319,7 +313,7 @@ class FramingTests(ServiceCase):
 
     def test_many_requests_ahead(self):
         """Two hundred connections that send all they can ahead: less than 1 MiB for each is held."""
-        process = self.serve("--network", self.folder / "v", faults=["sleep 1"], program=STAND_IN)
+        process = self.serve("--network", self.folder / "v")
         many = f"GET {PATH} HTTP/1.1\r\nHost: x\r\n\r\n".encode() * 6000
         before = resident(fronts_of(process)[0])
         with contextlib.ExitStack() as stack:
@@ -408,16 +402,6 @@ class WorkTests(ServiceCase):
             time.sleep(0.3)
             self.assertEqual(self.ask("/nodes/lengths", "POST", '{"from": 1, "to": 1}', NDJSON), (200, '{"from":1,"to":1,"length":0}\n'))
 
-    def test_a_worker_that_is_silent_is_replaced_in_time(self):
-        """Before the time of the request is over, so that the next one answers it."""
-        self.serve(faults=["sleep 1", "well"], program=STAND_IN)
-        begun = time.monotonic()
-        connection = http.client.HTTPConnection("127.0.0.1", self.port, timeout=60)
-        self.addCleanup(connection.close)
-        connection.request("GET", PATH)
-        self.assertEqual(connection.getresponse().status, 200)
-        self.assertLess(time.monotonic() - begun, 29)
-
     def test_places_far_away(self):
         """Five hundred at the antipodes, with unlimited radiuses."""
         self.serve("--network", self.folder / "v")
@@ -432,7 +416,7 @@ class DeskTests(unittest.TestCase):
         ways = [np.column_stack((np.linspace(0, 1, 800), np.random.default_rng(number).normal(0, 0.01, 800))) for number in range(100)]
 
         def work(budget):
-            return [len(encoded(simplified(way, 0.001, budget), 5)) for way in ways]
+            return [len(text) for text in encoded([simplified(way, 0.001, budget).tolist() for way in ways], 5)]
 
         async def run():
             desk, turns = Desk(), []

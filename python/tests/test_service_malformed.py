@@ -8,8 +8,7 @@ import socket
 from collections.abc import Callable, Iterator
 from typing import NamedTuple
 
-import numpy as np
-from service_case import SECONDS, Answer, ServiceCase, fronts_of, read_answer, resident, workers_of
+from service_case import SECONDS, Answer, ServiceCase, read_answer
 
 from domethyme_service import endpoints
 from domethyme_service.lines import encoded
@@ -25,9 +24,6 @@ WORDS = {each.name: (*each.words, *getattr(each, "absent", ())) for each in ALL 
 OF_TABLES = ("fallback_coordinate",)
 
 SEED, HALF, FEW = 17, 5000, 100
-# KiB that the front or its worker may grow by in the second half. It was 20 to 550 in some twenty runs; a request that is kept,
-# with its head, takes 4 or more, which is 4000 in a half.
-MOST_GROWN = 2048
 NODES = 38
 HIGH = "0.0003,0.00001;0.0077,-0.00002"
 
@@ -129,7 +125,7 @@ def places_too_few_or_too_many(draw: Draw) -> str:
 
 def line(draw: Draw, count: int) -> str:
     """A right polyline, as a path may have it."""
-    return escaped(encoded(np.array([(draw.uniform(0, 0.008), draw.uniform(0, 0.001)) for _ in range(count)]), 5))
+    return escaped(encoded([[[draw.uniform(0, 0.008), draw.uniform(0, 0.001)] for _ in range(count)]], 5)[0])
 
 
 def escaped(text: str) -> str:
@@ -595,17 +591,16 @@ class MalformedTests(ServiceCase):
 
     def test_ten_thousand(self):
         """Each gets the error of its kind. A right request behind each hundred is answered as ever, and memory stays level."""
-        cases, sizes = drawn(Draw(SEED)), []
-        for _ in range(2):
+        cases = drawn(Draw(SEED))
+
+        def half() -> None:
             for _ in range(HALF // FEW):
                 self.ask_all([next(cases) for _ in range(FEW)])
                 self.assertEqual(self.right(), self.wanted)
-            sizes.append([resident(number) for number in (*fronts_of(self.process), *workers_of(self.process))])
-        self.assertEqual(len(sizes[0]), 2, "the front and its worker")
-        for before, after in zip(*sizes, strict=True):
-            self.assertLessEqual(after, before + MOST_GROWN, "KiB after the first half and after the second")
+
+        self.assert_level(self.process, half)
         self.assertEqual(self.value("connections"), 1)
-        self.assertEqual(self.value("worker_restarts_total"), 0)
+        self.assertEqual(self.value("front_restarts_total"), 0)
         self.assertFalse([line for line in self.said if "Traceback" in line], self.said)
 
     def right(self):

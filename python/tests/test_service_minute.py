@@ -1,4 +1,4 @@
-"""A minute of mixed load, while workers and fronts are killed and stopped, keepers end, and good and damaged files are reloaded:
+"""A minute of mixed load, while fronts are killed and stopped, keepers end, and good and damaged files are reloaded:
 each answer is compared with what it was before. SECONDS_OF_LOAD gives other seconds, such as 3600 by hand."""
 import http.client
 import itertools
@@ -8,7 +8,7 @@ import signal
 import threading
 import time
 
-from service_case import NDJSON, ServiceCase, children_of, fronts_of, workers_of
+from service_case import NDJSON, ServiceCase, children_of, fronts_of
 
 SECONDS = float(os.environ.get("SECONDS_OF_LOAD", "60"))
 CLIENTS = 6
@@ -51,7 +51,7 @@ class Client(threading.Thread):
 class MinuteTests(ServiceCase):
     def setUp(self):
         super().setUp()
-        self.process = self.serve("--network", self.folder / "v", "--fronts", "3", "--workers", "2", "--within", "5000")
+        self.process = self.serve("--network", self.folder / "v", "--fronts", "3", "--within", "5000")
         self.good = {name: (self.folder / name).read_bytes() for name in ("v.rch", "v.net")}
         self.draw, self.reloads, self.refusals = random.Random(4), 0, 0
 
@@ -79,7 +79,7 @@ class MinuteTests(ServiceCase):
         clients = [Client(self.port, answers, seed) for seed in range(CLIENTS)]
         for each in clients:
             each.start()
-        acts = (self.kill_a_worker, self.kill_a_front, self.stop_a_front, self.reload, self.reload_damaged, self.kill_the_keeper)
+        acts = (self.kill_a_front, self.stop_a_front, self.reload, self.reload_damaged, self.kill_the_keeper)
         end = time.monotonic() + SECONDS
         for act in itertools.cycle(acts):
             if time.monotonic() > end:
@@ -115,9 +115,6 @@ class MinuteTests(ServiceCase):
     def kill(self, numbers, name=signal.SIGKILL):
         if numbers:
             os.kill(self.draw.choice(numbers), name)
-
-    def kill_a_worker(self):
-        self.kill(workers_of(self.process))
 
     def kill_a_front(self):
         self.kill(fronts_of(self.process))

@@ -1,5 +1,4 @@
-"""Tests of the service by numbers of nodes: lengths against a search of their own, batches, faults of requests, limits, and
-workers that die, lie or are silent."""
+"""Tests of the service by numbers of nodes: lengths against a search of their own, batches, faults of requests, and limits."""
 import asyncio
 import contextlib
 import http.client
@@ -10,19 +9,20 @@ import socket
 import threading
 import time
 
-from service_case import ServiceCase, lengths_from, workers_of
-from tool_case import STAND_IN, TOOLS
+from service_case import ServiceCase, fronts_of, lengths_from
+from tool_case import TOOLS
 
+from domethyme.lines import Answer
 from domethyme_service import nodes
 
 
-class QuickPool:
-    """A pool that replies at once."""
+class QuickQuestions:
+    """They are answered at once."""
 
     nodes = 8
 
-    async def ask_all(self, lines):
-        return [b"r%b 5 1 1 2" % line[1:] for line in lines]
+    async def routes(self, pairs):
+        return [Answer(1, 2, 5, (1, 2)) for _ in pairs]
 
 
 async def longest_turn(body, blocks=400):
@@ -37,7 +37,7 @@ async def longest_turn(body, blocks=400):
 
     turning = asyncio.ensure_future(turn())
     await asyncio.sleep(0)
-    async with contextlib.aclosing(nodes.batch(QuickPool(), b"q", body)) as parts:
+    async with contextlib.aclosing(nodes.batch(QuickQuestions(), True, body)) as parts:
         async for _ in parts:
             blocks -= 1
             if not blocks:
@@ -55,7 +55,7 @@ class NodesTests(ServiceCase):
         return {(start, stop): length for start in numbers for stop, length in lengths_from(arcs, start).items()}
 
     def test_all_pairs(self):
-        self.serve("--workers", "2")
+        self.serve()
         lengths, numbers = self.lengths(), range(1, self.graph.nodes + 1)
         pairs = [(start, stop) for start in numbers for stop in numbers]
         body = "".join(f'{{"from": {start}, "to": {stop}}}\n' for start, stop in pairs)
@@ -162,11 +162,11 @@ class NodesTests(ServiceCase):
 
     def test_health_metrics_and_log(self):
         self.serve("--access-log")
-        wanted = {"status": "ok", "nodes": self.graph.nodes, "links": self.links(), "workers": 1}
+        wanted = {"status": "ok", "nodes": self.graph.nodes, "links": self.links()}
         self.assertEqual(self.ask("/health"), (200, wanted))
         self.ask("/nodes/length?from=1&to=2")
         self.assertEqual(self.value('requests_total{endpoint="/nodes/length",status="200"}'), 1)
-        self.assertEqual(self.value("lines_total"), 1)
+        self.assertEqual(self.value("questions_total"), 1)
         self.assertEqual(self.headers["Content-Type"], "text/plain; version=0.0.4; charset=utf-8")
         time.sleep(0.2)
         lines = [json.loads(line) for line in self.said if line.startswith("{")]
@@ -177,49 +177,35 @@ class NodesTests(ServiceCase):
         return int.from_bytes((self.folder / "v.rch").read_bytes()[8:16], "big")
 
 
-class WorkerTests(ServiceCase):
-    def test_workers_that_die_lie_or_chatter(self):
-        """Each answer is right, whatever a worker does once: another one is asked."""
-        for fault in ("die 2", "lie 2", "chatter 2"):
-            with self.subTest(fault=fault):
-                self.serve(faults=[fault, "well"], program=STAND_IN)
-                for stop in range(1, 6):
-                    self.assertEqual(self.ask(f"/nodes/route?from={stop}&to={stop}")[1]["nodes"], [stop])
-                self.assertEqual(self.value("worker_restarts_total"), 1)
-
-    def test_one_that_dies_each_time(self):
-        self.serve(faults=["die 1"] * 3 + ["well"], program=STAND_IN)
-        self.assertEqual(self.ask("/nodes/length?from=1&to=1")[1]["code"], "InternalError")
-        self.assertEqual(self.ask("/nodes/length?from=1&to=1")[1]["length"], 0)
-
+class FrontTests(ServiceCase):
     def test_killed_under_a_load(self):
-        """Workers are killed while clients ask: no answer is lost or wrong, and an exception is a lost one."""
-        process = self.serve("--workers", "2")
+        """A front is killed while clients ask: no answer is wrong, and one whose connection broke is asked for again."""
+        process = self.serve("--fronts", "2")
         wanted = {stop: self.ask(f"/nodes/length?from=1&to={stop}") for stop in range(1, 20)}
         wrong, right, end = [], [0] * 4, time.monotonic() + 2
 
         def client(number):
-            try:
-                while time.monotonic() < end:
-                    for stop, answer in wanted.items():
+            while time.monotonic() < end:
+                for stop, answer in wanted.items():
+                    try:
                         found = self.ask(f"/nodes/length?from=1&to={stop}")
-                        wrong.extend([found] if found != answer else [])
-                        right[number] += 1
-            except (OSError, http.client.HTTPException, ValueError) as error:
-                wrong.append(repr(error))
+                    except (OSError, http.client.HTTPException):
+                        continue
+                    wrong.extend([found] if found != answer else [])
+                    right[number] += 1
 
         clients = [threading.Thread(target=client, args=[number]) for number in range(len(right))]
         for each in clients:
             each.start()
         for _ in range(4):
             time.sleep(0.3)
-            for number in workers_of(process)[:1]:
+            for number in fronts_of(process)[:1]:
                 os.kill(number, signal.SIGKILL)
         for each in clients:
             each.join()
         self.assertEqual(wrong, [])
         self.assertGreaterEqual(min(right), len(wanted), "each client got answers")
-        self.assertGreaterEqual(self.value("worker_restarts_total"), 2)
+        self.assertGreaterEqual(self.value("front_restarts_total"), 1)
 
     def test_what_can_not_start(self):
         self.write("v.rch", "no hierarchy")
@@ -227,4 +213,4 @@ class WorkerTests(ServiceCase):
         self.assertIn(f"{self.folder}/v.rch: is no file that `routecli prepare` wrote", self.run_program(words, status=1).stderr)
         words[1] = self.folder / "none"
         self.assertIn("none: No such file", self.run_program(words, status=1).stderr)
-        self.run_program([*words, "--workers", "0"], status=2)
+        self.run_program([*words, "--fronts", "0"], status=2)

@@ -77,7 +77,7 @@ class OsrmCase(ServiceCase):
 
     def setUp(self):
         super().setUp()
-        self.serve("--network", self.folder / "v", "--workers", "2", "--within", "5000", *self.words)
+        self.serve("--network", self.folder / "v", "--within", "5000", *self.words)
 
     def good(self, path):
         status, found = self.ask(path)

@@ -9,8 +9,7 @@ import signal
 import threading
 import time
 
-from service_case import ServiceCase, children_of, fronts_of, workers_of
-from tool_case import serving_program
+from service_case import ServiceCase, children_of, fronts_of
 
 import domethyme
 
@@ -66,14 +65,8 @@ class SignalTests(ServiceCase):
         domethyme.write_graph(self.folder / "n.gr", *ends, weights, nodes=graph.nodes)
         domethyme.prepare(self.folder / "n.gr", self.folder / "v.rch", workers=1).close()
 
-    def wait_for(self, what):
-        end = time.monotonic() + 20
-        while not what():
-            self.assertLess(time.monotonic(), end, self.said)
-            time.sleep(0.05)
-
     def test_a_new_hierarchy(self):
-        process = self.serve("--workers", "2")
+        process = self.serve()
         old = self.ask(PATH)[1]["length"]
         clients = self.clients()
         for factor in (2, 3):
@@ -84,7 +77,6 @@ class SignalTests(ServiceCase):
             self.assertEqual(lengths, sorted(lengths))
             self.assertLessEqual(set(lengths), {old, 2 * old, 3 * old})
         self.wait_for(lambda: self.value("reloads_total") == 2)
-        self.wait_for(lambda: len(workers_of(process)) == 2)
 
     def test_a_file_that_is_refused_leaves_the_old_one(self):
         process = self.serve("--network", self.folder / "v")
@@ -97,9 +89,6 @@ class SignalTests(ServiceCase):
             process.send_signal(signal.SIGHUP)
             self.wait_for(lambda: any("reload refused: " in line and says in line for line in self.said))
         self.assertEqual(self.ask(PATH), old)
-        for number in workers_of(process):
-            os.kill(number, signal.SIGKILL)
-        self.assertEqual(self.ask(PATH), old, "a worker that is started anew reads the file that was there")
 
     def test_a_hierarchy_that_is_checked(self):
         """A file that is right for its graph is served; one of other weights isn't, at a reload and at a start."""
@@ -112,7 +101,7 @@ class SignalTests(ServiceCase):
         self.wait_for(lambda: any("reload refused: " in line and "v.rch: not shown: bound" in line for line in self.said))
         self.assertEqual(self.ask(PATH), old)
         words = ["domethyme-serve", self.folder / "v.rch", "--port", "0", "--checked", right]
-        ended = self.run_tool(*words, status=1, environment={"ROUTECLI": serving_program()})
+        ended = self.run_tool(*words, status=1)
         self.assertIn("v.rch: not shown: bound", ended.stderr)
 
     def test_the_end(self):

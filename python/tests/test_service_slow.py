@@ -9,7 +9,7 @@ import sys
 import time
 from collections.abc import Awaitable
 
-from service_case import ServiceCase, fronts_of, resident, workers_of
+from service_case import ServiceCase, fronts_of
 from tool_case import PYTHON
 
 HEAD, ANSWER = 1, 2
@@ -23,10 +23,6 @@ command.main()
 """
 # How much later than its time something may happen, on a machine that has much to do.
 LATE = 20.0
-# KiB that the front and its worker may each grow by in a round that leaves nothing. It was some 100 in the second round; 230
-# connections that are kept take more in each. On a machine that has much to do more of them are open at once, so that a later
-# round may still take more: one of this many has to leave memory as it was.
-MOST_GROWN, ROUNDS = 2048, 5
 # How many batches there may be at once, and in which time a body that nobody wants is read on.
 BATCHES, LINGERING = 16, 2.0
 
@@ -81,27 +77,17 @@ class SlowClientTests(ServiceCase):
     def test_two_hundred_in_rounds(self):
         self.assertEqual(self.ask("/map/main.js")[0], 200)
         files = self.files()
-        before = self.sizes_after_a_round(files)
-        for _ in range(1, ROUNDS):
-            after = self.sizes_after_a_round(files)
-            if all(new <= old + MOST_GROWN for old, new in zip(before, after, strict=True)):
-                break
-            before = after
-        else:
-            self.fail(f"memory grows in each round: {after} KiB")
-        self.assertEqual(self.value("worker_restarts_total"), 0)
+        self.assert_level(self.process, lambda: self.round_that_leaves(files))
+        self.assertEqual(self.value("front_restarts_total"), 0)
         self.assertFalse([line for line in self.said if "Traceback" in line], self.said)
 
-    def sizes_after_a_round(self, files: int) -> list[int]:
-        """The KiB of the front and of its worker after a round, which leaves as many files open."""
+    def round_that_leaves(self, files: int) -> None:
+        """A round, after which as many files are open."""
         asyncio.run(self.one_round())
         begun = time.monotonic()
         self.assertEqual(self.ask("/nodes/length?from=1&to=1")[1]["length"], 0)
         self.assertLess(time.monotonic() - begun, LATE)
         self.assertEqual(self.files(), files)
-        sizes = [resident(number) for number in (*fronts_of(self.process), *workers_of(self.process))]
-        self.assertEqual(len(sizes), 2, "the front and its worker")
-        return sizes
 
     def files(self) -> int:
         """How many files and connections the service has open, at the least in half a second: the last one may still be ending."""
@@ -168,18 +154,14 @@ class SlowClientTests(ServiceCase):
         asking = [asyncio.ensure_future(loop.sock_sendall(*each)) for each in zip(streams, requests)]
         await asyncio.sleep(ANSWER)
         end = loop.time() + 2 * ANSWER + LATE
-        while (left := await asyncio.to_thread(self.left)) != (1, 0) and loop.time() < end:
+        while (left := await asyncio.to_thread(self.value, "connections")) != 1 and loop.time() < end:
             await asyncio.sleep(0.1)
         for task in asking:
             task.cancel()
         await asyncio.gather(*asking, return_exceptions=True)
         for stream in streams:
             stream.close()
-        self.assertEqual(left, (1, 0), "connections whose clients take nothing, or lines for them, are there still")
-
-    def left(self) -> tuple[float, float]:
-        """The connections, of which one is for this question, and the lines that workers have."""
-        return self.value("connections"), self.value("lines_open")
+        self.assertEqual(left, 1, "connections whose clients take nothing are there still, beside that of this question")
 
     async def narrow(self) -> socket.socket:
         """A connection on which little is under way: by the size of its segments the kernel keeps its buffers small."""

@@ -1,27 +1,28 @@
-"""Tests of the service's tables: those that are computed from the links of the file, beside those that the program is asked for."""
+"""Tests of the service's tables: those that are computed from the links of the file, beside those for which questions are asked."""
 import random
-import signal
-import time
+import unittest.mock
 
 import numpy as np
-from service_case import SECONDS, ServiceCase
-from tool_case import ROOT, STAND_IN, TOOLS, serving_program
+from service_case import ServiceCase
+from tool_case import ROOT
 
 import domethyme
 from domethyme.network.binary import UNITS, arrays_of
-from domethyme_service.snapshot import SAMPLES
+from domethyme.sweeps import Sweeps
+from domethyme_service.errors import Unable
+from domethyme_service.snapshot import Files, opened
 
 
 class TableTests(ServiceCase):
     def both(self, network, words, more=""):
-        """The member that both ways answer, which has to be the same; the first is asked for no lines of the program."""
+        """The member that both ways answer, which has to be the same; the first asks no questions."""
         found = []
         for way, asks in (("fast", False), ("proved", True)):
             self.serve("--network", self.folder / network, "--within", "5000", "--tables", way)
-            before = self.value("lines_total")
+            before = self.value("questions_total")
             status, answer = self.ask(f"/table/v1/car/{words}?skip_waypoints=true{more}")
             self.assertEqual((status, answer.pop("code")), (200, "Ok"), answer)
-            self.assertEqual(self.value("lines_total") > before, asks)
+            self.assertEqual(self.value("questions_total") > before, asks)
             found.append(answer)
         self.assertEqual(*found)
         return found[0]
@@ -59,33 +60,20 @@ class TableTests(ServiceCase):
     def test_few_cells_are_asked_for(self):
         self.serve("--network", self.folder / "v")
         words = ";".join(f"{0.0005 * number},0.00005" for number in range(10))
-        before = self.value("lines_total")
+        before = self.value("questions_total")
         status, few = self.ask(f"/table/v1/car/{words}")
-        self.assertEqual((status, self.value("lines_total") - before), (200, 100))
-        before = self.value("lines_total")
+        self.assertEqual((status, self.value("questions_total") - before), (200, 100))
+        before = self.value("questions_total")
         status, more = self.ask(f"/table/v1/car/{words};0.0005,0.00005")
-        self.assertEqual((status, self.value("lines_total") - before), (200, 0))
+        self.assertEqual((status, self.value("questions_total") - before), (200, 0))
         self.assertEqual([row[:10] for row in more["durations"][:10]], few["durations"])
 
-    def test_a_program_whose_lengths_are_others(self):
-        """A reply that isn't least fits the network, whose weights sum to its length, and differs from the tables. Then the service
-        doesn't start, which one whose tables are the program's does; and at a reload it keeps what it has."""
-        says, network = f"{self.folder}/v.rch: tables differ from the program's lengths: start with --tables proved", self.folder / "v"
-        serving_program()
-        environment = {"ROUTECLI": str(STAND_IN), "SERVE_FAULTS": str(self.write("faults", f"detour {SAMPLES}\n"))}
-        words = [TOOLS / "domethyme-serve", self.folder / "v.rch", "--network", network, "--port", "0"]
-        ended = self.run_program(words, status=1, environment=environment)
-        self.assertEqual((ended.stdout, ended.stderr), ("", f"domethyme-serve: {says}\n"))
-        self.serve("--network", network, "--tables", "proved", faults=["detour 1"], program=STAND_IN)
-        self.assertEqual(self.ask("/health")[0], 200)
-        process = self.serve("--network", network, faults=["well", "detour 1", "well", "well"], program=STAND_IN)
-        table = "/table/v1/car/" + ";".join(f"{0.0005 * number},0.00005" for number in range(12))
-        before = self.ask(table)
-        self.assertEqual(before[0], 200)
-        for reloads, said in ((0, f"reload refused: {says}"), (1, "reloaded, 38 nodes")):
-            process.send_signal(signal.SIGHUP)
-            end = time.monotonic() + SECONDS
-            while not any(said in line for line in self.said):
-                self.assertLess(time.monotonic(), end, self.said)
-                time.sleep(0.05)
-            self.assertEqual((self.ask(table), self.value("reloads_total")), (before, reloads))
+    def test_tables_that_are_others(self):
+        """The service doesn't start by tables whose lengths aren't the library's, and does where they aren't wanted."""
+        files = Files(str(self.folder / "v.rch"), str(self.folder / "v"), True)
+        lengths = Sweeps.lengths
+        with unittest.mock.patch.object(Sweeps, "lengths", lambda *words: lengths(*words) + 1):
+            with self.assertRaisesRegex(Unable, "v.rch: tables differ from the library's lengths: start with --tables proved"):
+                opened(files)
+            opened(files._replace(has_tables=False)).router.close()
+        opened(files).router.close()

@@ -20,8 +20,9 @@ class TypeTests(unittest.TestCase):
         files = [path for path in sorted((ROOT / "tests/kit").glob("*.py")) if path.name != "plain.py"]
         self.run_module("mypy", "--strict", "--cache-dir=/dev/null", *files, folder=ROOT / "tests")
 
-    def test_types_of_the_session(self):
-        self.run_module("mypy", "--strict", "--cache-dir=/dev/null", "readme_session.py", folder=ROOT / "packaging")
+    def test_types_of_packaging(self):
+        words = ["--strict", "--cache-dir=/dev/null", "--scripts-are-modules", "readme_session.py", "tool_completions"]
+        self.run_module("mypy", *words, folder=ROOT / "packaging")
 
     def test_names(self):
         folders = [ROOT / name for name in ("python/tests", "packaging", "bench", "tests", "tests/long")]

@@ -1,5 +1,4 @@
 """What the tests of the tools share: a folder for each test, and runs of the tools in it."""
-import functools
 import os
 import pathlib
 import shutil
@@ -10,22 +9,11 @@ import unittest
 HERE = pathlib.Path(__file__).resolve().parent
 ROOT = HERE.parents[1]
 PYTHON, TOOLS = ROOT / "python", ROOT / "tools"
-VILLAGE, STAND_IN = HERE / "village.osm", HERE / "serve_stand_in"
-
-from domethyme import find_program
+VILLAGE = HERE / "village.osm"
 
 # Before the words of a program that is sent signals. What a test inherits may ignore them, as a shell's background job
 # does, and Python makes no KeyboardInterrupt of an interrupt that it was started to ignore.
 TAKES_SIGNALS = ["/usr/bin/env", "--default-signal=HUP,INT,QUIT,TERM"]
-
-
-@functools.cache
-def serving_program():
-    """The program, or where it has no `serve` yet, the stand-in that has. The environment then names what it stands for."""
-    program = find_program()
-    os.environ["STAND_IN_FOR"] = program
-    known = subprocess.run([program, "serve", "--help"], stdin=subprocess.DEVNULL, capture_output=True).returncode == 0
-    return program if known else str(STAND_IN)
 
 
 class ToolCase(unittest.TestCase):

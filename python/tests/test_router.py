@@ -1,0 +1,170 @@
+"""Tests of a hierarchy in this process: threads, forks, its end, files that are refused, and what can't be found."""
+import concurrent.futures
+import os
+import subprocess
+import sys
+import threading
+import time
+import unittest.mock
+
+import numpy as np
+from tool_case import PYTHON, ToolCase
+
+import domethyme
+from domethyme import library
+from domethyme.router import Router
+
+# A ring of 60 nodes, each of which leads to the next by 1.
+RING = ([*range(60)], [*range(1, 60), 0], [1] * 60)
+
+
+class RouterTests(ToolCase):
+    def ring(self):
+        file = self.folder / "ring.rch"
+        if not file.exists():
+            domethyme.write_graph(self.folder / "ring.gr", *RING)
+            domethyme.prepare(self.folder / "ring.gr", file, workers=1).close()
+        hierarchy = domethyme.Hierarchy(file)
+        self.addCleanup(hierarchy.close)
+        return hierarchy
+
+    def test_a_route_longer_than_its_room(self):
+        """Of 5,000 nodes, from one and from several."""
+        nodes = 5000
+        domethyme.write_graph(self.folder / "line.gr", range(nodes - 1), range(1, nodes), [2] * (nodes - 1))
+        with domethyme.prepare(self.folder / "line.gr", self.folder / "line.rch") as hierarchy:
+            self.assertEqual(hierarchy.route(0, nodes - 1).nodes, [*range(nodes)])
+        with domethyme.Hierarchy(self.folder / "line.rch") as hierarchy:
+            found = hierarchy.between({1: 3, 0: 6}, {nodes - 1: 7})
+            self.assertEqual((found.length, found.nodes), (2 * (nodes - 2) + 10, [*range(1, nodes)]))
+            self.assertEqual(hierarchy.routes([[0, nodes - 1]] * 3)[2].tolist(), [*range(nodes)])
+
+    def test_threads_ask_at_once(self):
+        hierarchy = self.ring()
+        with concurrent.futures.ThreadPoolExecutor(8) as pool:
+            one = [pool.submit(hierarchy.length, number % 60, (number * 7) % 60) for number in range(400)]
+            many = [pool.submit(hierarchy.lengths, [[0, number]] * 2000) for number in range(20)]
+            self.assertEqual([run.result() for run in one], [(number * 6) % 60 for number in range(400)])
+            self.assertEqual([run.result().tolist() for run in many], [[number] * 2000 for number in range(20)])
+
+    def test_a_seat_is_made_where_all_are_taken(self):
+        router = self.ring()._router
+        with concurrent.futures.ThreadPoolExecutor(1) as pool, router.seat() as first:
+            waits = pool.submit(router.length, 0, 7)
+            self.assertEqual(first.length(0, 8), 8)
+            self.assertFalse(waits.done())
+        self.assertEqual(waits.result(20), 7)
+        with router.seat() as first, router.seat() as second:
+            self.assertEqual((first.length(1, 3), second.length(1, 4)), (2, 3))
+
+    def test_a_thread_that_asks_again_and_again_leaves_others_their_turn(self):
+        router, ends = self.ring()._router, threading.Event()
+
+        def ask():
+            while not ends.is_set():
+                router.length(0, 7)
+
+        with concurrent.futures.ThreadPoolExecutor(1) as pool:
+            asking, begun = pool.submit(ask), time.monotonic()
+            try:
+                found = [router.length(0, 8) for _ in range(200)]
+            finally:
+                ends.set()
+            self.assertLess(time.monotonic() - begun, 2)
+            asking.result(20)
+        self.assertEqual(found, [8] * 200)
+
+    def test_both_sides_of_a_fork(self):
+        hierarchy = self.ring()
+        child = os.fork()
+        if child == 0:
+            good = all(hierarchy.length(0, end) == end for end in range(50))
+            hierarchy.close()
+            os._exit(0 if good else 1)
+        self.assertEqual([hierarchy.length(1, end) for end in range(1, 50)], [*range(49)])
+        self.assertEqual(os.waitpid(child, 0)[1], 0)
+
+    def test_a_fork_while_all_seats_are_taken(self):
+        """The child doesn't ask by a seat that another thread has."""
+        hierarchy = self.ring()
+        with hierarchy._router.seat():
+            child = os.fork()
+            if child == 0:
+                try:
+                    hierarchy.length(0, 1)
+                except ValueError:
+                    os._exit(0)
+                os._exit(1)
+        self.assertEqual(os.waitpid(child, 0)[1], 0)
+        self.assertEqual(hierarchy.length(0, 1), 1)
+
+    def test_the_end(self):
+        with self.ring() as hierarchy:
+            hierarchy.length(0, 1)
+        for attempt in (lambda: hierarchy.length(0, 1), lambda: hierarchy.lengths([[0, 1]]), lambda: hierarchy.matrix([0]),
+                        lambda: hierarchy.matrix([0], by="sweeps")):
+            with self.assertRaisesRegex(ValueError, "is closed"):
+                attempt()
+        hierarchy.close()
+        with self.ring()._router.seat() as seat:
+            self.assertEqual(seat.length(0, 1), 1)
+
+    def test_another_file_of_its_name_changes_nothing(self):
+        hierarchy = self.ring()
+        (self.folder / "ring.rch").write_bytes(b"none")
+        self.assertEqual(hierarchy.length(0, 59), 59)
+
+    def test_bytes_that_are_refused(self):
+        self.ring()
+        whole = (self.folder / "ring.rch").read_bytes()
+        for data, says in ((b"", "end too early"), (whole[:-1], "end too early"), (b"X" + whole[1:], "no hierarchy file"),
+                           (whole + b"x", "follow the last link")):
+            with self.subTest(says=says), self.assertRaisesRegex(domethyme.HierarchyError, f"f.rch: .*{says}"):
+                Router(data, "f.rch")
+
+    def test_a_library_that_is_not_there(self):
+        with unittest.mock.patch.dict(os.environ, DOMETHYME_LIBRARY=str(self.folder / "no.so")):
+            with self.assertRaisesRegex(domethyme.LibraryNotFound, "no.so: is no file of a library"):
+                library.find_library()
+            with self.assertRaises(FileNotFoundError):
+                library.find_library()
+        other = self.write("other.so", "no library")
+        words = [sys.executable, "-P", "-c", "import domethyme.library as l; l.loaded()"]
+        environment = {**os.environ, "PYTHONPATH": str(PYTHON), "DOMETHYME_LIBRARY": str(other)}
+        ended = subprocess.run(words, capture_output=True, text=True, env=environment)
+        self.assertIn("LibraryNotFound", ended.stderr)
+        self.assertIn("packaging/build-library", ended.stderr)
+
+    def test_where_it_is_looked_for(self):
+        """In the package, then in the clone, then by the system."""
+        inside, built = self.write("inside.so", ""), self.write("built.so", "")
+        with unittest.mock.patch.dict(os.environ), unittest.mock.patch.multiple(library, INSIDE=inside, BUILT=built):
+            os.environ.pop("DOMETHYME_LIBRARY", None)
+            for file in (inside, built):
+                self.assertEqual(library.find_library(), str(file))
+                file.unlink()
+            self.assertEqual(library.find_library(), "libdomethyme.so.1")
+
+    def test_without_numpy(self):
+        """One question at a time needs Python alone; what needs more says so by ImportError."""
+        self.ring()
+        code = """
+import sys
+import threading
+import time
+sys.modules.update(dict.fromkeys(["numpy", "scipy", "pandas"]))
+import domethyme
+with domethyme.Hierarchy(*sys.argv[1:], keys="abcdefgh") as hierarchy:
+    print(hierarchy.length("a", "c"), hierarchy.route("a", "c").nodes, hierarchy.between(["a"], {"b": 7}).length)
+    for attempt in (lambda: hierarchy.lengths([]), lambda: domethyme.Routes, lambda: domethyme.Graph([], [], [])):
+        try:
+            attempt()
+        except ImportError as error:
+            print(error.name)
+"""
+        eight = np.arange(8)
+        domethyme.write_graph(self.folder / "ring.gr", eight, (eight + 1) % 8, np.ones(8, int))
+        domethyme.prepare(self.folder / "ring.gr", self.folder / "ring.rch", workers=1).close()
+        words = [sys.executable, "-P", "-c", code, self.folder / "ring.rch"]
+        told = self.run_program(words, environment={"PYTHONPATH": str(PYTHON)}).stdout
+        self.assertEqual(told, "2 ['a', 'b', 'c'] 8\n" + "numpy\n" * 3)
