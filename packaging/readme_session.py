@@ -1,7 +1,7 @@
-"""Runs what README.md shows, with the package of packaging/build-deb installed; packaging/check-deb calls it.
+"""Runs what README.md, docs/MAPS.md and docs/SERVICE.md show, with the packages of packaging/build-deb installed; packaging/check-deb calls it.
 
     readme_session.py session README    runs the commands behind `$`, each of which has to print what is shown below it
-    readme_session.py map README        runs the block of the map tools, with `tools/nearest` as domethyme-nearest
+    readme_session.py map MAPS          runs the block of the map tools, with `tools/nearest` as domethyme-nearest
     readme_session.py service SERVICE   starts domethyme-serve by /etc/default/domethyme-serve, as its unit does, but at any
                                         port, runs the commands of docs/SERVICE.md, reloads it and ends it
 
@@ -37,7 +37,8 @@ def steps(block: str) -> list[tuple[str, str]]:
 
 
 def comparable(text: str) -> str:
-    """A text without the number of links, which differs from run to run, and without line feeds at its end."""
+    """A text without the number of links, which differs from run to run, the checksum of a network's file, and line feeds at its end."""
+    text = re.sub(r'"version": "\w+"', '"version": VERSION', text)
     return re.sub(r'^(ready \d+ |.*"links":)\d+', r"\1LINKS", text, flags=re.M).rstrip("\n")
 
 

@@ -81,6 +81,6 @@ complete -c routecli -n '__routecli_lacks workers prepare' -l workers -x -d 'Num
 complete -c routecli -n '__routecli_lacks seed prepare' -l seed -x -d 'Seed of the random choices of the threads, 0 to 18446744073709551615'
 complete -c routecli -n '__routecli_lacks order prepare' -l order -x -d 'Which nodes are contracted first' \
     -a 'edges\t"those that leave the fewest arcs" neighbours\t"also counts contracted neighbours" depth\t"the depth of a node"'
-complete -c routecli -n '__routecli_lacks stint prepare' -l stint -x -d 'Number of contractions after which a thread uses the next order'
+complete -c routecli -n '__routecli_lacks stint prepare' -l stint -x -d 'Switch a thread to its next order after C contractions'
 complete -c routecli -n '__routecli_lacks progress prepare check' -l progress -d 'Show on standard error how many nodes are contracted'
 complete -c routecli -n '__routecli_lacks explain answer prepare route serve info check' -l explain -d 'Explain a refusal in more lines on standard error'

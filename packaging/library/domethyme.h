@@ -1,0 +1,154 @@
+/*
+ * Domethyme: shortest paths from a hierarchy file, in one's own process.
+ *
+ * The file is what `routecli prepare` writes (docs/FORMATS.md). docs/LIBRARY.md says what each call promises and what is
+ * proved of it. Nodes are numbered from 0. Lengths are sums of the weights of arcs, in the unit of the graph.
+ *
+ *     domethyme handle = DOMETHYME_CLOSED;
+ *     uint64_t length;
+ *     if (domethyme_open(&handle, bytes, count) == DOMETHYME_OK
+ *         && domethyme_length(&handle, 1, 2, &length) == DOMETHYME_OK)
+ *         printf("%" PRIu64 "\n", length);
+ *     domethyme_close(&handle);
+ *
+ * A handle begins as DOMETHYME_CLOSED. It isn't copied: a copy may not be used, nor closed, beside it. It may be moved, and
+ * passed to another thread. Each call has the handle alone; calls with different handles may run at the same time, also with
+ * handles of one hierarchy (domethyme_beside).
+ *
+ * No pointer is NULL, also with a count of 0. An array has the elements that its count says, and what a call writes overlaps
+ * nothing else that it is given. No call is made from a signal handler, nor in the child of a fork by a process that has
+ * threads. malloc, realloc and free belong together.
+ */
+#ifndef DOMETHYME_H
+#define DOMETHYME_H
+
+#include <stddef.h>
+#include <stdint.h>
+
+#ifdef __cplusplus
+extern "C" {
+#endif
+
+/* The version of the binary interface (ABI) that this header describes; domethyme_version is that of a hierarchy file. A
+ * minor version adds calls or codes: a program that was built with 1.x runs with libdomethyme.so.1 of each later 1.y, where it
+ * takes a code that isn't listed here for an error. A major version changes or removes some, in another file,
+ * libdomethyme.so.2. */
+#define DOMETHYME_VERSION_MAJOR 1
+#define DOMETHYME_VERSION_MINOR 0
+
+/* What calls return. A call that returns another code than DOMETHYME_OK has written nothing, except where it says so. */
+enum {
+    DOMETHYME_OK = 0,
+    DOMETHYME_NO_PATH = 1,       /* no path leads from the source to the target */
+    DOMETHYME_NO_HANDLE = 2,     /* the handle is closed */
+    DOMETHYME_NODE_RANGE = 3,    /* a node isn't below the number of nodes */
+    DOMETHYME_NO_ROOM = 4,       /* an array is too short for the answer */
+    DOMETHYME_OUT_OF_MEMORY = 5, /* memory was refused */
+    DOMETHYME_TOO_LONG = 6,      /* the route would repeat a node: the file isn't right for any graph */
+    DOMETHYME_SEED_COST = 7,     /* a start or an end has a length above 2^57, or more than 2^25 arcs */
+
+    /* Faults of a hierarchy file, as docs/FORMATS.md has them. */
+    DOMETHYME_READ = 34,          /* a reader failed, which bytes in memory don't */
+    DOMETHYME_BAD_MAGIC = 35,     /* the first bytes are those of no hierarchy file */
+    DOMETHYME_TRUNCATED = 36,     /* the bytes end too early */
+    DOMETHYME_TOO_BIG = 37,       /* more than 2^25 nodes, or more links than pairs of nodes */
+    DOMETHYME_BOUND_TOO_BIG = 38, /* the bound is above what a walk that repeats no node can cost */
+    DOMETHYME_RANK_RANGE = 39,    /* a rank isn't below the number of nodes */
+    DOMETHYME_RANK_TWICE = 40,    /* two nodes have one rank */
+    DOMETHYME_LINK_ENDS = 41,     /* a link's ends aren't two nodes */
+    DOMETHYME_LINK_ORDER = 42,    /* a link doesn't come after the one before it */
+    DOMETHYME_LINK_WEIGHT = 43,   /* a link's weight, or how many arcs it has, can't be */
+    DOMETHYME_MIDDLE_RANGE = 44,  /* a middle isn't a node */
+    DOMETHYME_MIDDLE_RANK = 45,   /* a middle's rank isn't below those of both ends */
+    DOMETHYME_HALF_MISSING = 46,  /* one of the halves of a link with a middle is no link */
+    DOMETHYME_HALF_SUM = 47,      /* the halves of a link don't sum to it */
+    DOMETHYME_TRAILING = 48       /* bytes follow the last link */
+};
+
+/* A router of one hierarchy, or none. Its field is the library's. */
+typedef struct domethyme {
+    void *router;
+} domethyme;
+
+#define DOMETHYME_CLOSED {NULL}
+
+/* Stands for the length of a pair without a path, where many are asked for. No path is as long. */
+#define DOMETHYME_NO_LENGTH UINT64_MAX
+
+typedef struct domethyme_pair {
+    uint32_t from;
+    uint32_t to;
+} domethyme_pair;
+
+/* Where a query may begin or end: a node, and what it costs to begin or to end there. A place inside an arc is a start at the
+ * arc's head with the part of its weight behind the place and one arc, and an end at its tail with the part before it. */
+typedef struct domethyme_seed {
+    uint64_t length; /* at most 2^57 */
+    uint32_t node;
+    uint32_t arcs; /* at most 2^25; they decide between starts and ends of one length */
+} domethyme_seed;
+
+/* A route: how long it is, and how many nodes it has, both ends among them. */
+typedef struct domethyme_route_info {
+    uint64_t length;
+    size_t nodes;
+} domethyme_route_info;
+
+/* A route from one of several starts to one of several ends: their places in the lists, and the length of all three together. */
+typedef struct domethyme_between_info {
+    uint64_t length;
+    size_t start;
+    size_t end;
+    size_t nodes;
+} domethyme_between_info;
+
+/* Reads a hierarchy file that is in memory. The handle is open afterwards if the result is DOMETHYME_OK, and closed otherwise;
+ * what it was open for before is closed. The bytes aren't needed any more. Else the result is DOMETHYME_OUT_OF_MEMORY or the
+ * first fault of the bytes. */
+uint32_t domethyme_open(domethyme *handle, const uint8_t *bytes, size_t count);
+
+/* Closes a handle and frees its memory; that of the hierarchy once no other handle has it. Does nothing to a closed handle. */
+void domethyme_close(domethyme *handle);
+
+/* Opens another handle of the same hierarchy, for another thread. What `other` was open for before is closed. It takes memory
+ * for its own searches alone. DOMETHYME_NO_HANDLE, DOMETHYME_OUT_OF_MEMORY. */
+uint32_t domethyme_beside(domethyme *handle, domethyme *other);
+
+/* The number of nodes, and the version of the file, 1 or 2. DOMETHYME_NO_HANDLE. */
+uint32_t domethyme_nodes(domethyme *handle, uint32_t *nodes);
+uint32_t domethyme_version(domethyme *handle, uint32_t *version);
+
+/* The least length of a path. DOMETHYME_NO_PATH, DOMETHYME_NO_HANDLE, DOMETHYME_NODE_RANGE, DOMETHYME_OUT_OF_MEMORY. */
+uint32_t domethyme_length(domethyme *handle, uint32_t from, uint32_t to, uint64_t *length);
+
+/* A shortest path, and of all shortest paths one with the fewest arcs (in version 1 any). `nodes` gets its nodes. Where they
+ * have no room the result is DOMETHYME_NO_ROOM, and `route` alone is written: it says how many there are. Also
+ * DOMETHYME_NO_PATH, DOMETHYME_NO_HANDLE, DOMETHYME_NODE_RANGE, DOMETHYME_TOO_LONG, DOMETHYME_OUT_OF_MEMORY. */
+uint32_t domethyme_route(domethyme *handle, uint32_t from, uint32_t to, domethyme_route_info *route,
+                         uint32_t *nodes, size_t room);
+
+/* A path from one of the starts to one of the ends that costs the least with both, likewise. DOMETHYME_SEED_COST too. */
+uint32_t domethyme_between(domethyme *handle, const domethyme_seed *starts, size_t start_count,
+                           const domethyme_seed *ends, size_t end_count, domethyme_between_info *route,
+                           uint32_t *nodes, size_t room);
+
+/* The least length for each pair, DOMETHYME_NO_LENGTH where there is no path. DOMETHYME_NO_HANDLE, DOMETHYME_NO_ROOM,
+ * DOMETHYME_NODE_RANGE write nothing; after DOMETHYME_OUT_OF_MEMORY what was written of the array isn't known. */
+uint32_t domethyme_lengths(domethyme *handle, const domethyme_pair *pairs, size_t pair_count,
+                           uint64_t *lengths, size_t room);
+
+/* The least length from each source to each target, row by row: that from source i to target j is lengths[i * target_count +
+ * j]. As domethyme_lengths else. */
+uint32_t domethyme_table(domethyme *handle, const uint32_t *sources, size_t source_count,
+                         const uint32_t *targets, size_t target_count, uint64_t *lengths, size_t room);
+
+/* What a code means, in English, with a zero at its end. Returns how many bytes that takes, at most DOMETHYME_TEXT; where
+ * there is no room for them it writes nothing. */
+#define DOMETHYME_TEXT 80
+size_t domethyme_text(uint32_t code, char *text, size_t room);
+
+#ifdef __cplusplus
+}
+#endif
+
+#endif
