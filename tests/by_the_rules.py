@@ -1,6 +1,6 @@
 #!/usr/bin/env python3
 """Compares files of `routecli prepare`, byte for byte, with those of a plain program that is written here anew by the
-rules of docs/ALGORITHM.md and docs/FORMATS.md.
+rules of docs/ALGORITHM.md and docs/REFERENCE.md.
 
     tests/by_the_rules.py [NETWORKS]        by default 30 random small networks, as in the gate
 

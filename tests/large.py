@@ -1,5 +1,6 @@
 #!/usr/bin/env python3
-"""Prepares, reads and asks a network of more than 2^20 nodes, and one by the greatest number of workers and leases.
+"""Prepares, reads and asks a network of more than 2^20 nodes, one by the greatest number of workers and leases, and one in
+little memory.
 
     tests/large.py [--nodes N]        by default 1,200,000 nodes; fewer than 2^20 + 100,000 are refused
 
@@ -10,10 +11,12 @@ all answers are known by construction, and the route from one end to the other h
     left to the sweep, which contracts nodes in the order of their numbers.
  2. `route` and `serve` print the whole route in both directions, its length, and what lies on both sides of node 2^20.
  3. 64 workers with a list of three orders each prepare a grid: the lengths are those of a hierarchy by the sweep.
+ 4. Four workers prepare cliques, of which a contraction replaces many rows. Those of a shift that is over take no memory:
+    if no shift ended, the program would take three times as much.
 
 Each check is a line, and the last line counts them; the status is 1 where one has failed. It needs the proved program, which
-is crates/routecli/out/routecli (README.md says how to build it) or the path in the environment variable ROUTECLI; and 1 GB
-of memory.
+is crates/routecli/out/routecli (README.md says how to build it) or the path in the environment variable ROUTECLI; g++; and
+1.2 GB of memory.
 """
 import argparse
 import array
@@ -27,13 +30,16 @@ from kit.answers import costs_in
 from kit.counted import end, parser
 from kit.hierarchy_file import HEAD_BYTES, LINK_BYTES, links_in
 from kit.networks import HEAVIEST, pairs_text, text_of
-from kit.program import PROGRAM, need_program
+from kit.program import PROGRAM, Runs, need_program
 
 MANY = 1 << 20
 # So many nodes beyond MANY, that a sweep of what workers leave there can be seen.
 BEYOND = 100_000
 # No order of workers ends in so many nodes of ascending numbers by chance.
 TAIL = 1_000
+# How many nodes a clique has, and how many cliques there are. 17 MB are needed, and 54 where no row is freed.
+CLIQUE, CLIQUES = 30, 100
+MOST_MB = 32
 SECONDS = 300
 
 
@@ -83,8 +89,11 @@ def order_in(file: bytes, nodes: int) -> "array.array[int]":
 
 
 def ran(*words: str | pathlib.Path, given: bytes = b"") -> subprocess.CompletedProcess[bytes]:
-    """A run of the program that has ended."""
-    return subprocess.run([PROGRAM, *words], input=given, stdout=subprocess.PIPE, stderr=subprocess.PIPE, timeout=SECONDS)
+    """A run of the program that has ended, or that was ended since it took too long."""
+    try:
+        return subprocess.run([PROGRAM, *words], input=given, stdout=subprocess.PIPE, stderr=subprocess.PIPE, timeout=SECONDS)
+    except subprocess.TimeoutExpired:
+        return subprocess.CompletedProcess(words, -1, b"", f"it hadn't ended after {SECONDS} seconds".encode())
 
 
 class Checks:
@@ -150,6 +159,14 @@ class Checks:
         costs = [costs_in(answer) for answer in answers]
         self.check("the lengths of the grid", len(costs[0]) == 533 and costs[0] == costs[1], "the answers differ")
 
+    def shifts(self) -> None:
+        """Prepares the cliques, and looks at the memory that it takes."""
+        graph, nodes = self.folder / "cliques.gr", CLIQUE * CLIQUES
+        arcs = [(n + u, n + v, 1) for n in range(0, nodes, CLIQUE) for u, v in itertools.permutations(range(CLIQUE), 2)]
+        graph.write_text(text_of(nodes, arcs))
+        taken = Runs(self.folder).taken([PROGRAM, "prepare", "--workers", "4", graph, self.folder / "cliques.rch"])
+        self.check("the memory of shifts that are over is free", taken.memory < MOST_MB, f"{taken.memory:.0f} MB")
+
 
 def nodes_of(word: str) -> int:
     """A number of nodes, for the parser."""
@@ -167,6 +184,7 @@ def main() -> None:
         checks = Checks(folder)
         checks.chain(nodes)
         checks.many_leases()
+        checks.shifts()
     end("tests/large.py", checks.passed, checks.failed)
 
 

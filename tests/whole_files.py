@@ -34,7 +34,7 @@ HERE = pathlib.Path(__file__).resolve().parent
 PREPARE = ["prepare", "--workers", "1"]
 # So many bytes are offered to a file at once, at most.
 PIECE = 8192
-# A graph of one arc, and its hierarchy's file by docs/FORMATS.md: two ranks, one link, and the bound.
+# A graph of one arc, and its hierarchy's file by docs/REFERENCE.md: two ranks, one link, and the bound.
 SMALL = b"p sp 2 1\na 1 2 7\n"
 SMALL_FILE = spelled([0, 1], [(0, 1, 7, 1, NONE)], 7)
 NOBODY = 65534
@@ -331,6 +331,15 @@ def no_file_can_be_made(bench, name):
     (bench.folder / "below").mkdir()
     bench.left.add("below")
     bench.prepare(out=name).ends(7, WRITE)
+
+
+@case("none/x.rch", "below", "x.gr/x.rch")
+def that_no_file_can_be_made_is_seen_before_the_graph_is_read(bench, name):
+    (bench.folder / "below").mkdir()
+    bench.left.add("below")
+    bad = bench.put("bad.gr", b"p sp 2 1\na 1 2\n")
+    bench.prepare(bad, name).ends(7, WRITE)
+    bench.prepare("none.gr", name).ends(7, b"routecli: read\n")
 
 
 def as_nobody():

@@ -1,0 +1,131 @@
+/* Each code of each call, on the hierarchy of examples/town.gr: nodes 0 to 2, the arcs 0 to 1 (300), 1 to 0 (300), 1 to 2 (400)
+ * and 0 to 2 (900). Figures by hand.
+ *
+ *     codes HIER */
+#include "support.h"
+
+static void closed(domethyme *handle)
+{
+    uint32_t number = 42, node = 0;
+    uint64_t length = 42;
+    domethyme_pair pair = {0, 1};
+    domethyme_seed seed = {0, 0, 0};
+    domethyme_route_info route = {42, 42};
+    domethyme_between_info between = {42, 42, 42, 42};
+    domethyme other = DOMETHYME_CLOSED;
+    WANT(domethyme_nodes(handle, &number) == DOMETHYME_NO_HANDLE && number == 42);
+    WANT(domethyme_version(handle, &number) == DOMETHYME_NO_HANDLE && number == 42);
+    WANT(domethyme_length(handle, 0, 1, &length) == DOMETHYME_NO_HANDLE && length == 42);
+    WANT(domethyme_route(handle, 0, 1, &route, &node, 1) == DOMETHYME_NO_HANDLE && route.length == 42 && node == 0);
+    WANT(domethyme_between(handle, &seed, 1, &seed, 1, &between, &node, 1) == DOMETHYME_NO_HANDLE && between.end == 42);
+    WANT(domethyme_lengths(handle, &pair, 1, &length, 1) == DOMETHYME_NO_HANDLE && length == 42);
+    WANT(domethyme_table(handle, &node, 1, &node, 1, &length, 1) == DOMETHYME_NO_HANDLE && length == 42);
+    WANT(domethyme_beside(handle, &other) == DOMETHYME_NO_HANDLE && other.router == NULL);
+    domethyme_close(handle);
+}
+
+static void single(domethyme *handle)
+{
+    uint32_t number = 0, nodes[3] = {9, 9, 9};
+    uint64_t length = 42;
+    domethyme_route_info route = {42, 42};
+    WANT(domethyme_nodes(handle, &number) == DOMETHYME_OK && number == 3);
+    WANT(domethyme_version(handle, &number) == DOMETHYME_OK && number == 2);
+    WANT(domethyme_length(handle, 3, 0, &length) == DOMETHYME_NODE_RANGE && length == 42);
+    WANT(domethyme_length(handle, 0, UINT32_MAX, &length) == DOMETHYME_NODE_RANGE && length == 42);
+    WANT(domethyme_length(handle, 2, 0, &length) == DOMETHYME_NO_PATH && length == 42);
+    WANT(domethyme_length(handle, 0, 2, &length) == DOMETHYME_OK && length == 700);
+    WANT(domethyme_length(handle, 1, 1, &length) == DOMETHYME_OK && length == 0);
+    WANT(domethyme_route(handle, 3, 0, &route, nodes, 3) == DOMETHYME_NODE_RANGE && route.nodes == 42);
+    WANT(domethyme_route(handle, 2, 0, &route, nodes, 3) == DOMETHYME_NO_PATH && route.nodes == 42);
+    WANT(domethyme_route(handle, 0, 2, &route, nodes, 2) == DOMETHYME_NO_ROOM && route.nodes == 3 && route.length == 700);
+    WANT(nodes[0] == 9 && nodes[1] == 9 && nodes[2] == 9);
+    WANT(domethyme_route(handle, 0, 2, &route, nodes, 3) == DOMETHYME_OK && route.nodes == 3 && route.length == 700);
+    WANT(nodes[0] == 0 && nodes[1] == 1 && nodes[2] == 2);
+    WANT(domethyme_route(handle, 1, 1, &route, nodes, 1) == DOMETHYME_OK && route.nodes == 1 && route.length == 0 && nodes[0] == 1);
+}
+
+static void several(domethyme *handle)
+{
+    uint32_t nodes[3] = {9, 9, 9};
+    domethyme_between_info found = {42, 42, 42, 42};
+    /* From 0 with 500 or from 1 with 250, to 2 with 10 or to 2 with 5: 250 + 400 + 5. */
+    domethyme_seed starts[] = {{500, 0, 0}, {250, 1, 0}}, ends[] = {{10, 2, 0}, {5, 2, 0}};
+    WANT(domethyme_between(handle, starts, 2, ends, 2, &found, nodes, 3) == DOMETHYME_OK);
+    WANT(found.length == 655 && found.start == 1 && found.end == 1 && found.nodes == 2 && nodes[0] == 1 && nodes[1] == 2);
+    WANT(domethyme_between(handle, starts, 2, ends, 2, &found, nodes, 1) == DOMETHYME_NO_ROOM && found.nodes == 2);
+    domethyme_between_info kept = found;
+    WANT(domethyme_between(handle, starts, 0, ends, 2, &found, nodes, 3) == DOMETHYME_NO_PATH);
+    WANT(domethyme_between(handle, starts, 2, ends, 0, &found, nodes, 3) == DOMETHYME_NO_PATH);
+    WANT(domethyme_between(handle, ends, 2, starts, 2, &found, nodes, 3) == DOMETHYME_NO_PATH);
+    domethyme_seed away = {0, 3, 0}, far_off = {(UINT64_C(1) << 57) + 1, 0, 0}, many = {0, 0, (1 << 25) + 1};
+    WANT(domethyme_between(handle, &away, 1, ends, 2, &found, nodes, 3) == DOMETHYME_NODE_RANGE);
+    WANT(domethyme_between(handle, starts, 2, &away, 1, &found, nodes, 3) == DOMETHYME_NODE_RANGE);
+    WANT(domethyme_between(handle, &far_off, 1, ends, 2, &found, nodes, 3) == DOMETHYME_SEED_COST);
+    WANT(domethyme_between(handle, starts, 2, &many, 1, &found, nodes, 3) == DOMETHYME_SEED_COST);
+    far_off.length -= 1;
+    WANT(memcmp(&found, &kept, sizeof found) == 0);
+    WANT(domethyme_between(handle, &far_off, 1, ends, 2, &found, nodes, 3) == DOMETHYME_OK);
+    WANT(found.length == (UINT64_C(1) << 57) + 705);
+}
+
+static void many(domethyme *handle)
+{
+    domethyme_pair pairs[] = {{0, 2}, {2, 0}, {1, 1}, {3, 0}};
+    uint64_t lengths[10] = {42, 42, 42, 42, 42, 42, 42, 42, 42, 42};
+    WANT(domethyme_lengths(handle, pairs, 4, lengths, 10) == DOMETHYME_NODE_RANGE && lengths[0] == 42);
+    WANT(domethyme_lengths(handle, pairs, 3, lengths, 2) == DOMETHYME_NO_ROOM && lengths[0] == 42);
+    WANT(domethyme_lengths(handle, pairs, 0, lengths, 0) == DOMETHYME_OK && lengths[0] == 42);
+    WANT(domethyme_lengths(handle, pairs, 3, lengths, 10) == DOMETHYME_OK);
+    WANT(lengths[0] == 700 && lengths[1] == DOMETHYME_NO_LENGTH && lengths[2] == 0 && lengths[3] == 42);
+    uint32_t sources[] = {0, 1, 2}, targets[] = {2, 0}, away[] = {0, 3};
+    WANT(domethyme_table(handle, sources, 3, targets, 2, lengths, 5) == DOMETHYME_NO_ROOM);
+    WANT(domethyme_table(handle, sources, 3, away, 2, lengths, 6) == DOMETHYME_NODE_RANGE);
+    WANT(domethyme_table(handle, away, 2, targets, 2, lengths, 6) == DOMETHYME_NODE_RANGE && lengths[0] == 700);
+    WANT(domethyme_table(handle, sources, 0, targets, 2, lengths, 0) == DOMETHYME_OK);
+    WANT(domethyme_table(handle, sources, 3, targets, 0, lengths, 0) == DOMETHYME_OK && lengths[0] == 700);
+    WANT(domethyme_table(handle, sources, 3, targets, 2, lengths, 10) == DOMETHYME_OK);
+    const uint64_t wanted[] = {700, 0, 400, 300, 0, DOMETHYME_NO_LENGTH, 42};
+    WANT(memcmp(lengths, wanted, sizeof wanted) == 0);
+}
+
+static void texts(void)
+{
+    char text[DOMETHYME_TEXT];
+    for (uint32_t code = 0; code < 60; ++code) {
+        memset(text, 42, sizeof text);
+        size_t bytes = domethyme_text(code, text, sizeof text);
+        WANT(bytes <= DOMETHYME_TEXT && strlen(text) + 1 == bytes && bytes > 2);
+        char first = text[0];
+        text[0] = 0;
+        WANT(domethyme_text(code, text, bytes - 1) == bytes && text[0] == 0);
+        WANT(domethyme_text(code, text, bytes) == bytes && text[0] == first);
+    }
+    domethyme_text(DOMETHYME_OUT_OF_MEMORY, text, sizeof text);
+    WANT(strcmp(text, "out of memory") == 0);
+}
+
+int main(int count, char **words)
+{
+    WANT(count == 2);
+    file hierarchy = file_of(words[1]);
+    domethyme handle = DOMETHYME_CLOSED, other = DOMETHYME_CLOSED;
+    closed(&handle);
+    WANT(domethyme_open(&handle, hierarchy.bytes, hierarchy.count) == DOMETHYME_OK);
+    single(&handle);
+    several(&handle);
+    many(&handle);
+    /* A second handle lives on behind the first; a handle that is opened again closes what it had. */
+    WANT(domethyme_beside(&handle, &other) == DOMETHYME_OK);
+    WANT(domethyme_beside(&handle, &other) == DOMETHYME_OK);
+    WANT(domethyme_open(&handle, hierarchy.bytes, hierarchy.count) == DOMETHYME_OK);
+    domethyme_close(&handle);
+    single(&other);
+    WANT(domethyme_open(&other, hierarchy.bytes, hierarchy.count - 1) == DOMETHYME_TRUNCATED);
+    closed(&other);
+    closed(&handle);
+    texts();
+    free(hierarchy.bytes);
+    puts("ok");
+    return 0;
+}

@@ -1,0 +1,113 @@
+/* Refuses each allocation of a run in turn: each call says that memory is out, or did what it was asked, and nothing leaks.
+ * The latter is where a list asked for room by an estimate, was refused, and then got what it needed.
+ * It is linked with --wrap=malloc --wrap=realloc --wrap=free.
+ *
+ *     refused HIER */
+#include "support.h"
+
+#ifdef __cplusplus
+extern "C" {
+#endif
+void *__real_malloc(size_t size);
+void *__real_realloc(void *block, size_t size);
+void __real_free(void *block);
+void *__wrap_malloc(size_t size);
+void *__wrap_realloc(void *block, size_t size);
+void __wrap_free(void *block);
+#ifdef __cplusplus
+}
+#endif
+
+/* The calls until the refused one, if any, and the blocks that are held. */
+static long until = -1, held;
+
+static int is_refused(void) { return until == 0 || (until > 0 && --until == 0 && (until = 0) == 0); }
+
+void *__wrap_malloc(size_t size)
+{
+    if (is_refused()) {
+        until = -1;
+        return NULL;
+    }
+    void *block = __real_malloc(size);
+    held += block != NULL;
+    return block;
+}
+
+void *__wrap_realloc(void *block, size_t size)
+{
+    if (is_refused()) {
+        until = -1;
+        return NULL;
+    }
+    held += block == NULL;
+    return __real_realloc(block, size);
+}
+
+void __wrap_free(void *block)
+{
+    held -= block != NULL;
+    __real_free(block);
+}
+
+static size_t refusals;
+
+static int is_out(uint32_t code)
+{
+    WANT(code == DOMETHYME_OK || code == DOMETHYME_OUT_OF_MEMORY);
+    refusals += code == DOMETHYME_OUT_OF_MEMORY;
+    return code == DOMETHYME_OUT_OF_MEMORY;
+}
+
+/* All calls, in a row. A call that memory was refused to is made again, and then answers. */
+static void run(const uint8_t *bytes, size_t count)
+{
+    domethyme handle = DOMETHYME_CLOSED, other = DOMETHYME_CLOSED;
+    uint64_t length = 0, lengths[4];
+    uint32_t nodes[3], ends[] = {0, 2};
+    domethyme_pair pair = {0, 2};
+    domethyme_seed start = {5, 0, 0}, end = {5, 2, 0};
+    domethyme_route_info route = {0, 0};
+    domethyme_between_info between = {0, 0, 0, 0};
+    while (is_out(domethyme_open(&handle, bytes, count)))
+        WANT(handle.router == NULL);
+    while (is_out(domethyme_beside(&handle, &other)))
+        WANT(other.router == NULL);
+    while (is_out(domethyme_length(&handle, 0, 2, &length)))
+        WANT(length == 0);
+    WANT(length == 700);
+    while (is_out(domethyme_route(&other, 0, 2, &route, nodes, 3)))
+        WANT(route.length == 0);
+    WANT(route.length == 700 && route.nodes == 3 && nodes[1] == 1);
+    while (is_out(domethyme_between(&other, &start, 1, &end, 1, &between, nodes, 3)))
+        WANT(between.length == 0);
+    WANT(between.length == 710);
+    while (is_out(domethyme_lengths(&handle, &pair, 1, lengths, 4)))
+        ;
+    WANT(lengths[0] == 700);
+    while (is_out(domethyme_table(&handle, ends, 2, ends, 2, lengths, 4)))
+        ;
+    WANT(lengths[1] == 700 && lengths[2] == DOMETHYME_NO_LENGTH);
+    domethyme_close(&handle);
+    domethyme_close(&other);
+}
+
+int main(int count, char **words)
+{
+    WANT(count == 2);
+    file hierarchy = file_of(words[1]);
+    long before = held;
+    size_t tried = 0;
+    for (long refuse = 1;; ++refuse, ++tried) {
+        until = refuse;
+        run(hierarchy.bytes, hierarchy.count);
+        WANT(held == before);
+        if (until > 0)
+            break;
+    }
+    until = -1;
+    WANT(tried > 10 && refusals <= tried && 2 * refusals > tried);
+    free(hierarchy.bytes);
+    printf("%zu allocations refused, each in its turn, %zu of them to calls that did without\n", tried, tried - refusals);
+    return 0;
+}
