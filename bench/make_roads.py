@@ -16,7 +16,7 @@ import numpy as np
 from kit.counted import parser  # (finds domethyme too)
 
 from domethyme import texts
-from domethyme.network import binary, tables
+from domethyme.network import binary, index, tables
 
 STEP, LON, LAT = 400.0, 9.0, 47.0
 METRES = tables.EARTH_RADIUS * np.pi / 180
@@ -86,15 +86,17 @@ def arrays_of(places, starts, stops, single, kind, name):
     is_back = np.append(both[1:] == both[:-1], False)[np.maximum(np.arange(len(both)) - 1, 0)] & (np.arange(len(both)) > 0)
     names = [f"{'Street' if number % 2 else 'Avenue'} {number // 2}" if number else "" for number in range(name.max() + 1)]
     texts = ["", "", *(highway for _, highway, _ in KINDS), *names]
-    of_arc = np.zeros((len(both), len(binary.TEXTS)), np.int32) + 1
-    of_arc[:, 0], of_arc[:, 1] = 2 + kind[both], 2 + len(KINDS) + name[both]
+    pairs, of_pair = np.unique(np.column_stack((kind, name)), axis=0, return_inverse=True)
+    rows = np.ones((len(pairs), len(binary.TEXTS)), np.int32)
+    rows[:, 0], rows[:, 1] = 2 + pairs[:, 0], 2 + len(KINDS) + pairs[:, 1]
+    rows, of_arc = index.rows_of_texts(rows, of_pair[both])
     encoded = [text.encode() for text in texts]
     return binary.Arrays(
         np.array([binary.VERSION]), np.zeros(2, np.int64), np.arange(1, len(places) + 1), units[:, 0].copy(), units[:, 1].copy(),
         np.zeros(len(places), np.uint8), np.where(is_back, stops[both], starts[both]).astype(np.int32),
         np.where(is_back, starts[both], stops[both]).astype(np.int32), np.maximum(1, np.round(1000 * seconds[both])).astype(np.int64),
-        seconds[both], metres[both], both + 1, of_arc, both.astype(np.int32), is_back == is_turned[both],
-        np.arange(0, 2 * len(starts) + 1, 2), lines.reshape(-1, 2),
+        seconds[both], metres[both], both + 1, of_arc, both.astype(np.int32),
+        is_back == is_turned[both], rows, np.arange(0, 2 * len(starts) + 1, 2), lines.reshape(-1, 2),
         np.cumsum([0, *map(len, encoded)]), np.frombuffer(b"".join(encoded), np.uint8),
     )
 

@@ -1,23 +1,25 @@
 #!/usr/bin/python3
 """The table of lengths between places: `Hierarchy.matrix` of the package domethyme, beside scipy's Dijkstra from each place.
 
-    bench/matrix.py [--places N] [--rounds N] [--serve] [NETWORK.gr ..]
+    bench/matrix.py [--places N] [--rounds N] [NETWORK.gr ..]
 
 Without a network it takes one of 16,384 nodes by make_network.py --roads, and that of the extract of Liechtenstein if
-tools/fetch_extract can have it. Places are drawn from all nodes. Times are of one run and one process, the least of the
-rounds, in turn; a table is compared with scipy's before its times are printed. Preparing, and reading the graph for scipy, is
-in no column.
+tools/fetch_extract can have it. Places are drawn from all nodes. Hierarchies are by `--order depth`. Times are of one process, the
+median of the rounds, in turn; a table is compared with scipy's before its times are printed. Preparing, and reading the graph for
+scipy, is in no column.
 
     scipy      scipy.sparse.csgraph.dijkstra from each place, over a graph that is read
-    matrix     by sweeps, and reading the hierarchy before
-    again      by sweeps, of a hierarchy that was read
-    serve      with --serve: by `routecli serve`, a request for each length
+    opened     opening the hierarchy
+    matrix     by the library, by as many threads as there are processors
+    sweeps     by sweeps, and reading the links before
+    again      by sweeps, of links that were read
 
 It needs Debian's python3-scipy, for the extract the packages of tools/packages.txt, and routecli. Status 1: a table isn't
 scipy's, or scipy took less time than `matrix`.
 """
 import os
 import pathlib
+import statistics
 import subprocess
 import sys
 import tempfile
@@ -71,44 +73,43 @@ def timed(call):
     return call(), time.perf_counter() - begun
 
 
-def measured(graph, file, places, with_serve):
+def measured(graph, file, places):
     """The seconds of each column, once, where all tables are equal."""
     plain, scipy = timed(lambda: dijkstra(graph, indices=places)[:, places])
     wanted = np.where(np.isinf(plain), -1, plain).astype(np.int64)
-    with domethyme.Hierarchy(file, PROGRAM) as hierarchy:
+    hierarchy, opened = timed(lambda: domethyme.Hierarchy(file))
+    with hierarchy:
         found = {
-            "matrix": timed(lambda: hierarchy.matrix(places, by="sweeps")),
+            "matrix": timed(lambda: hierarchy.matrix(places)),
+            "sweeps": timed(lambda: hierarchy.matrix(places, by="sweeps")),
             "again": timed(lambda: hierarchy.matrix(places, by="sweeps")),
         }
-        if with_serve:
-            found["serve"] = timed(lambda: hierarchy.matrix(places, by="serve"))
     for name, (table, _) in found.items():
         if not np.array_equal(table, wanted):
             sys.exit(f"{file}: {name} isn't scipy's table")
-    return {"scipy": scipy} | {name: seconds for name, (_, seconds) in found.items()}
+    return {"scipy": scipy, "opened": opened} | {name: seconds for name, (_, seconds) in found.items()}
 
 
 def main():
     words = parser(__doc__)
     words.add_argument("networks", nargs="*", type=pathlib.Path, metavar="NETWORK.gr")
     words.add_argument("--places", type=positive, default=300)
-    words.add_argument("--rounds", type=positive, default=3)
-    words.add_argument("--serve", action="store_true")
+    words.add_argument("--rounds", type=positive, default=5)
     options = words.parse_args()
     need_program()
     is_slower = False
     with tempfile.TemporaryDirectory() as scratch:
         folder = pathlib.Path(scratch)
-        print(f"{options.places} x {options.places} places, the least of {options.rounds} rounds; load {os.getloadavg()[0]:.1f}")
+        print(f"{options.places} x {options.places} places, the median of {options.rounds} rounds; load {os.getloadavg()[0]:.1f}")
         for name, text in [(path.name, path) for path in options.networks] or networks(folder):
             graph, file = graph_of(text), folder / "hierarchy.rch"
-            domethyme.prepare(text, file, program=PROGRAM).close()
+            domethyme.prepare(text, file, order="depth", program=PROGRAM).close()
             places = np.random.default_rng(1).choice(graph.shape[0], min(options.places, graph.shape[0]), replace=False)
-            rounds = [measured(graph, file, places, options.serve) for _ in range(options.rounds)]
-            least = {column: min(each[column] for each in rounds) for column in rounds[0]}
-            figures = ", ".join(f"{column} {seconds:.3f} s" for column, seconds in least.items())
+            rounds = [measured(graph, file, places) for _ in range(options.rounds)]
+            middle = {column: statistics.median(each[column] for each in rounds) for column in rounds[0]}
+            figures = ", ".join(f"{column} {seconds:.3f} s" for column, seconds in middle.items())
             print(f"{name}, {graph.shape[0]} nodes: {figures}", flush=True)
-            is_slower |= least["matrix"] > least["scipy"]
+            is_slower |= middle["matrix"] > middle["scipy"]
     sys.exit(is_slower)
 
 

@@ -5,8 +5,7 @@
 
 It needs no network, so the hierarchy may be that of a graph of bench/make_sparse.cpp. Pairs are near where their numbers are at
 most 3,000 apart. Each client has a connection: a new one for each batch, and one for all its GETs. A line has the pairs of a second
-and, for a pair, the microseconds of processor time of the fronts, of their workers and of this process. The program is that of
-ROUTECLI. The rounds of both take turns.
+and, for a pair, the microseconds of processor time of the service and of this process. The rounds of both take turns.
 """
 import argparse
 import http.client
@@ -40,14 +39,10 @@ class Service:
             found = re.search(r"listens at http://127\.0\.0\.1:(\d+)/", line)
         self.port = int(found[1])
 
-    def times(self) -> tuple[float, float]:
-        """The processor seconds of all fronts, and of all workers."""
-        found = {True: 0.0, False: 0.0}
-        for number in descendants(self.process.pid):
-            text = pathlib.Path(f"/proc/{number}/stat").read_text().rpartition(")")[2].split()
-            is_front = b"domethyme" in pathlib.Path(f"/proc/{number}/cmdline").read_bytes()
-            found[is_front] += (int(text[11]) + int(text[12])) / TICK
-        return found[True], found[False]
+    def seconds(self) -> float:
+        """The processor seconds of its processes."""
+        texts = [pathlib.Path(f"/proc/{number}/stat").read_text() for number in descendants(self.process.pid)]
+        return sum(int(ticks) for text in texts for ticks in text.rpartition(")")[2].split()[11:13]) / TICK
 
     def end(self) -> None:
         self.process.send_signal(signal.SIGTERM)
@@ -100,16 +95,15 @@ def measured(service: Service, load: Load, asking: Callable[[int], int], given: 
     """A line with the pairs of a second, and what each took."""
     counts: list[int] = []
     clients = [threading.Thread(target=lambda number=number: counts.append(asking(number))) for number in range(given.clients)]
-    before, begun, own = service.times(), time.monotonic(), time.process_time()
+    before, begun, own = service.seconds(), time.monotonic(), time.process_time()
     load.end = begun + given.seconds
     for client in clients:
         client.start()
     for client in clients:
         client.join()
     seconds, pairs = time.monotonic() - begun, max(1, sum(counts))
-    fronts, workers = (1e6 * (now - then) / pairs for now, then in zip(service.times(), before))
-    own = 1e6 * (time.process_time() - own) / pairs
-    return f"{pairs / seconds:,.0f} pairs/s; processor time {fronts:.1f} µs front, {workers:.1f} µs worker, {own:.1f} µs client"
+    used, own = 1e6 * (service.seconds() - before) / pairs, 1e6 * (time.process_time() - own) / pairs
+    return f"{pairs / seconds:,.0f} pairs/s; processor time {used:.1f} µs service, {own:.1f} µs client"
 
 
 def main() -> None:

@@ -175,7 +175,7 @@ def allocators(networks, options, folder):
 def lists(network, folder):
     """The table of what the list of pairs takes."""
     show(["Pairs of a node with itself", "`route`", "memory"])
-    for count in [0, 1_000_000, 10_000_000]:
+    for count in [1_000_000, 10_000_000]:
         taken_by = network.routed(os.devnull, text_of(folder, "same.pairs", count, itertools.repeat("q 7 7\n")))
         row(f"{count:,}", times(taken_by), f"{taken_by.memory:,.0f} MB")
 

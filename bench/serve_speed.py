@@ -167,12 +167,12 @@ def main() -> None:
     with tempfile.TemporaryDirectory() if asked.folder is None else contextlib.nullcontext(asked.folder) as name:
         folder = pathlib.Path(name)
         folder.mkdir(parents=True, exist_ok=True)
-        print("| Nodes | `route` | `q` | ratio | `d` | of `q` | one `q` | one `d` |\n|---|---|---|---|---|---|---|---|", flush=True)
+        print("| Nodes | `q` | of `route` | `d` | of `q` | one `q` | one `d` |\n|---|---|---|---|---|---|---|", flush=True)
         for title, network in all_networks(asked, folder):
             least = measured(network, asked.rounds)
-            cells = [f"{least[kind] * 1e6:,.0f} µs" for kind in ["route", "q", "d", "one q", "one d"]]
+            cells = [f"{least[kind] * 1e6:,.0f} µs" for kind in ["q", "d", "one q", "one d"]]
             ratios = [f"{least['q'] / least['route']:.2f}", f"{least['d'] / least['q']:.2f}"]
-            print("| " + " | ".join([title, cells[0], cells[1], ratios[0], cells[2], ratios[1], *cells[3:]]) + " |", flush=True)
+            print("| " + " | ".join([title, cells[0], ratios[0], cells[1], ratios[1], *cells[2:]]) + " |", flush=True)
     print(f"load {os.getloadavg()[0]:.1f}", file=sys.stderr)
 
 

@@ -5,10 +5,9 @@
 
 NETWORK is the beginning of the names of a network's files, as bench/make_roads.py writes them. Near pairs are those whose numbers
 are at most 3,000 apart, which in such networks are some 90 arcs. It needs Debian's wrk. Each line has the requests in a second,
-the median and the 99th percentile in ms, and the processor time of the fronts, of their workers and of wrk for each request, since
+the median and the 99th percentile in ms, and the processor time of the service and of wrk for each request, since
 other work on the machine makes the former smaller and not the latter. Each is the median of the rounds. Beside tables single
-requests are asked one after the other, each on a connection of its own, after as many without tables. The program is that of
-ROUTECLI.
+requests are asked one after the other, each on a connection of its own, after as many without tables.
 """
 import concurrent.futures
 import http.client
@@ -64,24 +63,15 @@ class Service:
                 break
         self.seconds_to_begin = time.monotonic() - begun
 
-    def times(self):
-        """The processor seconds of the fronts, and of the workers."""
-        fronts = workers = 0.0
-        for number in descendants(self.process.pid):
-            text = pathlib.Path(f"/proc/{number}/stat").read_text().rpartition(")")[2].split()
-            is_front = b"domethyme" in pathlib.Path(f"/proc/{number}/cmdline").read_bytes()
-            seconds = (int(text[11]) + int(text[12])) / TICK
-            fronts, workers = fronts + seconds * is_front, workers + seconds * (not is_front)
-        return fronts, workers
+    def seconds(self):
+        """The processor seconds of its processes."""
+        texts = [pathlib.Path(f"/proc/{number}/stat").read_text() for number in descendants(self.process.pid)]
+        return sum(int(ticks) for text in texts for ticks in text.rpartition(")")[2].split()[11:13]) / TICK
 
     def memory(self):
-        """The greatest resident megabytes of a front, and of a worker."""
-        found = {True: 0, False: 0}
-        for number in descendants(self.process.pid):
-            is_front = b"domethyme" in pathlib.Path(f"/proc/{number}/cmdline").read_bytes()
-            size = re.search(r"VmHWM:\s+(\d+)", pathlib.Path(f"/proc/{number}/status").read_text())
-            found[is_front] = max(found[is_front], int(size[1]) // 1024)
-        return found[True], found[False]
+        """The megabytes of all its processes, where pages that several have in common are shared out (PSS)."""
+        texts = [pathlib.Path(f"/proc/{number}/smaps_rollup").read_text() for number in descendants(self.process.pid)]
+        return sum(int(re.search(r"Pss:\s+(\d+)", text)[1]) for text in texts) // 1024
 
     def ask(self, path):
         connection = http.client.HTTPConnection("127.0.0.1", self.port, timeout=60)
@@ -127,18 +117,18 @@ def load(service, name, paths, given):
         file.write_text("".join(f"{path}\n" for path in paths))
         script.write_text(LUA.format(file=file))
         rows = [one_load(service, script, given) for _ in range(given.rounds)]
-    rate, median, late, front, worker, asking, wrong = (statistics.median(column) for column in zip(*rows))
+    rate, median, late, used, asking, wrong = (statistics.median(column) for column in zip(*rows))
     low, high = min(row[0] for row in rows), max(row[0] for row in rows)
     said = f"{name}: {rate:,.0f}/s ({low:,.0f} to {high:,.0f}), median {median:.1f} ms, p99 {late:.1f} ms"
-    print(f"{said}; processor time {front:.0f} µs front, {worker:.0f} µs worker, {asking:.0f} µs wrk; {wrong:.0f} errors", flush=True)
+    print(f"{said}; processor time {used:.0f} µs service, {asking:.0f} µs wrk; {wrong:.0f} errors", flush=True)
 
 
 def one_load(service, script, given):
-    before = *service.times(), seconds_of_children()
+    before = service.seconds(), seconds_of_children()
     words = ["wrk", "-t", "2", "-c", given.connections, "-d", given.seconds, "-s", script, f"http://127.0.0.1:{service.port}"]
     said = subprocess.run(list(map(str, words)), capture_output=True, text=True, check=True).stdout.splitlines()[-1]
     requests, duration, median, late, wrong = map(int, said.split())
-    after = *service.times(), seconds_of_children()
+    after = service.seconds(), seconds_of_children()
     each = (1e6 * (now - then) / max(1, requests) for now, then in zip(after, before))
     return 1e6 * requests / duration, median / 1000, late / 1000, *each, wrong
 
@@ -156,9 +146,9 @@ def tables(service, places, draw, given):
     path = f"/table/v1/car/{places.text(nodes, draw)}?skip_waypoints=true"
     single = [f"/nodes/route?from={pair[0]}&to={pair[1]}" for pair in (places.pair(draw, True) for _ in range(300))]
     without = sorted(timed(service, one) for one in single)
-    before = service.times()
+    before = service.seconds()
     alone = [timed(service, path) for _ in range(max(5, given.rounds))]
-    used = sum(service.times()) - sum(before)
+    used = service.seconds() - before
     with concurrent.futures.ThreadPoolExecutor(1) as pool:
         running = pool.submit(lambda: [timed(service, path) for _ in range(8)])
         beside = []
@@ -203,7 +193,7 @@ def main():
             paths = [f"/route/v1/car/{places.text(pair, draw)}?{shape}" for pair in pairs]
             load(service, f"{name} routes with geometry and steps", paths, given)
         tables(service, places, draw, given)
-        print("resident: a front {} MB, a worker {} MB".format(*service.memory()))
+        print(f"resident: {service.memory()} MB in all processes")
     finally:
         service.end()
 

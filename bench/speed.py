@@ -4,12 +4,13 @@
     bench/speed.py [--sparse N ..] [--nodes N ..] [--rounds ROUNDS] [--kept FOLDER] [--only WORD] [--no-python] [--page] [--anew]
 
 By default in 5 rounds, and kept in out/speed. The networks are sparse ones with the figures of the challenge's (make_sparse.cpp),
-of 264,346 and 1,000,000 nodes, and 8,000,000 in one round by `depth` alone; those of make_network.py with --roads, of 10,000,
-65,536, 264,346 and 1,000,000 nodes; one without --roads, of 264,196 nodes, that is hard to prepare and to ask; and the map of
+of 264,346 and 1,000,000 nodes (larger ones, which scale.py measures, in one round by `depth` alone); those of make_network.py with
+--roads, of 10,000, 65,536, 264,346 and 1,000,000 nodes; one without --roads, of 264,196 nodes, that is hard to prepare and to ask; and the map of
 tools/fetch_extract, in which a node lies at least every 20 metres (left out where neither the folder nor Debian has it). In
 each round each job of each network has its turn once, so that a machine that is slow for a while is slow for all of them:
 
   prepare    by 1, 2 and 4 workers and each order; and a textbook hierarchy in C++ (hierarchy.cpp), without routes
+  check      `routecli check` of the hierarchy of one worker and each order
   route      10,000 random pairs, 2,000 near ones, whose ends are at most 20 rows and columns apart, and no pairs, which reads
              the file alone, by the hierarchy of one worker and `edges`, which is the default, and `depth`; and by route.cpp, an
              optimised program that does the same
@@ -57,7 +58,7 @@ from kit.hierarchy_file import links_in
 from kit.program import PROGRAM, ROOT, Runs, compiled, need_compiled, need_program
 
 NODES = [10_000, 65_536, 264_346, 1_000_000]
-SPARSE = [264_346, 1_000_000, 8_000_000]
+SPARSE = [264_346, 1_000_000]
 HARD = 514
 ORDERS = ["edges", "neighbours", "depth"]
 ROUTED = ["edges", "depth"]
@@ -189,6 +190,8 @@ class Bench:
         for order in ORDERS[-1:] if is_large else ORDERS:
             for workers in WORKERS:
                 jobs[f"prepare {order} {workers}"] = self.prepare(network, order, workers)
+        for order in ORDERS[-1:] if is_large else ORDERS:
+            jobs[f"check {order}"] = self.checking(network, order)
         jobs["textbook"] = self.textbook(network)
         for order in ROUTED[-1:] if is_large else ROUTED:
             for kind in ["none", *network.kinds()]:
@@ -218,6 +221,13 @@ class Bench:
             taken = self.runs.taken(words)
             network.facts["links"][f"{order} {workers}"] = links_in(file)
             self.check_few(network, file)
+            return taken.wall, taken
+
+        return go
+
+    def checking(self, network, order):
+        def go():
+            taken = self.runs.taken([PROGRAM, "check", network.graph, self.prepared(network, order)])
             return taken.wall, taken
 
         return go

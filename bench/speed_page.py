@@ -148,9 +148,9 @@ def when(measured):
     first, last = (f(row["when"] for row in measured.rows)[:16].replace("T", " ") for f in (min, max))
     loads = [float(row["load"]) for row in measured.rows]
     rounds = measured.rounds()
-    told = f"Measured from {first} to {last} (UTC), one program at a time, on a machine of "
-    told += f"{measured.about['machine']}; {measured.about['system']}. It is `{measured.about['version']}`. "
-    told += f"The load after a run was {min(loads):.1f} to {max(loads):.1f}, of which the run itself is a part. "
+    told = f"Measured from {first} to {last} (UTC), one program at a time. The machine has "
+    told += f"{measured.about['machine']}; {measured.about['system']}. The program is `{measured.about['version']}`. "
+    told += f"The load after a run, which includes the run, was {min(loads):.1f} to {max(loads):.1f}. "
     others = [float(row["others"]) for row in measured.rows if row.get("others")]
     if others:
         told += f"Other programs kept at most {max(others):.1f} processors busy during a run. "
@@ -181,6 +181,17 @@ def preparing(measured):
     jobs = [f"prepare {order} {workers}" for order in ORDERS for workers in WORKERS]
     rows.append(["rounds differ by", *(measured.spread(name, *jobs, "textbook") for name in measured.names())])
     return table(["Workers, order", *map(measured.title, measured.names())], rows)
+
+
+def checking(measured):
+    rows = []
+    for name in measured.names():
+        for order in ORDERS:
+            jobs = [f"check {order}", f"prepare {order} 1"]
+            found, most = measured.middle(name, jobs[0], "processor"), [measured.memory(name, job) for job in jobs]
+            cells = [seconds(found), measured.beside(name, *jobs), megabytes(most[0]), f"{most[0] / most[1]:.2f}" if all(most) else ""]
+            rows.append([f"{measured.title(name)}, `{order}`", *(cells if found else [""] * 4)])
+    return table(["Nodes, order", "`check`, processor", "of `prepare`", "memory", "of `prepare`"], rows)
 
 
 def whole_runs(measured):
@@ -238,9 +249,10 @@ def page(measured):
         "### The networks\n\n" + networks(measured),
         "### Preparing\n\nSeconds of the wall clock, those of all processors in parentheses, and the greatest resident size.\n\n"
         + preparing(measured),
+        "### Checking a file\n\nThe hierarchy of one worker, beside `prepare` by one worker.\n\n" + checking(measured),
         "### Routes: whole runs\n\n" + whole_runs(measured),
-        "### Routes: a pair\n\nWhat a run takes beyond one with no pairs.\n\n" + pairs(measured),
-        "### Without a hierarchy\n\nA pair, of 20, without what it takes to read the graph.\n\n" + searches(measured),
+        "### Routes: a pair\n\nTime for each pair: that of the run less that of one with no pairs.\n\n" + pairs(measured),
+        "### Without a hierarchy\n\nTime for each of 20 pairs, without reading the graph.\n\n" + searches(measured),
         "### Reading a graph, and the small exact tool\n\n" + reading(measured),
     ]
     return "\n\n".join(parts) + "\n"
@@ -259,7 +271,7 @@ def figures(measured):
         f"- **{seconds(measured.middle(name, 'prepare depth 4'))}** to prepare {measured.nodes(name):,} nodes and "
         f"{measured.networks[name]['arcs']:,} arcs by four workers, in {megabytes(measured.memory(name, 'prepare depth 4'))}.",
         f"- **{micros(pair)}** for a random pair, {micros(measured.pair(name, 'depth', 'near'))} for a near one: the length and the whole path.",
-        f"- **{boost}** of what Boost's search takes without a hierarchy."
+        f"- **{boost}** of the time that Boost's search takes without a hierarchy."
         if ratio == UNKNOWN
         else f"- **{ratio} times** what an optimised C++ program takes for the same answers, and {boost} of Boost's search without "
         "a hierarchy.",
@@ -267,33 +279,47 @@ def figures(measured):
     return "\n".join(lines) + "\n\n" + PICTURE.format("speed.svg")
 
 
+def is_compared(measured):
+    """Whether the ratio of a random pair to one in C++ is known of each network that is shown."""
+    return all(measured.pair_beside(name, "depth", "random") not in ("", UNKNOWN) for name in measured.shown())
+
+
 def summary(measured):
     """What README.md shows: the ratio to the C++ program only if it is known of each network."""
-    names = measured.shown()
-    ratios = {name: measured.pair_beside(name, "depth", "random") for name in names}
-    is_compared = all(ratio not in ("", UNKNOWN) for ratio in ratios.values())
+    names, has_ratios = measured.shown(), is_compared(measured)
     rows = []
     for name in names:
         prepared = measured.middle(name, "prepare depth 4")
         cells = [f"{seconds(prepared)}, {megabytes(measured.memory(name, 'prepare depth 4'))}" if prepared else ""]
         cells.append(seconds(measured.middle(name, "route depth none")))
         cells += [micros(measured.pair(name, "depth", kind)) for kind in COUNTS]
-        cells += [ratios[name]] if is_compared else []
+        cells += [measured.pair_beside(name, "depth", "random")] if has_ratios else []
         rows.append([f"{measured.nodes(name):,}", *cells, micros(measured.searched(name, "boost", "random"))])
     heads = ["Nodes", "`prepare`, 4 workers", "`route`: the file", "a random pair", "a near pair"]
-    heads += [*(["random, of C++"] if is_compared else []), "Boost, no hierarchy"]
+    heads += [*(["random, of C++"] if has_ratios else []), "Boost, no hierarchy"]
     date = min(row["when"] for row in measured.rows)[:10]
-    told = f"Measured on {date} on a machine of {measured.about['machine']}, by `--order depth`, on\nnetworks that are like real ones."
+    told = f"Measured on {date} by `--order depth` on synthetic networks, on a machine of {measured.about['machine']}."
+    told = textwrap.fill(told, 124, break_long_words=False, break_on_hyphens=False)
     return f"{told}\n\n{table(heads, rows)}\n\n{PICTURE.format('docs/speed.svg')}"
 
 
+def plain_time(value):
+    """Seconds as a mark of an axis: 20 µs, 5 ms, 100 s."""
+    for unit, part in [("s", 1), ("ms", 1e-3)]:
+        if value > 0.999 * part:
+            return f"{value / part:,.0f} {unit}"
+    return f"{value * 1e6:,.0f} µs"
+
+
 def draw(measured, file):
-    """Times against nodes, both by their logarithms: those of preparing, and those of a random pair."""
+    """Times against nodes, both by their logarithms: those of preparing, and those of a random pair. The C++ program is there only if
+    the ratio to it is known of each network."""
     # (the tables need no such package)
     import matplotlib
 
     matplotlib.use("svg")
     import matplotlib.pyplot
+    import matplotlib.ticker
 
     matplotlib.rcParams.update({"svg.fonttype": "none", "svg.hashsalt": "speed", "font.family": "sans-serif", "font.size": 9})
     figure, (left, right) = matplotlib.pyplot.subplots(1, 2, figsize=(9.5, 4))
@@ -310,14 +336,21 @@ def draw(measured, file):
     line(left, "4 workers, edges", lambda name: measured.middle(name, "prepare edges 4"), "v:")
     line(left, "textbook in C++", lambda name: measured.middle(name, "textbook"), "k--")
     line(right, "routecli route", lambda name: measured.pair(name, "depth", "random"), "o-")
-    line(right, "the same in C++", lambda name: measured.pair(name, "depth", "random", "route.cpp"), "k--")
+    if is_compared(measured):
+        line(right, "the same in C++", lambda name: measured.pair(name, "depth", "random", "route.cpp"), "k--")
     for name, style in zip(SEARCHES, ["s-", "^-", "v-", "D-", "P-"]):
         line(right, SEARCHES[name], lambda network: measured.searched(network, name, "random"), style)
-    for axes, title, unit in [(left, "prepare", "seconds"), (right, "a random pair", "millionths of a second")]:
-        axes.set(xscale="log", yscale="log", title=title, xlabel="nodes", ylabel=unit)
-        axes.grid(True, which="major", alpha=0.3)
+    counts = sorted({measured.nodes(name) for name in names})
+    for axes, title, part, steps in [(left, "prepare", 1, [1, 2, 5]), (right, "a random pair", 1e-6, [1])]:
+        axes.set(xscale="log", yscale="log", title=title, xlabel="nodes")
+        axes.set_xticks(counts, [f"{count:,}" for count in counts])
         low, high = axes.get_ylim()
-        axes.set_ylim(low, high * (high / low) ** 0.25)  # room for the legend above all lines
+        axes.set_ylim(low, high * (high / low) ** 0.4)  # room for the legend above all lines
+        axes.yaxis.set_major_locator(matplotlib.ticker.LogLocator(subs=steps, numticks=20))
+        axes.yaxis.set_major_formatter(lambda value, _, part=part: plain_time(value * part))
+        for axis in (axes.xaxis, axes.yaxis):
+            axis.set_minor_locator(matplotlib.ticker.NullLocator())
+        axes.grid(True, which="major", alpha=0.3)
         axes.legend(fontsize=8, ncols=2, loc="upper left")
     figure.tight_layout()
     figure.savefig(file, metadata={"Date": None, "Creator": None})
