@@ -5,27 +5,28 @@
 
 By default in 5 rounds, and kept in out/speed. The networks are sparse ones with the figures of the challenge's (make_sparse.cpp),
 of 264,346 and 1,000,000 nodes (larger ones, which scale.py measures, in one round by `depth` alone); those of make_network.py with
---roads, of 10,000, 65,536, 264,346 and 1,000,000 nodes; one without --roads, of 264,196 nodes, that is hard to prepare and to ask; and the map of
+--roads, of 10,000 and 65,536 nodes; one without --roads, of 65,536 nodes, that is hard to prepare and to ask; and the map of
 tools/fetch_extract, in which a node lies at least every 20 metres (left out where neither the folder nor Debian has it). In
 each round each job of each network has its turn once, so that a machine that is slow for a while is slow for all of them:
 
-  prepare    by 1, 2 and 4 workers and each order; and a textbook hierarchy in C++ (hierarchy.cpp), without routes
+  prepare    by 1 and 4 workers and each order, `neighbours` by 1 alone; and a textbook hierarchy in C++ (hierarchy.cpp), without
+             routes
   check      `routecli check` of the hierarchy of one worker and each order
   route      10,000 random pairs, 2,000 near ones, whose ends are at most 20 rows and columns apart, and no pairs, which reads
              the file alone, by the hierarchy of one worker and `edges`, which is the default, and `depth`; and by route.cpp, an
              optimised program that does the same
-  search     20 of the pairs without a hierarchy: in C++ (plain_search.cpp), by Boost, in Python by igraph (python_search.py),
-             and up to 264,346 nodes by NetworkX and in PostgreSQL by pgRouting (pgrouting_search.py)
+  search     20 of the pairs without a hierarchy: in C++ (plain_search.cpp), by Boost, in Python by igraph and, up to 65,536 nodes,
+             NetworkX (python_search.py), and up to 10,000 in PostgreSQL by pgRouting (pgrouting_search.py)
   read       the graph's text alone: `answer` with a text of pairs that is refused, and read_graph.cpp
   answer     100 pairs, up to 10,000 nodes
 
-A job that takes less than a second has three turns in a row, of which the middle one counts. NetworkX and pgRouting have their
-turn in the first round alone. Before each round of a network it waits until other programs leave the machine alone, for
-`--wait` seconds at most; if they don't, a line says so, and the run goes on. Each run is a line of runs.csv in the folder, and what was measured isn't measured again. Rerun the
-same command to resume an interrupted run, or with more rounds to add them. Figures of another program, another machine or other
-networks are refused; `--anew` drops them. With `--only` those jobs alone whose names have the word, as `route depth`. Seconds are
-of the wall clock and of the processors; memory is the greatest resident size; `others` is how many processors other programs kept
-busy meanwhile; the loads are those of the last minute, before and after the run.
+A job that takes less than a second has three turns in a row, of which the middle one counts. Before each round of a network it
+waits until other programs leave the machine alone, for `--wait` seconds at most; if they don't, a line says so, and the run goes
+on. Each run is a line of runs.csv in the folder, and what was measured isn't measured again. Rerun the same command to resume an
+interrupted run, or with more rounds to add them. Figures of another program, another machine or other networks are refused;
+`--anew` drops them. With `--only` those jobs alone whose names have the word, as `route depth`. Seconds are of the wall clock and
+of the processors; memory is the greatest resident size; `others` is how many processors other programs kept busy meanwhile; the
+loads are those of the last minute, before and after the run.
 
 All answers are compared: lengths and numbers of arcs with route.cpp, which searches by itself, nodes along the arcs of the
 network, and the first 20 of each text with every search. Each hierarchy that is prepared answers 100 pairs, as that of one
@@ -57,16 +58,15 @@ from kit.answers import are_answers, costs_in, least_arcs_of
 from kit.hierarchy_file import links_in
 from kit.program import PROGRAM, ROOT, Runs, compiled, need_compiled, need_program
 
-NODES = [10_000, 65_536, 264_346, 1_000_000]
+NODES = [10_000, 65_536]
 SPARSE = [264_346, 1_000_000]
-HARD = 514
-ORDERS = ["edges", "neighbours", "depth"]
+HARD = 256
 ROUTED = ["edges", "depth"]
-WORKERS = [1, 2, 4]
+WORKERS = {"edges": [1, 4], "neighbours": [1], "depth": [1, 4]}
 RANDOM, NEAR, STEPS, FEW, CHECKED = 10_000, 2_000, 20, 20, 100
-MOST_ANSWERED, MOST_SLOW, MOST_WHOLE = 10_000, 264_346, 1_000_000
+MOST_ANSWERED, MOST_WHOLE = 10_000, 1_000_000
 SEED = 1
-OTHERS, SLOW = ["igraph", "networkx", "pgrouting"], ["networkx", "pgrouting"]
+OTHERS = {"igraph": MOST_WHOLE, "networkx": 65_536, "pgrouting": 10_000}  # up to how many nodes each searches
 PYTHON = "/usr/bin/python3"
 HEADS = ["network", "job", "round", "seconds", "processor", "megabytes", "others", "before", "load", "when"]
 QUIET = 0.1  # processors that others may keep busy
@@ -187,19 +187,20 @@ class Bench:
         network has those of `depth`, and the searches that take no more than minutes."""
         jobs = {}
         is_large = network.count > MOST_WHOLE
-        for order in ORDERS[-1:] if is_large else ORDERS:
-            for workers in WORKERS:
+        routed = ROUTED[-1:] if is_large else ROUTED
+        for order in routed if is_large else WORKERS:
+            for workers in WORKERS[order]:
                 jobs[f"prepare {order} {workers}"] = self.prepare(network, order, workers)
-        for order in ORDERS[-1:] if is_large else ORDERS:
+        for order in routed:
             jobs[f"check {order}"] = self.checking(network, order)
         jobs["textbook"] = self.textbook(network)
-        for order in ROUTED[-1:] if is_large else ROUTED:
+        for order in routed:
             for kind in ["none", *network.kinds()]:
                 jobs[f"route {order} {kind}"] = self.route(network, order, kind)
                 jobs[f"route.cpp {order} {kind}"] = self.route_in_cpp(network, order, kind)
         for kind in network.kinds():
             for name in ["plain", *(["boost"] if self.boost else []), *self.others]:
-                if network.count <= (MOST_SLOW if name in SLOW else MOST_WHOLE) or name == "plain":
+                if name == "plain" or network.count <= OTHERS.get(name, MOST_WHOLE):
                     jobs[f"search {name} {kind}"] = self.search(network, name, kind)
         jobs["read"] = self.reading(network, [PROGRAM, "answer", network.graph, network.pairs("bad")], 5)
         jobs["read.cpp"] = self.reading(network, [self.programs["read_graph"], network.graph], 0)
@@ -395,9 +396,8 @@ def all_networks(options, folder):
 
 
 def is_left(bench, network, job, number):
-    """Whether a job has its turn in a round: what takes long has one in the first round alone."""
-    is_long = network.count > MOST_WHOLE or any(name in job for name in SLOW)
-    return (network.name, job, number) not in bench.done and not (number > 1 and is_long)
+    """Whether a job has its turn in a round: those of a large network have one in the first round alone."""
+    return (network.name, job, number) not in bench.done and not (number > 1 and network.count > MOST_WHOLE)
 
 
 def main():

@@ -22,12 +22,11 @@ from kit.counted import parser
 ROOT = pathlib.Path(__file__).resolve().parent.parent
 
 PICTURE = "![Times of preparing and of a pair against the number of nodes]({})\n"
-ORDERS, ROUTED, WORKERS = ["edges", "neighbours", "depth"], ["edges", "depth"], [1, 2, 4]
+ORDERS, ROUTED, WORKERS = ["edges", "neighbours", "depth"], ["edges", "depth"], [1, 4]
 COUNTS = {"random": 10_000, "near": 2_000}
 FEW = 20
 ENOUGH, CLOSE = 5, 1.1
 UNKNOWN = "unknown"
-ONE_ROUND = [["networkx"], ["pgrouting"]]
 SEARCHES = {"plain": "plain search in C++", "boost": "Boost", "igraph": "igraph", "networkx": "NetworkX", "pgrouting": "pgRouting"}
 
 
@@ -63,9 +62,9 @@ class Measured:
         found = median(self.pairs_of(network, order, kind, program, "seconds").values())
         return None if found is None else max(found, 0)
 
-    def beside(self, network, job, other):
+    def beside(self, network, job, other, head="processor"):
         """The ratio of two jobs, or that it is unknown."""
-        return compared(*(self.rounds_of(network, each, "processor") for each in [job, other]))
+        return compared(*(self.rounds_of(network, each, head) for each in [job, other]))
 
     def pair_beside(self, network, order, kind):
         """The ratio of a pair to one in C++, or that it is unknown."""
@@ -82,12 +81,10 @@ class Measured:
         return f"{max(parts):.0%}" if parts else "one round"
 
     def rounds(self):
-        """How many rounds the jobs of each kind had, from the fewest to the most, but for the searches that have one alone."""
+        """How many rounds the jobs of each kind had, from the fewest to the most."""
         told = {}
         for (_, job), rows in self.runs.items():
-            kind, *others = job.split()
-            if others[:1] not in ONE_ROUND:
-                told.setdefault(kind.removesuffix(".cpp"), []).append(len(rows))
+            told.setdefault(job.split()[0].removesuffix(".cpp"), []).append(len(rows))
         return {kind: (min(counts), max(counts)) for kind, counts in told.items()}
 
     def names(self):
@@ -178,6 +175,9 @@ def preparing(measured):
 
     rows = [[f"{workers}, `{order}`", *cells(f"prepare {order} {workers}")] for order in ORDERS for workers in WORKERS]
     rows.append(["textbook in C++", *cells("textbook")])
+    for order in ROUTED:
+        four, one = (f"prepare {order} {workers}" for workers in (4, 1))
+        rows.append([f"4 workers of 1, `{order}`", *(measured.beside(name, four, one, "seconds") for name in measured.names())])
     jobs = [f"prepare {order} {workers}" for order in ORDERS for workers in WORKERS]
     rows.append(["rounds differ by", *(measured.spread(name, *jobs, "textbook") for name in measured.names())])
     return table(["Workers, order", *map(measured.title, measured.names())], rows)
@@ -186,7 +186,7 @@ def preparing(measured):
 def checking(measured):
     rows = []
     for name in measured.names():
-        for order in ORDERS:
+        for order in ROUTED:
             jobs = [f"check {order}", f"prepare {order} 1"]
             found, most = measured.middle(name, jobs[0], "processor"), [measured.memory(name, job) for job in jobs]
             cells = [seconds(found), measured.beside(name, *jobs), megabytes(most[0]), f"{most[0] / most[1]:.2f}" if all(most) else ""]
@@ -331,7 +331,7 @@ def draw(measured, file):
         if found:
             axes.plot(*zip(*found), style, label=label, markersize=4)
 
-    for workers, style in [(1, "o-"), (2, "s-"), (4, "^-")]:
+    for workers, style in [(1, "o-"), (4, "^-")]:
         line(left, f"{workers} worker{'s' * (workers > 1)}, depth", lambda name: measured.middle(name, f"prepare depth {workers}"), style)
     line(left, "4 workers, edges", lambda name: measured.middle(name, "prepare edges 4"), "v:")
     line(left, "textbook in C++", lambda name: measured.middle(name, "textbook"), "k--")
