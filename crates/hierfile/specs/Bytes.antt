@@ -1,5 +1,5 @@
 -- What is known of the bytes of a reader and of a writer on the way.
-use Rattle.std.specs.Prelude.{ℕ, ◌≡◌, ◌≢◌, ◌+◌, ◌-◌, take, ◌^◌, ◌<◌, ◌≤◌, List, ◌++◌, length, Option, Some, None, IfSome, MatchOption, ◌⊎◌, IfOk, IfErr, Result, Ok, Err}
+use Rattle.std.specs.Prelude.{ℕ, ◌≡◌, ◌≢◌, ◌+◌, ◌-◌, take, ◌^◌, ◌<◌, ◌≤◌, List, ◌++◌, length, Option, Some, None, IfSome, MatchOption, ◌⊎◌, Result, Ok, Err}
 use Rattle.std.specs.Io.KnownBytes.{Appends, prepend_known}
 use Rattle.std.specs.declared.io.Error.{Error}
 use Rattle.counted_io.specs.Handing.{HandsOn}
@@ -8,8 +8,7 @@ use Rattle.ch_cost.specs.Cost.{length_of, arcs_of}
 use Rattle.ch_graph.specs.declared.link.Link.{Link}
 use Rattle.ch_graph.specs.declared.version.Version.{Version}
 use Rattle.ch_graph.specs.declared.version.Version.TheVariants.{One, Two}
-use Rattle.ch_graph.specs.Hierarchy.{Hierarchy, IsWellMade}
-use Rattle.hierfile.specs.Spelling.{bytes_of}
+use Rattle.ch_graph.specs.Hierarchy.{Hierarchy}
 use Rattle.hierfile.specs.declared.error.HierError.{HierError}
 use Rattle.hierfile.specs.declared.error.HierError.TheVariants.{OutOfMemory, Read, Truncated, HalfMissing, HalfSum}
 

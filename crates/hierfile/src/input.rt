@@ -113,7 +113,10 @@ impl Input {
         ensures reads { Reads R.step R.remaining self.old self.new reader.old reader.new (λ _. Keeps) (Refuses (cut count) (IsCut (cut count)) (IsCut (cut count))) result }
         ensures enough { OnOk result (count ≤ length self.new.waiting) }
     {
-        if !self.has(reader, count)? {
+        if self.end - self.at >= count {
+            return Ok(());
+        }
+        if !self.fill(reader, count)? {
             return Err(HierError::Truncated);
         }
         Ok(())

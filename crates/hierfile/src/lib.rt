@@ -22,6 +22,7 @@
 #![tactic(auto)]
 
 mod error;
+mod guesses;
 mod input;
 mod laws;
 mod links;

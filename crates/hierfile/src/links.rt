@@ -1,8 +1,8 @@
-ghost use Rattle.std.specs.Prelude.{◌≡◌, ◌≢◌, ◌-◌, ◌*◌, ◌^◌, ◌<◌, ◌≤◌, ◌++◌, length, None, Some, All, AllPairs, IfSome, IfOk, IfErr, OnOk};
+ghost use Rattle.std.specs.Prelude.{◌≡◌, ◌≢◌, ◌-◌, ◌*◌, ◌^◌, ◌<◌, ◌≤◌, ◌++◌, length, None, Some, All, AllPairs, IfSome, IfNone, IfOk, IfErr, IsTrue, OnOk, ℕ};
 ghost use Rattle.std.specs.List.{flat_map};
 ghost use Rattle.std.specs.Io.KnownBytes.{Consumes};
 ghost use Rattle.ch_cost.specs.Cost.{◌⊕◌, same};
-ghost use Rattle.ch_graph.specs.Hierarchy.{ComesBefore};
+ghost use Rattle.ch_graph.specs.Hierarchy.{ComesBefore, IsLinkAt};
 ghost use Rattle.ch_graph.specs.declared.link.Link.{Link};
 ghost use Rattle.ch_graph.specs.LinkIndex.{IsIndexOf};
 ghost use Rattle.ch_graph.specs.LinkHalves.{AreHalvesOf, ArePartsOf};
@@ -12,6 +12,7 @@ ghost use Rattle.hierfile.specs.Bytes.{IsCut, IsCutOrWhole, OfBytes, Tells, None
 ghost use Rattle.hierfile.specs.Reading.{Reads, ReadsValue, Refuses};
 
 use crate::error::HierError;
+use crate::guesses::Guesses;
 use crate::input::Input;
 use ch_cost::Cost;
 use ch_graph::{Link, LinkHalves, LinkId, LinkIndex, Parts, Version};
@@ -193,9 +194,10 @@ fn test_middle(ranks: &[u32], from: u32, to: u32, middle: Option<u32>) -> Result
 
 /// Finds the halves of each link with a middle, by the index of the links, and tests that they sum to its cost.
 ///
-/// Takes 8 bytes a link.
+/// Takes 8 bytes a link, and 4 a node while it runs.
 pub fn find_halves(
     alloc: Global,
+    nodes: u32,
     links: &[Link],
     index: &LinkIndex,
 ) -> Result<LinkHalves, HierError>
@@ -207,8 +209,10 @@ pub fn find_halves(
     ensures no_read { IfErr result (λ e. e ≢ HierError.Read) }
 {
     let mut halves = LinkHalves::with_room(alloc, links.len())?;
+    let mut guesses = Guesses::new(alloc, nodes)?;
     'links: for place in 0..links.len() {
-        let parts = parts_of(links, index, links[place])?;
+        guesses.note_links_beside(links, place);
+        let parts = parts_of(links, index, &guesses, links[place])?;
         halves.keep(LinkId(place), parts)?;
     }
     Ok(halves)
@@ -216,7 +220,12 @@ pub fn find_halves(
 
 // What a link represents: its halves, or itself where it has no middle.
 #[tactic(auto, unfolding(crate::specs::Fault::half_fault))]
-fn parts_of(links: &[Link], index: &LinkIndex, link: Link) -> Result<Parts, HierError>
+fn parts_of(
+    links: &[Link],
+    index: &LinkIndex,
+    guesses: &Guesses,
+    link: Link,
+) -> Result<Parts, HierError>
     requires sorted { AllPairs ComesBefore links.now }
     requires index { IsIndexOf links.now index.now }
     ensures parts { IfOk result (ArePartsOf links.now link) }
@@ -225,7 +234,7 @@ fn parts_of(links: &[Link], index: &LinkIndex, link: Link) -> Result<Parts, Hier
     let Some(middle) = link.middle else {
         return Ok(Parts::Arc(link.to));
     };
-    let Some(first) = index.find(links, link.from, middle) else {
+    let Some(first) = find_by(links, index, guesses, link.from, middle) else {
         return Err(HierError::HalfMissing);
     };
     let Some(second) = index.find(links, middle, link.to) else {
@@ -236,6 +245,36 @@ fn parts_of(links: &[Link], index: &LinkIndex, link: Link) -> Result<Parts, Hier
     } else {
         Err(HierError::HalfSum)
     }
+}
+
+// The place of the link from one node to another: the guess if it is right, else what the index finds.
+fn find_by(
+    links: &[Link],
+    index: &LinkIndex,
+    guesses: &Guesses,
+    from: u32,
+    to: u32,
+) -> Option<LinkId>
+    requires sorted { AllPairs ComesBefore links.now }
+    requires index { IsIndexOf links.now index.now }
+    ensures found { IfSome result (λ id. IsLinkAt links.now from to id.0) }
+    ensures none { IfNone result ((place : ℕ) → IsLinkAt links.now from to place → ⊥) }
+{
+    let place = guesses.of(to);
+    if is_link_at(links, place, from, to) {
+        return Some(LinkId(place));
+    }
+    index.find(links, from, to)
+}
+
+// Whether there is a link at this place, and it leads from one node to another.
+fn is_link_at(links: &[Link], place: usize, from: u32, to: u32) -> bool
+    ensures { IsTrue result → IsLinkAt links.now from to place }
+{
+    let Some(link) = links.get(place) else {
+        return false;
+    };
+    (link.from == from) & (link.to == to)
 }
 
 // Whether a cost is the sum of two, which may be of any size.

@@ -3,7 +3,7 @@ use Rattle.ch_cost.specs.declared.cost.Cost.{Cost}
 use Rattle.ch_cost.specs.Cost.{length_of}
 use Rattle.ch_cost.specs.Cost.Numbers.{length_of-of_walk}
 use Rattle.ch_graph.specs.declared.link.Link.{Link}
-use Rattle.ch_graph.specs.Hierarchy.{IsWellMade, ComesBefore, bound_arcs}
+use Rattle.ch_graph.specs.Hierarchy.{ComesBefore, bound_arcs}
 use Rattle.ch_graph.specs.LinkIndex.{IsIndexOf}
 use Rattle.ch_graph.specs.LinkHalves.{AreHalvesOf}
 use Rattle.hierfile.specs.Spelling.{bound_in, link_size}
