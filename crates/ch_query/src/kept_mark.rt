@@ -17,8 +17,8 @@ pub enum State {
     Settled,
 }
 
-/// A mark in 24 bytes, as a long list has it: whatever the state there is room for a label. Where the node is unseen its
-/// length is the greatest number, so that of most climbs the lengths alone show that they are no better.
+/// A mark packed into 24 bytes: whatever the state there is room for a label. Where the node is unseen its length is the
+/// greatest number, so that of most climbs the lengths alone show that they are no better.
 #[derive(Clone, Copy)]
 pub struct KeptMark {
     cost: Cost,
