@@ -7,7 +7,7 @@ use Rattle.counted_io.specs.declared.writing.WriteFault.{WriteFault}
 use Rattle.ch_graph.specs.Hierarchy.{Hierarchy}
 use Rattle.std.proofs.KnownBytes.{Appends-trans, Appends-nil}
 use Rattle.counted_io.specs.Handing.{HandsOn, HandsOnPart}
-use Rattle.grfile.specs.Taken.{line_feeds}
+use Rattle.text_lines.specs.Lines.{line_feeds}
 use Rattle.grfile.specs.declared.requests.Request.{Request}
 use Rattle.ch_serve.specs.declared.error.ServeError.{ServeError}
 use Rattle.ch_serve.specs.declared.error.ServeError.TheVariants as stops

@@ -14,7 +14,7 @@ use Rattle.ch_route.specs.Routes.{Route, HasTooLong, IsFewestWalk, IsLeastWalk, 
 use Rattle.ch_answer.specs.File.{IsRightIn}
 use Rattle.grfile.specs.Reading.{SpelledGraphsAreInRange}
 use Rattle.grfile.specs.Requests.{IsInRange, IsPlace, RequestsAreInRange, request_of, requests_of}
-use Rattle.grfile.specs.Lines.{cut_lines}
+use Rattle.text_lines.specs.Lines.{cut_lines}
 use Rattle.grfile.specs.declared.requests.Place.{Place}
 use Rattle.grfile.specs.declared.requests.Request.{Request}
 use Rattle.grfile.specs.declared.requests.Request.TheVariants as asks

@@ -3,7 +3,7 @@
 use Rattle.std.specs.Prelude.{ℕ, ◌≡◌, ◌≤◌, List, [], ◌++◌, length, Option}
 use Rattle.std.specs.Io.KnownBytes.{Consumes}
 use Rattle.counted_io.specs.Handing.{HandsOn, HandsOnPart}
-use Rattle.grfile.specs.Taken.{line_feeds}
+use Rattle.text_lines.specs.Lines.{line_feeds}
 use Rattle.grfile.specs.declared.requests.Request.{Request}
 use Rattle.ch_serve.specs.declared.error.ServeError.{ServeError}
 use Rattle.ch_serve.specs.declared.error.ServeError.TheVariants as stops

@@ -12,7 +12,7 @@ use Rattle.ch_answer.specs.Sending.{IsSendingBy, StopsAtFlush, StopsAtWrite}
 use Rattle.ch_answer.specs.Written.{Writes, WritesFirst}
 use Rattle.grfile.specs.Reading.{graph_of}
 use Rattle.grfile.specs.Requests.{requests_of}
-use Rattle.grfile.specs.Taken.{line_feeds}
+use Rattle.text_lines.specs.Lines.{line_feeds}
 use Rattle.grfile.specs.declared.requests.Request.{Request}
 use Rattle.hierfile.specs.Bytes.{OfBytes}
 use Rattle.hierfile.specs.Fault.{first_fault}

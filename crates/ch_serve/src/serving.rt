@@ -9,7 +9,7 @@ ghost use Rattle.ch_answer.specs.File.{PreparesIn};
 ghost use Rattle.ch_answer.specs.Sending.{IsSending, IsSentWithin, IsStopped};
 ghost use Rattle.ch_answer.specs.Written.{IfTold, Writes};
 ghost use Rattle.grfile.specs.Requests.{IsInRange, requests_of, requests_with};
-ghost use Rattle.grfile.specs.Taken.{line_feeds};
+ghost use Rattle.text_lines.specs.Lines.{line_feeds};
 ghost use Rattle.hierfile.specs.declared.error.HierError.TheVariants as faults;
 ghost use Rattle.ch_serve.specs.declared.error.ServeError.TheVariants as stop;
 ghost use Rattle.ch_serve.specs.Progress.{Breaks, BreaksAt, IsUnsent, Replies, RepliesOnce, RepliesTo, StopsReplying};

@@ -5,7 +5,8 @@ use Rattle.std.specs.Io.KnownBytes.{Consumes, IsAtEnd}
 use Rattle.std.proofs.lemmas.List.{append-nil}
 use Rattle.std.specs.List.{count_by}
 use Rattle.std.proofs.lemmas.List.Recursion.{is_count_by}
-use Rattle.grfile.specs.Taken.{StopsAtReached, line_feeds}
+use Rattle.text_lines.specs.Lines.{line_feeds}
+use Rattle.grfile.specs.Taken.{StopsAtReached}
 use Rattle.grfile.specs.Outcome.{next_line}
 use Rattle.grfile.specs.declared.error.GrError.{GrError}
 use Rattle.grfile.specs.declared.error.GrErrorKind.{GrErrorKind}

@@ -2,7 +2,7 @@
 use Rattle.std.specs.Prelude.{ℕ, ◌==◌, ◌||◌, Bool, List, [], ◌∷◌, if◌then◌else◌, codes}
 use Rattle.std.specs.List.{concat, onto_first}
 use Rattle.std.specs.Str.{bytes_eq}
-use Rattle.grfile.specs.Letters.{line_feed}
+use Rattle.text_lines.specs.Letters.{line_feed}
 
 -- the lines of an input, each with its line feed; the last has none where the input doesn't end with one
 abbrev pub ended_lines : List ℕ → List (List ℕ)

@@ -6,7 +6,8 @@ use Rattle.ch_graph.specs.Graph.{Graph}
 use Rattle.ch_graph.specs.Hierarchy.{Hierarchy}
 use Rattle.grfile.specs.Outcome.{FromText, next_line}
 use Rattle.grfile.specs.Reading.{graph_of, pairs_of}
-use Rattle.grfile.specs.Taken.{StopsAtReached, line_feeds}
+use Rattle.text_lines.specs.Lines.{line_feeds}
+use Rattle.grfile.specs.Taken.{StopsAtReached}
 use Rattle.grfile.specs.declared.error.GrError.{GrError}
 use Rattle.grfile.specs.declared.error.GrErrorKind.{GrErrorKind}
 use Rattle.grfile.specs.declared.error.GrErrorKind.TheVariants.{Read}

@@ -1,6 +1,7 @@
 ghost use Rattle.std.specs.Prelude.{◌≡◌, ◌<◌, ◌++◌, ℕ, List, false, length, IfOk, IfErr, IfSome, OnOk};
 ghost use Rattle.std.specs.Io.KnownBytes.{Consumes, IsAtEnd, Keeps};
-ghost use Rattle.grfile.specs.Taken.{StopsAtReached, line_feeds};
+ghost use Rattle.text_lines.specs.Lines.{line_feeds};
+ghost use Rattle.grfile.specs.Taken.{StopsAtReached};
 ghost use Rattle.ch_service.specs.Outcome.{ComesOfReading, IfTextFault, IsReadFault, of_fault, of_whole};
 
 use crate::error::ServiceError;

@@ -6,12 +6,12 @@ use Rattle.std.proofs.lemmas.Bool.{ltb-false}
 use Rattle.std.proofs.lemmas.List.Elements.{All-from_recursion}
 use Rattle.grfile.specs.declared.error.GrError.{GrError}
 use Rattle.grfile.specs.declared.error.GrErrorKind.TheVariants.{UnknownLine}
-use Rattle.grfile.specs.declared.fields.LineKind.TheVariants.{Skipped, Problem, Entry, Unknown}
+use Rattle.grfile.specs.declared.kind.LineKind.TheVariants.{Skipped, Problem, Entry, Unknown}
 use Rattle.grfile.specs.declared.requests.Ends.{Ends}
 use Rattle.grfile.specs.declared.requests.Place.{Place}
 use Rattle.grfile.specs.declared.requests.Request.{Request}
 use Rattle.grfile.specs.declared.requests.Request.TheVariants.{Comment, Route, Length, Fault, LineTooLong}
-use Rattle.grfile.specs.Lines.{fields_of}
+use Rattle.text_lines.specs.Fields.{fields_of}
 use Rattle.grfile.specs.Outcome.{◌>>=◌}
 use Rattle.grfile.specs.Grammar.{kind_of, number_in}
 use Rattle.grfile.specs.Pairs.{pair_of}

@@ -8,16 +8,18 @@ use Rattle.std.specs.Str.Lines.{strip_carriage_return}
 use Rattle.ch_graph.specs.declared.road.Road.{Road}
 use Rattle.grfile.specs.declared.error.GrError.{GrError}
 use Rattle.grfile.specs.declared.error.GrErrorKind.TheVariants.{OutOfMemory, UnknownLine, NoProblemLine, SecondProblemLine, ArcCount}
-use Rattle.grfile.specs.declared.fields.LineKind.TheVariants.{Skipped, Problem, Entry, Unknown}
+use Rattle.grfile.specs.declared.kind.LineKind.TheVariants.{Skipped, Problem, Entry, Unknown}
 use Rattle.grfile.specs.declared.form.Size.{Size}
-use Rattle.grfile.specs.Lines.{fields_of, lines_of}
-use Rattle.grfile.specs.Outcome.{◌>>=◌, SaysNothing, IsOfLine, capped, fault, next_line}
+use Rattle.text_lines.specs.Fields.{fields_of}
+use Rattle.text_lines.specs.Lines.{lines_of, cut_after, lines_after}
+use Rattle.text_lines.specs.Numbers.{capped}
+use Rattle.grfile.specs.Outcome.{◌>>=◌, SaysNothing, IsOfLine, fault, next_line}
 use Rattle.grfile.specs.Grammar.{Grammar, Listing, kind_of, entries_after, listing_after}
 use Rattle.grfile.specs.Progress.{listing_from}
 use Rattle.grfile.specs.Roads.{graph_grammar}
 use Rattle.grfile.specs.Pairs.{pair_grammar}
 use Rattle.grfile.specs.Reading.{graph_of, pairs_of}
-use Rattle.grfile.specs.Taken.{ComesFirst, HasTaken, IsAtEndOf, IsReadTo, StopsWith, Taken, cut_after, graph_with, lines_after, pairs_with, told_with}
+use Rattle.grfile.specs.Taken.{ComesFirst, HasTaken, IsAtEndOf, IsReadTo, StopsWith, Taken, graph_with, pairs_with, told_with}
 use Rattle.grfile.proofs.Cuttings.{told_first, wants_memory}
 use Rattle.grfile.proofs.Faults.{bind_err, test_err, graph_size-at, road_of-at, pairs_size-at, pair_of-at}
 use Rattle.grfile.proofs.Readings.{as_graph, as_pairs, graph_seen, pairs_seen}

@@ -8,8 +8,8 @@ use Rattle.ch_graph.specs.declared.road.Road.{Road}
 use Rattle.grfile.specs.declared.error.GrError.{GrError}
 use Rattle.grfile.specs.declared.error.GrErrorKind.TheVariants.{UnknownLine, FieldCount, NotANumber, NodeRange, WeightTooBig}
 use Rattle.grfile.specs.declared.form.Size.{Size}
-use Rattle.grfile.specs.Lines.{number_of}
-use Rattle.grfile.specs.Outcome.{◌>>=◌, fault, capped}
+use Rattle.text_lines.specs.Numbers.{number_of, capped}
+use Rattle.grfile.specs.Outcome.{◌>>=◌, fault}
 use Rattle.grfile.specs.Grammar.{number_in, capped_in}
 use Rattle.grfile.specs.Roads.{graph_size, size_in_range, road_of, road_in_range, is_outside}
 use Rattle.grfile.specs.Pairs.{pairs_size, count_in_range, pair_of, pair_in_range}

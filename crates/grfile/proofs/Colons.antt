@@ -4,7 +4,7 @@ use Rattle.std.proofs.lemmas.Bool.Decides.{nat_tests}
 use Rattle.grfile.specs.Letters.{letter_q}
 use Rattle.grfile.specs.declared.error.GrError.{GrError}
 use Rattle.grfile.specs.declared.error.GrErrorKind.TheVariants.{FieldCount, UnknownLine}
-use Rattle.grfile.specs.declared.fields.LineKind.TheVariants.{Skipped, Problem, Entry, Unknown}
+use Rattle.grfile.specs.declared.kind.LineKind.TheVariants.{Skipped, Problem, Entry, Unknown}
 use Rattle.grfile.specs.declared.requests.Place.{Place}
 use Rattle.grfile.specs.declared.requests.Request.TheVariants.{Comment, Route, Length, Fault}
 use Rattle.grfile.specs.declared.requests.Sides.{Sides}

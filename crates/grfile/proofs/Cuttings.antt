@@ -10,12 +10,13 @@ use Rattle.counted_io.specs.Limits.{ReadsWithin}
 use Rattle.grfile.specs.declared.error.GrError.{GrError}
 use Rattle.grfile.specs.declared.error.GrErrorKind.{GrErrorKind}
 use Rattle.grfile.specs.declared.error.GrErrorKind.TheVariants.{OutOfMemory, Read, UnknownLine, NoProblemLine, SecondProblemLine, FieldCount, NotANumber, NodeRange, WeightTooBig, TooManyNodes, TooManyArcs, ArcCount}
-use Rattle.grfile.specs.Lines.{lines_of}
-use Rattle.grfile.specs.Outcome.{◌>>=◌, IsReading, FromText, IsOfLine, SaysNothing, Takes, capped, next_line}
+use Rattle.text_lines.specs.Lines.{lines_of, line_feeds}
+use Rattle.text_lines.specs.Numbers.{capped}
+use Rattle.grfile.specs.Outcome.{◌>>=◌, IsReading, FromText, IsOfLine, SaysNothing, Takes, next_line}
 use Rattle.grfile.specs.Grammar.{Grammar, Listing, listing_after}
-use Rattle.grfile.specs.Taken.{CountsLines, HasTaken, IsAtEndOf, IsLineReached, IsReachedAfter, StopsAtReached, Taken, line_feeds, told_with}
+use Rattle.grfile.specs.Taken.{CountsLines, HasTaken, IsAtEndOf, IsLineReached, IsReachedAfter, StopsAtReached, Taken, told_with}
 use Rattle.grfile.specs.ToTheEnd.{ReachesEnd, ReadsToEnd}
-use Rattle.grfile.proofs.LineCuts.{feeds_both, lines_first}
+use Rattle.text_lines.specs.Lines.Laws.{feeds_both, lines_first}
 use Rattle.grfile.proofs.Readings.{from_text_map}
 
 pub counts_one : (r : Result ⊤ GrError) (old new : ℕ) → MatchResult r (λ _. new ≡ next_line old) (λ e. (new ≡ old) × IsOfLine (next_line old) e) → CountsLines r old 1 new

@@ -4,7 +4,7 @@ use Rattle.std.specs.Result.{IfErr}
 use Rattle.std.specs.Str.{bytes_eq}
 use Rattle.grfile.specs.declared.error.GrError.{GrError}
 use Rattle.grfile.specs.declared.error.GrErrorKind.TheVariants.{Read, UnknownLine, FieldCount, NotANumber, NodeRange}
-use Rattle.grfile.specs.Lines.{number_of}
+use Rattle.text_lines.specs.Numbers.{number_of}
 use Rattle.grfile.specs.Outcome.{◌>>=◌, fault, IsOfLine}
 use Rattle.grfile.specs.Grammar.{number_in}
 use Rattle.grfile.specs.Roads.{graph_size, size_in_range, road_of, road_in_range, is_outside}

@@ -6,9 +6,9 @@ use Rattle.grfile.specs.declared.requests.Request.{Request}
 use Rattle.grfile.specs.declared.requests.Request.TheVariants.{LineTooLong}
 use Rattle.std.specs.Prelude.{⊤, IsOk, OnOk}
 use Rattle.std.specs.Str.Lines.{strip_carriage_return}
-use Rattle.grfile.specs.Lines.{fields_of}
+use Rattle.text_lines.specs.Fields.{fields_of}
 use Rattle.grfile.specs.Requests.{request_by, request_of}
-use Rattle.grfile.specs.Taken.{cut_after}
+use Rattle.text_lines.specs.Lines.{cut_after}
 
 take_twice : (n : ℕ) (x : List ℕ) → take n (take n x) ≡ take n x
 take_twice zero x = refl

@@ -1,6 +1,3 @@
-pub mod LineCuts
-pub mod Blanks
-pub mod Digits
 pub mod Caps
 pub mod Steps
 pub mod Sound

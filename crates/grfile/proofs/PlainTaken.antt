@@ -7,13 +7,14 @@ use Rattle.std.proofs.lemmas.List.{append-nil, append_assoc, length-append}
 use Rattle.grfile.specs.declared.listing.Listed.{Listed}
 use Rattle.grfile.specs.declared.listing.Progress.{Progress}
 use Rattle.grfile.specs.declared.form.Size.{Size}
-use Rattle.grfile.specs.Lines.{fields_of}
+use Rattle.text_lines.specs.Fields.{fields_of}
 use Rattle.grfile.specs.Outcome.{next_line}
 use Rattle.grfile.specs.Grammar.{Grammar, Listing}
 use Rattle.grfile.specs.Progress.{listing_of, listing_from, entry_then, told_from}
-use Rattle.grfile.specs.Taken.{TakesLine, cut_after, line_feeds, lines_after}
+use Rattle.text_lines.specs.Lines.{cut_after, line_feeds, lines_after}
+use Rattle.grfile.specs.Taken.{TakesLine}
 use Rattle.grfile.specs.PlainLines.{IsEntryBefore}
-use Rattle.grfile.proofs.LineCuts.{feeds_both}
+use Rattle.text_lines.specs.Lines.Laws.{feeds_both}
 use Rattle.grfile.proofs.Steps.{step-entry}
 
 -- a byte of a line that has no line feed

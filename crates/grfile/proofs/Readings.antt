@@ -7,7 +7,7 @@ use Rattle.ch_graph.specs.declared.road.Road.{Road}
 use Rattle.grfile.specs.declared.error.GrError.{GrError}
 use Rattle.grfile.specs.declared.error.GrErrorKind.{GrErrorKind}
 use Rattle.grfile.specs.declared.error.GrErrorKind.TheVariants.{OutOfMemory, Read, UnknownLine, NoProblemLine, SecondProblemLine, FieldCount, NotANumber, NodeRange, WeightTooBig, TooManyNodes, TooManyArcs, ArcCount}
-use Rattle.grfile.specs.Lines.{lines_of}
+use Rattle.text_lines.specs.Lines.{lines_of}
 use Rattle.grfile.specs.Outcome.{◌>>=◌, FromText}
 use Rattle.grfile.specs.Grammar.{Listing, listing_after}
 use Rattle.grfile.specs.Roads.{graph_grammar}

@@ -10,9 +10,9 @@ use Rattle.ch_cost.specs.Cost.Laws.{weight-from}
 use Rattle.ch_graph.specs.Limits.{IsRoad, IsGraph}
 use Rattle.grfile.specs.declared.error.GrError.{GrError}
 use Rattle.grfile.specs.declared.error.GrErrorKind.TheVariants.{UnknownLine, NoProblemLine, SecondProblemLine, ArcCount}
-use Rattle.grfile.specs.declared.fields.LineKind.TheVariants.{Skipped, Problem, Entry, Unknown}
+use Rattle.grfile.specs.declared.kind.LineKind.TheVariants.{Skipped, Problem, Entry, Unknown}
 use Rattle.grfile.specs.declared.form.Size.{Size}
-use Rattle.grfile.specs.Lines.{fields_of}
+use Rattle.text_lines.specs.Fields.{fields_of}
 use Rattle.grfile.specs.Outcome.{◌>>=◌, fault, next_line}
 use Rattle.grfile.specs.Grammar.{Grammar, Listing, kind_of, number_in, entries_after, listing_after}
 use Rattle.grfile.specs.Roads.{graph_grammar, graph_size, size_in_range, road_of, road_in_range, is_outside}

@@ -4,10 +4,10 @@ use Rattle.std.proofs.lemmas.List.{append_assoc, append-nil, length_push}
 use Rattle.grfile.specs.declared.error.GrError.{GrError}
 use Rattle.grfile.specs.declared.error.GrErrorKind.{GrErrorKind}
 use Rattle.grfile.specs.declared.error.GrErrorKind.TheVariants.{OutOfMemory, Read, UnknownLine, NoProblemLine, SecondProblemLine, FieldCount, NotANumber, NodeRange, WeightTooBig, TooManyNodes, TooManyArcs, ArcCount}
-use Rattle.grfile.specs.declared.fields.LineKind.{LineKind}
-use Rattle.grfile.specs.declared.fields.LineKind.TheVariants.{Skipped, Problem, Entry, Unknown}
+use Rattle.grfile.specs.declared.kind.LineKind.{LineKind}
+use Rattle.grfile.specs.declared.kind.LineKind.TheVariants.{Skipped, Problem, Entry, Unknown}
 use Rattle.grfile.specs.declared.form.Size.{Size}
-use Rattle.grfile.specs.Lines.{fields_of}
+use Rattle.text_lines.specs.Fields.{fields_of}
 use Rattle.grfile.specs.Outcome.{◌>>=◌, fault, next_line, FromText, Takes}
 use Rattle.grfile.specs.Grammar.{Grammar, Listing, kind_of, entries_after, listing_after}
 use Rattle.grfile.specs.Progress.{listing_of, listing_from, entry_then}

@@ -3,11 +3,12 @@ use Rattle.std.specs.Prelude.{ℕ, ◌-◌, ◌==◌, if◌then◌else◌, List,
 use Rattle.grfile.specs.Letters.{letter_c, letter_p}
 use Rattle.grfile.specs.declared.error.GrError.{GrError}
 use Rattle.grfile.specs.declared.error.GrErrorKind.TheVariants.{UnknownLine, NoProblemLine, SecondProblemLine, NotANumber, ArcCount}
-use Rattle.grfile.specs.declared.fields.LineKind.{LineKind}
-use Rattle.grfile.specs.declared.fields.LineKind.TheVariants.{Skipped, Problem, Entry, Unknown}
+use Rattle.grfile.specs.declared.kind.LineKind.{LineKind}
+use Rattle.grfile.specs.declared.kind.LineKind.TheVariants.{Skipped, Problem, Entry, Unknown}
 use Rattle.grfile.specs.declared.form.Size.{Size}
-use Rattle.grfile.specs.Lines.{fields_of, number_of}
-use Rattle.grfile.specs.Outcome.{◌>>=◌, fault, capped, next_line}
+use Rattle.text_lines.specs.Fields.{fields_of}
+use Rattle.text_lines.specs.Numbers.{number_of, capped}
+use Rattle.grfile.specs.Outcome.{◌>>=◌, fault, next_line}
 
 -- The kind of a line with these fields: it is skipped if there is none or the first begins with c, and else the
 -- first field is p, or the letter of the entries.

@@ -1,17 +1,5 @@
--- The bytes that the texts are parsed by, with the names of their characters.
+-- The letters that lines begin with, with the names of their characters.
 use Rattle.std.specs.Prelude.{ℕ}
-
-abbrev pub tab : ℕ
-tab = 9
-
-abbrev pub line_feed : ℕ
-line_feed = 10
-
-abbrev pub space : ℕ
-space = 32
-
-abbrev pub digit_0 : ℕ
-digit_0 = 48
 
 abbrev pub letter_a : ℕ
 letter_a = 97

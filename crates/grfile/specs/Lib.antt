@@ -1,5 +1,4 @@
 pub mod Letters
-pub mod Lines
 pub mod Outcome
 pub mod Names
 pub mod Grammar

@@ -1,5 +1,6 @@
 -- What a text says, or its first fault, and how a result of the code compares with it.
-use Rattle.std.specs.Prelude.{◌≡◌, ◌≢◌, ℕ, ◌+◌, ◌-◌, ◌^◌, min, Result, Ok, Err, MatchResult, ⊤}
+use Rattle.std.specs.Prelude.{◌≡◌, ◌≢◌, ℕ, ◌+◌, Result, Ok, Err, MatchResult, ⊤}
+use Rattle.text_lines.specs.Numbers.{capped}
 use Rattle.grfile.specs.declared.error.GrError.{GrError}
 use Rattle.grfile.specs.declared.error.GrErrorKind.{GrErrorKind}
 use Rattle.grfile.specs.declared.error.GrErrorKind.TheVariants.{OutOfMemory, Read}
@@ -12,10 +13,6 @@ abbrev pub ◌>>=◌ : {A B : Type 0} → Result A GrError → (A → Result B G
 
 abbrev pub fault : {A : Type 0} → GrErrorKind → ℕ → Result A GrError
 fault kind line = Err (record { kind = kind; line = line })
-
--- a number that would pass 2^64 - 1 stays there
-abbrev pub capped : ℕ → ℕ
-capped n = min n (2 ^ 64 - 1)
 
 -- the number of the line after line n; the first line has number 1
 abbrev pub next_line : ℕ → ℕ

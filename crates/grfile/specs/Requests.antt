@@ -5,19 +5,19 @@ use Rattle.std.specs.Str.Lines.{strip_carriage_return}
 use Rattle.grfile.specs.Letters.{letter_q}
 use Rattle.grfile.specs.declared.error.GrError.{GrError}
 use Rattle.grfile.specs.declared.error.GrErrorKind.TheVariants.{UnknownLine, FieldCount, NodeRange, WeightTooBig}
-use Rattle.grfile.specs.declared.fields.LineKind.TheVariants.{Skipped, Problem, Entry, Unknown}
+use Rattle.grfile.specs.declared.kind.LineKind.TheVariants.{Skipped, Problem, Entry, Unknown}
 use Rattle.grfile.specs.declared.requests.Ends.{Ends}
 use Rattle.grfile.specs.declared.requests.Place.{Place}
 use Rattle.grfile.specs.declared.requests.Request.{Request}
 use Rattle.grfile.specs.declared.requests.Sides.{Sides}
 use Rattle.grfile.specs.declared.requests.Request.TheVariants.{Comment, Route, Length, Between, Fault, LineTooLong}
-use Rattle.grfile.specs.Lines.{cut_lines, fields_of}
+use Rattle.text_lines.specs.Lines.{cut_lines, cut_after}
+use Rattle.text_lines.specs.Fields.{fields_of}
 use Rattle.grfile.specs.Outcome.{◌>>=◌, fault}
 use Rattle.grfile.specs.Grammar.{kind_of, number_in}
 use Rattle.grfile.specs.Pairs.{pair_of}
 use Rattle.grfile.specs.Reading.{IsPair}
 use Rattle.grfile.specs.Roads.{is_outside}
-use Rattle.grfile.specs.Taken.{cut_after}
 
 abbrev pub letter_b : ℕ
 letter_b = 98

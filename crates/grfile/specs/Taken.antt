@@ -1,37 +1,18 @@
 -- What a reader has taken of a text, and what it then says of the whole.
-use Rattle.std.specs.Prelude.{◌≡◌, ◌≢◌, ◌≤◌, ◌<◌, ℕ, ◌+◌, ◌==◌, if◌then◌else◌, List, [], ◌∷◌, ◌++◌, length, map, Option, Some, None, Result, Ok, Err, MatchResult, MatchOption, IfSome}
+use Rattle.std.specs.Prelude.{◌≡◌, ◌≢◌, ◌≤◌, ◌<◌, ℕ, ◌+◌, List, [], ◌++◌, length, Option, Some, None, Result, Ok, Err, MatchResult, MatchOption, IfSome}
 use Rattle.std.specs.Option.{option_map}
-use Rattle.std.specs.Str.Lines.{strip_carriage_return}
-use Rattle.grfile.specs.Letters.{line_feed}
+use Rattle.text_lines.specs.Lines.{line_feeds, lines_after}
 use Rattle.ch_graph.specs.declared.road.Road.{Road}
 use Rattle.ch_graph.specs.Graph.{Graph}
 use Rattle.grfile.specs.declared.error.GrError.{GrError}
 use Rattle.grfile.specs.declared.error.GrErrorKind.TheVariants.{OutOfMemory, Read}
 use Rattle.grfile.specs.declared.pieces.Pieces.{Pieces}
-use Rattle.grfile.specs.Outcome.{◌>>=◌, SaysNothing, capped, next_line}
+use Rattle.text_lines.specs.Numbers.{capped}
+use Rattle.grfile.specs.Outcome.{◌>>=◌, SaysNothing, next_line}
 use Rattle.grfile.specs.Grammar.{Grammar, Listing}
 use Rattle.grfile.specs.Roads.{graph_grammar}
 use Rattle.grfile.specs.Pairs.{pair_grammar}
 use Rattle.grfile.specs.Progress.{listing_of, listing_from}
-
--- A text's last line, which is one only if there is any of it.
-abbrev pub last_line : List ℕ → List (List ℕ)
-last_line [] = []
-last_line (b ∷ begun) = (b ∷ begun) ∷ []
-
--- The lines of the bytes that follow, where these bytes of the first line came before.
-abbrev pub cut_after : List ℕ → List ℕ → List (List ℕ)
-cut_after begun [] = last_line begun
-cut_after begun (b ∷ text) = if b == line_feed then begun ∷ cut_after [] text else cut_after (begun ++ b ∷ []) text
-
--- the same, each line without the one carriage return at its end
-abbrev pub lines_after : List ℕ → List ℕ → List (List ℕ)
-lines_after begun text = map strip_carriage_return (cut_after begun text)
-
--- how many line feeds there are
-abbrev pub line_feeds : List ℕ → ℕ
-line_feeds [] = 0
-line_feeds (b ∷ text) = if b == line_feed then line_feeds text + 1 else line_feeds text
 
 -- What is kept of a text: how many lines have ended, what they say once a problem line has come, the bytes of the
 -- line that hasn't ended, and the refusal that was returned, if there was one.

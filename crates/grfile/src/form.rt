@@ -4,7 +4,7 @@ ghost use Rattle.grfile.specs.Grammar.{Grammar};
 ghost use Rattle.grfile.specs.PlainLines.{IsEntryBefore};
 
 use crate::error::GrError;
-use crate::fields::Fields;
+use text_lines::Fields;
 
 /// What a problem line says: how many nodes there are, and how many entries follow.
 #[derive(Clone, Copy)]

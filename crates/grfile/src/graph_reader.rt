@@ -5,7 +5,8 @@ ghost use Rattle.counted_io.specs.Limits.{IsReadWithin, ReadsWithin};
 ghost use Rattle.counted_io.specs.declared.TheConstants.{MOST_CALLS};
 ghost use Rattle.grfile.specs.Outcome.{IsReading, Takes};
 ghost use Rattle.grfile.specs.Reading.{graph_of};
-ghost use Rattle.grfile.specs.Taken.{ComesFirst, CountsLines, IsAtEndOf, StopsAtReached, StopsWith, graph_with, line_feeds};
+ghost use Rattle.text_lines.specs.Lines.{line_feeds};
+ghost use Rattle.grfile.specs.Taken.{ComesFirst, CountsLines, IsAtEndOf, StopsAtReached, StopsWith, graph_with};
 ghost use Rattle.grfile.specs.declared.error.GrErrorKind.TheVariants.{Read};
 
 use crate::error::GrError;

@@ -1,6 +1,6 @@
 //! The texts of road graphs and of pairs of nodes, as the Ninth DIMACS Implementation Challenge has them.
 //!
-//! Builds on `ch_graph`, whose graphs it makes, on `counted_io`, which calls the reader, and on `bstr`, which cuts
+//! Builds on `ch_graph`, whose graphs it makes, on `counted_io`, which calls the reader, and on `text_lines`, which cuts
 //! the lines. Its main types are [`GrReader`] and [`QueryReader`], which take a text in pieces, and [`GrError`], the
 //! first fault of a text.
 //! The promise of the layer is the contract of [`read_graph`] and [`read_queries`]: whatever a text says, its
@@ -19,16 +19,14 @@
 #![tactic(auto)]
 
 mod error;
-mod fields;
 mod form;
 mod graph_reader;
+mod kind;
 mod laws;
-mod line;
 mod listing;
 mod number;
 mod pairs;
 mod pieces;
-mod plain;
 mod query_reader;
 mod requests;
 mod roads;

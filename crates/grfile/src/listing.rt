@@ -7,9 +7,10 @@ ghost use Rattle.grfile.specs.Taken.{TakesLine};
 ghost use Rattle.grfile.specs.declared.error.GrErrorKind.TheVariants.{OutOfMemory, Read};
 
 use crate::error::{GrError, GrErrorKind};
-use crate::fields::{Fields, LineKind, fields_of, kind_of};
 use crate::form::{Form, Size};
+use crate::kind::{LineKind, kind_of};
 use std::alloc::Global;
+use text_lines::{Fields, fields_of};
 
 /// What a problem line says, and the entries after it.
 #[derive(Drop)]

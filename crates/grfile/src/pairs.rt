@@ -4,10 +4,9 @@ ghost use Rattle.std.specs.Str.{bytes_eq};
 ghost use Rattle.grfile.specs.Pairs.{pair_grammar, pairs_size, count_in_range, pair_of, pair_in_range};
 
 use crate::error::{GrError, GrErrorKind};
-use crate::fields::Fields;
 use crate::form::{Form, PlainLine, Size};
 use crate::number::number_in;
-use crate::plain::{after_letter, number_before};
+use text_lines::{Fields, after_letter, number_before};
 
 /// The query file: `p aux sp p2p K`, and then pairs `q S T`.
 #[derive(Clone, Copy)]

@@ -4,20 +4,21 @@ ghost use Rattle.std.specs.Option.{option_map};
 ghost use Rattle.std.specs.Str.Lines.{strip_carriage_return};
 ghost use Rattle.counted_io.specs.Limits.{GivesOut, IsRead};
 ghost use Rattle.counted_io.specs.declared.TheConstants.{MOST_CALLS};
-ghost use Rattle.grfile.specs.Lines.{lines_of};
-ghost use Rattle.grfile.specs.Outcome.{IsReading, FromText, IsOfLine, Takes, capped, next_line};
+ghost use Rattle.text_lines.specs.Lines.{lines_of, line_feeds, lines_after};
+ghost use Rattle.text_lines.specs.Numbers.{capped};
+ghost use Rattle.grfile.specs.Outcome.{IsReading, FromText, IsOfLine, Takes, next_line};
 ghost use Rattle.grfile.specs.Grammar.{listing_after};
 ghost use Rattle.grfile.specs.Progress.{listing_of, listing_from, told_from};
-ghost use Rattle.grfile.specs.Taken.{CountsLines, HasTaken, IsAtEndOf, IsLineReached, IsReadTo, StopsWith, TakesLine, line_feeds, lines_after, taken_of, told_with};
+ghost use Rattle.grfile.specs.Taken.{CountsLines, HasTaken, IsAtEndOf, IsLineReached, IsReadTo, StopsWith, TakesLine, taken_of, told_with};
 ghost use Rattle.grfile.specs.ToTheEnd.{ReadsToEnd};
 ghost use Rattle.grfile.specs.declared.error.GrErrorKind.TheVariants.{OutOfMemory, Read};
 
 use crate::error::{GrError, GrErrorKind};
 use crate::form::Form;
-use crate::line::{first_line, without_return};
 use crate::listing::{Listed, Progress, end, take_line, take_plain};
 use counted_io::{ReadCalls, StepRead};
 use std::alloc::Global;
+use text_lines::{first_line, without_return};
 
 /// What is kept of a text that comes in pieces.
 #[derive(Drop)]

@@ -1,18 +1,18 @@
 ghost use Rattle.std.specs.Prelude.{◌≡◌, ◌≤◌, ◌<◌, ◌+◌, ◌++◌, ◌∷◌, [], false, suc, length, take, drop, List, ℕ, ⊤, IfSome, Ok, Err, MatchOption, MatchResult};
 ghost use Rattle.std.specs.Option.{option_to_list};
-ghost use Rattle.grfile.specs.Lines.{fields_of};
+ghost use Rattle.text_lines.specs.Fields.{fields_of};
 ghost use Rattle.grfile.specs.Requests.{AreSides, IsInRange, RequestsAreInRange, are_ends, between_by, colon_at, ends_of, is_of_places, length_by, of_pair, place_in_range, place_of, place_then, places_of, request_by, request_of, requests_of, requests_with};
 ghost use Rattle.grfile.specs.Pairs.{pair_of};
-ghost use Rattle.grfile.specs.Taken.{line_feeds};
+ghost use Rattle.text_lines.specs.Lines.{line_feeds};
 ghost use Rattle.grfile.specs.declared.requests.Request.TheVariants.{Route, Length};
 
 use crate::error::{GrError, GrErrorKind};
-use crate::fields::{Fields, LineKind, fields_of, kind_of};
-use crate::line::{first_line, without_return};
+use crate::kind::{LineKind, kind_of};
 use crate::number::number_in;
 use crate::pairs::pair_of;
 use arrayvec::ArrayVec;
 use std::marker::Model;
+use text_lines::{Fields, fields_of, first_line, without_return};
 
 /// How many bytes a line of a request has at most, its carriage return among them, its line feed not.
 const MOST_BYTES: usize = 4096;

@@ -3,11 +3,10 @@ ghost use Rattle.grfile.specs.PlainLines.{IsEntryBefore};
 ghost use Rattle.grfile.specs.Roads.{graph_grammar, graph_size, size_in_range, road_of, road_in_range};
 
 use crate::error::{GrError, GrErrorKind};
-use crate::fields::Fields;
 use crate::form::{Form, PlainLine, Size};
 use crate::number::number_in;
-use crate::plain::{after_letter, number_before};
 use ch_graph::Road;
+use text_lines::{Fields, after_letter, number_before};
 
 /// The text of a graph: `p sp N M`, and then arcs `a U V W`.
 #[derive(Clone, Copy)]

@@ -1,7 +1,7 @@
 use Rattle.std.proofs.Common.{◌+◌, ◌≤◌, ◌++◌, ◌∙◌, List, ℕ, arith, refl}
 use Rattle.std.proofs.lemmas.Result.{err_from_is_err_and}
 use Rattle.grfile.specs.Requests.{requests_with}
-use Rattle.grfile.specs.Taken.{line_feeds}
+use Rattle.text_lines.specs.Lines.{line_feeds}
 use Rattle.ch_serve.specs.Reply.{by_hierarchy}
 use Rattle.ch_serve.proofs.Handed.{line_breaks, line_step, replies_none}
 use Rattle.ch_answer.specs.Sending.Laws.{sending_none, sending_then, write_stops_then}

@@ -1,6 +1,6 @@
 use Rattle.std.proofs.Common.{◌≡◌, ◌+◌, ◌++◌, ◌<◌, ◌^◌, List, ℕ, length}
 use Rattle.grfile.specs.Requests.{requests_with}
-use Rattle.grfile.specs.Taken.{line_feeds}
+use Rattle.text_lines.specs.Lines.{line_feeds}
 use Rattle.ch_serve.specs.Progress.{Replies}
 use Rattle.ch_serve.specs.Reply.{by_hierarchy}
 use Rattle.ch_answer.specs.Sending.{IsSending}

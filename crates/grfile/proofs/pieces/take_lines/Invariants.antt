@@ -1,7 +1,7 @@
 use Rattle.std.proofs.Common.{◌≡◌, ◌≤◌, ◌+◌, ◌++◌, [], List, ℕ, length}
-use Rattle.grfile.specs.Outcome.{capped}
+use Rattle.text_lines.specs.Numbers.{capped}
 use Rattle.grfile.specs.Progress.{told_from}
-use Rattle.grfile.specs.Taken.{line_feeds, lines_after}
+use Rattle.text_lines.specs.Lines.{line_feeds, lines_after}
 use Rattle.grfile.proofs.pieces.take_lines.Given as goal
 
 abbrev pub invariant-loop-more : goal.invariant-loop-more

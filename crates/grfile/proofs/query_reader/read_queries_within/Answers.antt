@@ -1,5 +1,5 @@
 use Rattle.std.proofs.lemmas.Result.{err_from_is_err_and, IfOk-at_ok}
-use Rattle.grfile.specs.Lines.{lines_of}
+use Rattle.text_lines.specs.Lines.{lines_of}
 use Rattle.grfile.proofs.Sound.{pairs_listed}
 use Rattle.grfile.proofs.Readings.{pairs_fault_known, pairs_read_known}
 use Rattle.grfile.proofs.Before.{pairs_stops}

@@ -1,6 +1,6 @@
 use Rattle.std.proofs.Common.{◌/◌, drop, sym, ap, ◌∙◌}
 use Rattle.std.proofs.lemmas.Result.{err_from_is_err_and}
-use Rattle.grfile.specs.Lines.{fields_of}
+use Rattle.text_lines.specs.Fields.{fields_of}
 use Rattle.grfile.specs.Requests.{places_of}
 use Rattle.grfile.proofs.Colons.{behind_is, ends_fail, ends_told}
 use Rattle.grfile.proofs.requests.ends_of.Goals as goal

@@ -1,5 +1,5 @@
 use Rattle.std.proofs.Common.{drop, suc, ap, sym, arith, ◌≡◌, ◌+◌, ◌∙◌}
-use Rattle.grfile.specs.Lines.{fields_of}
+use Rattle.text_lines.specs.Fields.{fields_of}
 use Rattle.grfile.proofs.Colons.{drop_end, drop_one}
 use Rattle.grfile.proofs.requests.fields_behind.Goals as goal
 

@@ -1,5 +1,5 @@
 use Rattle.std.proofs.Common.{ap, sym, arith, ◌∙◌}
-use Rattle.grfile.specs.Lines.{fields_of}
+use Rattle.text_lines.specs.Fields.{fields_of}
 use Rattle.grfile.specs.Requests.{request_by}
 use Rattle.grfile.proofs.KeptBytes.{long_asks, short_asks}
 use Rattle.grfile.proofs.requests.request_of.Goals as goal

@@ -1,5 +1,5 @@
 use Rattle.std.proofs.Common.{drop, ap, sym, ◌∙◌}
-use Rattle.grfile.specs.Lines.{fields_of}
+use Rattle.text_lines.specs.Fields.{fields_of}
 use Rattle.grfile.specs.Requests.{colon_at, is_of_places}
 use Rattle.grfile.proofs.Colons.{behind_is, no_ends, sides_are, too_many}
 use Rattle.grfile.proofs.requests.sides_of.Goals as goal

@@ -1,7 +1,7 @@
 use Rattle.std.proofs.Common.{ℕ, List, map, ap, ◌∙◌}
 use Rattle.grfile.specs.Requests.{request_of}
-use Rattle.grfile.specs.Taken.{cut_after}
-use Rattle.grfile.proofs.LineCuts.{cut_first}
+use Rattle.text_lines.specs.Lines.{cut_after}
+use Rattle.text_lines.specs.Lines.Laws.{cut_first}
 use Rattle.grfile.proofs.requests.RequestReader.new.Goals as goal
 
 pub returns-clause-told : goal.returns-clause-told

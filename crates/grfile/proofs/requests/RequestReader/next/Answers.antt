@@ -1,6 +1,6 @@
 use Rattle.std.proofs.Common.{List, ℕ, ◌++◌, map, ap, sym, ◌∙◌}
 use Rattle.grfile.specs.Requests.{RequestsTaken, request_of, requests_with}
-use Rattle.grfile.specs.Taken.{cut_after}
+use Rattle.text_lines.specs.Lines.{cut_after}
 use Rattle.grfile.proofs.KeptBytes.{kept_asks}
 use Rattle.grfile.proofs.requests.RequestReader.next.Goals as goal
 

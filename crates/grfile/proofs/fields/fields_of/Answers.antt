@@ -1,5 +1,0 @@
-use Rattle.grfile.proofs.Blanks.{fields_cut}
-use Rattle.grfile.proofs.fields.fields_of.Goals as goal
-
-pub returns : goal.returns
-returns c = fields_cut _ _ _ c.split_str.ensures.value c.split_str-2.ensures.value

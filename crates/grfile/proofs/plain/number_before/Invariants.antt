@@ -1,5 +1,0 @@
-use Rattle.grfile.proofs.PlainFields.{AreDigits}
-use Rattle.grfile.proofs.plain.number_before.Given as goal
-
-abbrev pub invariant-loop-i : goal.invariant-loop-i
-invariant-loop-i l = AreDigits l.text l.i l.number

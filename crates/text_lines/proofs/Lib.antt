@@ -1,0 +1,3 @@
+pub mod LineCuts
+pub mod Blanks
+pub mod Digits
