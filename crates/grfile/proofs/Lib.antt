@@ -6,7 +6,4 @@ pub mod Faults
 pub mod Cuttings
 pub mod PlainFields
 pub mod PlainTaken
-pub mod KeptBytes
-pub mod AskedInRange
-pub mod Colons
 pub mod Before

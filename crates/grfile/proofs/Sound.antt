@@ -1,35 +1,24 @@
 -- What is read of a text is within its limits.
-use Rattle.std.proofs.Common.{ℕ, ◌≡◌, ◌-◌, ◌^◌, ◌<◌, ◌≤◌, Bool, true, false, if◌then◌else◌, ◌&&◌, eqb, ltb, List, [], ◌∷◌, length, drop, Result, Ok, Err, All, codes, arith, refl, sym, subst}
+use Rattle.std.proofs.Common.{ℕ, ◌≡◌, ◌-◌, ◌^◌, ◌≤◌, if◌then◌else◌, ◌&&◌, eqb, ltb, List, [], ◌∷◌, length, drop, Ok, All, codes, arith, refl, sym, subst}
 use Rattle.std.specs.List.{AllByRecursion}
 use Rattle.std.specs.Result.{IfOk}
 use Rattle.std.specs.Str.{bytes_eq}
-use Rattle.std.proofs.lemmas.Bool.{cond_both, ltb-false, or_parts, eqb-true, eqb-false}
+use Rattle.std.proofs.lemmas.Bool.{cond_both, ltb-false, eqb-true, eqb-false}
 use Rattle.std.proofs.lemmas.Result.{IfOk-weaker}
 use Rattle.std.proofs.lemmas.List.Elements.{All-from_recursion}
 use Rattle.ch_cost.specs.Cost.Laws.{weight-from}
 use Rattle.ch_graph.specs.Limits.{IsRoad, IsGraph}
-use Rattle.grfile.specs.declared.error.GrError.{GrError}
 use Rattle.grfile.specs.declared.error.GrErrorKind.TheVariants.{UnknownLine, NoProblemLine, SecondProblemLine, ArcCount}
 use Rattle.grfile.specs.declared.kind.LineKind.TheVariants.{Skipped, Problem, Entry, Unknown}
 use Rattle.grfile.specs.declared.form.Size.{Size}
 use Rattle.text_lines.specs.Fields.{fields_of}
 use Rattle.grfile.specs.Outcome.{◌>>=◌, fault, next_line}
+use Rattle.grfile.specs.Outcome.Laws.{bind_ok, test_ok, then_ok}
+use Rattle.grfile.specs.Pairs.Laws.{below, pair_ok}
 use Rattle.grfile.specs.Grammar.{Grammar, Listing, kind_of, number_in, entries_after, listing_after}
 use Rattle.grfile.specs.Roads.{graph_grammar, graph_size, size_in_range, road_of, road_in_range, is_outside}
-use Rattle.grfile.specs.Pairs.{pair_grammar, pairs_size, count_in_range, pair_of}
+use Rattle.grfile.specs.Pairs.{pair_grammar, pairs_size, count_in_range}
 use Rattle.grfile.specs.Reading.{IsPair}
-
-pub bind_ok : {A B : Type 0} (r : Result A GrError) (f : A → Result B GrError) (P : A → Type 0) (Q : B → Type 0) → IfOk r P → ((a : A) → P a → IfOk (f a) Q) → IfOk (r >>= f) Q
-bind_ok (Ok x) f P Q h next = next x h
-bind_ok (Err e) f P Q h next = tt
-
-pub then_ok : {A B : Type 0} (r : Result A GrError) (f : A → Result B GrError) (Q : B → Type 0) → ((a : A) → IfOk (f a) Q) → IfOk (r >>= f) Q
-then_ok (Ok x) f Q next = next x
-then_ok (Err e) f Q next = tt
-
-pub test_ok : {A : Type 0} (b : Bool) (e : GrError) (r : Result A GrError) (Q : A → Type 0) → (b ≡ false → IfOk r Q) → IfOk (if b then Err e else r) Q
-test_ok true e r Q h = tt
-test_ok false e r Q h = h refl
 
 -- what each line of an entry has to be
 module _ {E : Type 0} (grammar : Grammar E) (size : Size) (P : E → Type 0) (each : (n : ℕ) (fields : List (List ℕ)) → IfOk (grammar.entry_of size n fields) P) where
@@ -101,13 +90,6 @@ graph_size_ok line (word ∷ n ∷ m ∷ []) = cond_both (bytes_eq word (codes "
     (λ _. then_ok (number_in line n) _ IsSmall (λ nodes. then_ok (number_in line m) _ IsSmall (λ arcs. size_ok line nodes arcs))) (λ _. tt)
 graph_size_ok line (a ∷ b ∷ c ∷ d ∷ more) = tt
 
--- a node that isn't outside has a number from 0 that is below
-pub below : (nodes n : ℕ) → is_outside nodes n ≡ false → n - 1 < nodes
-below nodes n within =
-    let parts = or_parts (eqb n 0) (ltb nodes n) within in
-    let some = eqb-false n 0 parts.0 in
-    omega (arith, ltb-false nodes n parts.1)
-
 road_in_range_ok : (nodes line from to weight : ℕ) → IfOk (road_in_range nodes line from to weight) (IsRoad nodes)
 road_in_range_ok nodes line from to weight =
     test_ok (is_outside nodes from) _ _ (IsRoad nodes) (λ from_in. test_ok (is_outside nodes to) _ _ (IsRoad nodes) (λ to_in. test_ok (ltb (2 ^ 32 - 1) weight) _ _ (IsRoad nodes) (λ light. record {
@@ -145,17 +127,6 @@ pairs_size_ok nodes line (first ∷ second ∷ third ∷ k ∷ []) = cond_both
     (λ _. then_ok (number_in line k) _ (λ (size : Size). size.nodes ≡ nodes)
     (λ count. test_ok (ltb (2 ^ 27) count) _ _ (λ (size : Size). size.nodes ≡ nodes) (λ _. refl))) (λ _. tt)
 pairs_size_ok nodes line (a ∷ b ∷ c ∷ d ∷ e ∷ more) = tt
-
-pub pair_ok : (size : Size) (line : ℕ) (fields : List (List ℕ)) → IfOk (pair_of size.nodes line fields) (IsPair size.nodes)
-unfolding pair_of
-pair_ok size line [] = tt
-pair_ok size line (a ∷ []) = tt
-pair_ok size line (s ∷ t ∷ []) = then_ok (number_in line s) _ (IsPair size.nodes)
-    (λ source. then_ok (number_in line t) _ (IsPair size.nodes)
-    (λ target. test_ok (is_outside size.nodes source) _ _ (IsPair size.nodes)
-    (λ source_in. test_ok (is_outside size.nodes target) _ _ (IsPair size.nodes)
-    (λ target_in. (below size.nodes source source_in, below size.nodes target target_in)))))
-pair_ok size line (a ∷ b ∷ c ∷ more) = tt
 
 pub pairs_listed : (nodes n : ℕ) (lines : List (List ℕ)) → IfOk (listing_after (pair_grammar nodes) n lines) (λ listing. All (IsPair nodes) listing.entries)
 pairs_listed nodes n lines = IfOk-weaker (listing_after (pair_grammar nodes) n lines) _ _

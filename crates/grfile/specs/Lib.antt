@@ -9,4 +9,3 @@ pub mod Reading
 pub mod Taken
 pub mod PlainLines
 pub mod ToTheEnd
-pub mod Requests

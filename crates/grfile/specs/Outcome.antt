@@ -4,6 +4,7 @@ use Rattle.text_lines.specs.Numbers.{capped}
 use Rattle.grfile.specs.declared.error.GrError.{GrError}
 use Rattle.grfile.specs.declared.error.GrErrorKind.{GrErrorKind}
 use Rattle.grfile.specs.declared.error.GrErrorKind.TheVariants.{OutOfMemory, Read}
+pub mod Laws
 
 infixl 10 ◌>>=◌
 -- the first fault, or what comes of the next step

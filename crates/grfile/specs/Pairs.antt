@@ -8,6 +8,7 @@ use Rattle.grfile.specs.declared.form.Size.{Size}
 use Rattle.grfile.specs.Outcome.{◌>>=◌, fault}
 use Rattle.grfile.specs.Grammar.{Grammar, number_in}
 use Rattle.grfile.specs.Roads.{is_outside}
+pub mod Laws
 
 abbrev pub count_in_range : ℕ → ℕ → ℕ → Result Size GrError
 count_in_range nodes line count =

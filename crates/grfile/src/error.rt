@@ -46,7 +46,7 @@ pub struct GrError {
 
 impl GrErrorKind {
     /// This fault, of that line.
-    pub(crate) fn at(self, line: u64) -> GrError
+    pub fn at(self, line: u64) -> GrError
         ensures { result ≡ record { kind = self; line = line } }
     {
         GrError { kind: self, line }

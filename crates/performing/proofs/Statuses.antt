@@ -8,8 +8,8 @@ use Rattle.outcomes.specs.declared.cause.Cause.{Cause}
 use Rattle.outcomes.specs.declared.cause.Cause.TheVariants as causes
 use Rattle.outcomes.specs.declared.outcome.Outcome.{Outcome}
 use Rattle.outcomes.specs.declared.outcome.Outcome.TheVariants.{Done, Wrong, NotShown, Refused}
-use Rattle.ch_serve.specs.declared.error.ServeError.{ServeError}
-use Rattle.ch_serve.specs.declared.error.ServeError.TheVariants as stops
+use Rattle.ch_requests.specs.declared.error.ServeError.{ServeError}
+use Rattle.ch_requests.specs.declared.error.ServeError.TheVariants as stops
 use Rattle.jobs.specs.Job.{is_joined}
 use Rattle.jobs.specs.declared.job.Job.{Job}
 use Rattle.jobs.specs.declared.job.Job.TheVariants.{Answer, Prepare, Route, Serve, Info, Check}

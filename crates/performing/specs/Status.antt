@@ -15,9 +15,9 @@ use Rattle.ch_service.specs.Joined.{graph_part, pairs_part}
 use Rattle.ch_service.specs.Outcome.{IfTold, IsGraphText, Writes}
 use Rattle.ch_service.specs.Refusals.{RefusesAnswers, RefusesPreparing, RefusesRoutes}
 use Rattle.ch_service.specs.Route.{Prepares, Routes}
-use Rattle.ch_serve.specs.Serving.{IsFileFault, KeepsBefore, Serves, ServesFirst, StopsServing}
-use Rattle.ch_serve.specs.declared.error.ServeError.{ServeError}
-use Rattle.ch_serve.specs.declared.error.ServeError.TheVariants as stops
+use Rattle.ch_requests.specs.Serving.{IsFileFault, KeepsBefore, Serves, ServesFirst, StopsServing}
+use Rattle.ch_requests.specs.declared.error.ServeError.{ServeError}
+use Rattle.ch_requests.specs.declared.error.ServeError.TheVariants as stops
 use Rattle.ch_verify.specs.Refusal.{RefusesCheck}
 use Rattle.ch_verify.specs.Verdict.{IsWrong, Says, verdict_line}
 use Rattle.ch_verify.specs.declared.verdict.Doubt.{Doubt}

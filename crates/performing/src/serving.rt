@@ -2,7 +2,7 @@ ghost use Rattle.std.specs.Prelude.{◌≡◌};
 ghost use Rattle.outcomes.specs.Outcomes.{status_after};
 ghost use Rattle.performing.specs.Status.{IsServingStatus, TellsServed, stop_cause};
 
-use ch_serve::{ServeError, serve};
+use ch_requests::{ServeError, serve};
 use outcomes::{Cause, Input, Outcome};
 use std::alloc::Global;
 use std::io::{Read, Write};

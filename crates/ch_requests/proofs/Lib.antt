@@ -1,0 +1,10 @@
+pub mod Colons
+pub mod KeptBytes
+pub mod AskedInRange
+pub mod Letters
+pub mod Seeding
+pub mod Handed
+pub mod Served
+pub mod ServedOver
+pub mod Fronts
+pub mod Called

@@ -1,0 +1,5 @@
+use Rattle.ch_requests.proofs.AskedInRange.{requests_ok}
+use Rattle.ch_requests.proofs.laws.requests_are_in_range.Goals as goal
+
+pub returns : goal.returns
+returns c = requests_ok

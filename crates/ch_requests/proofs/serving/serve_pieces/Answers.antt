@@ -1,0 +1,60 @@
+use Rattle.std.proofs.Common.{ℕ, [], ◌∙◌, refl, subst, sym}
+use Rattle.std.proofs.lemmas.Result.{err_from_is_err_and}
+use Rattle.ch_requests.specs.Requests.{requests_with}
+use Rattle.ch_requests.specs.Reply.{by_hierarchy}
+use Rattle.ch_requests.proofs.Handed.{keeps_all, stops_step, to_none, to_step}
+use Rattle.counted_io.specs.Limits.{IsRead}
+use Rattle.counted_io.specs.declared.TheConstants.{MOST_CALLS}
+use Rattle.counted_io.specs.Limits.Laws.{read_none, read_then, reads_then}
+use Rattle.ch_answer.specs.Sending.Laws.{sending_none, sending_then}
+use Rattle.ch_requests.proofs.Called.{stops_then_after}
+use Rattle.ch_requests.proofs.serving.serve_pieces.Goals as goal
+
+pub pieces-init : goal.pieces-init
+pieces-init g c = record {
+  same = refl;
+  nodes = refl;
+  empty = c.requires.empty;
+  replies = to_none (by_hierarchy c.args.router.now) _ _ (requests_with c.args.reader.now) _ [] _ (keeps_all (g.Q.Read.remaining c.args.requests.now));
+  reads = subst (λ (n : ℕ). IsRead g.Q.StepRead.step MOST_CALLS n c.args.requests.now c.args.requests.now) (sym c.new-calls.ensures) (read_none g.Q.StepRead.step MOST_CALLS c.args.requests.now);
+  sends = sending_none g.W.StepWrite.step g.W.StepFlush.flush_step _ _ _ _;
+}
+
+pub returns-in_err-serve_piece-clause-err : goal.returns-in_err-serve_piece-clause-err
+returns-in_err-serve_piece-clause-err g c =
+    let exit = err_from_is_err_and c.from_residual.result c.from_residual.ensures.1 in
+    let kept = c.pieces.invariant in
+    rw (exit.1, exit.2) (stops_step _ _ _ kept.same kept.replies c.in_err-serve_piece.ensures.err)
+
+pub pieces-preserved : goal.pieces-preserved
+pieces-preserved g c =
+    let kept = c.pieces.invariant in
+    record {
+      same = c.in_ok-serve_piece.ensures.kept ∙ kept.same;
+      nodes = c.in_ok-serve_piece.ensures.nodes ∙ kept.nodes;
+      empty = c.in_ok-serve_piece.ensures.all;
+      replies = to_step kept.same kept.replies c.in_ok-serve_piece.ensures.ok;
+      reads = read_then g.Q.StepRead.step kept.reads c.in_ok-serve_piece.ensures.calls;
+      sends = sending_then g.W.StepWrite.step g.W.StepFlush.flush_step kept.sends c.in_ok-serve_piece.ensures.sends;
+    }
+
+pub returns-clause-ok : goal.returns-clause-ok
+returns-clause-ok g c =
+    let kept = c.pieces.invariant in
+    to_step kept.same kept.replies c.in_ok-serve_piece.ensures.ok
+
+pub returns-in_err-serve_piece-clause-stopped : goal.returns-in_err-serve_piece-clause-stopped
+returns-in_err-serve_piece-clause-stopped g c =
+    let exit = err_from_is_err_and c.from_residual.result c.from_residual.ensures.1 in
+    rw (exit.1, exit.2) (reads_then g.Q.StepRead.step c.pieces.invariant.reads c.in_err-serve_piece.ensures.stopped)
+
+pub returns-clause-calls : goal.returns-clause-calls
+returns-clause-calls g c = (_, read_then g.Q.StepRead.step c.pieces.invariant.reads c.in_ok-serve_piece.ensures.calls)
+
+pub returns-in_err-serve_piece-clause-unsent : goal.returns-in_err-serve_piece-clause-unsent
+returns-in_err-serve_piece-clause-unsent g c =
+    let exit = err_from_is_err_and c.from_residual.result c.from_residual.ensures.1 in
+    rw (exit.1, exit.2) (stops_then_after g.W.StepWrite.step g.W.StepFlush.flush_step _ _ c.pieces.invariant.sends c.in_err-serve_piece.ensures.unsent)
+
+pub returns-clause-sends : goal.returns-clause-sends
+returns-clause-sends g c = sending_then g.W.StepWrite.step g.W.StepFlush.flush_step c.pieces.invariant.sends c.in_ok-serve_piece.ensures.sends

@@ -1,0 +1,6 @@
+pub mod Places
+pub mod Requests
+pub mod Seeds
+pub mod Reply
+pub mod Serving
+pub mod Progress

@@ -1,4 +1,0 @@
-pub mod Places
-pub mod Reply
-pub mod Serving
-pub mod Progress

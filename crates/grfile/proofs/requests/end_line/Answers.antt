@@ -1,7 +1,0 @@
-use Rattle.std.proofs.Common.{ap, ◌∙◌}
-use Rattle.grfile.specs.Requests.{request_of}
-use Rattle.grfile.proofs.KeptBytes.{kept_line}
-use Rattle.grfile.proofs.requests.end_line.Goals as goal
-
-pub returns-clause-asked : goal.returns-clause-asked
-returns-clause-asked c = c.request_of-request.ensures ∙ ap (request_of c.args.nodes) (c.as_slice.ensures.value ∙ c.keep.ensures) ∙ kept_line c.args.nodes _
