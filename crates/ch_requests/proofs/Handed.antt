@@ -5,7 +5,7 @@ use Rattle.std.specs.Option.{option_to_list}
 use Rattle.std.specs.Io.KnownBytes.{Appends, Consumes, Keeps}
 use Rattle.counted_io.specs.declared.writing.WriteFault.{WriteFault}
 use Rattle.ch_graph.specs.Hierarchy.{Hierarchy}
-use Rattle.std.proofs.KnownBytes.{Appends-trans, Appends-nil}
+use Rattle.std.proofs.KnownBytes.{Appends-trans, Appends-nil, Consumes-kept, Consumes-nil, Consumes-trans}
 use Rattle.counted_io.specs.Handing.{HandsOn, HandsOnPart}
 use Rattle.text_lines.specs.Lines.{line_feeds}
 use Rattle.text_lines.specs.Lines.Laws.{feeds_both}
@@ -148,16 +148,8 @@ module _ (told : Told) where
 
 -- What a reader gave
 
-consumes_then : (a b c : Option (List ℕ)) (xs ys : List ℕ) → Consumes a b xs → Consumes b c ys → Consumes a c (xs ++ ys)
-consumes_then None b c xs ys h k = tt
-consumes_then (Some l) None c xs ys h k = absurd h
-consumes_then (Some l) (Some m) None xs ys h k = absurd k
-consumes_then (Some l) (Some m) (Some n) xs ys h k = h ∙ ap (λ (r : List ℕ). xs ++ r) k ∙ sym (append_assoc xs ys n)
-
 pub consumes_none : (a b : Option (List ℕ)) → Keeps a b → Consumes a b []
-consumes_none None b h = tt
-consumes_none (Some l) None h = absurd h
-consumes_none (Some l) (Some m) h = sym h
+consumes_none a b kept = Consumes-kept a a b [] (Consumes-nil a) kept
 
 feeds_within : (text more : List ℕ) → line_feeds text + line_feeds more ≤ line_feeds (text ++ more)
 feeds_within text more = omega (arith, feeds_both text more)
@@ -180,7 +172,7 @@ module _ (told : Told) where
       → RepliesTo told mid_left left mid_asks after mid new rest last at to → RepliesTo told had left before after old new lines last from to
   to_then {had} {mid_left} {left} {before} {mid_asks} {after} h k = record {
     bytes = h.bytes ++ k.bytes;
-    consumed = consumes_then had mid_left left h.bytes k.bytes h.consumed k.consumed;
+    consumed = Consumes-trans had mid_left left h.bytes k.bytes h.consumed k.consumed;
     replies = replies_as told (line_feeds (h.bytes ++ k.bytes)) after (sym (feeds_both h.bytes k.bytes)) (λ more. ap before (append_assoc h.bytes k.bytes more)) (λ more. refl) (replies_then told (shifted k.bytes h.replies) k.replies);
   }
 
@@ -189,7 +181,7 @@ module _ (told : Told) where
       → BreaksIn told mid_left left mid_asks mid new rest at to → BreaksIn told had left before old new lines from to
   breaks_in_then {had} {mid_left} {left} {before} {mid_asks} h k = record {
     bytes = h.bytes ++ k.bytes;
-    consumed = consumes_then had mid_left left h.bytes k.bytes h.consumed k.consumed;
+    consumed = Consumes-trans had mid_left left h.bytes k.bytes h.consumed k.consumed;
     breaks = breaks_as told (line_feeds (h.bytes ++ k.bytes)) (feeds_within h.bytes k.bytes) (λ more. ap before (append_assoc h.bytes k.bytes more)) (breaks_then told (shifted k.bytes h.replies) k.breaks);
   }
 
@@ -260,10 +252,6 @@ line_breaks {h} {now} {request = request} {here = here} next {mid = mid} {new = 
 
 -- A piece of a text
 
-pub keeps_all : (had : Option (List ℕ)) → Keeps had had
-keeps_all None = tt
-keeps_all (Some l) = refl
-
 module _ (told : Told) where
   pub read_stop : (had left : Option (List ℕ)) (asks : List ℕ → List Request) (old : Option (List ℕ)) (from : ℕ) → Keeps had left → StopsAtRead told had left asks old old [] from
   read_stop had left asks old from keeps = record { after = asks; to = from; served = to_none told had left asks old [] from keeps }
@@ -293,6 +281,15 @@ module _ (told : Told) where
     bytes = bytes;
     consumed = consumed;
     breaks = subst (λ (l : List ℕ). Breaks told (line_feeds bytes) (λ more. asks (bytes ++ more)) old new l from to) none (breaks_hand told replies part);
+  }
+
+  -- the writer failed while the lines of a piece were replied to
+  pub piece_broken : (had left : Option (List ℕ)) (asks : List ℕ → List Request) (bytes : List ℕ) (old new : Option (List ℕ)) (lines : List ℕ) (from to : ℕ)
+      → lines ≡ [] → Consumes had left bytes → Breaks told (line_feeds bytes) (λ more. asks (bytes ++ more)) old new lines from to → BreaksIn told had left asks old new [] from to
+  piece_broken had left asks bytes old new lines from to none consumed breaks = record {
+    bytes = bytes;
+    consumed = consumed;
+    breaks = subst (λ (l : List ℕ). Breaks told (line_feeds bytes) (λ more. asks (bytes ++ more)) old new l from to) none breaks;
   }
 
   pub piece_unsent : (had left : Option (List ℕ)) (asks after : List ℕ → List Request) (bytes : List ℕ) (old mid new : Option (List ℕ))

@@ -8,3 +8,4 @@ pub mod Served
 pub mod ServedOver
 pub mod Fronts
 pub mod Called
+pub mod Sessions

@@ -1,5 +1,5 @@
 -- A whole service: the first line, the replies to all pieces, and the reply to a last line without its end.
-use Rattle.std.proofs.Common.{ℕ, ◌≡◌, ◌<◌, List, [], ◌++◌, length, take, Option, Some, None, Result, Ok, Err, inl, inr, arith, refl, ap, sym, subst, ◌∙◌, append-nil, length-append}
+use Rattle.std.proofs.Common.{ℕ, ◌≡◌, ◌<◌, List, [], ◌++◌, length, take, Option, Result, Ok, Err, inl, inr, arith, refl, ap, sym, subst, ◌∙◌, append-nil, length-append}
 use Rattle.std.specs.Prelude.{⊤, IfErr, IfSome, OnOk}
 use Rattle.std.specs.Io.KnownBytes.{Appends, Consumes, IsAtEnd, Keeps}
 use Rattle.std.proofs.Math.Seq.{take-append_seam}
@@ -15,6 +15,7 @@ use Rattle.ch_requests.specs.Reply.{AreReplies, Told, nothing}
 use Rattle.ch_requests.specs.Progress.{IsUnsent, RepliesTo, StopsReplying}
 use Rattle.ch_requests.specs.Serving.{AreServed, StopsServing}
 use Rattle.ch_requests.proofs.Handed.{consumes_none, hands_join, hands_more, part_join, replies_append}
+use Rattle.std.proofs.KnownBytes.{Consumes-whole}
 
 -- all bytes were given
 all_given : (old new : Option (List ℕ)) (bytes : List ℕ) (from to : ℕ) → HandsOn old new bytes [] from to → Appends old new bytes
@@ -144,11 +145,6 @@ module _ (told : Told) (lines : List ℕ) where
       ([], consumes_none had left keeps, (0, inl refl, written (take 0 (requests_of n [])) old new [] [] k.0 refl nothing (subst (λ (l : List ℕ). HandsOn old new l [] 0 k.0) (sym (append-nil lines)) k.1)))
 
 -- all that the reader had was read
-pub read_whole : (P : List ℕ → Type 0) (had left : Option (List ℕ)) (read : List ℕ) → Consumes had left read → IsAtEnd left → P read → IfSome had P
-read_whole P None left read consumed ended h = tt
-read_whole P (Some text) None read consumed ended h = absurd consumed
-read_whole P (Some text) (Some rest) read consumed ended h = subst P (sym (consumed ∙ ap (λ (l : List ℕ). read ++ l) ended ∙ append-nil read)) h
-
 pub read_all : {E : Type 0} (r : Result ⊤ E) (P : List ℕ → Type 0) (had left : Option (List ℕ)) → OnOk r ((read : List ℕ) × Consumes had left read × IsAtEnd left × P read) → OnOk r (IfSome had P)
 read_all (Err e) P had left h = tt
-read_all (Ok x) P had left h = read_whole P had left h.0 h.1 h.2 h.3
+read_all (Ok x) P had left h = Consumes-whole had left h.0 P h.1 h.2 h.3

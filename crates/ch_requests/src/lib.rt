@@ -26,6 +26,7 @@ mod request;
 mod seeds;
 mod sending;
 mod serving;
+mod session;
 
 pub use error::ServeError;
 pub use laws::{requests_are_in_range, services_are_exact};

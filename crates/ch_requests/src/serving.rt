@@ -1,36 +1,23 @@
-ghost use Rattle.std.specs.Prelude.{◌≡◌, ◌<◌, ◌^◌, ◌++◌, ℕ, List, [], false, take, length, OnOk, IfOk, IfErr, IfSome};
-ghost use Rattle.std.specs.Io.KnownBytes.{Consumes, IsAtEnd};
-ghost use Rattle.counted_io.specs.Handing.{HandsOn};
-ghost use Rattle.counted_io.specs.Limits.{IsRead, IsReadWithin, ReadsWithin};
+ghost use Rattle.std.specs.Prelude.{◌≡◌, ℕ, List, length, OnOk, IfErr, IfSome};
+ghost use Rattle.counted_io.specs.Limits.{IsReadWithin, ReadsWithin};
 ghost use Rattle.counted_io.specs.declared.TheConstants.{MOST_CALLS};
 ghost use Rattle.ch_route.specs.Routes.{IsFewestWalk, IsLeastWalk};
 ghost use Rattle.ch_graph.specs.declared.version.Version.TheVariants.{One, Two};
 ghost use Rattle.ch_answer.specs.File.{PreparesIn};
-ghost use Rattle.ch_answer.specs.Sending.{IsSending, IsSentWithin, IsStopped};
+ghost use Rattle.ch_answer.specs.Sending.{IsSentWithin};
 ghost use Rattle.ch_answer.specs.Written.{IfTold, Writes};
-ghost use Rattle.ch_requests.specs.Requests.{IsInRange, requests_of, requests_with};
-ghost use Rattle.text_lines.specs.Lines.{line_feeds};
 ghost use Rattle.hierfile.specs.declared.error.HierError.TheVariants as faults;
+ghost use Rattle.ch_requests.specs.Requests.{requests_of};
 ghost use Rattle.ch_requests.specs.declared.error.ServeError.TheVariants as stop;
-ghost use Rattle.ch_requests.specs.Progress.{Breaks, BreaksAt, IsUnsent, Replies, RepliesOnce, RepliesTo, StopsReplying};
-ghost use Rattle.ch_requests.specs.Reply.{AreReplies, by_hierarchy, ready};
+ghost use Rattle.ch_requests.specs.Reply.{by_hierarchy, ready};
 ghost use Rattle.ch_requests.specs.Serving.{AreServed, IsFileFault, IsOwn, KeepsBefore, ServedFirst, Serves, ServesFirst, ServesOver, StopsSending, StopsServing};
 
 use crate::error::ServeError;
 use crate::laws::services_are_exact;
-use crate::line::push_ready;
-use crate::reader::RequestReader;
-use crate::reply::push_reply;
-use crate::request::Request;
-use crate::sending::send;
-use ch_answer::Lines;
+use crate::session::Session;
 use ch_graph::Hierarchy;
-use ch_route::Router;
-use counted_io::{MOST_CALLS, ReadCalls, StepFlush, StepRead, WriteFault};
+use counted_io::{StepFlush, StepRead};
 use std::alloc::Global;
-
-/// How many bytes a reader is asked for in a call.
-const PIECE: usize = 1 << 16;
 
 /// Serves requests by the file of a hierarchy.
 ///
@@ -95,175 +82,6 @@ pub fn serve_by<Q: StepRead, W: StepFlush>(
     ensures sends { OnOk result (IsSentWithin W.step W.flush_step MOST_CALLS out.old out.new) }
     ensures unsent { IfErr result (StopsSending W.step W.flush_step MOST_CALLS MOST_CALLS 0 out.old out.new) }
 {
-    let mut router = Router::new(alloc, hierarchy)?;
-    let mut output = Lines::new(alloc);
-    push_ready(hierarchy, &mut output.lines)?;
-    serve_all(&mut router, requests, &mut output, out)
-}
-
-// Serves requests behind the lines that are gathered.
-fn serve_all<Q: StepRead, W: StepFlush>(
-    router: &mut Router<'_>,
-    requests: &mut Q,
-    output: &mut Lines,
-    out: &mut W,
-) -> Result<(), ServeError>
-    requires written { output.old.calls.written ≡ 0 }
-    ensures ok { OnOk result ((read : List ℕ) × Consumes (Q.remaining requests.old) (Q.remaining requests.new) read × IsAtEnd (Q.remaining requests.new)
-        × Writes (AreServed output.old.lines.items (by_hierarchy router.old) (requests_of (length router.old.ranks) read)) (W.contents out.old) (W.contents out.new)) }
-    ensures err { IfErr result (StopsServing (λ count read. AreServed output.old.lines.items (by_hierarchy router.old) (take count (requests_of (length router.old.ranks) read)))
-        (Q.remaining requests.old) (Q.remaining requests.new) (W.contents out.old) (W.contents out.new)) }
-    ensures own { IfErr result IsOwn }
-    ensures calls { OnOk result (IsReadWithin Q.step MOST_CALLS requests.old requests.new) }
-    ensures stopped { IfErr result (λ e. ReadsWithin Q.step MOST_CALLS (e ≡ stop.Read) requests.old requests.new) }
-    ensures sends { OnOk result (IsSending W.step W.flush_step output.old output.new out.old out.new) }
-    ensures unsent { IfErr result (StopsSending W.step W.flush_step output.old.calls.left output.old.flushes.left output.old.calls.written out.old out.new) }
-{
-    send(output, out)?;
-    let mut reader = RequestReader::new(router.nodes());
-    serve_pieces(router, &mut reader, requests, output, out)?;
-    reply_to_last(router, &reader, output, out)
-}
-
-// Replies to the request of the line that hasn't ended, where there is one, and sends the reply.
-fn reply_to_last<W: StepFlush>(
-    router: &mut Router<'_>,
-    reader: &RequestReader,
-    output: &mut Lines,
-    out: &mut W,
-) -> Result<(), ServeError>
-    requires nodes { reader.now.nodes ≡ length router.old.ranks }
-    requires empty { output.old.lines.items ≡ [] }
-    ensures ok { OnOk result ((text : List ℕ) × AreReplies (by_hierarchy router.old) (requests_with reader.now []) text
-        × HandsOn (W.contents out.old) (W.contents out.new) text [] output.old.calls.written output.new.calls.written) }
-    ensures err { IfErr result (λ e. (text : List ℕ) × AreReplies (by_hierarchy router.old) (requests_with reader.now []) text
-        × IsUnsent (W.contents out.old) (W.contents out.new) text output.old.calls.written e) }
-    ensures sends { OnOk result (IsSending W.step W.flush_step output.old output.new out.old out.new) }
-    ensures unsent { IfErr result (StopsSending W.step W.flush_step output.old.calls.left output.old.flushes.left output.old.calls.written out.old out.new) }
-{
-    let Some(request) = reader.last() else {
-        return Ok(());
-    };
-    reply(router, &request, output, out)?;
-    send(output, out)
-}
-
-// Replies to one request. Where memory for the reply runs out, that is reported in its place. Fewer than 64 KiB of replies are
-// kept back.
-fn reply<W: StepFlush>(
-    router: &mut Router<'_>,
-    request: &Request,
-    output: &mut Lines,
-    out: &mut W,
-) -> Result<(), WriteFault>
-    requires in_range { IsInRange (length router.old.ranks) request.now }
-    ensures ok { OnOk result (RepliesOnce (by_hierarchy router.old) request.now (W.contents out.old) (W.contents out.new) output.old.lines.items output.new.lines.items output.old.calls.written output.new.calls.written) }
-    ensures err { IfErr result (λ fault. BreaksAt (by_hierarchy router.old) request.now (W.contents out.old) (W.contents out.new) output.old.lines.items output.old.calls.written fault.written) }
-    ensures kept { router.new ≡ router.old }
-    ensures few { OnOk result (length output.new.lines.items < 2 ^ 16) }
-    ensures sends { OnOk result (IsSending W.step W.flush_step output.old output.new out.old out.new) }
-    ensures stopped { IfErr result (IsStopped W.step W.flush_step output.old out.old out.new) }
-{
-    let Err(_) = push_reply(router, request, &mut output.lines) else {
-        return output.hand_over_if_many(out);
-    };
-    output.hand_over(out)?;
-    output.calls.write(out, b"e OutOfMemory\n")
-}
-
-// Replies to the requests of all lines that end in a piece.
-fn reply_to_lines<W: StepFlush>(
-    router: &mut Router<'_>,
-    reader: &mut RequestReader,
-    piece: &[u8],
-    output: &mut Lines,
-    out: &mut W,
-) -> Result<(), WriteFault>
-    requires nodes { reader.old.nodes ≡ length router.old.ranks }
-    requires few { length output.old.lines.items < 2 ^ 16 }
-    ensures ok { OnOk result (Replies (by_hierarchy router.old) (line_feeds piece.now) (λ more. requests_with reader.old (piece.now ++ more)) (requests_with reader.new)
-        (W.contents out.old) (W.contents out.new) output.old.lines.items output.new.lines.items output.old.calls.written output.new.calls.written) }
-    ensures err { IfErr result (λ fault. Breaks (by_hierarchy router.old) (line_feeds piece.now) (λ more. requests_with reader.old (piece.now ++ more))
-        (W.contents out.old) (W.contents out.new) output.old.lines.items output.old.calls.written fault.written) }
-    ensures nodes { reader.new.nodes ≡ reader.old.nodes }
-    ensures kept { router.new ≡ router.old }
-    ensures few { OnOk result (length output.new.lines.items < 2 ^ 16) }
-    ensures sends { OnOk result (IsSending W.step W.flush_step output.old output.new out.old out.new) }
-    ensures stopped { IfErr result (IsStopped W.step W.flush_step output.old out.old out.new) }
-{
-    let mut rest = piece;
-    'lines: while let Some(asked) = reader.next(rest) {
-        reply(router, &asked.request, output, out)?;
-        rest = asked.rest;
-    }
-    Ok(())
-}
-
-// Reads once, replies to the lines that end in what came, and sends all replies; whether anything came before the reader's
-// end.
-fn serve_piece<Q: StepRead, W: StepFlush>(
-    calls: &mut ReadCalls,
-    router: &mut Router<'_>,
-    reader: &mut RequestReader,
-    requests: &mut Q,
-    piece: &mut [u8],
-    output: &mut Lines,
-    out: &mut W,
-) -> Result<bool, ServeError>
-    requires room { 0 < length piece.old }
-    requires nodes { reader.old.nodes ≡ length router.old.ranks }
-    requires empty { output.old.lines.items ≡ [] }
-    ensures ok { OnOk result (RepliesTo (by_hierarchy router.old) (Q.remaining requests.old) (Q.remaining requests.new) (requests_with reader.old) (requests_with reader.new)
-        (W.contents out.old) (W.contents out.new) [] [] output.old.calls.written output.new.calls.written) }
-    ensures ended { IfOk result (λ more. more ≡ false → IsAtEnd (Q.remaining requests.new)) }
-    ensures err { IfErr result (StopsReplying (by_hierarchy router.old) (Q.remaining requests.old) (Q.remaining requests.new) (requests_with reader.old)
-        (W.contents out.old) (W.contents out.new) [] output.old.calls.written) }
-    ensures room { length piece.new ≡ length piece.old }
-    ensures all { OnOk result (output.new.lines.items ≡ []) }
-    ensures counted { OnOk result (calls.new.left < calls.old.left) }
-    ensures nodes { reader.new.nodes ≡ reader.old.nodes }
-    ensures kept { router.new ≡ router.old }
-    ensures calls { OnOk result (IsRead Q.step calls.old.left calls.new.left requests.old requests.new) }
-    ensures stopped { IfErr result (λ e. ReadsWithin Q.step calls.old.left (e ≡ stop.Read) requests.old requests.new) }
-    ensures sends { OnOk result (IsSending W.step W.flush_step output.old output.new out.old out.new) }
-    ensures unsent { IfErr result (StopsSending W.step W.flush_step output.old.calls.left output.old.flushes.left output.old.calls.written out.old out.new) }
-{
-    let count = calls.read(requests, piece)?;
-    if count == 0 {
-        return Ok(false);
-    }
-    reply_to_lines(router, reader, &piece[..count], output, out)?;
-    send(output, out)?;
-    Ok(true)
-}
-
-// Replies to the lines of all that the reader gives.
-fn serve_pieces<Q: StepRead, W: StepFlush>(
-    router: &mut Router<'_>,
-    reader: &mut RequestReader,
-    requests: &mut Q,
-    output: &mut Lines,
-    out: &mut W,
-) -> Result<(), ServeError>
-    requires nodes { reader.old.nodes ≡ length router.old.ranks }
-    requires empty { output.old.lines.items ≡ [] }
-    ensures ok { OnOk result (RepliesTo (by_hierarchy router.old) (Q.remaining requests.old) (Q.remaining requests.new) (requests_with reader.old) (requests_with reader.new)
-        (W.contents out.old) (W.contents out.new) [] [] output.old.calls.written output.new.calls.written) }
-    ensures ended { OnOk result (IsAtEnd (Q.remaining requests.new)) }
-    ensures err { IfErr result (StopsReplying (by_hierarchy router.old) (Q.remaining requests.old) (Q.remaining requests.new) (requests_with reader.old)
-        (W.contents out.old) (W.contents out.new) [] output.old.calls.written) }
-    ensures all { OnOk result (output.new.lines.items ≡ []) }
-    ensures nodes { reader.new.nodes ≡ reader.old.nodes }
-    ensures kept { router.new ≡ router.old }
-    ensures calls { OnOk result (IsReadWithin Q.step MOST_CALLS requests.old requests.new) }
-    ensures stopped { IfErr result (λ e. ReadsWithin Q.step MOST_CALLS (e ≡ stop.Read) requests.old requests.new) }
-    ensures sends { OnOk result (IsSending W.step W.flush_step output.old output.new out.old out.new) }
-    ensures unsent { IfErr result (StopsSending W.step W.flush_step output.old.calls.left output.old.flushes.left output.old.calls.written out.old out.new) }
-{
-    let mut calls = ReadCalls::new(MOST_CALLS);
-    let mut piece = [0u8; PIECE];
-    'pieces: while serve_piece(
-        &mut calls, router, reader, requests, &mut piece, output, out,
-    )? {}
-    Ok(())
+    let mut session = Session::new(alloc, hierarchy)?;
+    session.run(requests, out)
 }
