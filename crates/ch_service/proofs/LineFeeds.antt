@@ -54,31 +54,31 @@ of_whole_too P text (Unpack fault) first second h = h
 of_whole_too P text (Write fault) first second h = h
 of_whole_too P text OutOfMemory first second h = h
 
+pub read_failed : (had left : Option (List ℕ)) (input : List ℕ) → Consumes had left input → StopsAtReached had left (read_behind input)
+read_failed None left input taken = λ nothing. tt
+read_failed (Some bytes) None input taken = absurd taken
+read_failed (Some bytes) (Some rest) input taken = λ nothing. (
+  input,
+  sym taken,
+  record {
+    before = input;
+    last = [];
+    taken_are = append-nil input;
+    is_piece = omega arith;
+    from = omega arith;
+    to = omega arith;
+    read = λ _. refl;
+  },
+)
+
 module _ (had left first second : Option (List ℕ)) (input graph pairs : List ℕ) (taken : Consumes had left input) (ended : IsAtEnd left) (graph_is : graph ≡ graph_part input) (pairs_are : pairs ≡ pairs_part input) where
   whole : (had left : Option (List ℕ)) → Consumes had left input → IsAtEnd left → IfSome had (λ bytes. bytes ≡ input)
   whole None left taken ended = tt
   whole (Some bytes) None taken ended = absurd taken
   whole (Some bytes) (Some rest) taken ended = taken ∙ ap (λ l. input ++ l) ended ∙ append-nil input
 
-  failed_behind : (had left : Option (List ℕ)) → Consumes had left input → IsAtEnd left → StopsAtReached had left (read_behind input)
-  failed_behind None left taken ended = λ nothing. tt
-  failed_behind (Some bytes) None taken ended = absurd taken
-  failed_behind (Some bytes) (Some rest) taken ended = λ nothing. (
-    input,
-    sym taken,
-    record {
-      before = input;
-      last = [];
-      taken_are = append-nil input;
-      is_piece = omega arith;
-      from = omega arith;
-      to = omega arith;
-      read = λ _. refl;
-    },
-  )
-
   failed : StopsInJoined had left (Graph (read_behind input))
-  failed = (λ _. failed_behind had left taken ended, λ other. absurd (other refl))
+  failed = (λ _. read_failed had left input taken, λ other. absurd (other refl))
 
   within_graph : (had : Option (List ℕ)) → IfSome had (λ bytes. bytes ≡ input) → (fault : GrError) → StopsAtReached (Some graph) first fault → IfSome had (λ bytes. StopsWithin (graph_part bytes) fault)
   within_graph None is fault h = tt

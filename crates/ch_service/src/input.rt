@@ -1,17 +1,14 @@
-ghost use Rattle.std.specs.Prelude.{◌≡◌, ◌<◌, ◌++◌, ℕ, List, false, length, IfOk, IfErr, IfSome, OnOk};
-ghost use Rattle.std.specs.Io.KnownBytes.{Consumes, IsAtEnd, Keeps};
+ghost use Rattle.std.specs.Prelude.{◌≡◌, IfOk, IfErr, IfSome};
+ghost use Rattle.std.specs.Io.KnownBytes.{Consumes, IsAtEnd};
 ghost use Rattle.text_lines.specs.Lines.{line_feeds};
 ghost use Rattle.grfile.specs.Taken.{StopsAtReached};
 ghost use Rattle.ch_service.specs.Outcome.{ComesOfReading, IfTextFault, IsReadFault, of_fault, of_whole};
 
 use crate::error::ServiceError;
-use counted_io::{MOST_CALLS, ReadCalls};
+use counted_io::WholeFault;
 use grfile::{GrError, GrErrorKind};
-use std::alloc::{AllocError, Global};
+use std::alloc::Global;
 use std::io::Read;
-
-/// How many bytes a reader is asked for in a call.
-const PIECE: usize = 1 << 16;
 
 /// All that the reader gives. A read that fails, or the last call that is allowed, is a fault of the graph's text.
 pub fn read_whole<R: Read>(alloc: Global, input: &mut R) -> Result<Vec<u8>, ServiceError>
@@ -21,57 +18,10 @@ pub fn read_whole<R: Read>(alloc: Global, input: &mut R) -> Result<Vec<u8>, Serv
     ensures reached { IfErr result (IfTextFault (StopsAtReached (R.remaining input.old) (R.remaining input.new)) (λ _. ⊥)) }
 {
     let mut text = Vec::new(alloc);
-    let mut piece = new_piece(alloc)?;
-    read_pieces(input, piece.as_mut_slice(), &mut text)?;
-    Ok(text)
-}
-
-// Room for one call of a reader.
-fn new_piece(alloc: Global) -> Result<Vec<u8>, AllocError>
-    ensures { IfOk result (λ piece. 0 < length piece.items) }
-{
-    vec![in alloc; 0u8; PIECE]
-}
-
-// Appends all that the reader gives.
-fn read_pieces<R: Read>(
-    input: &mut R,
-    piece: &mut [u8],
-    text: &mut Vec<u8>,
-) -> Result<(), ServiceError>
-    requires { 0 < length piece.old }
-    ensures ok { OnOk result (IfSome (R.remaining input.old) (λ bytes. text.new.items ≡ text.old.items ++ bytes)) }
-    ensures ended { OnOk result ((bytes : List ℕ) × (text.new.items ≡ text.old.items ++ bytes)
-        × Consumes (R.remaining input.old) (R.remaining input.new) bytes × IsAtEnd (R.remaining input.new)) }
-    ensures kinds { IfErr result ComesOfReading }
-    ensures failed { IfErr result (IfTextFault (λ fault. (bytes : List ℕ) × Consumes (R.remaining input.old) (R.remaining input.new) bytes × IsReadFault (text.old.items ++ bytes) fault) (λ _. ⊥)) }
-{
-    let mut calls = ReadCalls::new(MOST_CALLS);
-    'pieces: while read_piece(&mut calls, input, piece, text)? {}
-    Ok(())
-}
-
-// Appends the next bytes that the reader gives, and returns whether there were any before its end.
-fn read_piece<R: Read>(
-    calls: &mut ReadCalls,
-    input: &mut R,
-    piece: &mut [u8],
-    text: &mut Vec<u8>,
-) -> Result<bool, ServiceError>
-    requires { 0 < length piece.old }
-    ensures ok { IfOk result (λ more. (bytes : List ℕ) × (text.new.items ≡ text.old.items ++ bytes)
-        × Consumes (R.remaining input.old) (R.remaining input.new) bytes × (more ≡ false → IsAtEnd (R.remaining input.new))) }
-    ensures counted { OnOk result (calls.new.left < calls.old.left) }
-    ensures kinds { IfErr result ComesOfReading }
-    ensures failed { IfErr result (IfTextFault (λ fault. IsReadFault text.old.items fault × Keeps (R.remaining input.old) (R.remaining input.new)) (λ _. ⊥)) }
-{
-    match calls.read(input, piece) {
-        Ok(0) => Ok(false),
-        Ok(count) => {
-            text.extend_from_slice(&piece[..count])?;
-            Ok(true)
-        }
-        Err(_) => Err(ServiceError::Graph(read_fault(text))),
+    match counted_io::read_whole(input, &mut text) {
+        Ok(()) => Ok(text),
+        Err(WholeFault::OutOfMemory) => Err(ServiceError::OutOfMemory),
+        Err(WholeFault::Read) => Err(ServiceError::Graph(read_fault(&text))),
     }
 }
 

@@ -1,2 +1,3 @@
 mod Calling
 mod Taking
+pub mod Gathering

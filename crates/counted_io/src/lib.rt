@@ -3,10 +3,10 @@
 //! A reader or a writer may give or take few bytes in a call, and may be interrupted time and again. So whoever reads or
 //! writes in a loop counts the calls, and ends where no more may be made. Uses std alone. [`ReadCalls`] has the
 //! one loop over readers, [`WriteCalls`] the one over writers, and [`FlushCalls`] the one that flushes them. An interrupted
-//! call is made again, and counts; a write that takes no byte is a failure. The promise is in the contracts of
-//! [`ReadCalls::read`], [`WriteCalls::write`] and [`FlushCalls::flush`]: which bytes the reader gave or the writer took, to
-//! the byte, also at a failure; and which calls were made of it and what they returned, by its steps ([`StepRead`],
-//! [`StepWrite`], [`StepFlush`]).
+//! call is made again, and counts; a write that takes no byte is a failure. [`read_whole`] takes all that a reader gives. The
+//! promise is in the contracts of [`ReadCalls::read`], [`WriteCalls::write`] and [`FlushCalls::flush`]: which bytes the reader
+//! gave or the writer took, to the byte, also at a failure; and which calls were made of it and what they returned, by its
+//! steps ([`StepRead`], [`StepWrite`], [`StepFlush`]).
 //!
 //! A reader is read by at most a hundred calls, into a buffer, until the result is 0:
 //!
@@ -25,10 +25,12 @@ use std::io::{Error, ErrorKind};
 
 mod flushing;
 mod reading;
+mod whole;
 mod writing;
 
 pub use flushing::{FlushCalls, FlushFault, StepFlush};
 pub use reading::{ReadCalls, ReadFault, StepRead};
+pub use whole::{WholeFault, read_whole};
 pub use writing::{StepWrite, WriteCalls, WriteFault};
 
 /// How often a reader or a writer is called at most, and how often a writer is flushed.

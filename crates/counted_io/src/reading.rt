@@ -16,7 +16,7 @@ pub trait StepRead: Read {
     ghost use Rattle.std.specs.declared.io.Error.{Error};
 
     /// How one call leads from what the reader was to what it is, by the call's result. What it is for a reader is open,
-    /// so only who has made the call has its step.
+    /// so only a call yields a step.
     ghost step: { Self → Self → Result ℕ Error → Type 0 };
 
     /// One call of the reader.

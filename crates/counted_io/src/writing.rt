@@ -19,7 +19,7 @@ pub trait StepWrite: Write {
     ghost use Rattle.std.specs.declared.io.Error.{Error};
 
     /// How one call that offers some bytes leads from what the writer was to what it is, by the call's result. What it is
-    /// for a writer is open, so only who has made such a call has its step. A call that offers none has no step.
+    /// for a writer is open, so only such a call yields a step. A call that offers none has no step.
     ghost step: { Self → Self → Result ℕ Error → Type 0 };
 
     /// One call of the writer.
