@@ -1,3 +1,4 @@
+pub mod Cause
 pub mod Places
 pub mod Requests
 pub mod Seeds

@@ -1,5 +1,5 @@
 -- Replies to all requests of a text, by the file of a hierarchy.
-use Rattle.std.specs.Prelude.{ℕ, ◌≡◌, ◌≤◌, ◌⊎◌, ⊤, List, ◌++◌, length, take, codes, Option, Some, Result, Ok}
+use Rattle.std.specs.Prelude.{ℕ, ◌≡◌, ◌≤◌, ◌⊎◌, ⊤, List, ◌++◌, length, take, Option, Some, Result, Ok}
 use Rattle.std.specs.Io.KnownBytes.{Consumes, IsAtEnd, Keeps}
 use Rattle.std.specs.declared.io.Error.{Error}
 use Rattle.ch_graph.specs.Graph.{Graph}
@@ -16,8 +16,6 @@ use Rattle.text_lines.specs.Lines.{line_feeds}
 use Rattle.ch_requests.specs.declared.request.Request.{Request}
 use Rattle.hierfile.specs.Bytes.{OfBytes}
 use Rattle.hierfile.specs.Fault.{first_fault}
-use Rattle.hierfile.specs.Names.{error_name}
-use Rattle.hierfile.specs.declared.error.HierError.TheVariants as faults
 use Rattle.ch_requests.specs.declared.error.ServeError.{ServeError}
 use Rattle.ch_requests.specs.declared.error.ServeError.TheVariants as stops
 use Rattle.ch_requests.specs.Reply.{AreReplies, Told, by_hierarchy, over, ready}
@@ -104,16 +102,6 @@ IsFileFault bytes stops.Flush = ⊤
 -- graph, by routes of this kind.
 abbrev pub ServicesAre : (Graph → ℕ → ℕ → Option Route → Type 0) → Version → Type 0
 ServicesAre IsRoute v = (graph_text bytes requests_text text : List ℕ) → PreparesIn v graph_text bytes → Serves bytes requests_text text → ServesOver IsRoute graph_text requests_text text
-
--- how a refusal is printed
-abbrev pub shown : ServeError → List ℕ
-shown (stops.Hierarchy faults.OutOfMemory) = codes "memory"
-shown (stops.Hierarchy faults.Read) = codes "read"
-shown (stops.Hierarchy e) = codes "hierarchy: " ++ error_name e
-shown stops.OutOfMemory = codes "memory"
-shown stops.Read = codes "read"
-shown (stops.Write fault) = codes "write"
-shown stops.Flush = codes "write"
 
 -- By a file of version 2 each route is of all least walks one with the fewest arcs.
 abbrev pub ServicesHaveFewestArcs : Type 0

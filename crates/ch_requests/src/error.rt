@@ -1,14 +1,18 @@
 ghost use Rattle.std.specs.Prelude.{◌≡◌, Some};
-ghost use Rattle.ch_requests.specs.Serving.{shown};
+ghost use Rattle.outcomes.specs.Causes.{shown};
+ghost use Rattle.ch_requests.specs.Cause.{stop_cause};
 ghost use Rattle.ch_requests.specs.declared.error.ServeError.TheVariants.{Flush, Hierarchy, OutOfMemory, Read, Write};
 
 use counted_io::{FlushFault, ReadFault, WriteFault};
 use hierfile::HierError;
+use outcomes::{Cause, Input};
 use std::alloc::{AllocError, AllocFailed};
 use std::error::Error;
 use std::fmt;
 
 /// Why a service ended before its requests did.
+///
+/// What is shown of one is what is shown of its [`cause`](ServeError::cause).
 #[derive(Clone, Copy, Debug, PartialEq, Eq)]
 pub enum ServeError {
     /// The file of the hierarchy was refused, or couldn't be read. Nothing is written.
@@ -23,18 +27,27 @@ pub enum ServeError {
     Flush,
 }
 
+impl ServeError {
+    /// Returns what it comes of.
+    pub fn cause(&self) -> Cause
+        ensures { result ≡ stop_cause self.now }
+    {
+        match self {
+            ServeError::Hierarchy(fault) => Cause::of_hierarchy(*fault),
+            ServeError::OutOfMemory => Cause::Memory,
+            ServeError::Read => Cause::Read(Input::Requests),
+            ServeError::Write(fault) => Cause::Write(*fault),
+            ServeError::Flush => Cause::Flush,
+        }
+    }
+}
+
 impl fmt::Display for ServeError {
-    ghost output = { λ e. Some (shown e) };
+    ghost output = { λ e. Some (shown (stop_cause e)) };
 
     fn fmt<W: fmt::Write>(&self, f: &mut fmt::Formatter<W>) -> fmt::Result {
-        match self {
-            ServeError::Hierarchy(HierError::OutOfMemory) => write!(f, "memory"),
-            ServeError::Hierarchy(HierError::Read) => write!(f, "read"),
-            ServeError::Hierarchy(fault) => write!(f, "hierarchy: {fault}"),
-            ServeError::OutOfMemory => write!(f, "memory"),
-            ServeError::Read => write!(f, "read"),
-            ServeError::Write(_) | ServeError::Flush => write!(f, "write"),
-        }
+        let cause = self.cause();
+        write!(f, "{cause}")
     }
 }
 

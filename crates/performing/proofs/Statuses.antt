@@ -13,7 +13,8 @@ use Rattle.ch_requests.specs.declared.error.ServeError.TheVariants as stops
 use Rattle.jobs.specs.Job.{is_joined}
 use Rattle.jobs.specs.declared.job.Job.{Job}
 use Rattle.jobs.specs.declared.job.Job.TheVariants.{Answer, Prepare, Route, Serve, Info, Check}
-use Rattle.performing.specs.Status.{stop_cause, Tells, TellsAnswers, TellsPrepared, TellsRouted, TellsServed, TellsInfo, TellsChecked, IsAnsweringStatus, IsPreparingStatus, IsRoutingStatus, IsServingStatus, IsCheckingStatus, IsStatusOf}
+use Rattle.ch_requests.specs.Cause.{stop_cause}
+use Rattle.performing.specs.Status.{Tells, TellsAnswers, TellsPrepared, TellsRouted, TellsServed, TellsInfo, TellsChecked, IsAnsweringStatus, IsPreparingStatus, IsRoutingStatus, IsServingStatus, IsCheckingStatus, IsStatusOf}
 
 abbrev pub Ending : (ℕ → Type 0) → Option (List ℕ) → Option (List ℕ) → Outcome → Type 0
 Ending Is old new outcome = Is (status_after outcome) × (status_after outcome ≡ 8 → Keeps old new)

@@ -1,11 +1,9 @@
 -- What the outcome of a job says, and its status.
 use Rattle.std.specs.Prelude.{ℕ, ◌≡◌, ◌⊎◌, List, Option, Some, None, option_map, IfSome, MatchBool, Result, Ok, Err, ⊤}
 use Rattle.std.specs.Io.KnownBytes.{Appends}
-use Rattle.outcomes.specs.Causes.{of_hierarchy}
 use Rattle.outcomes.specs.Outcomes.{Ends, status_after}
 use Rattle.outcomes.specs.declared.cause.Cause.{Cause}
 use Rattle.outcomes.specs.declared.cause.Cause.TheVariants as causes
-use Rattle.outcomes.specs.declared.cause.Input.TheVariants as inputs
 use Rattle.outcomes.specs.declared.outcome.Outcome.{Outcome}
 use Rattle.outcomes.specs.declared.outcome.Outcome.TheVariants as outcomes
 use Rattle.ch_service.specs.declared.error.ServiceError.{ServiceError}
@@ -15,9 +13,9 @@ use Rattle.ch_service.specs.Joined.{graph_part, pairs_part}
 use Rattle.ch_service.specs.Outcome.{IfTold, IsGraphText, Writes}
 use Rattle.ch_service.specs.Refusals.{RefusesAnswers, RefusesPreparing, RefusesRoutes}
 use Rattle.ch_service.specs.Route.{Prepares, Routes}
+use Rattle.ch_requests.specs.Cause.{stop_cause}
 use Rattle.ch_requests.specs.Serving.{IsFileFault, KeepsBefore, Serves, ServesFirst, StopsServing}
 use Rattle.ch_requests.specs.declared.error.ServeError.{ServeError}
-use Rattle.ch_requests.specs.declared.error.ServeError.TheVariants as stops
 use Rattle.ch_verify.specs.Refusal.{RefusesCheck}
 use Rattle.ch_verify.specs.Verdict.{IsWrong, Says, verdict_line}
 use Rattle.ch_verify.specs.declared.verdict.Doubt.{Doubt}
@@ -33,14 +31,6 @@ use Rattle.jobs.specs.declared.job.Job.TheVariants.{Answer, Prepare, Route, Serv
 abbrev pub outcome_of : Result ⊤ ServiceError → Outcome
 outcome_of (Ok done) = outcomes.Done
 outcome_of (Err e) = outcomes.Refused (cause_of e)
-
--- what a service comes of that ended before its requests did
-abbrev pub stop_cause : ServeError → Cause
-stop_cause (stops.Hierarchy fault) = of_hierarchy fault
-stop_cause stops.OutOfMemory = causes.Memory
-stop_cause stops.Read = causes.Read inputs.Requests
-stop_cause (stops.Write fault) = causes.Write fault
-stop_cause stops.Flush = causes.Flush
 
 -- after a check that came to a verdict
 abbrev pub outcome_found : Verdict → Outcome

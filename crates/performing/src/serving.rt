@@ -1,9 +1,8 @@
-ghost use Rattle.std.specs.Prelude.{◌≡◌};
 ghost use Rattle.outcomes.specs.Outcomes.{status_after};
-ghost use Rattle.performing.specs.Status.{IsServingStatus, TellsServed, stop_cause};
+ghost use Rattle.performing.specs.Status.{IsServingStatus, TellsServed};
 
-use ch_requests::{ServeError, serve};
-use outcomes::{Cause, Input, Outcome};
+use ch_requests::serve;
+use outcomes::Outcome;
 use std::alloc::Global;
 use std::io::{Read, Write};
 
@@ -22,19 +21,6 @@ pub fn perform_service<A: Read, B: Read, W: Write>(
 {
     match serve(alloc, hierarchy, requests, out) {
         Ok(()) => Outcome::Done,
-        Err(error) => Outcome::Refused(stop_cause(error)),
-    }
-}
-
-// What a service comes of that ended before its requests did.
-fn stop_cause(error: ServeError) -> Cause
-    ensures { result ≡ stop_cause error }
-{
-    match error {
-        ServeError::Hierarchy(fault) => Cause::of_hierarchy(fault),
-        ServeError::OutOfMemory => Cause::Memory,
-        ServeError::Read => Cause::Read(Input::Requests),
-        ServeError::Write(fault) => Cause::Write(fault),
-        ServeError::Flush => Cause::Flush,
+        Err(error) => Outcome::Refused(error.cause()),
     }
 }

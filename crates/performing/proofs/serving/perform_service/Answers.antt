@@ -6,7 +6,7 @@ pub returns-in-Ok-clause-told : goal.returns-in-Ok-clause-told
 returns-in-Ok-clause-told g c = is_done _ _ c.in-Ok.ensures.serves
 
 tells : goal.returns-in-Err-clause-told
-tells g c = is_refused _ _ _ (c.in-Err.error, c.stop_cause.ensures, c.in-Err.ensures.untouched, c.in-Err.ensures.fault, c.in-Err.ensures.stops)
+tells g c = is_refused _ _ _ (c.in-Err.error, c.cause.ensures, c.in-Err.ensures.untouched, c.in-Err.ensures.fault, c.in-Err.ensures.stops)
 
 pub returns-in-Err-clause-told : goal.returns-in-Err-clause-told
 returns-in-Err-clause-told g c = tells g c
