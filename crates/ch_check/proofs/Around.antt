@@ -1,14 +1,15 @@
 -- Ways around a node along the rows of an overlay.
-use Rattle.std.proofs.Common.{ℕ, ◌≡◌, List, length, map, Option, Some, None, All, Contains, slice_index, ap, sym, subst, ◌∙◌}
+use Rattle.std.proofs.Common.{ℕ, ◌≡◌, ◌+◌, List, [], ◌∷◌, ◌++◌, length, map, Option, Some, None, All, Contains, slice_index, ap, sym, subst, ◌∙◌, arith, inl, inr}
 use Rattle.std.specs.List.{slice_get}
 use Rattle.std.specs.Option.{IfSome, IsSomeAnd}
-use Rattle.std.proofs.lemmas.List.Elements.{All-contains}
-use Rattle.std.proofs.lemmas.Option.{IfSome_then, slice_get-get_or}
+use Rattle.std.proofs.lemmas.List.Elements.{All-contains, Contains-append_left, Contains-push, Contains-push_cases}
+use Rattle.std.proofs.lemmas.Option.{IfSome_then, get_or_from_slice_get, slice_get-get_or, slice_get_within}
+use Rattle.std.proofs.lemmas.Bool.{cases_lt}
 use Rattle.ch_cost.specs.declared.cost.Cost.{Cost}
 use Rattle.ch_cost.specs.Cost.{◌≼◌}
 use Rattle.ch_graph.specs.Walk.{Walk}
 use Rattle.ch_laws.specs.declared.shortcut.Shortcut.{Shortcut}
-use Rattle.ch_laws.specs.Members.{contains-mapped}
+use Rattle.ch_laws.specs.Members.{contains-mapped, contains_none}
 use Rattle.ch_laws.specs.Moving.{along_moved}
 use Rattle.ch_laws.specs.Verdicts.{HasWay, SeenArc}
 use Rattle.ch_overlay.specs.declared.source.Seen.{Seen}
@@ -18,9 +19,9 @@ use Rattle.ch_overlay.specs.Finding.{row_among}
 use Rattle.ch_overlay.specs.Pairs.{target_at}
 use Rattle.ch_witness.specs.declared.way.Way.{Way}
 use Rattle.ch_witness.specs.Kept.{Kept, AreKept, IsKept}
-use Rattle.ch_witness.specs.Ways.{AreWays, way_at}
-use Rattle.ch_check.specs.Pairs.{HaveWays, row_in}
-use Rattle.ch_check.specs.Searching.{AreAround, AreFound, AreOwed, ShowsRow}
+use Rattle.ch_witness.specs.Ways.{AreWays, IsFound, way_at}
+use Rattle.ch_check.specs.Pairs.{row_in}
+use Rattle.ch_check.specs.Searching.{AreAround, AreLeft, AreOwed, AreUnmet, ShowsRow}
 
 module _ (o : Overlay) (v u : ℕ) where
   -- the ways of a search are along the rows of the overlay
@@ -47,15 +48,63 @@ module _ (o : Overlay) (v u : ℕ) where
   met t sum None found leads = absurd found
   met t sum (Some w) found leads = record { cost = w.cost; way = leads; at_most = found }
 
-  -- so each pair whose way was found has one
-  pub have_ways : (owed : List Shortcut) (ways : List (Option Way)) → AreOwed o v u owed → AreAround o v u (map (λ p. p.to) owed) ways → AreFound owed ways (length owed) → HaveWays o v owed
-  have_ways owed ways are around found p among =
-      let k = among.0 in
-      let here : slice_get owed k ≡ Some p = slice_get-get_or owed k p among.1 ∙ ap (λ (s : Shortcut). Some s) among.2 in
-      let at = target_at owed k p here in
-      let way : HasWay (row_in o) v u (slice_index (map (λ (q : Shortcut). q.to) owed) k) p.cost = met (slice_index (map (λ (q : Shortcut). q.to) owed) k) p.cost (way_at ways k) (found k p among.1 here) (around.leads k at.0) in
-      subst (λ (x : ℕ). HasWay (row_in o) v x p.to p.cost) (sym (are p among).0) (subst (λ (t : ℕ). HasWay (row_in o) v u t p.cost) at.1 way)
+  -- so each pair but those without a way has one
+  pub left_over : (owed : List Shortcut) (ways : List (Option Way)) (left : List Shortcut) → AreOwed o v u owed → AreAround o v u (map (λ p. p.to) owed) ways → AreUnmet owed ways (length owed) left → AreLeft o v owed left
+  left_over owed ways left are around unmet = record {
+    among = unmet.among;
+    ways = λ p among.
+        let k = among.0 in
+        let here : slice_get owed k ≡ Some p = slice_get-get_or owed k p among.1 ∙ ap (λ (s : Shortcut). Some s) among.2 in
+        let at = target_at owed k p here in
+        elim (unmet.found k p among.1 here) [
+          | inl in_left ↦ inl in_left
+          | inr found ↦
+              let way : HasWay (row_in o) v u (slice_index (map (λ (q : Shortcut). q.to) owed) k) p.cost = met (slice_index (map (λ (q : Shortcut). q.to) owed) k) p.cost (way_at ways k) found (around.leads k at.0) in
+              inr (subst (λ (x : ℕ). HasWay (row_in o) v x p.to p.cost) (sym (are p among).0) (subst (λ (t : ℕ). HasWay (row_in o) v u t p.cost) at.1 way))
+        ];
+  }
 
   -- none of the targets is v
   pub apart_targets : (owed : List Shortcut) → AreOwed o v u owed → Contains (map (λ (p : Shortcut). p.to) owed) v → ⊥
   apart_targets owed are among = let p = contains-mapped (λ (q : Shortcut). q.to) owed v among in (are p.0 p.1).1 p.2
+
+-- no pair is looked at yet
+pub unmet_none : (owed : List Shortcut) (ways : List (Option Way)) → AreUnmet owed ways 0 []
+unmet_none owed ways = record {
+  among = λ p among. absurd (contains_none p among);
+  found = λ k p low. absurd (omega (arith, low));
+}
+
+module _ (owed : List Shortcut) (ways : List (Option Way)) (k : ℕ) (q : Shortcut) (left : List Shortcut) (here : slice_get owed k ≡ Some q) (are : AreUnmet owed ways k left) where
+  same_pair : (j : ℕ) (p : Shortcut) → j ≡ k → slice_get owed j ≡ Some p → q ≡ p
+  same_pair j p e is = let at : slice_get owed k ≡ Some p = subst (λ (i : ℕ). slice_get owed i ≡ Some p) e is in some_same q p (sym here ∙ at) where
+    some_same : (a b : Shortcut) → Some a ≡ Some b → a ≡ b
+    some_same a b h = cc
+
+  -- one more is met
+  pub unmet_met : IsFound ways k q.cost → AreUnmet owed ways (k + 1) left
+  unmet_met found = record {
+    among = are.among;
+    found = λ j p low is. elim (cases_lt j k) [
+      | inl below ↦ are.found j p below is
+      | inr high ↦
+          let e : j ≡ k = omega (arith, low, high) in
+          inr (subst (λ (i : ℕ). IsFound ways i p.cost) (sym e) (subst (λ (s : Shortcut). IsFound ways k s.cost) (same_pair j p e is) found))
+    ];
+  }
+
+  -- one more is left
+  pub unmet_more : AreUnmet owed ways (k + 1) (left ++ q ∷ [])
+  unmet_more = record {
+    among = λ p among. elim (Contains-push_cases left q p among) [
+      | inl old ↦ are.among p old
+      | inr last ↦ subst (λ (s : Shortcut). Contains owed s) last (k, slice_get_within owed k q here, get_or_from_slice_get owed k q q here)
+    ];
+    found = λ j p low is. elim (cases_lt j k) [
+      | inl below ↦ elim (are.found j p below is) [
+        | inl in_left ↦ inl (Contains-append_left left (q ∷ []) p in_left)
+        | inr found ↦ inr found
+      ]
+      | inr high ↦ inl (subst (λ (s : Shortcut). Contains (left ++ q ∷ []) s) (same_pair j p (omega (arith, low, high)) is) (Contains-push left q))
+    ];
+  }

@@ -1,10 +1,10 @@
 -- Searches along the rows of an overlay.
-use Rattle.std.specs.Prelude.{ℕ, ◌≡◌, ◌≢◌, ◌<◌, List, Option, Some, Contains, IfSome, length, slice_index}
+use Rattle.std.specs.Prelude.{ℕ, ◌≡◌, ◌≢◌, ◌<◌, ◌⊎◌, List, Option, Some, Contains, IfSome, length, slice_index}
 use Rattle.std.specs.List.{slice_get}
 use Rattle.ch_cost.specs.Cost.{IsWithin}
 use Rattle.ch_graph.specs.Walk.{Walk}
 use Rattle.ch_laws.specs.declared.shortcut.Shortcut.{Shortcut}
-use Rattle.ch_laws.specs.Verdicts.{SeenArc}
+use Rattle.ch_laws.specs.Verdicts.{HasWay, SeenArc}
 use Rattle.ch_overlay.specs.declared.source.Seen.{Seen}
 use Rattle.ch_overlay.specs.Overlay.{Overlay}
 use Rattle.ch_overlay.specs.Source as sources
@@ -35,6 +35,12 @@ pub record AreAround (o : Overlay) (v u : ℕ) (targets : List ℕ) (ways : List
   pub many : length ways ≡ length targets
   pub leads : (k : ℕ) → k < length targets → IfSome (way_at ways k) (λ w. Walk (SeenArc (row_in o) v) u (slice_index targets k) w.cost)
 
--- each of the first n pairs is reached at no more than it costs
-abbrev pub AreFound : List Shortcut → List (Option Way) → ℕ → Type 0
-AreFound owed ways n = (k : ℕ) (p : Shortcut) → k < n → slice_get owed k ≡ Some p → IsFound ways k p.cost
+-- these are some of the pairs, and each other one among the first n is reached at no more than it costs
+pub record AreUnmet (owed : List Shortcut) (ways : List (Option Way)) (n : ℕ) (left : List Shortcut) : Type 0 where
+  pub among : (p : Shortcut) → Contains left p → Contains owed p
+  pub found : (k : ℕ) (p : Shortcut) → k < n → slice_get owed k ≡ Some p → Contains left p ⊎ IsFound ways k p.cost
+
+-- these are some of the pairs, and a way leads around v for each other one
+pub record AreLeft (o : Overlay) (v : ℕ) (owed left : List Shortcut) : Type 0 where
+  pub among : (p : Shortcut) → Contains left p → Contains owed p
+  pub ways : (p : Shortcut) → Contains owed p → Contains left p ⊎ HasWay (row_in o) v p.from p.to p.cost

@@ -8,7 +8,7 @@ ghost use Rattle.ch_witness.specs.Kept.{kept_of};
 ghost use Rattle.ch_witness.specs.Tree.{seen_of};
 ghost use Rattle.ch_witness.specs.Ways.{AreWays, IsFound};
 ghost use Rattle.ch_check.specs.Pairs.{HaveWays};
-ghost use Rattle.ch_check.specs.Searching.{AreAround, AreFound, AreOwed, AreRowsOf, IsNode};
+ghost use Rattle.ch_check.specs.Searching.{AreAround, AreLeft, AreOwed, AreRowsOf, AreUnmet, IsNode};
 
 use crate::desk::Targets;
 use crate::fault::Fault;
@@ -23,8 +23,10 @@ use std::mem;
 /// How many nodes a search settles at most. A hierarchy that was made by shorter searches has no need of longer ones.
 const SETTLE: u32 = 1 << 16;
 
-/// Finds a way around a node for each of these pairs, which all lead from one neighbour, by one search. Fails at the first
-/// that has none.
+/// Finds a way around a node for each of these pairs, which all lead from one neighbour. Fails at the first that has none.
+///
+/// A way that costs no more than its pair will do, the best isn't wanted. So one search ends as soon as it has come to each
+/// end, and those pairs that it leaves without a way, since it came to their ends by too costly ones, get a whole search.
 pub fn find_ways(
     alloc: Global,
     overlay: &Overlay,
@@ -42,17 +44,50 @@ pub fn find_ways(
     ensures ways { OnOk result (HaveWays overlay.now via owed.now) }
     ensures kept { OnOk result (AreRowsOf overlay.now (kept_of searcher.new.rows)) }
 {
-    if owed.is_empty() {
+    find_aims(owed, &mut targets.aims)?;
+    let few = search_ways(alloc, overlay, searcher, targets, via, from, owed)?;
+    targets.aims.clear();
+    let left = search_ways(alloc, overlay, searcher, targets, via, from, &few)?;
+    if left.is_empty() {
         return Ok(());
     }
-    let found = search_ways(alloc, overlay, searcher, targets, via, from, owed)?;
-    compare_ways(via, owed, &found.ways)?;
-    targets.earlier = found;
-    Ok(())
+    let pair = &left[0];
+    Err(Fault::Way {
+        via,
+        from: pair.from,
+        to: pair.to,
+    })
 }
 
-/// The best ways that a search finds to the ends of these pairs.
+/// Searches ways to the ends of these pairs, and returns those pairs for which it found none that costs no more.
 fn search_ways(
+    alloc: Global,
+    overlay: &Overlay,
+    searcher: &mut Searcher,
+    targets: &mut Targets,
+    via: u32,
+    from: u32,
+    owed: &[Shortcut],
+) -> Result<Vec<Shortcut>, Fault>
+    requires bound { IsBound overlay.now.bound }
+    requires inside { IsNode overlay.now from }
+    requires start { from ≢ via }
+    requires owed { AreOwed overlay.now via from owed.now }
+    requires kept { AreRowsOf overlay.now (kept_of searcher.old.rows) }
+    ensures left { IfOk result (λ left. AreLeft overlay.now via owed.now left.items) }
+    ensures kept { OnOk result (AreRowsOf overlay.now (kept_of searcher.new.rows)) }
+{
+    if owed.is_empty() {
+        return Ok(Vec::new(alloc));
+    }
+    let found = trace_ways(alloc, overlay, searcher, targets, via, from, owed)?;
+    let left = unmet(alloc, owed, &found.ways)?;
+    targets.earlier = found;
+    Ok(left)
+}
+
+/// The best ways to the ends of these pairs that a search has come to when it ends.
+fn trace_ways(
     alloc: Global,
     overlay: &Overlay,
     searcher: &mut Searcher,
@@ -70,7 +105,6 @@ fn search_ways(
     ensures kept { OnOk result (AreRowsOf overlay.now (kept_of searcher.new.rows)) }
 {
     find_ends(owed, &mut targets.ends)?;
-    find_aims(overlay, owed, via, &mut targets.aims)?;
     let rule = Rule {
         from,
         avoid: via,
@@ -102,22 +136,23 @@ fn seen_all(found: Result<Traced, SearchError>) -> Result<Traced, Fault>
     }
 }
 
-/// Looks whether each pair has a way that costs no more. Fails at the first that has none.
-fn compare_ways(via: u32, owed: &[Shortcut], ways: &[Option<Way>]) -> Result<(), Fault>
+/// Those of these pairs that have no way that costs no more.
+fn unmet(
+    alloc: Global,
+    owed: &[Shortcut],
+    ways: &[Option<Way>],
+) -> Result<Vec<Shortcut>, AllocError>
     requires many { length ways.now ≡ length owed.now }
-    ensures { OnOk result (AreFound owed.now ways.now (length owed.now)) }
+    ensures { IfOk result (λ left. AreUnmet owed.now ways.now (length owed.now) left.items) }
 {
+    let mut left = Vec::new(alloc);
     'owed: for place in 0..owed.len() {
         let pair = &owed[place];
         if !is_met(pair, &ways[place]) {
-            return Err(Fault::Way {
-                via,
-                from: pair.from,
-                to: pair.to,
-            });
+            left.push(*pair)?;
         }
     }
-    Ok(())
+    Ok(left)
 }
 
 /// Whether there is a way, and it costs no more than the pair.
@@ -130,34 +165,15 @@ fn is_met(pair: &Shortcut, way: &Option<Way>) -> bool
     way.cost.is_at_most(pair.cost.cost())
 }
 
-/// What a search may know of the ends of these pairs, whose middle it avoids. It takes the place of what the list had.
-fn find_aims(
-    overlay: &Overlay,
-    pairs: &[Shortcut],
-    via: u32,
-    aims: &mut Vec<Aim>,
-) -> Result<(), AllocError> {
+/// Lets a search end at any way to the ends of these pairs that costs no more than the pair. It takes the place of what the
+/// list had.
+fn find_aims(pairs: &[Shortcut], aims: &mut Vec<Aim>) -> Result<(), AllocError> {
     aims.clear();
     'pairs: for pair in pairs {
         aims.push(Aim {
-            enough: pair.cost.cost(),
-            last_arc: least_last_arc(overlay, pair, via),
+            enough: Cost::GREATEST,
+            last_arc: pair.cost.cost(),
         })?;
     }
     Ok(())
-}
-
-/// What each arc to the end of a pair costs at least, but for one from its start or from the node to avoid.
-fn least_last_arc(overlay: &Overlay, pair: &Shortcut, via: u32) -> Cost {
-    if pair.to >= overlay.nodes() {
-        return Cost::ZERO;
-    }
-    let mut least = Cost::GREATEST;
-    'inns: for arc in &overlay.row(pair.to).inn {
-        let cost = arc.cost.cost();
-        if arc.other != via && arc.other != pair.from && cost.is_below(least) {
-            least = cost;
-        }
-    }
-    least
 }

@@ -98,13 +98,44 @@ pub const TIE: Case = Case {
     refuted: false,
 };
 
+/// Two pairs by way of 0, from 1 to 4 of length 2 and from 1 to 5 of length 11. A search comes to both ends over 2, to 4 at 3,
+/// which is too much, before it comes to 4 over 3 at 2.
+pub const LATE: &[Line] = &[
+    (0, 4, 1),
+    (0, 5, 10),
+    (1, 0, 1),
+    (1, 2, 1),
+    (1, 3, 1),
+    (2, 4, 2),
+    (2, 5, 3),
+    (3, 4, 1),
+];
+
 /// Hierarchies that are right.
-const ALL_RIGHT: [Case; 7] = [
+const ALL_RIGHT: [Case; 8] = [
     RIGHT,
     TIE,
     Case {
         links: NEEDLESS,
         ..TIE
+    },
+    // no shortcut, since both pairs have a witness
+    Case {
+        nodes: 6,
+        lines: LATE,
+        ranks: &[0, 1, 2, 3, 4, 5],
+        links: &[
+            (0, 4, (1, 1), None),
+            (0, 5, (10, 1), None),
+            (1, 0, (1, 1), None),
+            (1, 2, (1, 1), None),
+            (1, 3, (1, 1), None),
+            (2, 4, (2, 1), None),
+            (2, 5, (3, 1), None),
+            (3, 4, (1, 1), None),
+        ],
+        bound: (50, 5),
+        ..RIGHT
     },
     // nodes 0 and 4 in the other order, and nodes 4 and 2: the shortcut of 2 gives way to the lighter one of 4
     Case {
