@@ -1,26 +1,29 @@
 -- Ways around a node along the rows of an overlay.
-use Rattle.std.proofs.Common.{ℕ, ◌≡◌, ◌+◌, List, [], ◌∷◌, ◌++◌, length, map, Option, Some, None, All, Contains, slice_index, ap, sym, subst, ◌∙◌, arith, inl, inr}
+use Rattle.std.proofs.Common.{ℕ, ◌≡◌, ◌≢◌, ◌+◌, List, [], ◌∷◌, ◌++◌, length, map, Option, Some, None, All, Contains, slice_index, ap, sym, subst, ◌∙◌, arith, inl, inr}
 use Rattle.std.specs.List.{slice_get}
 use Rattle.std.specs.Option.{IfSome, IsSomeAnd}
 use Rattle.std.proofs.lemmas.List.Elements.{All-contains, Contains-append_left, Contains-push, Contains-push_cases}
 use Rattle.std.proofs.lemmas.Option.{IfSome_then, get_or_from_slice_get, slice_get-get_or, slice_get_within}
 use Rattle.std.proofs.lemmas.Bool.{cases_lt}
 use Rattle.ch_cost.specs.declared.cost.Cost.{Cost}
-use Rattle.ch_cost.specs.Cost.{◌≼◌}
+use Rattle.ch_cost.specs.Cost.{◌⊕◌, ◌≼◌}
+use Rattle.ch_cost.specs.Cost.Laws.{sum-zero_cost}
 use Rattle.ch_graph.specs.Walk.{Walk}
+use Rattle.ch_laws.specs.declared.entry.Entry.{Entry}
 use Rattle.ch_laws.specs.declared.shortcut.Shortcut.{Shortcut}
 use Rattle.ch_laws.specs.Members.{contains-mapped, contains_none}
 use Rattle.ch_laws.specs.Moving.{along_moved}
+use Rattle.ch_laws.specs.Rows.{Row}
 use Rattle.ch_laws.specs.Verdicts.{HasWay, SeenArc}
 use Rattle.ch_overlay.specs.declared.source.Seen.{Seen}
 use Rattle.ch_overlay.specs.Overlay.{Overlay}
 use Rattle.ch_overlay.specs.Source as sources
 use Rattle.ch_overlay.specs.Finding.{row_among}
-use Rattle.ch_overlay.specs.Pairs.{target_at}
+use Rattle.ch_overlay.specs.Pairs.{IsPairOf, over, target_at}
 use Rattle.ch_witness.specs.declared.way.Way.{Way}
 use Rattle.ch_witness.specs.Kept.{Kept, AreKept, IsKept}
 use Rattle.ch_witness.specs.Ways.{AreWays, IsFound, way_at}
-use Rattle.ch_check.specs.Pairs.{row_in}
+use Rattle.ch_check.specs.Pairs.{IsOpenRow, LeadsDirectly, LeadsOver, row_in}
 use Rattle.ch_check.specs.Searching.{AreAround, AreLeft, AreOwed, AreUnmet, ShowsRow}
 
 module _ (o : Overlay) (v u : ℕ) where
@@ -108,3 +111,51 @@ module _ (owed : List Shortcut) (ways : List (Option Way)) (k : ℕ) (q : Shortc
       | inr high ↦ inl (subst (λ (s : Shortcut). Contains (left ++ q ∷ []) s) (same_pair j p (omega (arith, low, high)) is) (Contains-push left q))
     ];
   }
+
+-- Ways of one arc and of two
+
+module _ (o : Overlay) (v u w : ℕ) (first : Row) (start_row : IsOpenRow o u first) (start_apart : u ≢ v) (end_apart : w ≢ v) where
+  pub direct_way : (sum : Cost) → LeadsDirectly first.out (record { from = u; to = w; cost = sum }) → HasWay (row_in o) v u w sum
+  direct_way sum direct =
+      let arc : SeenArc (row_in o) v u w direct.cost = record {
+        row = first;
+        read = start_row.read;
+        unranked = start_row.unranked;
+        listed = direct.listed;
+        from_other = start_apart;
+        to_other = end_apart;
+      } in
+      record { cost = _; way = Walk.go arc Walk.stay; at_most = subst (λ (c : Cost). c ≼ sum) (sym (sum-zero_cost direct.cost)) direct.at_most }
+
+  pub two_way : (last : Row) → IsOpenRow o w last → (sum : Cost) → LeadsOver first.out last.inn v (record { from = u; to = w; cost = sum }) → HasWay (row_in o) v u w sum
+  two_way last last_row sum over =
+      let e = over.0 in
+      let by = over.2 in
+      let start = last_row.starts e over.1 in
+      let one : SeenArc (row_in o) v u e.other by.cost = record {
+        row = first;
+        read = start_row.read;
+        unranked = start_row.unranked;
+        listed = by.listed;
+        from_other = start_apart;
+        to_other = by.apart;
+      } in
+      let two : SeenArc (row_in o) v e.other w e.cost = record {
+        row = start.row;
+        read = start.read;
+        unranked = start.unranked;
+        listed = start.listed;
+        from_other = by.apart;
+        to_other = end_apart;
+      } in
+      record { cost = _; way = Walk.go one (Walk.go two Walk.stay); at_most = subst (λ (c : Cost). by.cost ⊕ c ≼ sum) (sym (sum-zero_cost e.cost)) by.at_most }
+
+-- so the pair of two arcs needs no more
+module _ (o : Overlay) (v : ℕ) (first : Row) (into out : Entry) (start_row : IsOpenRow o into.other first) (start_apart : into.other ≢ v) (end_apart : out.other ≢ v) (q : Shortcut) (is : IsPairOf o.bound into out (Some q)) where
+  pub direct_pair : LeadsDirectly first.out q → (p : Shortcut) → IsPairOf o.bound into out (Some p) → HasWay (row_in o) v p.from p.to p.cost
+  direct_pair direct p here = subst (λ (s : Shortcut). HasWay (row_in o) v s.from s.to s.cost) (sym here.2)
+      (direct_way o v into.other out.other first start_row start_apart end_apart (over into out).cost (subst (λ (s : Shortcut). LeadsDirectly first.out s) is.2 direct))
+
+  pub two_pair : (last : Row) → IsOpenRow o out.other last → LeadsOver first.out last.inn v q → (p : Shortcut) → IsPairOf o.bound into out (Some p) → HasWay (row_in o) v p.from p.to p.cost
+  two_pair last last_row leads p here = subst (λ (s : Shortcut). HasWay (row_in o) v s.from s.to s.cost) (sym here.2)
+      (two_way o v into.other out.other first start_row start_apart end_apart last last_row (over into out).cost (subst (λ (s : Shortcut). LeadsOver first.out last.inn v s) is.2 leads))

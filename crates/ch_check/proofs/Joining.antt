@@ -3,28 +3,26 @@ use Rattle.std.proofs.Common.{ℕ, ◌≡◌, ◌≢◌, ◌+◌, ◌<◌, List,
 use Rattle.std.proofs.lemmas.List.{take_more}
 use Rattle.std.proofs.lemmas.List.Elements.{All-contains, Contains-append_left, Contains-append_right, Contains-append_cases, Contains-push, Contains-push_cases}
 use Rattle.ch_cost.specs.declared.cost.Cost.{Cost}
-use Rattle.ch_cost.specs.Cost.{◌⊕◌, ◌≼◌, IsWithin}
-use Rattle.ch_cost.specs.Cost.Laws.{sum-zero_cost}
-use Rattle.ch_graph.specs.Walk.{Walk}
+use Rattle.ch_cost.specs.Cost.{◌⊕◌, IsWithin}
 use Rattle.ch_laws.specs.declared.entry.Entry.{Entry}
 use Rattle.ch_laws.specs.declared.shortcut.Shortcut.{Shortcut}
 use Rattle.ch_laws.specs.Contraction.{IsFor, IsPlan, IsWitnessed, NoShortcut}
 use Rattle.ch_laws.specs.Members.{contains_none}
 use Rattle.ch_laws.specs.Rows.{Row, Rises}
 use Rattle.ch_laws.specs.Theorems.{VerdictsAreLawful}
-use Rattle.ch_laws.specs.Verdicts.{AreVerdicts, HasWay, IsForShortcut, ListsThrough, SeenArc}
+use Rattle.ch_laws.specs.Verdicts.{AreVerdicts, HasWay, IsForShortcut, ListsThrough}
 use Rattle.ch_overlay.specs.Overlay.{Overlay, IsEntry, state_of}
 use Rattle.ch_overlay.specs.Entries.{last_is_past, one_entry}
 use Rattle.ch_overlay.specs.Pairs.{IsPairOf}
 use Rattle.ch_overlay.specs.Ranges.{AllPairs-append, AllPairs-take}
-use Rattle.ch_check.specs.Pairs.{AreJoined, AreSorted, HaveWays, IsJoined, IsOpenRow, Joins, LeadsDirectly, row_in}
+use Rattle.ch_check.specs.Pairs.{AreJoined, AreSorted, HaveWays, IsJoined, IsOpenRow, Joins, row_in}
 use Rattle.ch_check.specs.Replay.{Replay, IsReplay, MayPut}
 use Rattle.ch_check.specs.Searching.{AreOwed}
 use Rattle.ch_check.proofs.Reading.{are_read}
 
 -- From one neighbour
 
-module _ (o : Overlay) (v : ℕ) (row first : Row) (into : Entry) (mid_row : IsOpenRow o v row) (start_row : IsOpenRow o into.other first) (among : Contains row.inn into) (put owed : List Shortcut) (are : AreSorted o.bound first into row.out put owed) where
+module _ (o : Overlay) (v : ℕ) (row first : Row) (into : Entry) (mid_row : IsOpenRow o v row) (start_row : IsOpenRow o into.other first) (among : Contains row.inn into) (put owed : List Shortcut) (are : AreSorted o v first into row.out put owed) where
   -- the neighbour isn't v, nor is the end of a pair
   start_apart : into.other ≢ v
   start_apart = (All-contains (IsEntry (length o.rows) o.bound v) row.inn into mid_row.entries.inn among).apart
@@ -81,19 +79,6 @@ module _ (o : Overlay) (v : ℕ) (row first : Row) (into : Entry) (mid_row : IsO
       made : (u x y : ℕ) (c d : Cost) → x ≡ y → c ≡ d → pair u x c ≡ pair u y d
       made u x y c d e f = ap (λ (z : ℕ). pair u z c) e ∙ ap (λ (k : Cost). pair u y k) f
 
-  -- a direct arc is a way
-  direct_way : (w : ℕ) (sum : Cost) → w ≢ v → LeadsDirectly first.out (record { from = into.other; to = w; cost = sum }) → HasWay (row_in o) v into.other w sum
-  direct_way w sum apart direct =
-      let arc : SeenArc (row_in o) v into.other w direct.cost = record {
-        row = first;
-        read = start_row.read;
-        unranked = start_row.unranked;
-        listed = direct.listed;
-        from_other = start_apart;
-        to_other = apart;
-      } in
-      record { cost = _; way = Walk.go arc Walk.stay; at_most = subst (λ (c : Cost). c ≼ sum) (sym (sum-zero_cost direct.cost)) direct.at_most }
-
   pub is_joined : HaveWays o v owed → IsJoined o v row into put
   is_joined ways = record {
     from = λ p h. ap (λ (s : Shortcut). s.from) ((are.from_put p h).2.2);
@@ -106,7 +91,7 @@ module _ (o : Overlay) (v : ℕ) (row first : Row) (into : Entry) (mid_row : IsO
             | inl in_put ↦ absurd (none p in_put (refl, refl))
             | inr in_owed ↦ ways p in_owed
           ]
-          | inr direct ↦ direct_way w sum (subst (λ (x : ℕ). x ≢ v) t.second.other (end_apart t.second.entry t.second.among)) direct
+          | inr way ↦ way
         ];
   }
 

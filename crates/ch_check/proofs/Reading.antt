@@ -1,8 +1,9 @@
 -- The rows of an overlay can be relied on.
 use Rattle.std.proofs.Common.{ℕ, ◌≡◌, ◌^◌, ◌<◌, List, None, Some, All, length, arith, ap, sym, subst, refl, ◌∙◌}
 use Rattle.std.proofs.lemmas.Option.{slice_get-get_or, slice_get_within, get_or_from_slice_get}
+use Rattle.ch_cost.specs.declared.cost.Cost.{Cost}
 use Rattle.ch_laws.specs.declared.entry.Entry.{Entry}
-use Rattle.ch_laws.specs.Contraction.{IsAlive}
+use Rattle.ch_laws.specs.Contraction.{IsAlive, Remains}
 use Rattle.ch_laws.specs.Rows.{Row, IsRow, ShowsRemaining}
 use Rattle.ch_laws.specs.Theorems.{RowOfAlive}
 use Rattle.ch_laws.specs.Verdicts.{AreRead}
@@ -11,7 +12,7 @@ use Rattle.ch_overlay.specs.Overlay.{Overlay, IsOverlay, IsEntry, AreEntries, no
 use Rattle.ch_overlay.specs.Source as sources
 use Rattle.ch_overlay.specs.Source.{IsSeenRow, NamesAlone}
 use Rattle.ch_witness.specs.Kept.{Kept}
-use Rattle.ch_check.specs.Pairs.{IsOpenRow, row_in}
+use Rattle.ch_check.specs.Pairs.{HasArc, IsOpenRow, row_in}
 use Rattle.ch_check.specs.Searching.{AreRowsOf, ShowsRow}
 
 module _ (o : Overlay) (is : IsOverlay o) (s : Seen) (inside : s.node < length o.rows) (row_is : sources.row_in s ≡ row_at o.rows s.node) where
@@ -50,6 +51,14 @@ pub row_is_open : RowOfAlive → (o : Overlay) → IsOverlay o → (x : ℕ) →
 row_is_open rows_of_alive o is x alive =
     let row : IsRow (state_of o) x (row_at o.rows x) = is.rows x alive.in_range in
     let shows : ShowsRemaining (state_of o) x (row_at o.rows x) = rows_of_alive o.bound (state_of o) x (row_at o.rows x) is.plain row alive in
+    let start : (y : ℕ) (c : Cost) → Remains (state_of o) y x c → HasArc o y x c = λ y c remains.
+    let other : ShowsRemaining (state_of o) y (row_at o.rows y) = rows_of_alive o.bound (state_of o) y (row_at o.rows y) is.plain (is.rows y remains.from_alive.in_range) remains.from_alive in
+    record {
+      row = row_at o.rows y;
+      read = slice_get-get_or o.rows y no_arcs remains.from_alive.in_range;
+      unranked = other.unranked;
+      listed = (other.out x c).0 remains;
+    } in
     record {
       inside = alive.in_range;
       read = slice_get-get_or o.rows x no_arcs alive.in_range;
@@ -57,7 +66,9 @@ row_is_open rows_of_alive o is x alive =
       out_rises = row.out_rises;
       inn_rises = row.inn_rises;
       entries = is.entries x alive.in_range;
+      outs = λ e among. ((shows.out e.other e.cost).1 (record { entry = e; among = among; other = refl; costs = refl })).to_alive;
       inns = λ e among. ((shows.inn e.other e.cost).1 (record { entry = e; among = among; other = refl; costs = refl })).from_alive;
+      starts = λ e among. start e.other e.cost ((shows.inn e.other e.cost).1 (record { entry = e; among = among; other = refl; costs = refl }));
     }
 
 -- where no answer is kept, all that are have the rows of an overlay

@@ -1,8 +1,8 @@
 -- The pairs by way of a node, and what is due for each.
-use Rattle.std.specs.Prelude.{ℕ, ◌≡◌, ◌<◌, ◌⊎◌, List, [], ◌∷◌, ◌++◌, length, Option, Some, None, AllPairs, Contains}
+use Rattle.std.specs.Prelude.{ℕ, ◌≡◌, ◌≢◌, ◌<◌, ◌⊎◌, List, [], ◌∷◌, ◌++◌, length, Option, Some, None, AllPairs, Contains}
 use Rattle.std.specs.List.{slice_get}
 use Rattle.ch_cost.specs.declared.cost.Cost.{Cost}
-use Rattle.ch_cost.specs.Cost.{◌≼◌, ◌≺◌, IsWithin}
+use Rattle.ch_cost.specs.Cost.{◌⊕◌, ◌≼◌, ◌≺◌, IsWithin}
 use Rattle.ch_laws.specs.declared.entry.Entry.{Entry}
 use Rattle.ch_laws.specs.declared.shortcut.Shortcut.{Shortcut}
 use Rattle.ch_laws.specs.Contraction.{IsAlive, IsFor, NoShortcut}
@@ -17,7 +17,14 @@ use Rattle.ch_check.specs.declared.share.Share.TheVariants.{Spared, Put, Owed}
 abbrev pub row_in : Overlay → ℕ → Option Row
 row_in o x = slice_get o.rows x
 
--- the row of a node that isn't contracted; nor are those that have an arc to it
+-- the row of x, which isn't contracted, has an arc to y
+pub record HasArc (o : Overlay) (x y : ℕ) (c : Cost) : Type 0 where
+  pub row : Row
+  pub read : row_in o x ≡ Some row
+  pub unranked : row.rank ≡ None
+  pub listed : Lists row.out y c
+
+-- the row of a node that isn't contracted; nor are those that it has an arc to or from, whose rows have those arcs too
 pub record IsOpenRow (o : Overlay) (x : ℕ) (r : Row) : Type 0 where
   pub inside : x < length o.rows
   pub read : row_in o x ≡ Some r
@@ -25,7 +32,9 @@ pub record IsOpenRow (o : Overlay) (x : ℕ) (r : Row) : Type 0 where
   pub out_rises : Rises r.out
   pub inn_rises : Rises r.inn
   pub entries : AreEntries (length o.rows) o.bound x r
+  pub outs : (e : Entry) → Contains r.out e → IsAlive (state_of o) e.other
   pub inns : (e : Entry) → Contains r.inn e → IsAlive (state_of o) e.other
+  pub starts : (e : Entry) → Contains r.inn e → HasArc o e.other x e.cost
 
 -- one of these arcs leads to where the pair does, and costs no more
 pub record LeadsDirectly (outs : List Entry) (p : Shortcut) : Type 0 where
@@ -37,11 +46,22 @@ pub record LeadsDirectly (outs : List Entry) (p : Shortcut) : Type 0 where
 abbrev pub CostMore : List Entry → Shortcut → Type 0
 CostMore outs p = (c : Cost) → Lists outs p.to c → p.cost ≺ c
 
--- what is due for the pair of the two arcs: nothing, a shortcut, or a way
-abbrev pub IsDue : Cost → Row → Entry → Entry → Share → Type 0
-IsDue bound first into out Spared = (p : Shortcut) → IsPairOf bound into out (Some p) → LeadsDirectly first.out p
-IsDue bound first into out (Put p) = IsPairOf bound into out (Some p) × CostMore first.out p
-IsDue bound first into out (Owed p) = IsPairOf bound into out (Some p)
+-- one of these arcs and then this one lead around v to where the pair does, and cost no more together
+pub record LeadsBy (outs : List Entry) (last : Entry) (v : ℕ) (p : Shortcut) : Type 0 where
+  pub cost : Cost
+  pub listed : Lists outs last.other cost
+  pub apart : last.other ≢ v
+  pub at_most : cost ⊕ last.cost ≼ p.cost
+
+-- and so does one of them and then one of those
+abbrev pub LeadsOver : List Entry → List Entry → ℕ → Shortcut → Type 0
+LeadsOver outs inns v p = (last : Entry) × Contains inns last × LeadsBy outs last v p
+
+-- what is due for the pair of the two arcs by way of v: nothing, a shortcut, or a way
+abbrev pub IsDue : Overlay → ℕ → Row → Entry → Entry → Share → Type 0
+IsDue o v first into out Spared = (p : Shortcut) → IsPairOf o.bound into out (Some p) → HasWay (row_in o) v p.from p.to p.cost
+IsDue o v first into out (Put p) = IsPairOf o.bound into out (Some p) × CostMore first.out p
+IsDue o v first into out (Owed p) = IsPairOf o.bound into out (Some p)
 
 -- a pair is added to those that it is due to
 abbrev pub IsAdded : Share → List Shortcut → List Shortcut → List Shortcut → List Shortcut → Type 0
@@ -53,13 +73,13 @@ IsAdded (Owed p) put owed new_put new_owed = (new_put ≡ put) × (new_owed ≡ 
 abbrev pub IsPairAmong : Cost → Entry → List Entry → Shortcut → Type 0
 IsPairAmong bound into outs p = (out : Entry) × Contains outs out × IsPairOf bound into out (Some p)
 
--- The pairs of an arc into a node and these out of it: for each there is a direct arc, or it is put, or a way is owed.
-pub record AreSorted (bound : Cost) (first : Row) (into : Entry) (outs : List Entry) (put owed : List Shortcut) : Type 0 where
-  pub from_put : (p : Shortcut) → Contains put p → IsPairAmong bound into outs p
+-- The pairs of an arc into v and these out of it: for each there is a way, or it is put, or a way is owed.
+pub record AreSorted (o : Overlay) (v : ℕ) (first : Row) (into : Entry) (outs : List Entry) (put owed : List Shortcut) : Type 0 where
+  pub from_put : (p : Shortcut) → Contains put p → IsPairAmong o.bound into outs p
   pub less : (p : Shortcut) → Contains put p → CostMore first.out p
   pub rising : AllPairs (λ p q. p.to < q.to) put
-  pub from_owed : (p : Shortcut) → Contains owed p → IsPairAmong bound into outs p
-  pub every : (out : Entry) (p : Shortcut) → Contains outs out → IsPairOf bound into out (Some p) → (Contains put p ⊎ Contains owed p) ⊎ LeadsDirectly first.out p
+  pub from_owed : (p : Shortcut) → Contains owed p → IsPairAmong o.bound into outs p
+  pub every : (out : Entry) (p : Shortcut) → Contains outs out → IsPairOf o.bound into out (Some p) → (Contains put p ⊎ Contains owed p) ⊎ HasWay (row_in o) v p.from p.to p.cost
 
 -- a way leads around v for each of these pairs
 abbrev pub HaveWays : Overlay → ℕ → List Shortcut → Type 0

@@ -30,9 +30,9 @@ use std::alloc::Global;
 /// argued, and tested on small graphs, and not proved. An error is no proof that the hierarchy is wrong, but for [`CheckError::Nodes`];
 /// [`is_refuted_by`](crate::is_refuted_by) may give one. A hierarchy of version 1 gives [`CheckError::Version`].
 ///
-/// Takes memory for the rows, an entry for each end of an arc, and time by the pairs of neighbours of the nodes and by the
-/// searches for those pairs that have no link. A link is looked for often, so an index
-/// ([`Hierarchy::into_indexed`]) saves time.
+/// Takes memory for the rows, an entry for each end of an arc, and time by the pairs of neighbours of the nodes, by the arcs
+/// into the ends of those pairs that have no link, and by searches for those that have no way of two arcs either. A link is
+/// looked for often, so an index ([`Hierarchy::into_indexed`]) saves time.
 pub fn check(alloc: Global, graph: &Graph, hierarchy: &Hierarchy) -> Result<(), CheckError>
     ensures right { OnOk result (IsRight graph.now hierarchy.now) }
     ensures version { OnOk result (hierarchy.now.version ≡ Two) }

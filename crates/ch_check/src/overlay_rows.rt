@@ -1,10 +1,14 @@
 ghost use Rattle.std.specs.Prelude.{◌≡◌, IfOk};
 ghost use Rattle.ch_overlay.specs.Source as sources;
 ghost use Rattle.ch_overlay.specs.declared.source.SeeError.TheVariants.{Unseen};
+ghost use Rattle.ch_laws.specs.Contraction.{IsAlive};
+ghost use Rattle.ch_overlay.specs.Overlay.{state_of};
+ghost use Rattle.ch_check.specs.Pairs.{IsOpenRow};
 ghost use Rattle.ch_check.specs.Searching.{IsNode, ShowsRow};
 
 use ch_cost::Cost;
-use ch_overlay::{Overlay, RowSource, SeeError, Seen};
+use ch_laws::rows_of_alive_nodes_show_what_remains;
+use ch_overlay::{Overlay, Row, RowSource, SeeError, Seen};
 use std::marker::Model;
 use std::sync::Arc;
 
@@ -95,4 +99,14 @@ impl RowSource for OverlayRows<'_> {
     ghost still_whole = { λ a b x e h. subst (λ (o : Overlay). IsNode o x) (sym e) h };
 
     ghost same_bound = { λ a b e. ap (λ (o : Overlay). o.bound) e };
+}
+
+/// The row of a node that isn't contracted.
+pub fn open_row(overlay: &Overlay, node: u32) -> &Row
+    requires { IsAlive (state_of overlay.now) node }
+    ensures { IsOpenRow overlay.now node result.now }
+{
+    rows_of_alive_nodes_show_what_remains();
+    let _ = overlay.nodes();
+    overlay.row(node)
 }

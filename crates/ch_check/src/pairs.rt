@@ -1,36 +1,39 @@
-ghost use Rattle.std.specs.Prelude.{◌≡◌, IsFalse, IsTrue, OnOk};
+ghost use Rattle.std.specs.Prelude.{◌≢◌, IsFalse, IsTrue, OnOk};
+ghost use Rattle.ch_laws.specs.Contraction.{IsAlive};
 ghost use Rattle.ch_laws.specs.Rows.{Rises};
+ghost use Rattle.ch_overlay.specs.Overlay.{state_of};
 ghost use Rattle.ch_overlay.specs.Source.{IsBound};
-ghost use Rattle.ch_check.specs.Pairs.{AreSorted, CostMore, IsAdded, IsDue, LeadsDirectly};
+ghost use Rattle.ch_check.specs.Pairs.{AreSorted, CostMore, IsAdded, IsDue, IsOpenRow, LeadsBy, LeadsDirectly, LeadsOver};
 
 use crate::desk::NeighbourPairs;
+use crate::overlay_rows::open_row;
 use crate::share::Share;
-use ch_cost::Cost;
 use ch_graph::Hierarchy;
 use ch_laws::{Entry, Shortcut};
-use ch_overlay::{Row, entry_for, light_pair};
+use ch_overlay::{Overlay, Row, entry_for, light_pair};
 use std::alloc::AllocError;
 
 /// Finds what is due for each pair of an arc into a node and one of those out of it. `first` is the row of the neighbour
 /// that the arc into the node leaves. It takes the place of what was there.
 pub fn sort_pairs(
-    bound: Cost,
+    overlay: &Overlay,
     hierarchy: &Hierarchy,
     via: u32,
     first: &Row,
     into: &Entry,
-    outs: &[Entry],
+    row: &Row,
     pairs: &mut NeighbourPairs,
 ) -> Result<(), AllocError>
-    requires limit { IsBound bound }
-    requires first_rises { Rises first.now.out }
-    requires rises { Rises outs.now }
-    ensures { OnOk result (AreSorted bound first.now into.now outs.now pairs.new.put.items pairs.new.owed.items) }
+    requires limit { IsBound overlay.now.bound }
+    requires row { IsOpenRow overlay.now via row.now }
+    requires first { IsOpenRow overlay.now into.now.other first.now }
+    requires start { into.now.other ≢ via }
+    ensures { OnOk result (AreSorted overlay.now via first.now into.now row.now.out pairs.new.put.items pairs.new.owed.items) }
 {
     pairs.put.clear();
     pairs.owed.clear();
-    'outs: for out in outs {
-        let share = due(bound, hierarchy, via, first, into, out);
+    'outs: for out in &row.out {
+        let share = due(overlay, hierarchy, via, first, into, out);
         add(share, &mut pairs.put, &mut pairs.owed)?;
     }
     Ok(())
@@ -39,18 +42,21 @@ pub fn sort_pairs(
 /// What is due for the pair of two arcs. What the hierarchy says of it isn't relied on: a shortcut is put only where it is
 /// lawful, and what isn't put is owed a way.
 fn due(
-    bound: Cost,
+    overlay: &Overlay,
     hierarchy: &Hierarchy,
     via: u32,
     first: &Row,
     into: &Entry,
     out: &Entry,
 ) -> Share
-    requires limit { IsBound bound }
-    requires rises { Rises first.now.out }
-    ensures { IsDue bound first.now into.now out.now result }
+    requires limit { IsBound overlay.now.bound }
+    requires first { IsOpenRow overlay.now into.now.other first.now }
+    requires start { into.now.other ≢ via }
+    requires alive { IsAlive (state_of overlay.now) out.now.other }
+    requires end { out.now.other ≢ via }
+    ensures { IsDue overlay.now via first.now into.now out.now result }
 {
-    let Some(pair) = light_pair(bound, into, out) else {
+    let Some(pair) = light_pair(overlay.bound(), into, out) else {
         return Share::Spared;
     };
     if has_direct(&first.out, &pair) {
@@ -58,6 +64,10 @@ fn due(
     }
     if is_wanted(hierarchy, &pair, via) {
         return Share::Put(pair);
+    }
+    let last = open_row(overlay, out.other);
+    if has_two_arcs(&first.out, &last.inn, via, &pair) {
+        return Share::Spared;
     }
     Share::Owed(pair)
 }
@@ -89,6 +99,39 @@ fn has_direct(outs: &[Entry], pair: &Shortcut) -> bool
         return false;
     };
     entry.cost.cost().is_at_most(pair.cost.cost())
+}
+
+/// Whether one of these arcs and one of those out of its end lead around a node to where the pair does, and cost no more
+/// together. `inns` are the arcs into that end.
+fn has_two_arcs(outs: &[Entry], inns: &[Entry], via: u32, pair: &Shortcut) -> bool
+    requires rises { Rises outs.now }
+    ensures { IsTrue result → LeadsOver outs.now inns.now via pair.now }
+{
+    'inns: for arc in inns {
+        if is_last(outs, arc, via, pair) {
+            return true;
+        }
+    }
+    false
+}
+
+/// Whether this arc is the last of two, of which the first is one of these.
+fn is_last(outs: &[Entry], arc: &Entry, via: u32, pair: &Shortcut) -> bool
+    requires rises { Rises outs.now }
+    ensures { IsTrue result → LeadsBy outs.now arc.now via pair.now }
+{
+    let enough = pair.cost.cost();
+    let cost = arc.cost.cost();
+    if arc.other == via || !cost.is_below(enough) {
+        return false;
+    }
+    let Some(first) = entry_for(outs, arc.other) else {
+        return false;
+    };
+    let Some(sum) = first.cost.cost().checked_plus(cost) else {
+        return false;
+    };
+    sum.is_at_most(enough)
 }
 
 /// Whether the hierarchy asks for a shortcut for the pair by way of this node: it has the link, or a lighter one, which a

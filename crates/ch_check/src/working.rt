@@ -9,11 +9,12 @@ ghost use Rattle.ch_check.specs.Searching.{AreRowsOf};
 
 use crate::desk::Desk;
 use crate::fault::Fault;
+use crate::overlay_rows::open_row;
 use crate::pairs::sort_pairs;
 use crate::replay::Replay;
 use crate::ways::find_ways;
 use ch_graph::Hierarchy;
-use ch_laws::{Entry, bounds_fit, rows_of_alive_nodes_show_what_remains, verdicts_are_lawful};
+use ch_laws::{Entry, bounds_fit, verdicts_are_lawful};
 use ch_overlay::{Overlay, Row};
 use std::alloc::Global;
 
@@ -38,16 +39,6 @@ pub fn work_out(
     let row = open_row(overlay, node);
     desk.clear();
     join_all(alloc, overlay, hierarchy, desk, node, row)
-}
-
-/// The row of a node that isn't contracted.
-fn open_row(overlay: &Overlay, node: u32) -> &Row
-    requires { IsAlive (state_of overlay.now) node }
-    ensures { IsOpenRow overlay.now node result.now }
-{
-    rows_of_alive_nodes_show_what_remains();
-    let _ = overlay.nodes();
-    overlay.row(node)
 }
 
 /// Works out the pairs from each neighbour.
@@ -90,15 +81,7 @@ fn join_from(
 {
     let from = into.other;
     let first = open_row(overlay, from);
-    sort_pairs(
-        overlay.bound(),
-        hierarchy,
-        node,
-        first,
-        into,
-        &row.out,
-        &mut desk.pairs,
-    )?;
+    sort_pairs(overlay, hierarchy, node, first, into, row, &mut desk.pairs)?;
     find_ways(
         alloc,
         overlay,

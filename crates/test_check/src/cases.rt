@@ -98,17 +98,19 @@ pub const TIE: Case = Case {
     refuted: false,
 };
 
-/// Two pairs by way of 0, from 1 to 4 of length 2 and from 1 to 5 of length 11. A search comes to both ends over 2, to 4 at 3,
-/// which is too much, before it comes to 4 over 3 at 2.
+/// Two pairs by way of 0, from 1 to 4 of length 3 and from 1 to 5 of length 11. A search comes to both ends over 2, to 4 at 4,
+/// which is too much, before it comes to 4 over 3 and 6 at 2.
 pub const LATE: &[Line] = &[
-    (0, 4, 1),
+    (0, 4, 2),
     (0, 5, 10),
     (1, 0, 1),
-    (1, 2, 1),
+    (1, 2, 0),
     (1, 3, 1),
-    (2, 4, 2),
-    (2, 5, 3),
-    (3, 4, 1),
+    (2, 4, 4),
+    (2, 7, 0),
+    (3, 6, 1),
+    (6, 4, 0),
+    (7, 5, 5),
 ];
 
 /// Hierarchies that are right.
@@ -121,20 +123,22 @@ const ALL_RIGHT: [Case; 8] = [
     },
     // no shortcut, since both pairs have a witness
     Case {
-        nodes: 6,
+        nodes: 8,
         lines: LATE,
-        ranks: &[0, 1, 2, 3, 4, 5],
+        ranks: &[0, 1, 2, 3, 4, 5, 6, 7],
         links: &[
-            (0, 4, (1, 1), None),
+            (0, 4, (2, 1), None),
             (0, 5, (10, 1), None),
             (1, 0, (1, 1), None),
-            (1, 2, (1, 1), None),
+            (1, 2, (0, 1), None),
             (1, 3, (1, 1), None),
-            (2, 4, (2, 1), None),
-            (2, 5, (3, 1), None),
-            (3, 4, (1, 1), None),
+            (2, 4, (4, 1), None),
+            (2, 7, (0, 1), None),
+            (3, 6, (1, 1), None),
+            (6, 4, (0, 1), None),
+            (7, 5, (5, 1), None),
         ],
-        bound: (50, 5),
+        bound: (70, 7),
         ..RIGHT
     },
     // nodes 0 and 4 in the other order, and nodes 4 and 2: the shortcut of 2 gives way to the lighter one of 4

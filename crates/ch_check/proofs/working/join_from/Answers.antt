@@ -1,10 +1,8 @@
 use Rattle.std.proofs.Common.{◌++◌, List, ap, sym, subst, ◌∙◌}
 use Rattle.ch_laws.specs.declared.shortcut.Shortcut.{Shortcut}
-use Rattle.ch_laws.specs.Rows.{Row}
 use Rattle.ch_check.specs.Pairs.{HaveWays}
 use Rattle.ch_check.specs.Searching.{AreOwed}
 use Rattle.ch_check.proofs.Joining.{are_owed, is_joined}
-use Rattle.ch_check.proofs.Sorting.{sorted_by}
 use Rattle.ch_check.proofs.working.join_from.Goals as goal
 
 pub open_row-first-requires : goal.open_row-first-requires
@@ -12,16 +10,14 @@ open_row-first-requires c = c.requires.row.inns c.args.into.now c.requires.among
 
 pub find_ways-requires-clause-owed : goal.find_ways-requires-clause-owed
 find_ways-requires-clause-owed c =
-    let sorted = sorted_by c.open_row-first.result.now c.args.into.now c.sort_pairs.new.pairs.put.items c.sort_pairs.new.pairs.owed.items c.bound.result c.args.overlay.now.bound c.deref.result.now c.args.row.now.out c.bound.ensures (c.deref.ensures.value ∙ ap (λ (r : Row). r.out) c.row.view_is) c.in_ok-sort_pairs.ensures in
-    subst (λ (ps : List Shortcut). AreOwed c.args.overlay.now c.args.node c.args.into.now.other ps) (sym c.deref-2.ensures.value)
-    (are_owed c.args.overlay.now c.args.node c.args.row.now c.open_row-first.result.now c.args.into.now c.requires.row c.open_row-first.ensures c.requires.among c.sort_pairs.new.pairs.put.items c.sort_pairs.new.pairs.owed.items sorted)
+    subst (λ (ps : List Shortcut). AreOwed c.args.overlay.now c.args.node c.args.into.now.other ps) (sym c.deref.ensures.value)
+    (are_owed c.args.overlay.now c.args.node c.args.row.now c.open_row-first.result.now c.args.into.now c.requires.row c.open_row-first.ensures c.requires.among c.sort_pairs.new.pairs.put.items c.sort_pairs.new.pairs.owed.items c.in_ok-sort_pairs.ensures)
 
 pub returns-clause-joined : goal.returns-clause-joined
 returns-clause-joined c =
-    let sorted = sorted_by c.open_row-first.result.now c.args.into.now c.sort_pairs.new.pairs.put.items c.sort_pairs.new.pairs.owed.items c.bound.result c.args.overlay.now.bound c.deref.result.now c.args.row.now.out c.bound.ensures (c.deref.ensures.value ∙ ap (λ (r : Row). r.out) c.row.view_is) c.in_ok-sort_pairs.ensures in
     record {
       put = c.sort_pairs.new.pairs.put.items;
-      appends = c.in_ok-extend_from_slice.ensures.items ∙ ap (λ (ps : List Shortcut). c.args.desk.now.shortcuts.items ++ ps) c.deref-3.ensures.value;
-      joined = is_joined c.args.overlay.now c.args.node c.args.row.now c.open_row-first.result.now c.args.into.now c.requires.row c.open_row-first.ensures c.requires.among c.sort_pairs.new.pairs.put.items c.sort_pairs.new.pairs.owed.items sorted
-          (subst (λ (ps : List Shortcut). HaveWays c.args.overlay.now c.args.node ps) c.deref-2.ensures.value c.in_ok-find_ways.ensures.ways);
+      appends = c.in_ok-extend_from_slice.ensures.items ∙ ap (λ (ps : List Shortcut). c.args.desk.now.shortcuts.items ++ ps) c.deref-2.ensures.value;
+      joined = is_joined c.args.overlay.now c.args.node c.args.row.now c.open_row-first.result.now c.args.into.now c.requires.row c.open_row-first.ensures c.requires.among c.sort_pairs.new.pairs.put.items c.sort_pairs.new.pairs.owed.items c.in_ok-sort_pairs.ensures
+          (subst (λ (ps : List Shortcut). HaveWays c.args.overlay.now c.args.node ps) c.deref.ensures.value c.in_ok-find_ways.ensures.ways);
     }

@@ -2,7 +2,7 @@ use Rattle.std.proofs.Common.{sym, subst, ◌∙◌}
 use Rattle.ch_laws.specs.Rows.{Row}
 use Rattle.ch_check.specs.Pairs.{IsOpenRow}
 use Rattle.ch_check.proofs.Reading.{row_is_open}
-use Rattle.ch_check.proofs.working.open_row.Goals as goal
+use Rattle.ch_check.proofs.overlay_rows.open_row.Goals as goal
 
 pub returns : goal.returns
 returns c =
