@@ -36,7 +36,7 @@ def nearest_towards(roads: Roads, place: Point, count: int, towards: Towards, wi
 
 def turned_spot(roads: Roads, spot: Spot, towards: Towards) -> Spot | None:
     """The point with those arcs of its edge that lead that way at it; None where none does."""
-    arcs = [(number, roads.arc(number)) for number in roads.edge(spot.edge).arcs]
+    arcs = roads.edge(spot.edge).arcs.items()
     kept = [(number, arc) for number, arc in arcs if towards.has(direction_at(roads, number, arc, spot.fraction))]
     if not kept:
         return None

@@ -59,8 +59,7 @@ def along_one_arc(roads: Roads, start: Spot, end: Spot) -> Leg | None:
     if start.copies or end.copies or start.edge != end.edge:
         return None
     found: list[Leg] = []
-    for number in roads.edge(start.edge).arcs:
-        arc = roads.arc(number)
+    for number, arc in roads.edge(start.edge).arcs.items():
         begin, stop = roads.along(arc, start.fraction), roads.along(arc, end.fraction)
         if begin <= stop:
             weight = roads.before(arc, end.fraction) - roads.before(arc, start.fraction)
@@ -77,9 +76,11 @@ def driven(roads: Roads, start: Spot, end: Spot, route: Answer) -> Leg:
     weights: list[int] = roads.arrays.arc_weight[arcs].tolist() if arcs else []
     begin, stop = 0.0, 1.0
     if first[1] != NONE:
-        arcs, weights, begin = [first[1], *arcs], [first[0], *weights], roads.along(roads.arc(first[1]), start.fraction)
+        arcs, weights = [first[1], *arcs], [first[0], *weights]
+        begin = roads.along(roads.edge(start.edge).arcs[first[1]], start.fraction)
     if last[1] != NONE:
-        arcs, weights, stop = [*arcs, last[1]], [*weights, last[0]], roads.along(roads.arc(last[1]), end.fraction)
+        arcs, weights = [*arcs, last[1]], [*weights, last[0]]
+        stop = roads.along(roads.edge(end.edge).arcs[last[1]], end.fraction)
     if sum(weights) != route.length:
         raise Refused(500, "InternalError", "the network's weights aren't those of the hierarchy's graph")
     return Leg(route.length, arcs, weights, begin, stop)

@@ -5,7 +5,7 @@ import asyncio
 import base64
 import functools
 import itertools
-from collections.abc import Sequence
+from collections.abc import Iterator, Sequence
 from typing import NamedTuple
 
 from domethyme.network.tables import Point
@@ -29,6 +29,8 @@ from .work import Budget, Desk
 
 # So many places, and arcs of a route, are no work for the Desk. A place so many degrees off the roads' box is.
 FEW_PLACES, FEW_ARCS, NEAR = 3, 2_000, 0.2
+# Places that are looked for together.
+TOGETHER = 16
 # Legs that are asked for without a look at others.
 FEW_LEGS = 4
 
@@ -67,7 +69,7 @@ def nearest_told(roads: Roads, request: Request, budget: Budget) -> str:
 
 
 def ends(roads: Roads, spot: Spot) -> list[int]:
-    arc = roads.arc(roads.edge(spot.edge).arcs[0])
+    arc = next(iter(roads.edge(spot.edge).arcs.values()))
     return [roads.osm(node) for node in (arc.start, arc.end)]
 
 
@@ -89,13 +91,22 @@ async def spots_of(means: Means, request: Request) -> list[Spot]:
 
 
 def spots_found(roads: Roads, request: Request, budget: Budget) -> list[Spot]:
-    found = []
-    for number in budget.over(range(len(request.places))):
-        spots = found_spots(roads, request, number, 1, budget)
-        if not spots:
-            raise no_segment(roads, request, number)
-        found.append(spots[0])
+    found: list[Spot] = []
+    for spot in nearest_of_each(roads, request, budget):
+        if spot is None or spot.metres > request.values[RADIUSES][len(found)]:
+            raise no_segment(roads, request, len(found))
+        found.append(spot)
     return found
+
+
+def nearest_of_each(roads: Roads, request: Request, budget: Budget) -> Iterator[Spot | None]:
+    """The nearest point to each place, by a road that leads as it has to."""
+    if is_plain(request):
+        for begin in range(0, len(request.places), TOGETHER):
+            yield from budget.over(roads.nearest_of_each(request.places[begin : begin + TOGETHER]))
+        return
+    for number in budget.over(range(len(request.places))):
+        yield next(iter(found_spots(roads, request, number, 1, budget)), None)
 
 
 def is_plain(request: Request) -> bool:
@@ -179,7 +190,8 @@ def route_told(roads: Roads, request: Request, spots: list[Spot], legs: list[Leg
 
 def leg_as_told(roads: Roads, request: Request, start: Spot, end: Spot, leg: Leg, course: Course | None) -> RouteLeg:
     """A leg as OSRM has it."""
-    figures, names = leg_figures(roads, leg), request.values[ANNOTATIONS]
+    figures = leg_figures(roads, leg) if course is None else course.figures(0, len(leg.arcs))
+    names = request.values[ANNOTATIONS]
     told: RouteLeg = {
         "summary": "", "steps": [], "weight": figures["weight"], "duration": figures["duration"], "distance": figures["distance"]
     }

@@ -9,7 +9,7 @@ The network's file is mapped: of it a process has what it uses, in pages that al
 import bisect
 import functools
 import itertools
-from collections.abc import Iterator
+from collections.abc import Iterator, Sequence
 from typing import NamedTuple
 
 import numpy as np
@@ -17,19 +17,22 @@ from numpy.typing import NDArray
 
 from domethyme import NetworkError
 from domethyme.network.binary import NO_OSM, TEXTS, UNITS, Mapped, arrays_of
-from domethyme.network.grid import Ints
+from domethyme.network.grid import Ints, ranges
 from domethyme.network.network import NodePlaces
 from domethyme.network.mapped import Column
-from domethyme.network.sphere import Floats, between, frame_of, nearest_on, on_sphere
+from domethyme.network.sphere import Floats, between, nearest_on
 from domethyme.network.tables import ENDS, Point, metres_between
+from domethyme.network.threads import firsts
 
 from .tiles import Tiles
 
 AT_END = 0.005
 NONE = -1
-KEPT = 1 << 12
-# Steps that are looked at together for the nearest point.
+# Edges that are kept when they were looked at.
+KEPT = 1 << 10
+# Steps that are looked at together for the nearest point, and both ends of steps, as they follow one another.
 STEPS = 1 << 15
+ENDS_OF_STEPS = np.array([[0], [1]])
 NAME, JUNCTION = TEXTS.index("name"), TEXTS.index("junction")
 ROUND = ("roundabout", "circular")
 
@@ -40,19 +43,17 @@ class Arc(NamedTuple):
     start: int
     end: int
     weight: int
-    seconds: float
-    metres: float
     name: str
     edge: int
     is_along: bool
 
 
 class Edge(NamedTuple):
-    """A line, the metres along it at each point, and the arcs that lie on it."""
+    """A line, the metres along it at each point, and the arcs that lie on it, by their numbers."""
 
     points: tuple[Point, ...]
     along: list[float]
-    arcs: list[int]
+    arcs: dict[int, Arc]
 
     @property
     def metres(self) -> float:
@@ -74,6 +75,16 @@ class Spot(NamedTuple):
     name: str
 
 
+class Ways(NamedTuple):
+    """Steps of edges, as they lie from places: of which edge, by its place among those that were asked for, the row of the step's
+    first point, the metres to the nearest point of the step, to the micrometre, and the share of the step before that."""
+
+    which: Ints
+    rows: Ints
+    metres: Floats
+    shares: Floats
+
+
 class Roads:
     """The files of a network, NETWORK.net, or NETWORK.nodes.csv and NETWORK.arcs.csv. Nodes are numbered from 1. Raises
     NetworkError, and where the file is damaged, in all that reads it.
@@ -88,7 +99,6 @@ class Roads:
         if not self.count:
             raise NetworkError(f"{prefix}: has no arcs")
         self.texts, self.unit, self.degree = self.arrays.texts, self.arrays.unit, self.arrays.degrees
-        self.arc = functools.lru_cache(KEPT)(self._arc)
         self.edge = functools.lru_cache(KEPT)(self._edge)
         self.tiles, self._places = Tiles(self.arrays), NodePlaces.of(self.arrays)
 
@@ -117,11 +127,16 @@ class Roads:
         found: list[int] = self.arrays.lightest(line[:-1], line[1:]).tolist()
         return found
 
+    @functools.cached_property
+    def rounds(self) -> Ints:
+        """The texts of the junctions that are roundabouts."""
+        junctions: list[int] = np.unique(self.arrays.row_texts[:, JUNCTION]).tolist()
+        return np.array([text for text in junctions if self.texts[text] in ROUND], dtype=np.int64)
+
     def is_round(self, arcs: NDArray[np.int64]) -> NDArray[np.bool_]:
         """Which of the arcs go round a roundabout."""
-        junctions = self.arrays.arc_texts[arcs, JUNCTION]
-        texts = [text for text in np.unique(junctions).tolist() if self.texts[text] in ROUND]
-        return np.isin(junctions, texts)
+        found: NDArray[np.bool_] = (self.arrays.arc_texts[arcs, JUNCTION][:, None] == self.rounds).any(axis=1)
+        return found
 
     def exits(self, node: int) -> int:
         """How many roads lead away from a node of a roundabout."""
@@ -129,55 +144,79 @@ class Roads:
         arcs = self.arrays.out_arcs[begin:end]
         return len(np.unique(self.arrays.arc_edge[arcs[~self.is_round(arcs)]]))
 
-    def _arc(self, number: int) -> Arc:
-        arrays = self.arrays
-        return Arc(
-            int(arrays.arc_from[number]), int(arrays.arc_to[number]), int(arrays.arc_weight[number]),
-            float(arrays.arc_seconds[number]), float(arrays.arc_metres[number]), self.texts[arrays.arc_texts[number, NAME]],
-            int(arrays.arc_edge[number]), bool(arrays.arc_along[number]),
-        )
+    def arc(self, number: int) -> Arc:
+        """An arc by its number, from 0."""
+        return self.edge(int(self.arrays.arc_edge[number])).arcs[number]
 
     def _edge(self, number: int) -> Edge:
-        points = tuple(self.arrays.edge_line(number))
-        first, last = self.arrays.edge_first[number : number + 2].tolist()
-        return Edge(points, metres_along(points), self.arrays.edge_arcs[first:last].tolist())
+        arrays, points = self.arrays, tuple(self.arrays.edge_line(number))
+        first, last = arrays.edge_first[number : number + 2].tolist()
+        arcs = arrays.edge_arcs[first:last]
+        columns = (arrays.arc_from, arrays.arc_to, arrays.arc_weight, arrays.arc_along)
+        rows = zip(arcs.tolist(), arrays.arc_texts[arcs, NAME].tolist(), *(column[arcs].tolist() for column in columns))
+        found = {
+            arc: Arc(start, end, weight, self.texts[name], number, is_along)
+            for arc, name, start, end, weight, is_along in rows
+        }
+        return Edge(points, metres_along(points), found)
 
     def nearest(self, place: Point, count: int = 1) -> list[Spot]:
         """The nearest points of the `count` nearest edges, the nearest first, and of equally near ones the first of the file."""
         self.arrays.file.unchanged()
-        frame = frame_of(*place)
+        here = np.array(place)
 
         def metres(edges: Ints) -> Floats:
-            parts = [self._metres(frame, part) for part in parted(edges, self.arrays.edge_begin)]
-            return (parts[0] if len(parts) == 1 else np.concatenate(parts)).round(6)
+            parts = [self._metres(here, part) for part in parted(edges, self.arrays.edge_begin)]
+            return parts[0] if len(parts) == 1 else np.concatenate(parts)
 
         near = self.arrays.edge_grid.nearest(place, min(count, self.edges), metres)
-        return [self._spot(edge, *self._point(frame, edge), away) for away, edge in near]
+        return [self._point(here, edge) for _, edge in near]
 
-    def _metres(self, frame: Floats, edges: Ints) -> Floats:
-        """The metres from a place, by its frame, to each edge."""
-        begins, ends = self.arrays.edge_begin[np.concatenate((edges, edges + 1))].reshape(2, -1)
-        counts = ends - begins
-        behind = counts.cumsum()
-        rows = np.arange(behind[-1]) - (behind - counts - begins).repeat(counts)
-        points = self.arrays.points[rows] / UNITS
-        sphere = on_sphere(points[:, 0], points[:, 1])
-        is_step = np.ones(len(rows), dtype=bool)
-        is_step[behind - 1] = False
-        steps = is_step.nonzero()[0]
-        away, _ = nearest_on(frame, sphere[steps], sphere[steps + 1])
-        found: Floats = np.minimum.reduceat(away, behind - counts - np.arange(len(counts)))
+    def nearest_of_each(self, places: Sequence[Point]) -> Iterator[Spot]:
+        """The nearest point of a road to each place, as `nearest` has it. Those with one near by are looked for together."""
+        self.arrays.file.unchanged()
+        near = self._near(places)
+        return (near[number] if number in near else self.nearest(place)[0] for number, place in enumerate(places))
+
+    def _near(self, places: Sequence[Point]) -> dict[int, Spot]:
+        """The nearest points by the numbers of their places, where there are some within the first circle of the grid."""
+        grid, found = self.arrays.edge_grid, {}
+        which, edges = grid.around(places, grid.first_reach)
+        if not len(edges):
+            return {}
+        ways = self._ways(np.array(places)[which], edges)
+        place = which[ways.which]
+        order = np.lexsort((ways.rows, ways.metres, place))  # (rows are in the order of edges)
+        for best in order[firsts(place[order])].tolist():
+            if ways.metres[best] <= grid.first_reach:
+                found[int(place[best])] = self._spot_on(int(edges[ways.which[best]]), ways, best)
         return found
 
-    def _point(self, frame: Floats, edge: int) -> tuple[float, Point]:
-        """The nearest point of an edge: the fraction along it, and the place."""
-        line = self.edge(edge)
-        lon, lat = np.array(line.points).T
-        sphere = on_sphere(lon, lat)
-        away, shares = nearest_on(frame, sphere[:-1], sphere[1:])
-        step = int(away.round(6).argmin())
-        share = float(shares[step])
-        return self._fraction(line, step, share), between(line.points[step], line.points[step + 1], share)
+    def _ways(self, places: Floats, edges: Ints) -> Ways:
+        """The steps of edges, as they lie from a place, or from one for each edge."""
+        begins = self.arrays.edge_begin[edges]
+        which, rows = ranges(begins, self.arrays.edge_begin[edges + 1] - begins - 1)
+        points = self.arrays.points[rows + ENDS_OF_STEPS] / UNITS
+        metres, shares = nearest_on(places if places.ndim < 2 else places[which], points)
+        return Ways(which, rows, metres.round(6), shares)
+
+    def _metres(self, place: Floats, edges: Ints) -> Floats:
+        """The metres from a place to each edge."""
+        ways = self._ways(place, edges)
+        found: Floats = np.minimum.reduceat(ways.metres, np.flatnonzero(firsts(ways.which)))
+        return found
+
+    def _point(self, place: Floats, edge: int) -> Spot:
+        """The nearest point of an edge."""
+        ways = self._ways(place, np.array([edge]))
+        return self._spot_on(edge, ways, int(ways.metres.argmin()))
+
+    def _spot_on(self, edge: int, ways: Ways, best: int) -> Spot:
+        """The nearest point of one of the ways, which is a step of an edge."""
+        line, share = self.edge(edge), float(ways.shares[best])
+        step = int(ways.rows[best]) - int(self.arrays.edge_begin[edge])
+        place = between(line.points[step], line.points[step + 1], share)
+        return self._spot(edge, self._fraction(line, step, share), place, float(ways.metres[best]))
 
     @staticmethod
     def _fraction(line: Edge, step: int, part: float) -> float:
@@ -189,18 +228,17 @@ class Roads:
 
     def _spot(self, edge: int, fraction: float, point: Point, metres: float) -> Spot:
         arcs = self.edge(edge).arcs
-        name = next((self.arc(arc).name for arc in arcs if self.arc(arc).name), "")
+        name = next((arc.name for arc in arcs.values() if arc.name), "")
         place = round(point[0], 6), round(point[1], 6)
         if fraction in (0.0, 1.0):
-            first = self.arc(arcs[0])
+            first = next(iter(arcs.values()))
             node = first.start if first.is_along == (fraction == 0.0) else first.end
             copies = self.copies(node)
             exits = {each: (0, NONE) for each in copies if self.ends(each) in ("", "from")}
             entries = {each: (0, NONE) for each in copies if self.ends(each) in ("", "to")}
             return Spot(*place, metres, edge, fraction, exits, entries, copies, name)
         exits, entries = {}, {}
-        for number in arcs:
-            arc = self.arc(number)
+        for number, arc in arcs.items():
             before = self.before(arc, fraction)
             keep_least(exits, arc.end, arc.weight - before, number)
             keep_least(entries, arc.start, before, number)

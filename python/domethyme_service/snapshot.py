@@ -82,7 +82,7 @@ def roads_of(network: str, hierarchy: str, nodes: int) -> Roads:
     roads.arrays.file.verify(VERIFIED)
     if roads.nodes != nodes:
         raise NetworkError(f"has {roads.nodes} nodes, and the hierarchy {hierarchy} has {nodes}", f"{network}.nodes.csv")
-    roads.tiles.about  # (it is made here once, for all fronts)
+    roads.tiles.about, roads.rounds  # (they are made here once, for all fronts)
     return roads
 
 

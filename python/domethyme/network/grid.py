@@ -11,7 +11,7 @@ in a part of a band are one slice.
 """
 import functools
 import math
-from collections.abc import Callable, Iterator
+from collections.abc import Callable, Iterator, Sequence
 from typing import Any, NamedTuple
 
 import numpy as np
@@ -87,10 +87,15 @@ class Grid(NamedTuple):
         band = bands[rows] << SHIFT
         return which[rows], band + lows, band + highs
 
+    @property
+    def first_reach(self) -> float:
+        """The metres within which things are looked for first: a quarter of a band."""
+        return self.height * EARTH_RADIUS * math.pi / 720
+
     def nearest(self, place: tuple[float, float], count: int, metres: Metres) -> list[tuple[float, int]]:
         """The metres to the `count` nearest things of those that `metres` gives less than infinity, and their numbers: the nearest
         first, and of equally near ones the lesser number. There are fewer only where there are no more."""
-        known, reach, crowded = 0.0, self.height * EARTH_RADIUS * math.pi / 720, math.inf
+        known, reach, crowded = 0.0, self.first_reach, math.inf
         found: list[tuple[float, int]] = []
         while True:
             slices = self._slices_of(place, reach)
@@ -129,6 +134,18 @@ class Grid(NamedTuple):
         if waiting:
             yield np.concatenate(waiting)
 
+    def around(self, places: Sequence[tuple[float, float]], reach: float) -> tuple[Ints, Ints]:
+        """The things within `reach` metres of places, and others: the number of the place, and the thing, which may come several
+        times. Those of a place that has very many are left out."""
+        found: list[tuple[int, int, int]] = []
+        for number, place in enumerate(places):
+            slices = self._slices_of(place, reach)
+            if sum(end - begin for begin, end in slices) <= CROWD:
+                found += [(number, begin, end) for begin, end in slices]
+        which, begins, ends = np.array(found, dtype=np.int64).reshape(-1, 3).T
+        pairs, rows = ranges(begins, ends - begins)
+        return which[pairs], self.things[rows]
+
     def near(self, place: tuple[float, float], reach: float) -> Iterator[NDArray[Any]]:
         """The things within `reach` metres of a place, and others, about MOST at a time; one may come several times."""
         return self._parts(self._slices_of(place, reach))
@@ -149,11 +166,10 @@ class Grid(NamedTuple):
         if span > NEAR * self.height or abs(lat) + span >= 89:
             return None
         half = math.degrees(math.asin(min(1.0, math.sin(angle) / away)))
-        counts = columns_of_bands(self.height)
+        low, high = int((lat - span + 90) / self.height), int((lat + span + 90) / self.height)
         found: list[int] = []
-        for band in range(max(0, int((lat - span + 90) / self.height)), int((lat + span + 90) / self.height) + 1):
-            count = int(counts[min(band, len(counts) - 1)])
-            west, east = (math.floor((side + 180) / 360 * count) for side in (lon - half, lon + half))
+        for band, count in enumerate(columns_of_bands(self.height)[low : high + 1].tolist(), low):
+            west, east = math.floor((lon - half + 180) / 360 * count), math.floor((lon + half + 180) / 360 * count)
             if east - west >= count - 1:
                 west, east = 0, count - 1
             first = band << SHIFT
@@ -181,7 +197,7 @@ class Grid(NamedTuple):
 
     def _near_ones(self, lon: Floats, lat: Floats, metres: MetresOfPairs, nodes: Ints, away: Floats) -> Ints:
         """Sets the nearest things of the places that have some near by; returns the others."""
-        left, reach = np.arange(len(lon)), np.full(len(lon), self.height * EARTH_RADIUS * math.pi / 720)
+        left, reach = np.arange(len(lon)), np.full(len(lon), self.first_reach)
         for _ in range(ROUNDS):
             which, begins, ends = self.slices(lon[left], lat[left], reach[left])
             is_few = np.bincount(which, ends - begins, len(left)) <= CROWD // 4
@@ -206,8 +222,8 @@ def offset(metres: MetresOfPairs, begin: int) -> MetresOfPairs:
 
 def ranges(begins: NDArray[Any], counts: NDArray[Any]) -> tuple[Ints, Ints]:
     """All numbers from begins[k], counts[k] of them, for each k in a row; and k for each of them, which comes first."""
-    which = np.repeat(np.arange(len(counts)), counts)
-    return which, np.arange(len(which)) - np.repeat(np.cumsum(counts) - counts - begins, counts)
+    which = np.arange(len(counts)).repeat(counts)
+    return which, np.arange(len(which)) - (counts.cumsum() - counts - begins).repeat(counts)
 
 
 def half_widths(lat: Floats, angle: Floats, south: Floats, height: float) -> Floats:

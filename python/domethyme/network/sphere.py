@@ -68,29 +68,32 @@ def point_of(lon: float, lat: float) -> tuple[float, float, float]:
     return away * math.cos(east), away * math.sin(east), math.sin(north)
 
 
-def frame_of(lon: float, lat: float) -> Floats:
-    """The directions to the east, to the north and up at a place, in rows; the last one is its point."""
-    east, north = math.radians(lon), math.radians(lat)
-    sine, cosine, up, away = math.sin(east), math.cos(east), math.sin(north), math.cos(north)
-    return np.array([[-sine, cosine, 0.0], [-up * cosine, -up * sine, away], [away * cosine, away * sine, up]])
+def seen_from(place: Floats, points: Floats) -> tuple[Floats, Floats, Floats]:
+    """How far to the east, to the north and up points lie from the earth's centre, by the directions at a place. They have the shape
+    (.., 2), in degrees; the place is one, or one for each of the last axis of points."""
+    here, there = np.radians(place), np.radians(points)
+    there[..., 0] -= here[..., 0]
+    sine, cosine = np.sin(there), np.cos(there)
+    up, away = np.sin(here[..., 1]), np.cos(here[..., 1])
+    ahead = cosine[..., 1] * cosine[..., 0]
+    return cosine[..., 1] * sine[..., 0], away * sine[..., 1] - up * ahead, up * sine[..., 1] + away * ahead
 
 
-def nearest_on(frame: Floats, begins: Floats, ends: Floats) -> tuple[Floats, Floats]:
-    """The nearest point on each way from a point to another: the metres to it from a place, by its frame, and the share of the way that
-    lies before it.
+def nearest_on(place: Floats, ways: Floats) -> tuple[Floats, Floats]:
+    """The nearest point on each way from a point to another: the metres to it from a place, or from one for each way, and the share of
+    the way that lies before it. Ways have the shape (2, ways, 2): beginnings and ends, in degrees.
 
     Near the place that is looked for in the plane that touches the earth there, to which points come along lines from its centre: ways
     are straight there, and the nearest point is the nearest on the earth. A share is right to 4 millionths then.
     """
-    one, other = begins @ frame.T, ends @ frame.T
-    if min(one[:, 2].min(), other[:, 2].min()) < NEAR:
-        return nearest_on_far(frame[2], begins, ends)
-    one, other = one[:, :2] / one[:, 2:], other[:, :2] / other[:, 2:]
-    steps = other - one
-    squares = np.einsum("ij,ij->i", steps, steps)
-    shares = np.minimum(np.maximum(-np.einsum("ij,ij->i", one, steps) / np.maximum(squares, 1e-300), 0), 1)
-    feet = one + steps * shares[:, None]
-    return EARTH_RADIUS * np.arctan(np.sqrt(np.einsum("ij,ij->i", feet, feet))), shares
+    east, north, up = seen_from(place, ways)
+    if up.min() < NEAR:
+        return nearest_on_far(on_sphere(place[..., 0], place[..., 1]), *on_sphere(ways[..., 0], ways[..., 1]))
+    (x, other_x), (y, other_y) = east / up, north / up
+    step_x, step_y = other_x - x, other_y - y
+    squares = np.maximum(step_x * step_x + step_y * step_y, 1e-300)
+    shares = np.minimum(np.maximum(-(x * step_x + y * step_y) / squares, 0), 1)
+    return EARTH_RADIUS * np.arctan(np.hypot(x + step_x * shares, y + step_y * shares)), shares
 
 
 def nearest_on_far(point: Floats, begins: Floats, ends: Floats) -> tuple[Floats, Floats]:
