@@ -2,6 +2,7 @@
 may lead here too (DNS rebinding). So a request has to be for a host that is allowed, and one that a browser marks as another
 page's is refused, unless that page's origin is allowed. What changes nothing but costs work, a batch, has a type that such a page
 can't send without asking first."""
+import functools
 import ipaddress
 import re
 from collections.abc import Iterable, Mapping
@@ -58,6 +59,7 @@ class Allowed(NamedTuple):
         return {"Access-Control-Allow-Origin": self.origin, **({} if self.origin == ASKS_ANYBODY else {"Vary": "Origin"})}
 
 
+@functools.lru_cache(256)
 def is_address(name: str, local: str) -> bool:
     """Whether a name is this address, or `localhost` where the address is this machine's own."""
     try:

@@ -35,22 +35,25 @@ class Course:
         self.arcs: Ints = np.array(leg.arcs, dtype=np.int64)
         self.edges = arrays.arc_edge[self.arcs]
         is_along = arrays.arc_along[self.arcs]
-        first, count = arrays.edge_begin[self.edges], arrays.edge_begin[self.edges + 1] - arrays.edge_begin[self.edges]
-        within = np.arange(int(count.sum())) - np.repeat(np.cumsum(count) - count, count)
-        rows = np.repeat(np.where(is_along, first, first + count - 1), count) + within * np.repeat(np.where(is_along, 1, -1), count)
+        first, behind = arrays.edge_begin[self.edges], arrays.edge_begin[self.edges + 1]
+        counts, steps = behind - first, np.where(is_along, 1, -1)
+        self.begins: Ints = np.zeros(len(counts) + 1, dtype=np.int64)
+        counts.cumsum(out=self.begins[1:])
+        rows = np.arange(self.begins[-1]) * steps.repeat(counts)
+        rows += (np.where(is_along, first, behind - 1) - self.begins[:-1] * steps).repeat(counts)
         self.points: Ints = arrays.points[rows].astype(np.int64)
-        self.begins: Ints = np.concatenate(([0], np.cumsum(count)))
         self._cut()
 
     def _cut(self) -> None:
         """Puts the points of the first and the last arc where the leg has a part of them alone."""
         last = len(self.arcs) - 1
-        parts = {0: (self.leg.begin, 1.0), last: (0.0, self.leg.end)} if last else {0: (self.leg.begin, self.leg.end)}
-        for place, (begin, end) in sorted(parts.items(), reverse=True):
+        parts = [(last, 0.0, self.leg.end), (0, self.leg.begin, 1.0)] if last else [(0, self.leg.begin, self.leg.end)]
+        for place, begin, end in parts:
             if (begin, end) != (0.0, 1.0):
-                line = np.round(np.array(self.roads.line(self.leg.arcs[place], begin, end)) * UNITS).astype(np.int64)
-                low, high = int(self.begins[place]), int(self.begins[place + 1])
-                self.points = np.concatenate((self.points[:low], line, self.points[high:]))
+                line = self.roads.line(self.leg.arcs[place], begin, end)
+                units = np.array([(round(lon * UNITS), round(lat * UNITS)) for lon, lat in line])
+                low, high = self.begins[place : place + 2].tolist()
+                self.points = np.concatenate((self.points[:low], units, self.points[high:]))
                 self.begins[place + 1 :] += len(line) - (high - low)
 
     @functools.cached_property
@@ -59,8 +62,8 @@ class Course:
         """
         shown = (self.points + UNITS // SHOWN // 2) // (UNITS // SHOWN)
         is_other = np.ones(len(shown), dtype=bool)
-        is_other[1:] = (shown[1:] != shown[:-1]).any(axis=1)
-        places = np.cumsum(is_other) - 1
+        is_other[1:] = (shown[1:, 0] != shown[:-1, 0]) | (shown[1:, 1] != shown[:-1, 1])
+        places = is_other.cumsum() - 1
         return (shown[is_other] / SHOWN).tolist(), places[self.begins[:-1]].tolist(), places[self.begins[1:] - 1].tolist()
 
     def line(self, first: int, last: int) -> list[list[float]]:
@@ -70,19 +73,16 @@ class Course:
         return found if len(found) > 1 else found * 2
 
     @functools.cached_property
-    def bearings(self) -> tuple[list[int], list[int]]:
+    def bearings(self) -> tuple[Ints, Ints]:
         """The directions in which each arc begins, and in which it ends."""
-        low, high = self.begins[:-1], self.begins[1:] - 1
-        return self._directions(low, low + 1, 1), self._directions(high - 1, high, -1)
-
-    def _directions(self, begins: Ints, ends: Ints, step: int) -> list[int]:
-        ways = (self.points[ends] - self.points[begins]).astype(np.float64)
-        ways[:, 0] = wrapped(ways[:, 0])
-        lats = np.radians(self.points[begins, 1] / UNITS)
-        found = (np.round(np.degrees(np.arctan2(ways[:, 0] * np.cos(lats), ways[:, 1]))) % 360).astype(np.int64).tolist()
-        for place in np.flatnonzero((ways == 0).all(axis=1)).tolist():
-            found[place] = self._direction(place, step)
-        return list(found)
+        begins = np.concatenate((self.begins[:-1], self.begins[1:] - 2))
+        places = self.points[begins]
+        east, north = (self.points[begins + 1] - places).T
+        ways = wrapped(east) * np.cos(np.radians(places[:, 1] / UNITS))
+        found = (np.rint(np.degrees(np.arctan2(ways, north))) % 360).astype(np.int64)
+        for place in np.flatnonzero((east == 0) & (north == 0)).tolist():
+            found[place] = self._direction(place % len(self.arcs), 1 if place < len(self.arcs) else -1)
+        return found[: len(self.arcs)], found[len(self.arcs) :]
 
     def _direction(self, place: int, step: int) -> int:
         """The direction at an end of an arc whose first step there has no length."""
@@ -95,8 +95,8 @@ class Course:
     def sums(self) -> tuple[list[int], list[float], list[float]]:
         """The weight, seconds and metres before each arc, and of all."""
         weights = list(itertools.accumulate(self.leg.weights, initial=0))
-        sums = [np.concatenate(([0.0], np.cumsum(values))).tolist() for values in parts_of(self.roads, self.leg)]
-        return weights, sums[0], sums[1]
+        seconds, metres = ([0.0, *values.cumsum().tolist()] for values in parts_of(self.roads, self.leg, self.arcs))
+        return weights, seconds, metres
 
     def figures(self, first: int, last: int) -> Figures:
         """The weight, seconds and metres of the arcs from one to before another."""
@@ -128,17 +128,16 @@ def leg_figures(roads: Roads, leg: Leg) -> Figures:
     """The weight, seconds and metres of a leg."""
     if not leg.arcs:
         return figures_of(roads, leg.weight, 0.0, 0.0)
-    seconds, metres = (float(np.cumsum(values)[-1]) for values in parts_of(roads, leg))
+    seconds, metres = (float(values.cumsum()[-1]) for values in parts_of(roads, leg, np.array(leg.arcs)))
     return figures_of(roads, leg.weight, seconds, metres)
 
 
-def parts_of(roads: Roads, leg: Leg) -> tuple[Floats, Floats]:
-    """The seconds and metres of each arc of a leg, as far as it is driven."""
-    shares: Floats = np.ones(len(leg.arcs))
+def parts_of(roads: Roads, leg: Leg, arcs: Ints) -> tuple[Floats, Floats]:
+    """The seconds and metres of each of the arcs of a leg, as far as it is driven."""
+    shares: Floats = np.ones(len(arcs))
     shares[-1] = leg.end
     shares[0] -= leg.begin
-    arrays, arcs = roads.arrays, np.array(leg.arcs, dtype=np.int64)
-    return arrays.arc_seconds[arcs] * shares, arrays.arc_metres[arcs] * shares
+    return roads.arrays.arc_seconds[arcs] * shares, roads.arrays.arc_metres[arcs] * shares
 
 
 def lines_of(courses: "Sequence[Course | None]", ends: list[Point]) -> list[Line]:

@@ -1,10 +1,12 @@
 """The steps of a leg, in OSRM's words. A step begins where the name of the road changes, at a turn of more than 45 degrees at a
 junction, and at a roundabout, which it goes round and leaves. Types are depart, turn, new name, continue, roundabout and arrive."""
+import bisect
 import itertools
 from collections.abc import Callable
 from typing import NamedTuple
 
 import numpy as np
+from numpy.typing import NDArray
 
 from domethyme.network.binary import TEXTS
 from domethyme.network.tables import Point
@@ -15,9 +17,12 @@ from .osrm_answer import Coordinates, Figures, Geometry, Maneuver, Step
 from .roads import Roads
 
 TURN = 45
-MODIFIERS = ((20, "straight"), (45, "slight {}"), (120, "{}"), (170, "sharp {}"), (181, "uturn"))
+# The degrees from which on a turn has the next one of the words for turns to the left, and to the right.
+BOUNDS = (20, 45, 120, 170)
+MODIFIERS = [("straight", f"slight {side}", side, f"sharp {side}", "uturn") for side in ("left", "right")]
 JUNCTION = 3
-NAME, REF, DESTINATION = (TEXTS.index(name) for name in ("name", "ref", "destination"))
+# The texts of an arc that steps have.
+TOLD = [TEXTS.index(name) for name in ("name", "ref", "destination")]
 # The geometries of lines.
 Shape = Callable[[list[Line]], list[Geometry]]
 
@@ -53,30 +58,23 @@ class Move(NamedTuple):
 
 
 class Guide:
-    """The steps along a course."""
+    """The steps along a course. `starts` are the first arcs of them, and the number of arcs; of each arc there are its `texts`,
+    whether it is of a roundabout, and the directions in which it begins and ends."""
 
     def __init__(self, course: Course) -> None:
         self.course, self.roads = course, course.roads
-        arrays = self.roads.arrays
-        self.texts = arrays.arc_texts[course.arcs]
-        self.is_round = self.roads.is_round(course.arcs)
-        self.starts = self._starts()
-
-    def _starts(self) -> list[int]:
-        """The first arc of each step, and the number of arcs."""
-        first, last = self.course.bearings
-        names = self.texts[:, NAME]
-        nodes = self.roads.arrays.arc_from[self.course.arcs]
-        turns = (np.array(first[1:]) - np.array(last[:-1]) + 180) % 360 - 180
-        is_new = (names[1:] != names[:-1]) | (self.roads.degree[nodes[1:]] >= JUNCTION) & (np.abs(turns) > TURN)
-        before, after = self.is_round[:-1], self.is_round[1:]
-        is_new[before & after] = False
-        is_new[~before & after] = True
-        leaves = before & ~after
-        if self.is_round[0]:  # (the leg begins in this one, so it leaves it as any road)
-            leaves[: int(np.argmin(self.is_round))] = False
-        is_new[leaves] = False
-        return [0, *(np.flatnonzero(is_new) + 1).tolist(), len(self.course.arcs)]
+        texts, is_round = self.roads.arrays.arc_texts[course.arcs][:, TOLD], self.roads.is_round(course.arcs)
+        first, last = course.bearings
+        turns = (first[1:] - last[:-1] + 180) % 360 - 180
+        degrees = self.roads.degree[self.roads.arrays.arc_from[course.arcs[1:]]]
+        is_new = (texts[1:, 0] != texts[:-1, 0]) | (degrees >= JUNCTION) & (np.abs(turns) > TURN)
+        if is_round.any():
+            put_roundabouts(is_new, is_round)
+        self.starts: list[int] = [0, *(np.flatnonzero(is_new) + 1).tolist(), len(course.arcs)]
+        self.texts: list[list[int]] = texts.tolist()
+        self.is_round: list[bool] = is_round.tolist()
+        self.first: list[int] = first.tolist()
+        self.last: list[int] = last.tolist()
 
     def lines(self) -> list[Line]:
         """The line of each step."""
@@ -84,36 +82,44 @@ class Guide:
 
     def steps(self, lines: list[Line], shapes: list[Geometry]) -> list[Step]:
         """The steps, without the arrival, by their lines and the geometries of these."""
-        first, last = self.course.bearings
         found = []
         for begin, end, line, shape in zip(self.starts, self.starts[1:], lines, shapes):
             # (the arc that the step is named by, behind a roundabout)
-            named = begin + int(np.argmin(self.is_round[begin:end])) if begin and self.is_round[begin] else begin
-            names = Names(*(self.text(named, kind) for kind in (NAME, REF, DESTINATION)))
-            move = self.move(begin, end, named).at(line[0], last[begin - 1] if begin else 0, first[begin])
+            named = begin
+            if begin and self.is_round[begin]:
+                named = next((arc for arc in range(begin, end) if not self.is_round[arc]), begin)
+            names = Names(*[self.roads.texts[number] for number in self.texts[named]])
+            move = self.move(begin, end, named).at(line[0], self.last[begin - 1] if begin else 0, self.first[begin])
             found.append(step(move, names, self.course.figures(begin, end), shape))
         return found
-
-    def text(self, arc: int, kind: int) -> str:
-        return self.roads.texts[int(self.texts[arc, kind])]
 
     def move(self, begin: int, end: int, named: int) -> Move:
         """The type and the modifier of the maneuver with which a step begins, and of a roundabout the exit that it takes."""
         if not begin:
             return Move("depart")
-        first, last = self.course.bearings
         if self.is_round[begin]:
-            angle = turn(last[begin - 1], first[named])
+            angle = turn(self.last[begin - 1], self.first[named])
             is_left = named > begin or not self.is_round[end - 1]
             return Move("roundabout", modifier(angle), self.exit(begin, named) if is_left else None)
-        angle = turn(last[begin - 1], first[begin])
-        is_same = self.texts[begin - 1, NAME] == self.texts[begin, NAME]
+        angle = turn(self.last[begin - 1], self.first[begin])
+        is_same = self.texts[begin - 1][0] == self.texts[begin][0]
         return Move("continue" if is_same else "turn" if abs(angle) > TURN else "new name", modifier(angle))
 
     def exit(self, begin: int, named: int) -> int:
         """The number of the exit by which arc `named` leaves a roundabout that is entered at arc `begin`."""
         ends = self.roads.arrays.arc_to[self.course.arcs[begin:named]].tolist()
         return 1 + sum(self.roads.exits(node) for node in ends[:-1])
+
+
+def put_roundabouts(is_new: NDArray[np.bool_], is_round: NDArray[np.bool_]) -> None:
+    """Sets behind which arcs a step begins: where a roundabout does, and not within it nor where it is left."""
+    before, after = is_round[:-1], is_round[1:]
+    is_new[before & after] = False
+    is_new[~before & after] = True
+    leaves = before & ~after
+    if is_round[0]:  # (the leg begins in this one, so it leaves it as any road)
+        leaves[: int(np.argmin(is_round))] = False
+    is_new[leaves] = False
 
 
 def steps_of_leg(roads: Roads, course: Course | None, start: Point, end: Point, shape: Shape) -> list[Step]:
@@ -125,7 +131,7 @@ def steps_of_leg(roads: Roads, course: Course | None, start: Point, end: Point, 
     if guide is None:
         found, before = [step(Move("depart").at(list(start), 0, 0), Names(""), nothing, shapes[0])], 0
     else:
-        found, before = guide.steps(lines, shapes), guide.course.bearings[1][-1]
+        found, before = guide.steps(lines, shapes), guide.last[-1]
     last = step(Move("arrive").at(list(end), before, 0), Names(found[-1]["name"]), nothing, at_end)
     return [*found, last]
 
@@ -136,8 +142,7 @@ def turn(before: int, after: int) -> int:
 
 
 def modifier(angle: int) -> str:
-    side = "right" if angle > 0 else "left"
-    return next(word for most, word in MODIFIERS if abs(angle) < most).format(side)
+    return MODIFIERS[angle > 0][bisect.bisect(BOUNDS, abs(angle))]
 
 
 def step(move: Maneuver, names: Names, figures: Figures, geometry: Geometry) -> Step:

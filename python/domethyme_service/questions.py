@@ -52,7 +52,7 @@ class Questions:
             raise unanswered(error) from error
         if found is None:
             return None
-        return Answer(found.source + 1, found.target + 1, found.length, tuple(node + 1 for node in found.nodes))
+        return Answer(found.source + 1, found.target + 1, found.length, tuple([node + 1 for node in found.nodes]))
 
     async def lengths(self, pairs: Sequence[Pair]) -> list[int]:
         """The least length of each pair, NO_WAY where there is no way. Other requests are answered in between."""

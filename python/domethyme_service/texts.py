@@ -2,7 +2,8 @@
 import json
 from collections.abc import Iterable, Mapping
 
-ENCODER = json.JSONEncoder(separators=(",", ":"), allow_nan=False, ensure_ascii=False)
+# (no value has itself as a part)
+ENCODER = json.JSONEncoder(separators=(",", ":"), allow_nan=False, ensure_ascii=False, check_circular=False)
 
 
 def text_of(value: object) -> str:

@@ -266,11 +266,11 @@ class Texts:
         return len(self._begins) - 1
 
     def __getitem__(self, number: int) -> str:
-        if not 0 <= number < len(self):
-            raise IndexError(number)
         return self._text(number)
 
     def _decoded(self, number: int) -> str:
+        if not 0 <= number < len(self):
+            raise IndexError(number)
         begin, end = self._begins[number : number + 2].tolist()
         return str(self._bytes[begin:end].tobytes(), "utf-8", "replace")
 
