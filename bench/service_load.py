@@ -69,9 +69,13 @@ class Service:
         return sum(int(ticks) for text in texts for ticks in text.rpartition(")")[2].split()[11:13]) / TICK
 
     def memory(self):
-        """The megabytes of all its processes, where pages that several have in common are shared out (PSS)."""
-        texts = [pathlib.Path(f"/proc/{number}/smaps_rollup").read_text() for number in descendants(self.process.pid)]
-        return sum(int(re.search(r"Pss:\s+(\d+)", text)[1]) for text in texts) // 1024
+        """The megabytes of all its processes, where pages that several have in common are shared out (PSS), how many of them are those of
+        the mapped network, and how many a front has of its own, on average."""
+        numbers = descendants(self.process.pid)
+        texts = {number: pathlib.Path(f"/proc/{number}/smaps_rollup").read_text() for number in numbers}
+        of = lambda name, some: sum(int(re.search(rf"{name}:\s+(\d+)", text)[1]) for text in some) // 1024  # noqa: E731
+        fronts = [text for number, text in texts.items() if descendants(number) == [number]]
+        return of("Pss", texts.values()), of("Pss_File", texts.values()), of("Private_Dirty", fronts) // len(fronts)
 
     def ask(self, path):
         connection = http.client.HTTPConnection("127.0.0.1", self.port, timeout=60)
@@ -193,7 +197,7 @@ def main():
             paths = [f"/route/v1/car/{places.text(pair, draw)}?{shape}" for pair in pairs]
             load(service, f"{name} routes with geometry and steps", paths, given)
         tables(service, places, draw, given)
-        print(f"resident: {service.memory()} MB in all processes")
+        print("memory: {} MB in all processes, {} MB of it files; a front has {} MB of its own".format(*service.memory()))
     finally:
         service.end()
 

@@ -1,5 +1,6 @@
 """A keeper: the process of one generation. It opens the files, forks the fronts, none of which has them again, and looks after
 them: one that ends is replaced, and so is one that is silent, which is killed. It runs no thread, so that it may fork."""
+import ctypes
 import gc
 import logging
 import os
@@ -25,6 +26,8 @@ LOOK = 0.05
 SILENCE, MOST_OF_A_LOOK = 10.0, 0.5
 SECONDS_TO_BEGIN = 30.0
 PAUSE = 1.0
+# The parameter of mallopt for the number of heaps (M_ARENA_MAX in malloc.h).
+ARENA_MAX = -8
 log = logging.getLogger("domethyme_service")
 
 
@@ -142,11 +145,20 @@ def run_keeper(setting: Setting, files: Files, rows: list[Row], parent: int, rep
         kind = "" if isinstance(fault, (Unable, DomethymeError, OSError)) else f"{type(fault).__name__}: "
         os.write(report, f"fault {' '.join(f'{kind}{fault}'.split())}\n".encode()[:4000])
         return 1
-    gc.collect()
-    gc.freeze()
+    settle()
     keeper = Keeper(setting, snapshot, rows[0], rows[1:], parent, report)
     signal.signal(signal.SIGTERM, keeper.end)
     return keeper.run()
+
+
+def settle() -> None:
+    """Prepares the memory of this process for its fronts. What the opening of files took goes back to the system (glibc's malloc_trim),
+    what is left is nothing that fronts look for garbage in, and each has one heap for all its threads."""
+    gc.collect()
+    gc.freeze()
+    libc = ctypes.CDLL(None)
+    libc.mallopt(ARENA_MAX, 1)
+    libc.malloc_trim(0)
 
 
 def forked(work: Callable[[], int]) -> int:
