@@ -14,7 +14,7 @@ from domethyme.network.network import Floats
 from domethyme.network.tables import Point
 
 from .legs import Leg
-from .lines import Line, bearing, encoded, simplified
+from .lines import Line, array_of, bearing, encoded, simplified
 from .osrm_answer import Figures, Geometry
 from .roads import Roads, steps_of
 from .work import Budget
@@ -154,7 +154,7 @@ def joined(lines: Iterable[Line]) -> Line:
 
 def simpler(lines: Sequence[Line], budget: Budget) -> list[Line]:
     """The lines with fewer points, none of the others further off than a thousandth of the extent of all."""
-    arrays = [np.array(line) for line in budget.over(lines)]
+    arrays = [array_of(line) for line in budget.over(lines)]
     shrink = np.array([math.cos(math.radians(arrays[0][0, 1])), 1.0])
     low, high = (side([side(array, axis=0) for array in arrays], axis=0) for side in (np.min, np.max))
     far = float(((high - low) * shrink).max()) / 1000

@@ -1,7 +1,7 @@
 """Lines of places: polylines as texts, and simpler lines."""
 import itertools
 import math
-from collections.abc import Sequence
+from collections.abc import Iterable, Sequence
 
 import numpy as np
 
@@ -16,10 +16,15 @@ Line = list[list[float]]
 SHIFTS = np.arange(0, 40, 5)
 
 
+def array_of(points: Iterable[list[float]]) -> Floats:
+    """Points as an array of shape (count, 2)."""
+    return np.fromiter(itertools.chain.from_iterable(points), np.float64).reshape(-1, 2)
+
+
 def encoded(lines: Sequence[Line], digits: int) -> list[str]:
     """The polylines of lines of points (lon, lat), with so many digits behind the point. Many short ones take little longer than
     one of all their points."""
-    whole = np.rint(np.array(list(itertools.chain.from_iterable(lines)))[:, ::-1] * 10**digits).astype(np.int64)
+    whole = np.rint(array_of(itertools.chain.from_iterable(lines))[:, ::-1] * 10**digits).astype(np.int64)
     counts = [len(line) for line in lines]
     ends = np.cumsum(counts)
     begins = ends - counts
@@ -60,7 +65,7 @@ def decoded(text: str, digits: int) -> list[Point]:
 def simplified(points: Floats, far: float, budget: Budget) -> Floats:
     """The line of points, of shape (count, 2), with fewer of them, none of the others further off than `far` (Douglas, Peucker
     1973), in degrees of latitude."""
-    flat = points * (math.cos(math.radians(points[0, 1])), 1.0)
+    flat: list[complex] = (points[:, 0] * math.cos(math.radians(points[0, 1])) + 1j * points[:, 1]).tolist()
     is_kept = np.zeros(len(points), dtype=bool)
     is_kept[[0, -1]] = True
     open_ = [(0, len(points) - 1)]
@@ -77,16 +82,19 @@ def simplified(points: Floats, far: float, budget: Budget) -> Floats:
     return found
 
 
-def furthest(flat: Floats, low: int, high: int, far: float) -> int:
-    """Which point between two others is furthest from the line between them; `low` where none is further off than `far`."""
+def furthest(flat: list[complex], low: int, high: int, far: float) -> int:
+    """Which point between two others is furthest from the line between them; `low` where none is further off than `far`. Most lines
+    are short, for which arrays take several times as long."""
     begin, way = flat[low], flat[high] - flat[low]
-    others = flat[low + 1 : high] - begin
-    square = float(way @ way)
-    if square:
-        others -= np.minimum(np.maximum(others @ (way / square), 0.0), 1.0)[:, None] * way
-    apart = (others * others).sum(axis=1)
-    best = int(apart.argmax())
-    return low + 1 + best if apart[best] > far * far else low
+    towards = way.conjugate() / (abs(way) ** 2 or 1.0)
+    most, best = far, low
+    for place in range(low + 1, high):
+        aside = flat[place] - begin
+        share = (aside * towards).real
+        away = abs(aside if share <= 0.0 else aside - way if share >= 1.0 else aside - share * way)
+        if away > most:
+            most, best = away, place
+    return best
 
 
 def bearing(begin: Point, end: Point) -> int:

@@ -10,7 +10,7 @@ from .errors import Refused
 
 THREADS, TURNS, MOST_WAITING = 2, 2, 16
 # Points of lines that the answer to a request may have, and those that may be looked at to simplify its line.
-MOST_POINTS, MOST_LOOKED_AT = 4_000_000, 200_000_000
+MOST_POINTS, MOST_LOOKED_AT = 4_000_000, 80_000_000
 T = TypeVar("T")
 
 
