@@ -4,19 +4,19 @@
     bench/speed.py [--sparse N ..] [--nodes N ..] [--rounds ROUNDS] [--kept FOLDER] [--only WORD] [--no-python] [--page] [--anew]
 
 By default in 5 rounds, and kept in out/speed. The networks are sparse ones with the figures of the challenge's (make_sparse.cpp),
-of 264,346 and 1,000,000 nodes (larger ones, which scale.py measures, in one round by `depth` alone); those of make_network.py with
---roads, of 10,000 and 65,536 nodes; one without --roads, of 65,536 nodes, that is hard to prepare and to ask; and the map of
+of 264,346 and 1,000,000 nodes (above 300,000 by `depth` alone, and above a million, which scale.py measures, in one round); those
+of make_network.py with --roads, of 10,000 and 65,536 nodes; one without --roads, of 65,536 nodes, that is hard to prepare and to ask; and the map of
 tools/fetch_extract, in which a node lies at least every 20 metres (left out where neither the folder nor Debian has it). In
 each round each job of each network has its turn once, so that a machine that is slow for a while is slow for all of them:
 
-  prepare    by 1 and 4 workers and each order, `neighbours` by 1 alone; and a textbook hierarchy in C++ (hierarchy.cpp), without
-             routes
+  prepare    by 1 and 4 workers and each order, `neighbours` by 1 alone; and up to 300,000 nodes a textbook hierarchy in C++
+             (hierarchy.cpp), without routes
   check      `routecli check` of the hierarchy of one worker and each order
   route      10,000 random pairs, 2,000 near ones, whose ends are at most 20 rows and columns apart, and no pairs, which reads
              the file alone, by the hierarchy of one worker and `edges`, which is the default, and `depth`; and by route.cpp, an
              optimised program that does the same
-  search     20 of the pairs without a hierarchy: in C++ (plain_search.cpp), by Boost, in Python by igraph and, up to 65,536 nodes,
-             NetworkX (python_search.py), and up to 10,000 in PostgreSQL by pgRouting (pgrouting_search.py)
+  search     20 of the pairs without a hierarchy: in C++ (plain_search.cpp), by Boost; up to 65,536 nodes in Python by igraph
+             (python_search.py), and up to 10,000 by NetworkX and in PostgreSQL by pgRouting (pgrouting_search.py)
   read       the graph's text alone: `answer` with a text of pairs that is refused, and read_graph.cpp
   answer     100 pairs, up to 10,000 nodes
 
@@ -64,9 +64,9 @@ HARD = 256
 ROUTED = ["edges", "depth"]
 WORKERS = {"edges": [1, 4], "neighbours": [1], "depth": [1, 4]}
 RANDOM, NEAR, STEPS, FEW, CHECKED = 10_000, 2_000, 20, 20, 100
-MOST_ANSWERED, MOST_WHOLE = 10_000, 1_000_000
+MOST_ANSWERED, MOST_ORDERS, MOST_WHOLE = 10_000, 300_000, 1_000_000
 SEED = 1
-OTHERS = {"igraph": MOST_WHOLE, "networkx": 65_536, "pgrouting": 10_000}  # up to how many nodes each searches
+OTHERS = {"igraph": 65_536, "networkx": 10_000, "pgrouting": 10_000}  # up to how many nodes each searches
 PYTHON = "/usr/bin/python3"
 HEADS = ["network", "job", "round", "seconds", "processor", "megabytes", "others", "before", "load", "when"]
 QUIET = 0.1  # processors that others may keep busy
@@ -186,14 +186,15 @@ class Bench:
         """The jobs of a network by their names, each a function of the round. Those that others need come first. A large
         network has those of `depth`, and the searches that take no more than minutes."""
         jobs = {}
-        is_large = network.count > MOST_WHOLE
+        is_large = network.count > MOST_ORDERS
         routed = ROUTED[-1:] if is_large else ROUTED
         for order in routed if is_large else WORKERS:
             for workers in WORKERS[order]:
                 jobs[f"prepare {order} {workers}"] = self.prepare(network, order, workers)
         for order in routed:
             jobs[f"check {order}"] = self.checking(network, order)
-        jobs["textbook"] = self.textbook(network)
+        if not is_large:
+            jobs["textbook"] = self.textbook(network)
         for order in routed:
             for kind in ["none", *network.kinds()]:
                 jobs[f"route {order} {kind}"] = self.route(network, order, kind)
