@@ -1,9 +1,12 @@
 -- The rows of all nodes, and the state of contraction that they show.
 use Rattle.std.specs.Prelude.{ℕ, ◌≡◌, ◌≢◌, ◌^◌, ◌<◌, ◌≤◌, List, length, All, AllPairs}
+use Rattle.std.specs.List.{range_with_len}
 use Rattle.ch_cost.specs.declared.cost.Cost.{Cost}
 use Rattle.ch_cost.specs.Cost.{zero_cost, ◌≺◌, IsWithin}
+use Rattle.ch_graph.specs.Graph.{Graph}
+use Rattle.ch_graph.specs.Limits.{bound_of}
 use Rattle.ch_laws.specs.declared.entry.Entry.{Entry}
-use Rattle.ch_laws.specs.Contraction.{State}
+use Rattle.ch_laws.specs.Contraction.{State, IsStart}
 use Rattle.ch_laws.specs.Rows.{Row, IsPlain, IsRow, Rises, state_by}
 pub use Rattle.ch_laws.specs.Rows.{no_arcs, row_at}
 
@@ -47,3 +50,9 @@ pub record IsOverlay (o : Overlay) : Type 0 where
   pub plain : IsPlain o.bound (state_of o)
   pub rows : (x : ℕ) → x < length o.rows → IsRow (state_of o) x (row_at o.rows x)
   pub entries : (x : ℕ) → x < length o.rows → AreEntries (length o.rows) o.bound x (row_at o.rows x)
+
+-- the overlay of a graph in which no node is contracted, each node's version being its number
+pub record IsStartOverlay (g : Graph) (o : Overlay) : Type 0 where
+  pub start : IsStart g (state_of o)
+  pub versions : o.versions ≡ range_with_len 0 g.nodes
+  pub bound : o.bound ≡ bound_of g

@@ -1,11 +1,10 @@
 ghost use Rattle.std.specs.Prelude.{◌≡◌, ◌+◌, ◌<◌, List, IfOk, All, AllPairs, length, map, slice_index};
-ghost use Rattle.std.specs.List.{zip, range_with_len};
+ghost use Rattle.std.specs.List.{zip};
 ghost use Rattle.std.specs.Arc.{arc_value};
-ghost use Rattle.ch_graph.specs.Limits.{bound_of};
 ghost use Rattle.ch_laws.specs.declared.shortcut.Shortcut.{Shortcut};
-ghost use Rattle.ch_laws.specs.Contraction.{IsStart, IsPlan, contracted};
+ghost use Rattle.ch_laws.specs.Contraction.{IsPlan, contracted};
 ghost use Rattle.ch_overlay.specs.Opening.{AreLeast, AreOpening};
-ghost use Rattle.ch_overlay.specs.Overlay.{IsOverlay, row_at, state_of};
+ghost use Rattle.ch_overlay.specs.Overlay.{IsOverlay, IsStartOverlay, row_at, state_of};
 ghost use Rattle.ch_overlay.specs.Records.{AreSoundRows, ChangesAreSound};
 ghost use Rattle.ch_overlay.specs.Change.{AreRenewed, IsChange, IsOf, changed_nodes, puts};
 
@@ -55,9 +54,7 @@ impl Overlay {
     ///
     /// Takes memory for the rows and, while it works, for a copy of the arcs, which it sorts.
     pub fn start(alloc: Global, graph: &Graph) -> Result<Overlay, AllocError>
-        ensures start { IfOk result (λ o. IsStart graph.now (state_of o)) }
-        ensures versions { IfOk result (λ o. o.versions ≡ range_with_len 0 graph.now.nodes) }
-        ensures bound { IfOk result (λ o. o.bound ≡ bound_of graph.now) }
+        ensures { IfOk result (IsStartOverlay graph.now) }
     {
         let least = least_arcs(alloc, graph.arcs())?;
         let rows = rows_of(alloc, least.as_slice(), 0, graph.nodes())?;
@@ -71,9 +68,7 @@ impl Overlay {
         graph: &Graph,
         threads: u32,
     ) -> Result<Overlay, AllocError>
-        ensures start { IfOk result (λ o. IsStart graph.now (state_of o)) }
-        ensures versions { IfOk result (λ o. o.versions ≡ range_with_len 0 graph.now.nodes) }
-        ensures bound { IfOk result (λ o. o.bound ≡ bound_of graph.now) }
+        ensures { IfOk result (IsStartOverlay graph.now) }
     {
         let least = least_arcs(alloc, graph.arcs())?;
         let rows = shared_rows(rt, alloc, least.as_slice(), 0, graph.nodes(), threads)?;
@@ -89,9 +84,7 @@ impl Overlay {
     ) -> Result<Overlay, AllocError>
         requires least { AreLeast graph.now.arcs least.now }
         requires rows { AreOpening least.now 0 graph.now.nodes (map arc_value rows.items) }
-        ensures start { IfOk result (λ o. IsStart graph.now (state_of o)) }
-        ensures versions { IfOk result (λ o. o.versions ≡ range_with_len 0 graph.now.nodes) }
-        ensures bound { IfOk result (λ o. o.bound ≡ bound_of graph.now) }
+        ensures { IfOk result (IsStartOverlay graph.now) }
     {
         rows_of_least_arcs_are_the_start();
         let nodes = graph.nodes();

@@ -29,12 +29,13 @@ invariant_of-result c =
       omega (arith, count, length-map c.args.rows.items arc_value, c.in_ok-order.ensures.capacity, c.nodes-nodes.ensures.count),
     )
 
-pub returns-clause-start : goal.returns-clause-start
-returns-clause-start c =
+pub returns : goal.returns
+returns c =
     let g = c.args.graph.now in
     let shown = map arc_value c.args.rows.items in
     let begins = starts g c.nodes-nodes.ensures.graph c.args.least.now c.requires.least c.rows_of_least_arcs_are_the_start.ensures shown c.requires.rows.count (from_first _ _ _ c.requires.rows) c.bound.result c.in_ok-versions.versions.items in
-    subst (λ (order : List ℕ). IsStart g (state_of (record { bound = c.bound.result; rows = shown; versions = c.in_ok-versions.versions.items; order = order }))) (sym c.in_ok-order.ensures.items) begins
-
-pub returns-clause-versions : goal.returns-clause-versions
-returns-clause-versions c = c.in_ok-versions.ensures ∙ ap (λ n. range_with_len 0 n) c.nodes-nodes.ensures.count
+    record {
+      start = subst (λ (order : List ℕ). IsStart g (state_of (record { bound = c.bound.result; rows = shown; versions = c.in_ok-versions.versions.items; order = order }))) (sym c.in_ok-order.ensures.items) begins;
+      versions = c.in_ok-versions.ensures ∙ ap (λ n. range_with_len 0 n) c.nodes-nodes.ensures.count;
+      bound = c.bound.ensures;
+    }
