@@ -4,7 +4,7 @@ ghost use Rattle.ch_estimate.specs.Notes.{note_in, raised, is_among};
 use crate::note::Note;
 use std::alloc::AllocError;
 
-/// The note of a node that was never named: it has no depth, and nobody is gone.
+/// The note of a node that was never named: depth 0, no contracted neighbours.
 const NO_NOTE: Note = Note { depth: 0, gone: 0 };
 
 /// The note of a node. One past the end of the list was never named.

@@ -72,7 +72,7 @@ impl Searcher {
     /// The source is asked for a row only where none is kept for the node, and what it answers is kept, also where the
     /// search fails. The rows of the steps are those that are kept, so that several searches may rest on the same
     /// answers. It forgets what an earlier search found, and takes its memory. The conditions and the errors are those of
-    /// [`search`](crate::search); a search that fails lets the memory go that it would have used again.
+    /// [`search`](crate::search); a search that fails frees its reusable buffers.
     ///
     /// The aims are those of the targets, in their order, as far as they go. A target with an aim is done, as one that is
     /// settled is, where no node that is settled from then on can make its way a better one that is wanted. So the
