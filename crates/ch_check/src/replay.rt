@@ -52,7 +52,7 @@ impl<'a> Replay<'a> {
         &self.overlay
     }
 
-    /// What always holds of a replay. It does nothing when it runs.
+    /// A law: what always holds of a replay.
     pub fn holds(&self)
         ensures { IsReplay self.now }
     {

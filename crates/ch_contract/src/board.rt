@@ -150,7 +150,7 @@ impl<S: Site> Board<S> {
         self.ledger.log()
     }
 
-    /// What always holds of a board. It does nothing when it runs.
+    /// A law: what always holds of a board.
     pub fn holds(&self)
         ensures ledger { IsLedger self.now }
         ensures bound { self.now.overlay.bound ≡ S.book.bound }

@@ -153,7 +153,7 @@ impl Ledger {
         self.overlay().alive() == 0
     }
 
-    /// What always holds of a ledger. It does nothing when it runs.
+    /// A law: what always holds of a ledger.
     pub fn holds(&self)
         ensures { IsLedger self.now }
     {

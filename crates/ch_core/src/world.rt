@@ -95,7 +95,7 @@ impl World {
         self.ledger.log()
     }
 
-    /// What always holds of a world. It does nothing when it runs.
+    /// A law: what always holds of a world.
     pub fn holds(&self)
         ensures { IsWorld self.now }
     {

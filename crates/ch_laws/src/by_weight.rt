@@ -1,12 +1,12 @@
 ghost use Rattle.ch_laws.specs.ByWeight.{NeverTooLongByWeight, RightIsRightByWeight, RouteIsShortest};
 
-/// A hierarchy that is right for a graph is right for it by weight too. It does nothing when it runs.
+/// A hierarchy that is right for a graph is right for it by weight too.
 pub fn right_is_right_by_weight()
     ensures { RightIsRightByWeight }
 {}
 
 /// What a least rise-fall walk unfolds to joins into a walk of the graph, where the hierarchy is right by weight, and
-/// no walk is shorter. It does nothing when it runs.
+/// no walk is shorter.
 pub fn route_is_a_shortest_walk()
     ensures { RouteIsShortest }
 {}

@@ -7,7 +7,7 @@ use hierfile::hierarchies_have_one_spelling;
 
 /// Services are exact: by the file of a hierarchy that was prepared from the text of a graph, each length is the least over
 /// all walks of that graph, each route is a least walk, and there is none exactly where there is no walk. In version 2 a
-/// route has the fewest arcs of all least walks. It does nothing when it runs.
+/// route has the fewest arcs of all least walks.
 pub fn services_are_exact()
     ensures fewest { ServicesHaveFewestArcs }
     ensures by_weight { ServicesAreExactByWeight }
@@ -18,7 +18,7 @@ pub fn services_are_exact()
     spelled_graphs_are_in_range();
 }
 
-/// Requested nodes exist. It does nothing when it runs.
+/// Requested nodes exist.
 pub fn requests_are_in_range()
     ensures { RequestsAreInRange }
 {}

@@ -15,7 +15,7 @@ use std::alloc::Global;
 use std::sync::{Arc, Wait};
 
 impl<B: Book> Pen<B> {
-    /// Each node has a version, below the next one. It does nothing when it runs.
+    /// Each node has a version, below the next one.
     pub fn known(&self)
         ensures count { length self.now.versions ≡ B.book.nodes }
         ensures below { All (λ v. v < self.now.next) self.now.versions }

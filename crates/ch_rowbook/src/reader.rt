@@ -99,7 +99,7 @@ impl<B: Book> Reader<B> {
         self.shelf.meet(&mut self.seat, seat);
     }
 
-    /// One version of a book names one node and one row, for good. It does nothing when it runs.
+    /// One version of a book names one node and one row, for good.
     pub fn same_record(&self, a: &Seen, b: &Seen)
         requires first { Bears B.book.list a.now }
         requires second { Bears B.book.list b.now }
