@@ -1,12 +1,11 @@
-ghost use Rattle.std.specs.Prelude.{◌≡◌, ◌≤◌, ◌^◌, ℕ, IfOk, OnOk, All, None};
+ghost use Rattle.std.specs.Prelude.{◌≡◌, ◌≤◌, ◌^◌, ℕ, OnOk, None};
 ghost use Rattle.ch_overlay.specs.Overlay.{AreEntries};
 ghost use Rattle.ch_overlay.specs.Source.{IsBound, NamesAlone};
 ghost use Rattle.ch_laws.specs.Rows.{Rises};
 ghost use Rattle.ch_witness.specs.Kept.{kept_of, AllNamed, AreKept, FindsRows, IsReadOn};
 ghost use Rattle.ch_witness.specs.declared.error.SearchError.TheVariants as search;
 ghost use Rattle.ch_contract.specs.Drafts.{IsBegun, IsDrafted};
-ghost use Rattle.ch_contract.specs.Proposal.{IsProposal, IsProposedBy, MissesRow, TellsContracted};
-ghost use Rattle.ch_contract.specs.declared.error.ProposeError.TheVariants.{Unseen};
+ghost use Rattle.ch_contract.specs.Proposal.{IsProposedBy};
 ghost use Rattle.ch_overlay.specs.declared.source.SeeError.TheVariants as see;
 
 use crate::draft::{Draft, Task, draft_pairs, leads_on};
@@ -36,15 +35,7 @@ pub fn propose<S: RowSource>(
 ) -> Result<Proposal, ProposeError>
     requires some { 1 ≤ settle }
     requires few { settle ≤ 65536 }
-    ensures node { IfOk result (λ p. p.node ≡ node) }
-    ensures bound { IfOk result (λ p. p.bound ≡ S.bound_of source.old) }
-    ensures holds { IfOk result IsProposal }
-    ensures bears { IfOk result (λ p. All S.bears p.rests_on) }
-    ensures shows { IfOk result (λ p. All (S.shows source.new) p.rests_on) }
-    ensures contracted { TellsContracted S.bears (S.shows source.new) node result }
-    ensures missed { MissesRow S.bears (S.shows source.new) (source.new ≡ source.old) node result }
-    ensures stays { S.stays source.old source.new }
-    ensures found { S.whole source.old node → result ≡ Err Unseen → ⊥ }
+    ensures { IsProposedBy S.bears (S.shows source.new) (S.bound_of source.old) (S.stays source.old source.new) (source.new ≡ source.old) (S.whole source.old node) node result }
 {
     let mut scratch = Scratch::new(alloc);
     propose_with(alloc, source, &mut scratch, node, settle)
@@ -63,15 +54,7 @@ pub fn propose_with<S: RowSource>(
 ) -> Result<Proposal, ProposeError>
     requires some { 1 ≤ settle }
     requires few { settle ≤ 65536 }
-    ensures node { IfOk result (λ p. p.node ≡ node) }
-    ensures bound { IfOk result (λ p. p.bound ≡ S.bound_of source.old) }
-    ensures holds { IfOk result IsProposal }
-    ensures bears { IfOk result (λ p. All S.bears p.rests_on) }
-    ensures shows { IfOk result (λ p. All (S.shows source.new) p.rests_on) }
-    ensures contracted { TellsContracted S.bears (S.shows source.new) node result }
-    ensures missed { MissesRow S.bears (S.shows source.new) (source.new ≡ source.old) node result }
-    ensures stays { S.stays source.old source.new }
-    ensures found { S.whole source.old node → result ≡ Err Unseen → ⊥ }
+    ensures { IsProposedBy S.bears (S.shows source.new) (S.bound_of source.old) (S.stays source.old source.new) (source.new ≡ source.old) (S.whole source.old node) node result }
 {
     scratch.desk.searcher.rows.forget();
     propose_in(alloc, source, &mut scratch.desk, node, settle)
