@@ -1,49 +1,24 @@
-ghost use Rattle.std.specs.Prelude.{◌≡◌, ◌++◌, AllPairs, IfOk, IsPermutation, IsTrue};
-ghost use Rattle.ch_multiqueue.specs.Accounts.{AreBalanced, all_put, all_taken};
+ghost use Rattle.std.specs.Prelude.{◌≡◌, ◌++◌, AllPairs, IfOk, IfSome, IsPermutation};
+ghost use Rattle.ch_multiqueue.specs.Accounts.{all_put, all_taken};
 ghost use Rattle.ch_multiqueue.specs.Items.{IsNotAfter};
 
 use crate::item::Item;
 use crate::pass::Pass;
 use std::alloc::{AllocError, Global};
-use std::thread;
-use std::thread::Threads;
 
-/// Whether each item that was put through these passes was taken through one of them, or is left, as often as it was put.
-///
-/// Takes memory for a list of what was put, and for one of what was taken or is left, and the time to sort them.
-pub(crate) fn are_balanced(
-    alloc: Global,
-    passes: &[Pass],
-    left: &[Item],
-) -> Result<bool, AllocError>
-    ensures { IfOk result (λ same. IsTrue same → AreBalanced passes.now left.now) }
+/// What is left, if what was put is what was taken or is left.
+pub(crate) fn where_balanced(left: Vec<Item>, put: Vec<Item>, gone: Vec<Item>) -> Option<Vec<Item>>
+    ensures { IfSome result (λ items. (items ≡ left) × (put.items ≡ gone.items)) }
 {
-    let put = put_in_order(alloc, passes)?;
-    let gone = gone_in_order(alloc, passes, left)?;
-    Ok(put.as_slice() == gone.as_slice())
-}
-
-/// The same by two threads, of which each makes one of the lists and sorts it.
-pub(crate) fn are_balanced_by_two<R: Threads>(
-    rt: &R,
-    alloc: Global,
-    passes: &[Pass],
-    left: &[Item],
-) -> Result<bool, AllocError>
-    ensures { IfOk result (λ same. IsTrue same → AreBalanced passes.now left.now) }
-{
-    let (put, gone) = thread::join(
-        rt,
-        || put_in_order(alloc, passes),
-        || gone_in_order(alloc, passes, left),
-    );
-    let put = put?;
-    let gone = gone?;
-    Ok(put.as_slice() == gone.as_slice())
+    if put.as_slice() == gone.as_slice() {
+        Some(left)
+    } else {
+        None
+    }
 }
 
 /// All that was put through these passes, in order.
-fn put_in_order(alloc: Global, passes: &[Pass]) -> Result<Vec<Item>, AllocError>
+pub(crate) fn put_in_order(alloc: Global, passes: &[Pass]) -> Result<Vec<Item>, AllocError>
     ensures same { IfOk result (λ items. IsPermutation (all_put passes.now) items.items) }
     ensures sorted { IfOk result (λ items. AllPairs IsNotAfter items.items) }
 {
@@ -51,7 +26,11 @@ fn put_in_order(alloc: Global, passes: &[Pass]) -> Result<Vec<Item>, AllocError>
 }
 
 /// All that was taken through these passes or is left, in order.
-fn gone_in_order(alloc: Global, passes: &[Pass], left: &[Item]) -> Result<Vec<Item>, AllocError>
+pub(crate) fn gone_in_order(
+    alloc: Global,
+    passes: &[Pass],
+    left: &[Item],
+) -> Result<Vec<Item>, AllocError>
     ensures same { IfOk result (λ items. IsPermutation (all_taken passes.now ++ left.now) items.items) }
     ensures sorted { IfOk result (λ items. AllPairs IsNotAfter items.items) }
 {

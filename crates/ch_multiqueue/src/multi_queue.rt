@@ -1,10 +1,9 @@
-ghost use Rattle.std.specs.Prelude.{Ok, true, ◌≡◌, ◌≢◌, ◌+◌, ◌<◌, ◌≤◌, ◌↔◌, ◌⊎◌, AllPairs, IfErr, IfOk, IfSome, IsErrAnd, IsTrue, OnErr, OnOk};
-ghost use Rattle.ch_multiqueue.specs.Accounts.{AreBalanced};
-ghost use Rattle.ch_multiqueue.specs.Closing.{IsAmong, IsLacking};
+ghost use Rattle.std.specs.Prelude.{◌≡◌, ◌+◌, ◌<◌, ◌≤◌, ◌↔◌, ◌⊎◌, AllPairs, IfErr, IfOk, IfSome, IsTrue, OnErr, OnOk};
+ghost use Rattle.ch_multiqueue.specs.Closing.{IsAmong, IsEnd, IsLacking, IsLeft};
 ghost use Rattle.ch_multiqueue.specs.Items.{IsNotAfter};
 ghost use Rattle.ch_multiqueue.specs.Passes.{pass_of, moved_on, having_put, having_taken};
 
-use crate::account::{are_balanced, are_balanced_by_two, in_order};
+use crate::account::{gone_in_order, in_order, put_in_order, where_balanced};
 use crate::better::{Better, better_of};
 use crate::closed::Closed;
 use crate::error::CloseError;
@@ -14,6 +13,7 @@ use crate::pass::Pass;
 use std::alloc::{AllocError, Global};
 use std::marker::Model;
 use std::sync::{Mutex, Wait};
+use std::thread;
 use std::thread::Threads;
 
 /// A relaxed priority queue, which threads share by reference, each with a [`Pass`] of its own.
@@ -129,11 +129,7 @@ impl MultiQueue {
     /// queue; queue and passes are returned as they were. Takes memory for a copy of the accounts and twice the list,
     /// and the time to sort these.
     pub fn close(self, passes: Vec<Pass>) -> Result<Vec<Item>, (CloseError, MultiQueue, Vec<Pass>)>
-        ensures missing { IsErrAnd result (λ refused. refused.0 ≡ CloseError.PassMissing) ↔ IsLacking self.passes passes.items }
-        ensures sorted { IfOk result (λ items. AllPairs IsNotAfter items.items) }
-        ensures balanced { IfOk result (λ items. AreBalanced passes.items items.items) }
-        ensures queue { IfErr result (λ refused. refused.1 ≡ self) }
-        ensures passes { IfErr result (λ refused. refused.2 ≡ passes) }
+        ensures ended { IsEnd result self passes (λ items. items.items) }
     {
         match self.end(passes) {
             Ok(closed) => Ok(closed.into_left()),
@@ -144,16 +140,9 @@ impl MultiQueue {
     /// Does the same as [`close`](MultiQueue::close), and returns which queue it was, too.
     pub fn end(self, passes: Vec<Pass>) -> Result<Closed, (CloseError, MultiQueue, Vec<Pass>)>
         ensures closed { IfOk result (λ closed. closed.queue ≡ self) }
-        ensures missing { IsErrAnd result (λ refused. refused.0 ≡ CloseError.PassMissing) ↔ IsLacking self.passes passes.items }
-        ensures sorted { IfOk result (λ closed. AllPairs IsNotAfter closed.left) }
-        ensures balanced { IfOk result (λ closed. AreBalanced passes.items closed.left) }
-        ensures queue { IfErr result (λ refused. refused.1 ≡ self) }
-        ensures passes { IfErr result (λ refused. refused.2 ≡ passes) }
+        ensures ended { IsEnd result self passes (λ closed. closed.left) }
     {
         let mut queue = self;
-        if is_lacking(passes.as_slice(), queue.passes) {
-            return Err((CloseError::PassMissing, queue, passes));
-        }
         let settled = queue.settle(passes.as_slice());
         queue.into_closed(passes, settled)
     }
@@ -165,45 +154,36 @@ impl MultiQueue {
         passes: Vec<Pass>,
     ) -> Result<Closed, (CloseError, MultiQueue, Vec<Pass>)>
         ensures closed { IfOk result (λ closed. closed.queue ≡ self) }
-        ensures missing { IsErrAnd result (λ refused. refused.0 ≡ CloseError.PassMissing) ↔ IsLacking self.passes passes.items }
-        ensures sorted { IfOk result (λ closed. AllPairs IsNotAfter closed.left) }
-        ensures balanced { IfOk result (λ closed. AreBalanced passes.items closed.left) }
-        ensures queue { IfErr result (λ refused. refused.1 ≡ self) }
-        ensures passes { IfErr result (λ refused. refused.2 ≡ passes) }
+        ensures ended { IsEnd result self passes (λ closed. closed.left) }
     {
         let mut queue = self;
-        if is_lacking(passes.as_slice(), queue.passes) {
-            return Err((CloseError::PassMissing, queue, passes));
-        }
         let settled = queue.settle_by_two(rt, passes.as_slice());
         queue.into_closed(passes, settled)
     }
 
-    /// The queue closed, where it was settled what is left, and else why it isn't.
+    /// Ends the queue by what was settled, if no pass is missing.
     fn into_closed(
         self,
         passes: Vec<Pass>,
-        settled: Result<Vec<Item>, CloseError>,
+        settled: Result<Option<Vec<Item>>, AllocError>,
     ) -> Result<Closed, (CloseError, MultiQueue, Vec<Pass>)>
-        requires sorted { IfOk settled (λ items. AllPairs IsNotAfter items.items) }
-        requires balanced { IfOk settled (λ items. AreBalanced passes.items items.items) }
-        requires found { IfErr settled (λ error. error ≢ CloseError.PassMissing) }
+        requires { IfOk settled (λ left. IfSome left (λ items. IsLeft passes.items items.items)) }
         ensures closed { IfOk result (λ closed. closed.queue ≡ self) }
-        ensures found { IfErr result (λ refused. refused.0 ≢ CloseError.PassMissing) }
-        ensures sorted { IfOk result (λ closed. AllPairs IsNotAfter closed.left) }
-        ensures balanced { IfOk result (λ closed. AreBalanced passes.items closed.left) }
-        ensures queue { IfErr result (λ refused. refused.1 ≡ self) }
-        ensures passes { IfErr result (λ refused. refused.2 ≡ passes) }
+        ensures ended { IsEnd result self passes (λ closed. closed.left) }
     {
         let queue = self;
+        if is_lacking(passes.as_slice(), queue.passes) {
+            return Err((CloseError::PassMissing, queue, passes));
+        }
         match settled {
-            Ok(left) => Ok(Closed {
+            Ok(Some(left)) => Ok(Closed {
                 heaps: queue.heaps.len(),
                 passes: queue.passes,
                 seed: queue.seed,
                 left,
             }),
-            Err(error) => Err((error, queue, passes)),
+            Ok(None) => Err((CloseError::Mixed, queue, passes)),
+            Err(_refused) => Err((CloseError::OutOfMemory, queue, passes)),
         }
     }
 
@@ -243,19 +223,16 @@ impl MultiQueue {
         Ok(None)
     }
 
-    /// A list of what is left, in order, where the accounts of these passes agree with it. The queue stays as it is.
-    fn settle(&mut self, passes: &[Pass]) -> Result<Vec<Item>, CloseError>
+    /// A list of what is left, in order, if the accounts of these passes agree with it. The queue stays as it is.
+    fn settle(&mut self, passes: &[Pass]) -> Result<Option<Vec<Item>>, AllocError>
         ensures queue { self.new ≡ self.old }
-        ensures sorted { IfOk result (λ items. AllPairs IsNotAfter items.items) }
-        ensures balanced { IfOk result (λ items. AreBalanced passes.now items.items) }
-        ensures found { IfErr result (λ error. error ≢ CloseError.PassMissing) }
+        ensures left { IfOk result (λ left. IfSome left (λ items. IsLeft passes.now items.items)) }
     {
         let alloc = *self.heaps.allocator();
-        let Ok(items) = self.left() else {
-            return Err(CloseError::OutOfMemory);
-        };
-        let balanced = are_balanced(alloc, passes, items.as_slice());
-        where_balanced(items, balanced)
+        let left = self.left()?;
+        let put = put_in_order(alloc, passes)?;
+        let gone = gone_in_order(alloc, passes, left.as_slice())?;
+        Ok(where_balanced(left, put, gone))
     }
 
     /// The same, where two threads make and sort the copies of the accounts.
@@ -263,18 +240,18 @@ impl MultiQueue {
         &mut self,
         rt: &R,
         passes: &[Pass],
-    ) -> Result<Vec<Item>, CloseError>
+    ) -> Result<Option<Vec<Item>>, AllocError>
         ensures queue { self.new ≡ self.old }
-        ensures sorted { IfOk result (λ items. AllPairs IsNotAfter items.items) }
-        ensures balanced { IfOk result (λ items. AreBalanced passes.now items.items) }
-        ensures found { IfErr result (λ error. error ≢ CloseError.PassMissing) }
+        ensures left { IfOk result (λ left. IfSome left (λ items. IsLeft passes.now items.items)) }
     {
         let alloc = *self.heaps.allocator();
-        let Ok(items) = self.left() else {
-            return Err(CloseError::OutOfMemory);
-        };
-        let balanced = are_balanced_by_two(rt, alloc, passes, items.as_slice());
-        where_balanced(items, balanced)
+        let left = self.left()?;
+        let (put, gone) = thread::join(
+            rt,
+            || put_in_order(alloc, passes),
+            || gone_in_order(alloc, passes, left.as_slice()),
+        );
+        Ok(where_balanced(left, put?, gone?))
     }
 
     /// A list of what is left, in order. The queue stays as it is.
@@ -307,20 +284,4 @@ fn has_number(passes: &[Pass], number: u32) -> bool
     ensures { IsTrue result ↔ IsAmong number passes.now }
 {
     passes.iter().any(|pass| pass.number() == number)
-}
-
-/// These items, where the accounts agree with them.
-fn where_balanced(
-    items: Vec<Item>,
-    balanced: Result<bool, AllocError>,
-) -> Result<Vec<Item>, CloseError>
-    ensures same { IfOk result (λ left. left ≡ items) }
-    ensures balanced { OnOk result (balanced ≡ Ok true) }
-    ensures found { IfErr result (λ error. error ≢ CloseError.PassMissing) }
-{
-    match balanced {
-        Ok(true) => Ok(items),
-        Ok(false) => Err(CloseError::Mixed),
-        Err(_refused) => Err(CloseError::OutOfMemory),
-    }
 }
