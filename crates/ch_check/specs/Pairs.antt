@@ -10,6 +10,8 @@ use Rattle.ch_laws.specs.Rows.{Row, Rises, Lists}
 use Rattle.ch_laws.specs.Verdicts.{HasWay, IsForShortcut, ListsThrough}
 use Rattle.ch_overlay.specs.Overlay.{Overlay, AreEntries, state_of}
 use Rattle.ch_overlay.specs.Pairs.{IsPairOf}
+use Rattle.ch_overlay.specs.Source.{IsBound}
+use Rattle.ch_check.specs.declared.pairs.Task.{Task}
 use Rattle.ch_check.specs.declared.share.Share.{Share}
 use Rattle.ch_check.specs.declared.share.Share.TheVariants.{Spared, Put, Owed}
 
@@ -35,6 +37,11 @@ pub record IsOpenRow (o : Overlay) (x : ℕ) (r : Row) : Type 0 where
   pub outs : (e : Entry) → Contains r.out e → IsAlive (state_of o) e.other
   pub inns : (e : Entry) → Contains r.inn e → IsAlive (state_of o) e.other
   pub starts : (e : Entry) → Contains r.inn e → HasArc o e.other x e.cost
+
+-- the rows are bounded, and the row of the node is open
+pub record IsTask (t : Task) : Type 0 where
+  pub bound : IsBound t.overlay.now.bound
+  pub row : IsOpenRow t.overlay.now t.node t.row.now
 
 -- one of these arcs leads to where the pair does, and costs no more
 pub record LeadsDirectly (outs : List Entry) (p : Shortcut) : Type 0 where

@@ -125,7 +125,7 @@ fn contract(
     ensures { OnOk result (IsContracted replay.old node replay.new) }
 {
     compare_row(hierarchy, replay.overlay().row(node), node)?;
-    work_out(alloc, replay, hierarchy, desk, node)?;
+    work_out(replay, hierarchy, desk, node)?;
     replay.contract(alloc, node, &desk.shortcuts)?;
     Ok(())
 }

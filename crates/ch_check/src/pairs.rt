@@ -3,7 +3,8 @@ ghost use Rattle.ch_laws.specs.Contraction.{IsAlive};
 ghost use Rattle.ch_laws.specs.Rows.{Rises};
 ghost use Rattle.ch_overlay.specs.Overlay.{state_of};
 ghost use Rattle.ch_overlay.specs.Source.{IsBound};
-ghost use Rattle.ch_check.specs.Pairs.{AreSorted, CostMore, IsAdded, IsDue, IsOpenRow, LeadsBy, LeadsDirectly, LeadsOver};
+ghost use Rattle.ch_check.specs.Pairs.{AreSorted, CostMore, IsAdded, IsDue, IsOpenRow, IsTask};
+ghost use Rattle.ch_check.specs.Pairs.{LeadsBy, LeadsDirectly, LeadsOver};
 
 use crate::desk::NeighbourPairs;
 use crate::overlay_rows::open_row;
@@ -13,27 +14,38 @@ use ch_laws::{Entry, Shortcut};
 use ch_overlay::{Overlay, Row, entry_for, light_pair};
 use std::alloc::AllocError;
 
-/// Finds what is due for each pair of an arc into a node and one of those out of it. `first` is the row of the neighbour
+/// What the pairs by way of a node have in common.
+#[derive(Clone, Copy)]
+pub struct Task<'a> {
+    /// The rows as the contractions so far left them.
+    pub overlay: &'a Overlay,
+    /// Its links say which pairs are to get a shortcut.
+    pub hierarchy: &'a Hierarchy,
+    /// The node.
+    pub node: u32,
+    /// Its row.
+    pub row: &'a Row,
+}
+
+/// Finds what is due for each pair of an arc into the node and one of those out of it. `first` is the row of the neighbour
 /// that the arc into the node leaves. It takes the place of what was there.
 pub fn sort_pairs(
-    overlay: &Overlay,
-    hierarchy: &Hierarchy,
-    via: u32,
+    task: &Task<'_>,
     first: &Row,
     into: &Entry,
-    row: &Row,
     pairs: &mut NeighbourPairs,
 ) -> Result<(), AllocError>
-    requires limit { IsBound overlay.now.bound }
-    requires row { IsOpenRow overlay.now via row.now }
-    requires first { IsOpenRow overlay.now into.now.other first.now }
-    requires start { into.now.other ≢ via }
-    ensures { OnOk result (AreSorted overlay.now via first.now into.now row.now.out pairs.new.put.items pairs.new.owed.items) }
+    requires task { IsTask task.now }
+    requires first { IsOpenRow task.now.overlay.now into.now.other first.now }
+    requires start { into.now.other ≢ task.now.node }
+    ensures { OnOk result (AreSorted task.now.overlay.now task.now.node first.now into.now task.now.row.now.out
+        pairs.new.put.items pairs.new.owed.items) }
 {
     pairs.put.clear();
     pairs.owed.clear();
+    let row = task.row;
     'outs: for out in &row.out {
-        let share = due(overlay, hierarchy, via, first, into, out);
+        let share = due(task, first, into, out);
         add(share, &mut pairs.put, &mut pairs.owed)?;
     }
     Ok(())
@@ -41,32 +53,25 @@ pub fn sort_pairs(
 
 /// What is due for the pair of two arcs. What the hierarchy says of it isn't relied on: a shortcut is put only where it is
 /// lawful, and what isn't put is owed a way.
-fn due(
-    overlay: &Overlay,
-    hierarchy: &Hierarchy,
-    via: u32,
-    first: &Row,
-    into: &Entry,
-    out: &Entry,
-) -> Share
-    requires limit { IsBound overlay.now.bound }
-    requires first { IsOpenRow overlay.now into.now.other first.now }
-    requires start { into.now.other ≢ via }
-    requires alive { IsAlive (state_of overlay.now) out.now.other }
-    requires end { out.now.other ≢ via }
-    ensures { IsDue overlay.now via first.now into.now out.now result }
+fn due(task: &Task<'_>, first: &Row, into: &Entry, out: &Entry) -> Share
+    requires limit { IsBound task.now.overlay.now.bound }
+    requires first { IsOpenRow task.now.overlay.now into.now.other first.now }
+    requires start { into.now.other ≢ task.now.node }
+    requires alive { IsAlive (state_of task.now.overlay.now) out.now.other }
+    requires end { out.now.other ≢ task.now.node }
+    ensures { IsDue task.now.overlay.now task.now.node first.now into.now out.now result }
 {
-    let Some(pair) = light_pair(overlay.bound(), into, out) else {
+    let Some(pair) = light_pair(task.overlay.bound(), into, out) else {
         return Share::Spared;
     };
     if has_direct(&first.out, &pair) {
         return Share::Spared;
     }
-    if is_wanted(hierarchy, &pair, via) {
+    if is_wanted(task.hierarchy, &pair, task.node) {
         return Share::Put(pair);
     }
-    let last = open_row(overlay, out.other);
-    if has_two_arcs(&first.out, &last.inn, via, &pair) {
+    let last = open_row(task.overlay, out.other);
+    if has_two_arcs(&first.out, &last.inn, task.node, &pair) {
         return Share::Spared;
     }
     Share::Owed(pair)

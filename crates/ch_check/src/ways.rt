@@ -10,7 +10,6 @@ ghost use Rattle.ch_witness.specs.Ways.{AreWays, IsFound};
 ghost use Rattle.ch_check.specs.Pairs.{HaveWays};
 ghost use Rattle.ch_check.specs.Searching.{AreAround, AreLeft, AreOwed, AreRowsOf, AreUnmet, IsNode};
 
-use crate::desk::Targets;
 use crate::fault::Fault;
 use crate::overlay_rows::OverlayRows;
 use ch_cost::Cost;
@@ -23,105 +22,122 @@ use std::mem;
 /// How many nodes a search settles at most. A hierarchy that was made by shorter searches has no need of longer ones.
 const SETTLE: u32 = 1 << 16;
 
-/// Finds a way around a node for each of these pairs, which all lead from one neighbour. Fails at the first that has none.
-///
-/// A way that costs no more than its pair will do, the best isn't wanted. So one search ends as soon as it has come to each
-/// end, and those pairs that it leaves without a way, since it came to their ends by too costly ones, get a whole search.
-pub fn find_ways(
+/// Finds ways around nodes, one after the other, in memory that is used again.
+#[derive(Drop)]
+pub struct Finder {
     alloc: Global,
-    overlay: &Overlay,
-    searcher: &mut Searcher,
-    targets: &mut Targets,
-    via: u32,
-    from: u32,
-    owed: &[Shortcut],
-) -> Result<(), Fault>
-    requires bound { IsBound overlay.now.bound }
-    requires inside { IsNode overlay.now from }
-    requires start { from ≢ via }
-    requires owed { AreOwed overlay.now via from owed.now }
-    requires kept { AreRowsOf overlay.now (kept_of searcher.old.rows) }
-    ensures ways { OnOk result (HaveWays overlay.now via owed.now) }
-    ensures kept { OnOk result (AreRowsOf overlay.now (kept_of searcher.new.rows)) }
-{
-    find_aims(owed, &mut targets.aims)?;
-    let few = search_ways(alloc, overlay, searcher, targets, via, from, owed)?;
-    targets.aims.clear();
-    let left = search_ways(alloc, overlay, searcher, targets, via, from, &few)?;
-    if left.is_empty() {
-        return Ok(());
-    }
-    let pair = &left[0];
-    Err(Fault::Way {
-        via,
-        from: pair.from,
-        to: pair.to,
-    })
+    /// The rows that were read, and searches along them.
+    pub searcher: Searcher,
+    /// Where a search is to come to.
+    ends: Vec<u32>,
+    /// What it may know of each of these nodes.
+    aims: Vec<Aim>,
+    /// What the search before has found.
+    earlier: Traced,
 }
 
-/// Searches ways to the ends of these pairs, and returns those pairs for which it found none that costs no more.
-fn search_ways(
-    alloc: Global,
-    overlay: &Overlay,
-    searcher: &mut Searcher,
-    targets: &mut Targets,
-    via: u32,
-    from: u32,
-    owed: &[Shortcut],
-) -> Result<Vec<Shortcut>, Fault>
-    requires bound { IsBound overlay.now.bound }
-    requires inside { IsNode overlay.now from }
-    requires start { from ≢ via }
-    requires owed { AreOwed overlay.now via from owed.now }
-    requires kept { AreRowsOf overlay.now (kept_of searcher.old.rows) }
-    ensures left { IfOk result (λ left. AreLeft overlay.now via owed.now left.items) }
-    ensures kept { OnOk result (AreRowsOf overlay.now (kept_of searcher.new.rows)) }
-{
-    if owed.is_empty() {
-        return Ok(Vec::new(alloc));
+impl Finder {
+    /// No way is found yet. It takes no memory yet.
+    pub fn new(alloc: Global) -> Finder {
+        Finder {
+            alloc,
+            searcher: Searcher::new(alloc),
+            ends: Vec::new(alloc),
+            aims: Vec::new(alloc),
+            earlier: Traced::new(alloc),
+        }
     }
-    let found = trace_ways(alloc, overlay, searcher, targets, via, from, owed)?;
-    let left = unmet(alloc, owed, &found.ways)?;
-    targets.earlier = found;
-    Ok(left)
-}
 
-/// The best ways to the ends of these pairs that a search has come to when it ends.
-fn trace_ways(
-    alloc: Global,
-    overlay: &Overlay,
-    searcher: &mut Searcher,
-    targets: &mut Targets,
-    via: u32,
-    from: u32,
-    owed: &[Shortcut],
-) -> Result<Traced, Fault>
-    requires bound { IsBound overlay.now.bound }
-    requires inside { IsNode overlay.now from }
-    requires start { from ≢ via }
-    requires owed { AreOwed overlay.now via from owed.now }
-    requires kept { AreRowsOf overlay.now (kept_of searcher.old.rows) }
-    ensures ways { IfOk result (λ found. AreAround overlay.now via from (map (λ p. p.to) owed.now) found.ways.items) }
-    ensures kept { OnOk result (AreRowsOf overlay.now (kept_of searcher.new.rows)) }
-{
-    find_ends(owed, &mut targets.ends)?;
-    let rule = Rule {
-        from,
-        avoid: via,
-        cutoff: greatest_cost(owed),
-    };
-    let earlier = mem::replace(&mut targets.earlier, Traced::new(alloc));
-    let mut rows = OverlayRows::new(overlay);
-    let found = searcher.search(
-        alloc,
-        &mut rows,
-        rule,
-        &targets.ends,
-        &targets.aims,
-        SETTLE,
-        earlier,
-    );
-    seen_all(found)
+    /// Finds a way around a node for each of these pairs, which all lead from one neighbour. Fails at the first that has
+    /// none.
+    ///
+    /// A way that costs no more than its pair will do, the best isn't wanted. So one search ends as soon as it has come to
+    /// each end, and those pairs that it leaves without a way, since it came to their ends by too costly ones, get a whole
+    /// search.
+    pub fn find_ways(
+        &mut self,
+        overlay: &Overlay,
+        via: u32,
+        from: u32,
+        owed: &[Shortcut],
+    ) -> Result<(), Fault>
+        requires bound { IsBound overlay.now.bound }
+        requires inside { IsNode overlay.now from }
+        requires start { from ≢ via }
+        requires owed { AreOwed overlay.now via from owed.now }
+        requires kept { AreRowsOf overlay.now (kept_of self.old.searcher.rows) }
+        ensures ways { OnOk result (HaveWays overlay.now via owed.now) }
+        ensures kept { OnOk result (AreRowsOf overlay.now (kept_of self.new.searcher.rows)) }
+    {
+        find_aims(owed, &mut self.aims)?;
+        let few = self.search_ways(overlay, via, from, owed)?;
+        self.aims.clear();
+        let left = self.search_ways(overlay, via, from, &few)?;
+        if left.is_empty() {
+            return Ok(());
+        }
+        let pair = &left[0];
+        Err(Fault::Way {
+            via,
+            from: pair.from,
+            to: pair.to,
+        })
+    }
+
+    /// Searches ways to the ends of these pairs, and returns those pairs for which it found none that costs no more.
+    fn search_ways(
+        &mut self,
+        overlay: &Overlay,
+        via: u32,
+        from: u32,
+        owed: &[Shortcut],
+    ) -> Result<Vec<Shortcut>, Fault>
+        requires bound { IsBound overlay.now.bound }
+        requires inside { IsNode overlay.now from }
+        requires start { from ≢ via }
+        requires owed { AreOwed overlay.now via from owed.now }
+        requires kept { AreRowsOf overlay.now (kept_of self.old.searcher.rows) }
+        ensures left { IfOk result (λ left. AreLeft overlay.now via owed.now left.items) }
+        ensures kept { OnOk result (AreRowsOf overlay.now (kept_of self.new.searcher.rows)) }
+    {
+        if owed.is_empty() {
+            return Ok(Vec::new(self.alloc));
+        }
+        let found = self.trace_ways(overlay, via, from, owed)?;
+        let left = unmet(self.alloc, owed, &found.ways)?;
+        self.earlier = found;
+        Ok(left)
+    }
+
+    /// The best ways to the ends of these pairs that a search has come to when it ends.
+    fn trace_ways(
+        &mut self,
+        overlay: &Overlay,
+        via: u32,
+        from: u32,
+        owed: &[Shortcut],
+    ) -> Result<Traced, Fault>
+        requires bound { IsBound overlay.now.bound }
+        requires inside { IsNode overlay.now from }
+        requires start { from ≢ via }
+        requires owed { AreOwed overlay.now via from owed.now }
+        requires kept { AreRowsOf overlay.now (kept_of self.old.searcher.rows) }
+        ensures ways { IfOk result (λ found. AreAround overlay.now via from (map (λ p. p.to) owed.now) found.ways.items) }
+        ensures kept { OnOk result (AreRowsOf overlay.now (kept_of self.new.searcher.rows)) }
+    {
+        find_ends(owed, &mut self.ends)?;
+        let rule = Rule {
+            from,
+            avoid: via,
+            cutoff: greatest_cost(owed),
+        };
+        let earlier = mem::replace(&mut self.earlier, Traced::new(self.alloc));
+        let mut rows = OverlayRows::new(overlay);
+        let found = self.searcher.search(
+            self.alloc, &mut rows, rule, &self.ends, &self.aims, SETTLE, earlier,
+        );
+        seen_all(found)
+    }
 }
 
 /// What a search found that had each row, or that memory ran out.

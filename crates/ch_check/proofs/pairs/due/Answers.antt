@@ -9,13 +9,25 @@ use Rattle.ch_check.proofs.pairs.due.Goals as goal
 
 pub returns-then-has_direct : goal.returns-then-has_direct
 returns-then-has_direct c =
-    direct_pair c.args.overlay.now c.args.via c.args.first.now c.args.into.now c.args.out.now c.requires.first c.requires.start c.requires.end c.in-Some.pair
-    (subst (λ (b : Cost). IsPairOf b c.args.into.now c.args.out.now (Some c.in-Some.pair)) c.bound.ensures c.in-Some.ensures)
-    (subst (λ (es : List Entry). LeadsDirectly es c.in-Some.pair) (c.deref.ensures.value ∙ ap (λ (r : Row). r.out) c.first.view_is) (c.has_direct.ensures.yes c.if-has_direct.true))
+    let t = c.args.task.now in
+    let pair = c.in-Some.pair in
+    direct_pair t.overlay.now t.node c.args.first.now c.args.into.now c.args.out.now
+    c.requires.first c.requires.start c.requires.end pair
+    (subst (λ (b : Cost). IsPairOf b c.args.into.now c.args.out.now (Some pair)) c.bound.ensures c.in-Some.ensures)
+    (subst (λ (es : List Entry). LeadsDirectly es pair) (c.deref.ensures.value ∙ ap (λ (r : Row). r.out) c.first.view_is)
+    (c.has_direct.ensures.yes c.if-has_direct.true))
 
 pub returns-then-has_two_arcs : goal.returns-then-has_two_arcs
 returns-then-has_two_arcs c =
-    two_pair c.args.overlay.now c.args.via c.args.first.now c.args.into.now c.args.out.now c.requires.first c.requires.start c.requires.end c.in-Some.pair
-    (subst (λ (b : Cost). IsPairOf b c.args.into.now c.args.out.now (Some c.in-Some.pair)) c.bound.ensures c.in-Some.ensures) c.open_row-last.result.now c.open_row-last.ensures
-    (subst (λ (es : List Entry). LeadsOver es c.open_row-last.result.now.inn c.args.via c.in-Some.pair) (c.deref-2.ensures.value ∙ ap (λ (r : Row). r.out) c.first.view_is)
-    (subst (λ (es : List Entry). LeadsOver c.deref-2.result.now es c.args.via c.in-Some.pair) (c.deref-3.ensures.value ∙ ap (λ (r : Row). r.inn) c.last.view_is) (c.has_two_arcs.ensures c.if-has_two_arcs.true)))
+    let t = c.args.task.now in
+    let pair = c.in-Some.pair in
+    let last = c.open_row-last.result.now in
+    two_pair t.overlay.now t.node c.args.first.now c.args.into.now c.args.out.now
+    c.requires.first c.requires.start c.requires.end pair
+    (subst (λ (b : Cost). IsPairOf b c.args.into.now c.args.out.now (Some pair)) c.bound.ensures c.in-Some.ensures)
+    last c.open_row-last.ensures
+    (subst (λ (es : List Entry). LeadsOver es last.inn t.node pair)
+    (c.deref-2.ensures.value ∙ ap (λ (r : Row). r.out) c.first.view_is)
+    (subst (λ (es : List Entry). LeadsOver c.deref-2.result.now es t.node pair)
+    (c.deref-3.ensures.value ∙ ap (λ (r : Row). r.inn) c.last.view_is)
+    (c.has_two_arcs.ensures c.if-has_two_arcs.true)))

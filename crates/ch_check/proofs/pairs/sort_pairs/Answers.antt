@@ -8,18 +8,36 @@ use Rattle.ch_check.proofs.pairs.sort_pairs.Goals as goal
 
 pub outs-init : goal.outs-init
 outs-init c =
-    subst (λ (ps : List Shortcut). AreSorted c.args.overlay.now c.args.via c.args.first.now c.args.into.now [] ps c.clear-2.new.self.items) (sym c.clear.ensures.items)
-    (subst (λ (ps : List Shortcut). AreSorted c.args.overlay.now c.args.via c.args.first.now c.args.into.now [] [] ps) (sym c.clear-2.ensures.items) (sorted_none c.args.overlay.now c.args.via c.args.first.now c.args.into.now))
+    let o = c.args.task.now.overlay.now in
+    let v = c.args.task.now.node in
+    let first = c.args.first.now in
+    let into = c.args.into.now in
+    subst (λ (ps : List Shortcut). AreSorted o v first into [] ps c.clear-2.new.self.items) (sym c.clear.ensures.items)
+    (subst (λ (ps : List Shortcut). AreSorted o v first into [] [] ps) (sym c.clear-2.ensures.items)
+    (sorted_none o v first into))
 
 pub due-share-requires-clause-alive : goal.due-share-requires-clause-alive
 due-share-requires-clause-alive c =
-    let items : c.deref-out-items.result.now ≡ c.args.row.now.out = c.deref-out-items.ensures.value ∙ ap (λ (r : Row). r.out) c.row.view_is in
-    c.requires.row.outs c.out-item.result
-    (c.outs.out-index, subst (λ (es : List Entry). c.outs.out-index < length es) items c.outs-test.true, sym (c.out-item.is ∙ ap (λ (es : List Entry). get_or es c.outs.out-index c.out-item.result) items))
+    let items : c.deref-out-items.result.now ≡ c.args.task.now.row.now.out =
+    c.deref-out-items.ensures.value ∙ ap (λ (r : Row). r.out) c.row.view_is in
+    c.requires.task.row.outs c.out-item.result (
+      c.outs.out-index,
+      subst (λ (es : List Entry). c.outs.out-index < length es) items c.outs-test.true,
+      sym (c.out-item.is ∙ ap (λ (es : List Entry). get_or es c.outs.out-index c.out-item.result) items),
+    )
 
 pub outs-preserved : goal.outs-preserved
 outs-preserved c =
-    let items : c.deref-out-items.result.now ≡ c.args.row.now.out = c.deref-out-items.ensures.value ∙ ap (λ (r : Row). r.out) c.row.view_is in
-    next_sorted c.args.overlay.now c.args.via c.args.first.now c.args.into.now c.args.row.now.out c.outs.out-index c.out-item.result _ _ c.due-share.result _ _
-    (subst (λ (es : List Entry). c.outs.out-index < length es) items c.outs-test.true) c.requires.row.out_rises c.outs.invariant
-    (subst (λ (e : Entry). IsDue c.args.overlay.now c.args.via c.args.first.now c.args.into.now e c.due-share.result) (c.out-item.is ∙ ap (λ (es : List Entry). get_or es c.outs.out-index c.out-item.result) items) c.due-share.ensures) c.in_ok-add.ensures
+    let o = c.args.task.now.overlay.now in
+    let v = c.args.task.now.node in
+    let first = c.args.first.now in
+    let into = c.args.into.now in
+    let outs = c.args.task.now.row.now.out in
+    let items : c.deref-out-items.result.now ≡ outs =
+    c.deref-out-items.ensures.value ∙ ap (λ (r : Row). r.out) c.row.view_is in
+    next_sorted o v first into outs c.outs.out-index c.out-item.result _ _ c.due-share.result _ _
+    (subst (λ (es : List Entry). c.outs.out-index < length es) items c.outs-test.true) c.requires.task.row.out_rises
+    c.outs.invariant
+    (subst (λ (e : Entry). IsDue o v first into e c.due-share.result)
+    (c.out-item.is ∙ ap (λ (es : List Entry). get_or es c.outs.out-index c.out-item.result) items) c.due-share.ensures)
+    c.in_ok-add.ensures

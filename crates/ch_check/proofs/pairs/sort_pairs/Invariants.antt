@@ -3,4 +3,6 @@ use Rattle.ch_check.specs.Pairs.{AreSorted}
 use Rattle.ch_check.proofs.pairs.sort_pairs.Given as goal
 
 abbrev pub invariant-outs : goal.invariant-outs
-invariant-outs l = AreSorted l.overlay l.via l.first l.into (take l.out-index l.row.out) l.pairs.put.items l.pairs.owed.items
+invariant-outs l =
+    let t = l.task in
+    AreSorted t.overlay.now t.node l.first l.into (take l.out-index t.row.now.out) l.pairs.put.items l.pairs.owed.items

@@ -7,10 +7,19 @@ use Rattle.ch_check.proofs.working.join_all.Goals as goal
 
 pub inns-preserved : goal.inns-preserved
 inns-preserved c =
-    let items : c.deref-into-items.result.now ≡ c.args.row.now.inn = c.deref-into-items.ensures.value ∙ ap (λ (r : Row). r.inn) c.row.view_is in
+    let o = c.args.task.now.overlay.now in
+    let v = c.args.task.now.node in
+    let row = c.args.task.now.row.now in
+    let old = c.inns.desk.shortcuts.items in
+    let new = c.join_from.new.desk.shortcuts.items in
+    let items : c.deref-into-items.result.now ≡ row.inn =
+    c.deref-into-items.ensures.value ∙ ap (λ (r : Row). r.inn) c.row.view_is in
     record {
-      joined = next_joined c.args.overlay.now c.args.node c.args.row.now c.args.row.now.inn c.inns.into-index c.into-item.result c.inns.desk.shortcuts.items c.join_from.new.desk.shortcuts.items
-          (subst (λ (es : List Entry). c.inns.into-index < length es) items c.inns-test.true) c.requires.row.inn_rises c.inns.invariant.joined
-          (subst (λ (e : Entry). Joins c.args.overlay.now c.args.node c.args.row.now e c.inns.desk.shortcuts.items c.join_from.new.desk.shortcuts.items) (c.into-item.is ∙ ap (λ (es : List Entry). get_or es c.inns.into-index c.into-item.result) items) c.in_ok-join_from.ensures.joined);
+      joined = next_joined o v row row.inn c.inns.into-index c.into-item.result old new
+          (subst (λ (es : List Entry). c.inns.into-index < length es) items c.inns-test.true) c.requires.task.row.inn_rises
+          c.inns.invariant.joined
+          (subst (λ (e : Entry). Joins o v row e old new)
+          (c.into-item.is ∙ ap (λ (es : List Entry). get_or es c.inns.into-index c.into-item.result) items)
+          c.in_ok-join_from.ensures.joined);
       kept = c.in_ok-join_from.ensures.kept;
     }

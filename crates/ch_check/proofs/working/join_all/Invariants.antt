@@ -6,6 +6,6 @@ use Rattle.ch_check.proofs.working.join_all.Given as goal
 
 abbrev pub invariant-inns : goal.invariant-inns
 invariant-inns l = record {
-  joined : AreJoined l.overlay l.node l.row (take l.into-index l.row.inn) l.desk.shortcuts.items;
-  kept : AreRowsOf l.overlay (kept_of l.desk.searcher.rows);
+  joined : AreJoined l.task.overlay.now l.task.node l.task.row.now (take l.into-index l.task.row.now.inn) l.desk.shortcuts.items;
+  kept : AreRowsOf l.task.overlay.now (kept_of l.desk.finder.searcher.rows);
 }

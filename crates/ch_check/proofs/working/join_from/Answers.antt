@@ -6,18 +6,26 @@ use Rattle.ch_check.proofs.Joining.{are_owed, is_joined}
 use Rattle.ch_check.proofs.working.join_from.Goals as goal
 
 pub open_row-first-requires : goal.open_row-first-requires
-open_row-first-requires c = c.requires.row.inns c.args.into.now c.requires.among
+open_row-first-requires c = c.requires.task.row.inns c.args.into.now c.requires.among
 
 pub find_ways-requires-clause-owed : goal.find_ways-requires-clause-owed
 find_ways-requires-clause-owed c =
-    subst (λ (ps : List Shortcut). AreOwed c.args.overlay.now c.args.node c.args.into.now.other ps) (sym c.deref.ensures.value)
-    (are_owed c.args.overlay.now c.args.node c.args.row.now c.open_row-first.result.now c.args.into.now c.requires.row c.open_row-first.ensures c.requires.among c.sort_pairs.new.pairs.put.items c.sort_pairs.new.pairs.owed.items c.in_ok-sort_pairs.ensures)
+    let t = c.args.task.now in
+    let pairs = c.sort_pairs.new.pairs in
+    subst (λ (ps : List Shortcut). AreOwed t.overlay.now t.node c.args.into.now.other ps) (sym c.deref.ensures.value)
+    (are_owed t.overlay.now t.node t.row.now c.open_row-first.result.now c.args.into.now c.requires.task.row
+    c.open_row-first.ensures c.requires.among pairs.put.items pairs.owed.items c.in_ok-sort_pairs.ensures)
 
 pub returns-clause-joined : goal.returns-clause-joined
 returns-clause-joined c =
+    let t = c.args.task.now in
+    let pairs = c.sort_pairs.new.pairs in
     record {
-      put = c.sort_pairs.new.pairs.put.items;
-      appends = c.in_ok-extend_from_slice.ensures.items ∙ ap (λ (ps : List Shortcut). c.args.desk.now.shortcuts.items ++ ps) c.deref-2.ensures.value;
-      joined = is_joined c.args.overlay.now c.args.node c.args.row.now c.open_row-first.result.now c.args.into.now c.requires.row c.open_row-first.ensures c.requires.among c.sort_pairs.new.pairs.put.items c.sort_pairs.new.pairs.owed.items c.in_ok-sort_pairs.ensures
-          (subst (λ (ps : List Shortcut). HaveWays c.args.overlay.now c.args.node ps) c.deref.ensures.value c.in_ok-find_ways.ensures.ways);
+      put = pairs.put.items;
+      appends = c.in_ok-extend_from_slice.ensures.items ∙ ap (λ (ps : List Shortcut). c.args.desk.now.shortcuts.items ++ ps)
+          c.deref-2.ensures.value;
+      joined = is_joined t.overlay.now t.node t.row.now c.open_row-first.result.now c.args.into.now c.requires.task.row
+          c.open_row-first.ensures c.requires.among pairs.put.items pairs.owed.items c.in_ok-sort_pairs.ensures
+          (subst (λ (ps : List Shortcut). HaveWays t.overlay.now t.node ps) c.deref.ensures.value
+          c.in_ok-find_ways.ensures.ways);
     }
