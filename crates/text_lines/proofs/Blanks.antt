@@ -53,7 +53,11 @@ part_all : (hay : List ℕ) (last i : ℕ) → length hay ≤ i → part last i 
 part_all hay last i h = take_all (i - last) (drop last hay) (omega (arith, length-drop last hay))
 
 -- the cut at a byte that is a match or not
-split_step : (hay : List ℕ) (last i x : ℕ) (ks : List ℕ) (parts : List (List ℕ)) (b : Bool) → split_at hay 1 (i + 1) ks ≡ parts → split_at hay 1 last ks ≡ onto_front (part last (i + 1) hay) parts → part last (i + 1) hay ≡ part last i hay ++ x ∷ [] → split_at hay 1 last (cond b (i ∷ ks) ks) ≡ onto_front (part last i hay) (cond b ([] ∷ parts) (onto_first x parts))
+split_step : (hay : List ℕ) (last i x : ℕ) (ks : List ℕ) (parts : List (List ℕ)) (b : Bool)
+    → split_at hay 1 (i + 1) ks ≡ parts
+    → split_at hay 1 last ks ≡ onto_front (part last (i + 1) hay) parts
+    → part last (i + 1) hay ≡ part last i hay ++ x ∷ []
+    → split_at hay 1 last (cond b (i ∷ ks) ks) ≡ onto_front (part last i hay) (cond b ([] ∷ parts) (onto_first x parts))
 unfolding split_at
 split_step hay last i x ks parts true cut on more = rw (cut, append-nil (part last i hay)) refl
 split_step hay last i x ks parts false cut on more = on ∙ ap (λ (front : List ℕ). onto_front front parts) more ∙ sym (onto_front-onto_first (part last i hay) x parts)
@@ -66,7 +70,18 @@ split_from hay c i last (suc n) n_is h = elim (cases_lt i (length hay)) [
   | inl inside ↦ let cut = split_from hay c (i + 1) (i + 1) n (omega arith) (omega arith) in
       let on = split_from hay c (i + 1) last n (omega arith) (omega arith) in
       let nothing : (i + 1) - (i + 1) ≡ 0 = omega arith in
-      rw (occurs-inside hay c i inside, drop_more hay i 0 inside) (split_step hay last i (get_or hay i 0) (matches_from hay (c ∷ []) 0 (i + 1) n) (slice_split (λ b. eqb b c) (drop (i + 1) hay)) (eqb (get_or hay i 0) c) (rw nothing at cut ∙ onto_front-nil (λ b. eqb b c) (drop (i + 1) hay)) on (part_more hay last i h inside))
+      let parts = slice_split (λ b. eqb b c) (drop (i + 1) hay) in
+      rw (occurs-inside hay c i inside, drop_more hay i 0 inside) (split_step
+      hay
+      last
+      i
+      (get_or hay i 0)
+      (matches_from hay (c ∷ []) 0 (i + 1) n)
+      parts
+      (eqb (get_or hay i 0) c)
+      (rw nothing at cut ∙ onto_front-nil (λ b. eqb b c) (drop (i + 1) hay))
+      on
+      (part_more hay last i h inside))
   | inr outside ↦ let on = split_from hay c (i + 1) last n (omega arith) (omega arith) in
       rw (occurs-outside hay c i outside, drop_all i hay outside, part_all hay last i outside) (rw (part_all hay last (i + 1) (omega arith), drop_all (i + 1) hay (omega arith)) at on)
 ]

@@ -13,7 +13,13 @@ pub waiting_word-to-requires : goal.waiting_word-to-requires
 waiting_word-to-requires c = omega (arith, behind _ (word c.waiting_word-from.result) c.waiting_word-from.new.self.waiting c.waiting_word-from.ensures.taken, length-word c.waiting_word-from.result)
 
 pub waiting_long-weight-requires : goal.waiting_long-weight-requires
-waiting_long-weight-requires c = omega (arith, behind _ (word c.waiting_word-from.result) c.waiting_word-from.new.self.waiting c.waiting_word-from.ensures.taken, length-word c.waiting_word-from.result, behind _ (word c.waiting_word-to.result) c.waiting_word-to.new.self.waiting c.waiting_word-to.ensures.taken, length-word c.waiting_word-to.result)
+waiting_long-weight-requires c = omega (
+  arith,
+  behind _ (word c.waiting_word-from.result) c.waiting_word-from.new.self.waiting c.waiting_word-from.ensures.taken,
+  length-word c.waiting_word-from.result,
+  behind _ (word c.waiting_word-to.result) c.waiting_word-to.new.self.waiting c.waiting_word-to.ensures.taken,
+  length-word c.waiting_word-to.result,
+)
 
 pub waiting_arcs-arcs-requires : goal.waiting_arcs-arcs-requires
 waiting_arcs-arcs-requires c = omega (
