@@ -1,6 +1,6 @@
 -- How faults of parts are faults of the whole.
 use Rattle.std.proofs.Common.{ℕ, zero, suc, ◌≡◌, ◌≢◌, ◌+◌, ◌<◌, ◌≤◌, Bool, true, false, List, ◌++◌, length, Option, None, Some, Result, Ok, Err, sym, refl, subst, arith, inl, inr, length-append}
-use Rattle.std.specs.Prelude.{IfErr, IfSome, IsErrAnd, OnErr}
+use Rattle.std.specs.Prelude.{IfSome, OnErr}
 use Rattle.std.specs.Io.KnownBytes.{Consumes}
 use Rattle.std.proofs.lemmas.Bool.{cases_lt}
 use Rattle.std.proofs.lemmas.Bool.Decides.{nat_tests}
@@ -124,10 +124,6 @@ found front g old new e {P} h step = of_bytes-map e (λ p. known_behind front (�
     everywhere (Some xs) p = p
 
 -- what a `?` propagates
-pub hands_on : {T E : Type 0} (r : Result T E) (P : E → Type 0) (e : E) → IsErrAnd r (λ y. y ≡ e) → P e → IfErr r P
-hands_on (Ok x) P e is h = tt
-hands_on (Err y) P e is h = subst P (sym is) h
-
 pub where_err : {T E : Type 0} (r : Result T E) {P : Type 0} → P → OnErr r P
 where_err (Ok x) h = tt
 where_err (Err e) h = h

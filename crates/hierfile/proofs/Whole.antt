@@ -1,9 +1,9 @@
 -- The faults of a whole file.
-use Rattle.std.proofs.Common.{ℕ, zero, suc, ◌≡◌, ◌+◌, ◌^◌, ◌<◌, ◌≤◌, false, List, [], ◌++◌, length, drop, Option, None, Some, sym, refl, ap, ◌∙◌, subst, arith, append_assoc, inl, inr, length-append}
+use Rattle.std.proofs.Common.{ℕ, zero, suc, ◌≡◌, ◌+◌, ◌^◌, ◌<◌, ◌≤◌, false, List, [], ◌++◌, length, drop, Option, None, Some, sym, refl, ap, ◌∙◌, arith, append_assoc, inl, inr, length-append}
 use Rattle.std.specs.Prelude.{IfSome, not, slice_index}
 use Rattle.std.specs.List.{flat_map}
 use Rattle.std.specs.Io.KnownBytes.{Consumes}
-use Rattle.std.proofs.KnownBytes.{Consumes-nil, prepend_known-nil}
+use Rattle.std.proofs.KnownBytes.{prepend_known-nil}
 use Rattle.ch_cost.specs.Cost.{length_of}
 use Rattle.ch_graph.specs.declared.version.Version.{Version}
 use Rattle.ch_graph.specs.declared.version.Version.TheVariants.{One, Two}
@@ -12,8 +12,7 @@ use Rattle.hierfile.specs.declared.error.HierError.{HierError}
 use Rattle.hierfile.specs.declared.error.HierError.TheVariants.{BadMagic}
 use Rattle.hierfile.specs.Spelling.{magic_of, word, word_in, long_in, version_in, link_bytes, head_bytes, bytes_of}
 use Rattle.hierfile.specs.Fault.{◌otherwise◌, cut, is_magic, magic_fault, head_fault, size_fault, body_fault, first_fault, fault_if}
-use Rattle.hierfile.specs.Bytes.{coming, ButReadAhead, HasNoneButHalves, HasNoneSoFar, IsBodyOf, IsFaultOf, StopsWhere}
-use Rattle.hierfile.proofs.Came.{stops_ahead}
+use Rattle.hierfile.specs.Bytes.{coming, HasNoneButHalves, HasNoneSoFar, IsBodyOf}
 use Rattle.hierfile.proofs.Faults.{earlier, later, neither, none_below, cut_none, unfound}
 use Rattle.hierfile.proofs.Heads.{sizes, head_fault-sizes, nodes-sizes, links-sizes, bound-sizes, drop-sizes}
 
@@ -102,20 +101,6 @@ first_but_halves v n k b rest fits_n fits_k fits_b none (inr (inr is)) = inr (in
 -- no bytes wait at the start
 pub nothing_waits : (waiting : List ℕ) (known : Option (List ℕ)) → waiting ≡ [] → coming waiting known ≡ known
 nothing_waits waiting known e = ap (λ l. coming l known) e ∙ prepend_known-nil known
-
--- a fault of the bytes from the start on
-pub from_start : (waiting : List ℕ) (known : Option (List ℕ)) (e : HierError) → waiting ≡ [] → IsFaultOf first_fault (coming waiting known) e → IsFaultOf first_fault known e
-from_start waiting known e none h = subst (λ (o : Option (List ℕ)). IsFaultOf first_fault o e) (nothing_waits waiting known none) h
-
--- what is said of the bytes that came from the start on
-pub stops_from_start : (P : List ℕ → Type 0) (waiting : List ℕ) (known left : Option (List ℕ)) → waiting ≡ [] → StopsWhere P (coming waiting known) left → StopsWhere P known left
-stops_from_start P waiting known left none h = subst (λ (o : Option (List ℕ)). StopsWhere P o left) (nothing_waits waiting known none) h
-
--- nothing came before the start
-pub stops_at_start : (known : Option (List ℕ)) → StopsWhere (ButReadAhead (HasNoneButHalves first_fault)) known known
-stops_at_start known =
-    let waits = subst (λ (o : Option (List ℕ)). Consumes known o []) (sym (nothing_waits [] known refl)) (Consumes-nil known) in
-    stops_ahead [] [] [] (HasNoneButHalves first_fault) known known known (Consumes-nil known) waits (omega arith) (inl (inl (first_magic [] refl)))
 
 pub same_head : {m n k l b c : ℕ} → m ≡ n → k ≡ l → b ≡ c → sizes m k b ≡ sizes n l c
 same_head p q r = cc

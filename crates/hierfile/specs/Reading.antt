@@ -1,12 +1,30 @@
--- What a call does that reads a part of a file through a buffer. `was` and `now` are the buffer before and after it, `old`
--- and `new` the reader. A step is one call of the reader, and `remaining` is what it has left, where that is known.
-use Rattle.std.specs.Prelude.{ℕ, ◌≡◌, ◌<◌, List, length, Option, Result, MatchResult}
+-- What a call does that reads a file, or a part of one through a buffer. `was` and `now` are the buffer before and after it,
+-- `old` and `new` the reader. A step is one call of the reader, and `remaining` is what it has left, where that is known.
+use Rattle.std.specs.Prelude.{ℕ, ◌≡◌, ◌<◌, List, length, Option, Result, IfErr, IfOk, IfSome, MatchResult, OnOk}
 use Rattle.std.specs.Io.KnownBytes.{Consumes}
 use Rattle.std.specs.declared.io.Error.{Error}
-use Rattle.counted_io.specs.Limits.{IsRead, ReadsWithin}
+use Rattle.counted_io.specs.Limits.{IsRead, IsReadWithin, ReadsWithin}
+use Rattle.ch_graph.specs.Hierarchy.{Hierarchy}
 use Rattle.hierfile.specs.declared.error.HierError.{HierError}
 use Rattle.hierfile.specs.declared.error.HierError.TheVariants.{OutOfMemory, Read}
-use Rattle.hierfile.specs.Bytes.{Buffered, Fits, ButReadAhead, coming, IsCut, IsFaultOf, StopsWhere}
+use Rattle.hierfile.specs.Spelling.{bytes_of}
+use Rattle.hierfile.specs.Fault.{first_fault}
+use Rattle.hierfile.specs.Bytes.{Buffered, Fits, ButReadAhead, coming, HasNoneButHalves, HasNoneSoFar, IsCut, IsFaultOf, StopsWhere}
+
+-- A whole file was read or refused, by this many calls of the reader at most.
+pub record ReadsFile {S : Type 0} (step : S → S → Result ℕ Error → Type 0) (remaining : S → Option (List ℕ)) (most : ℕ) (old new : S) (result : Result Hierarchy HierError) : Type 0 where
+  -- all bytes of the reader spell the hierarchy
+  pub ok : IfOk result (λ hierarchy. IfSome (remaining old) (λ bytes. bytes ≡ bytes_of hierarchy))
+  -- none of the calls failed
+  pub calls : OnOk result (IsReadWithin step most old new)
+  -- a refusal is their first fault
+  pub err : IfErr result (IsFaultOf first_fault (remaining old))
+  -- where a read failed, what came has no fault but its early end; where memory ran out, what was tested has no other, the
+  -- halves of links aside
+  pub so_far : IfErr result (λ e. e ≡ Read → StopsWhere (HasNoneSoFar first_fault) (remaining old) (remaining new))
+  pub memory : IfErr result (λ e. e ≡ OutOfMemory → StopsWhere (ButReadAhead (HasNoneButHalves first_fault)) (remaining old) (remaining new))
+  -- the reader gave out where the refusal is Read, and else none of the calls failed
+  pub stopped : IfErr result (λ e. ReadsWithin step most (e ≡ Read) old new)
 
 -- The call succeeded.
 pub record HasRead {S : Type 0} (step : S → S → Result ℕ Error → Type 0) (remaining : S → Option (List ℕ)) (was now : Buffered) (old new : S) (says : Option (List ℕ) → Option (List ℕ) → Type 0) : Type 0 where

@@ -1,13 +1,12 @@
-ghost use Rattle.std.specs.Prelude.{◌≡◌, ◌++◌, [], ◌*◌, length, drop, min, None, Some, IfOk, IfErr, OnOk, IfSome};
+ghost use Rattle.std.specs.Prelude.{◌≡◌, ◌++◌, drop, min, None, IfOk, IfSome};
 ghost use Rattle.std.specs.List.{flat_map};
 ghost use Rattle.std.specs.Io.KnownBytes.{IsAtEnd};
-ghost use Rattle.counted_io.specs.Limits.{IsReadWithin, ReadsWithin};
 ghost use Rattle.counted_io.specs.declared.TheConstants.{MOST_CALLS};
 ghost use Rattle.ch_graph.specs.Hierarchy.{bound_arcs};
-ghost use Rattle.hierfile.specs.Spelling.{bytes_of, magic_of, stem, word, long, link_bytes, bound_in};
-ghost use Rattle.hierfile.specs.Fault.{first_fault, magic_fault, head_fault, size_fault, body_fault, end_fault};
-ghost use Rattle.hierfile.specs.Bytes.{ButReadAhead, HasNoneButHalves, HasNoneSoFar, IsFaultOf, StopsWhere, Tells, IsBodyOf};
-ghost use Rattle.hierfile.specs.Reading.{Reads, ReadsValue, Refuses};
+ghost use Rattle.hierfile.specs.Spelling.{magic_of, stem, word, long, link_bytes, bound_in};
+ghost use Rattle.hierfile.specs.Fault.{magic_fault, head_fault, size_fault, body_fault, end_fault};
+ghost use Rattle.hierfile.specs.Bytes.{HasNoneButHalves, HasNoneSoFar, Tells, IsBodyOf};
+ghost use Rattle.hierfile.specs.Reading.{Reads, ReadsFile, ReadsValue, Refuses};
 
 use crate::error::HierError;
 use crate::input::Input;
@@ -50,12 +49,7 @@ struct Head {
 /// the bytes, but for a binary search for each link with a middle, among the links that leave the middle, or two where there
 /// are more than 2^32 links, and one for each of the first ranks, among those before it.
 pub fn read<R: StepRead>(alloc: Global, reader: &mut R) -> Result<Hierarchy, HierError>
-    ensures ok { IfOk result (λ hierarchy. IfSome (R.remaining reader.old) (λ bytes. bytes ≡ bytes_of hierarchy)) }
-    ensures err { IfErr result (IsFaultOf first_fault (R.remaining reader.old)) }
-    ensures so_far { IfErr result (λ e. e ≡ HierError.Read → StopsWhere (HasNoneSoFar first_fault) (R.remaining reader.old) (R.remaining reader.new)) }
-    ensures memory { IfErr result (λ e. e ≡ HierError.OutOfMemory → StopsWhere (ButReadAhead (HasNoneButHalves first_fault)) (R.remaining reader.old) (R.remaining reader.new)) }
-    ensures calls { OnOk result (IsReadWithin R.step MOST_CALLS reader.old reader.new) }
-    ensures stopped { IfErr result (λ e. ReadsWithin R.step MOST_CALLS (e ≡ HierError.Read) reader.old reader.new) }
+    ensures reads { ReadsFile R.step R.remaining MOST_CALLS reader.old reader.new result }
 {
     read_within(alloc, reader, MOST_CALLS)
 }
@@ -67,12 +61,7 @@ pub fn read_within<R: StepRead>(
     reader: &mut R,
     calls: u64,
 ) -> Result<Hierarchy, HierError>
-    ensures ok { IfOk result (λ hierarchy. IfSome (R.remaining reader.old) (λ bytes. bytes ≡ bytes_of hierarchy)) }
-    ensures err { IfErr result (IsFaultOf first_fault (R.remaining reader.old)) }
-    ensures so_far { IfErr result (λ e. e ≡ HierError.Read → StopsWhere (HasNoneSoFar first_fault) (R.remaining reader.old) (R.remaining reader.new)) }
-    ensures memory { IfErr result (λ e. e ≡ HierError.OutOfMemory → StopsWhere (ButReadAhead (HasNoneButHalves first_fault)) (R.remaining reader.old) (R.remaining reader.new)) }
-    ensures calls { OnOk result (IsReadWithin R.step (min calls MOST_CALLS) reader.old reader.new) }
-    ensures stopped { IfErr result (λ e. ReadsWithin R.step (min calls MOST_CALLS) (e ≡ HierError.Read) reader.old reader.new) }
+    ensures reads { ReadsFile R.step R.remaining (min calls MOST_CALLS) reader.old reader.new result }
 {
     let mut input = Input::new(alloc, calls)?;
     let version = read_magic(&mut input, reader)?;

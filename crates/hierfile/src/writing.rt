@@ -1,13 +1,11 @@
-ghost use Rattle.std.specs.Prelude.{◌≡◌, length, min, All, OnOk, IfErr};
+ghost use Rattle.std.specs.Prelude.{◌≡◌, length, min, All};
 ghost use Rattle.std.specs.List.{flat_map};
-ghost use Rattle.std.specs.Io.KnownBytes.{Appends};
 ghost use Rattle.hierfile.specs.Spelling.{bytes_of, word, head_bytes, link_bytes, middle_number};
-ghost use Rattle.counted_io.specs.Limits.{IsWrittenWithin, StopsWithin};
 ghost use Rattle.counted_io.specs.declared.TheConstants.{MOST_CALLS};
 ghost use Rattle.ch_graph.specs.declared.version.Version.TheVariants.{Two};
 ghost use Rattle.ch_graph.specs.Hierarchy.{version_number};
-ghost use Rattle.hierfile.specs.Bytes.{IsWritable, Took};
-ghost use Rattle.hierfile.specs.Writing.{WritesPart};
+ghost use Rattle.hierfile.specs.Bytes.{IsWritable};
+ghost use Rattle.hierfile.specs.Writing.{WritesFile, WritesPart};
 
 use crate::links::NO_MIDDLE;
 use crate::output::Output;
@@ -24,10 +22,7 @@ const MAGIC: u32 = 0x5243_4832;
 /// memory, beside 8 KiB of the stack; linear in the size of the hierarchy.
 pub fn write<W: StepWrite>(hierarchy: &Hierarchy, writer: &mut W) -> Result<(), WriteFault>
     requires { version_number hierarchy.now.version ≡ 2 }
-    ensures ok { OnOk result (Appends (W.contents writer.old) (W.contents writer.new) (bytes_of hierarchy.now)) }
-    ensures err { IfErr result (λ fault. Took (W.contents writer.old) (W.contents writer.new) fault.written (bytes_of hierarchy.now)) }
-    ensures calls { OnOk result (IsWrittenWithin W.step MOST_CALLS (length (bytes_of hierarchy.now)) writer.old writer.new) }
-    ensures stopped { IfErr result (λ fault. StopsWithin W.step MOST_CALLS fault.written writer.old writer.new) }
+    ensures writes { WritesFile W.step W.contents MOST_CALLS writer.old writer.new (bytes_of hierarchy.now) result }
 {
     write_within(hierarchy, writer, MOST_CALLS)
 }
@@ -40,10 +35,7 @@ pub fn write_within<W: StepWrite>(
     calls: u64,
 ) -> Result<(), WriteFault>
     requires { version_number hierarchy.now.version ≡ 2 }
-    ensures ok { OnOk result (Appends (W.contents writer.old) (W.contents writer.new) (bytes_of hierarchy.now)) }
-    ensures err { IfErr result (λ fault. Took (W.contents writer.old) (W.contents writer.new) fault.written (bytes_of hierarchy.now)) }
-    ensures calls { OnOk result (IsWrittenWithin W.step (min calls MOST_CALLS) (length (bytes_of hierarchy.now)) writer.old writer.new) }
-    ensures stopped { IfErr result (λ fault. StopsWithin W.step (min calls MOST_CALLS) fault.written writer.old writer.new) }
+    ensures writes { WritesFile W.step W.contents (min calls MOST_CALLS) writer.old writer.new (bytes_of hierarchy.now) result }
 {
     let mut output = Output::new(calls);
     write_head(hierarchy, &mut output, writer)?;

@@ -13,7 +13,7 @@ write-written-requires g c = ap version_number c.in_ok-built.ensures.built.made.
 pub returns-clause-prepared : goal.returns-clause-prepared
 returns-clause-prepared g c =
     let good = built-good c.build_plain.result _ _ _ (Ok tt) c.in_ok-built.was c.build_plain.ensures.bad in
-    is_done _ _ _ _ _ _ c.in-Ok.graph c.in_ok-built.built.hierarchy good (search rules) c.in_ok-built.ensures.right (search rules) c.in_ok-built.ensures.built.made.version c.in_ok-written.ensures.ok
+    is_done _ _ _ _ _ _ c.in-Ok.graph c.in_ok-built.built.hierarchy good (search rules) c.in_ok-built.ensures.right (search rules) c.in_ok-built.ensures.built.made.version c.in_ok-written.ensures.writes.ok
 
 pub returns-clause-leases : goal.returns-clause-leases
 returns-clause-leases c = grind (arith, common_steps) steps 600000
@@ -33,4 +33,4 @@ returns-in_err-written-clause-prepared g c =
     let exit = err_from_is_err_and c.from_residual-in_err-written.result c.from_residual-in_err-written.ensures.1 in
     let good = built-good c.build_plain.result _ _ _ (Ok tt) c.in_ok-built.was c.build_plain.ensures.bad in
     rw (exit.1, exit.2)
-    (is_unwritten _ _ _ _ _ _ c.in-Ok.graph c.in_ok-built.built.hierarchy c.in_err-written.field-0.0 good (search rules) c.in_ok-built.ensures.right (search rules) c.in_ok-built.ensures.built.made.version c.in_err-written.ensures.err)
+    (is_unwritten _ _ _ _ _ _ c.in-Ok.graph c.in_ok-built.built.hierarchy c.in_err-written.field-0.0 good (search rules) c.in_ok-built.ensures.right (search rules) c.in_ok-built.ensures.built.made.version c.in_err-written.ensures.writes.err)
