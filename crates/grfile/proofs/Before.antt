@@ -1,11 +1,11 @@
 -- Which faults a text may have whose first lines were read.
 use Rattle.std.proofs.Common.{ℕ, ◌≡◌, ◌-◌, ◌≤◌, eqb, cond, true, false, if◌then◌else◌, List, [], ◌∷◌, ◌++◌, drop, map, Option, None, Some, Result, Ok, Err, MatchOption, IfSome, arith, refl, ap, sym, ◌∙◌, subst}
-use Rattle.std.specs.Prelude.{⊤}
+use Rattle.std.specs.Prelude.{⊤, IsErrAnd}
+use Rattle.std.specs.declared.io.Error.{Error}
 use Rattle.std.specs.Result.{IfErr}
 use Rattle.std.proofs.lemmas.Result.{IfErr-at_err, IfErr-weaker}
 use Rattle.std.proofs.lemmas.List.{append_assoc}
 use Rattle.std.specs.Str.Lines.{strip_carriage_return}
-use Rattle.ch_graph.specs.declared.road.Road.{Road}
 use Rattle.grfile.specs.declared.error.GrError.{GrError}
 use Rattle.grfile.specs.declared.error.GrErrorKind.TheVariants.{OutOfMemory, UnknownLine, NoProblemLine, SecondProblemLine, ArcCount}
 use Rattle.grfile.specs.declared.kind.LineKind.TheVariants.{Skipped, Problem, Entry, Unknown}
@@ -13,16 +13,17 @@ use Rattle.grfile.specs.declared.form.Size.{Size}
 use Rattle.text_lines.specs.Fields.{fields_of}
 use Rattle.text_lines.specs.Lines.{lines_of, cut_after, lines_after}
 use Rattle.text_lines.specs.Numbers.{capped}
-use Rattle.grfile.specs.Outcome.{◌>>=◌, SaysNothing, IsOfLine, fault, next_line}
+use Rattle.grfile.specs.Outcome.{◌>>=◌, FromText, SaysNothing, IsOfLine, fault, next_line}
 use Rattle.grfile.specs.Grammar.{Grammar, Listing, kind_of, entries_after, listing_after}
 use Rattle.grfile.specs.Progress.{listing_from}
 use Rattle.grfile.specs.Roads.{graph_grammar}
 use Rattle.grfile.specs.Pairs.{pair_grammar}
 use Rattle.grfile.specs.Reading.{graph_of, pairs_of}
-use Rattle.grfile.specs.Taken.{ComesFirst, HasTaken, IsAtEndOf, IsReadTo, StopsWith, Taken, graph_with, pairs_with, told_with}
+use Rattle.grfile.specs.Taken.{ComesFirst, HasTaken, IsAtEndOf, IsReadTo, StopsWith, Taken, told_with}
+use Rattle.grfile.specs.ToTheEnd.{ReachesEnd, ReadsText, StopsBefore}
 use Rattle.grfile.proofs.Cuttings.{told_first, wants_memory}
 use Rattle.grfile.proofs.Faults.{bind_err, test_err, graph_size-at, road_of-at, pairs_size-at, pair_of-at}
-use Rattle.grfile.proofs.Readings.{as_graph, as_pairs, graph_seen, pairs_seen}
+use Rattle.grfile.proofs.Readings.{as_graph, as_pairs, from_text_map, graph_seen, pairs_seen}
 
 -- The first line that a fault may be of, among these after line n: at the end of a text it is of line n.
 abbrev least_line : ℕ → List (List ℕ) → ℕ
@@ -113,16 +114,23 @@ module _ {E : Type 0} (grammar : Grammar E) (sizes : (n : ℕ) (fields : List (L
       some_line : (begun back : List ℕ) → (line : List ℕ) × (lines : List (List ℕ)) × (lines_after begun (back ++ 0 ∷ []) ≡ line ∷ lines)
       some_line begun back = let some = some_cut begun back in (strip_carriage_return some.0, map strip_carriage_return some.1, ap (map strip_carriage_return) some.2)
 
--- The two texts
+-- What a text says is what its lines say, and a fault of a line is of that line.
+pub record IsText {E B : Type 0} (grammar : Grammar E) (view : Listing E → Result B GrError) (told : List ℕ → Result B GrError) : Type 0 where
+  pub sizes : (n : ℕ) (fields : List (List ℕ)) → IfErr (grammar.size_of n fields) (IsOfLine n)
+  pub each : (size : Size) (n : ℕ) (fields : List (List ℕ)) → IfErr (grammar.entry_of size n fields) (IsOfLine n)
+  pub whole : (read : Listing E) → IfErr (view read) (λ _. ⊥)
+  pub seen : (text : List ℕ) → (listing_after grammar 0 (lines_of text) >>= view) ≡ told text
 
-pub graph_first : (taken : Taken Road) (piece : List ℕ) (r : Result ⊤ GrError) → IfErr r (IsReadTo graph_grammar (λ rest. told_with graph_grammar taken (piece ++ rest))) → IfErr r (ComesFirst (graph_with taken) piece)
-graph_first taken piece r h = IfErr-weaker r _ (ComesFirst (graph_with taken) piece) (λ e to. first_of graph_grammar graph_size-at (λ size n fields. road_of-at n size.nodes fields) as_graph (λ read. tt) (λ rest. told_with graph_grammar taken (piece ++ rest)) e to) h
+pub graph_text : IsText graph_grammar as_graph graph_of
+graph_text = record { sizes = graph_size-at; each = λ size n fields. road_of-at n size.nodes fields; whole = λ read. tt; seen = graph_seen }
 
-pub pairs_first : (nodes : ℕ) (taken : Taken (ℕ × ℕ)) (piece : List ℕ) (r : Result ⊤ GrError) → IfErr r (IsReadTo (pair_grammar nodes) (λ rest. told_with (pair_grammar nodes) taken (piece ++ rest)))
-    → IfErr r (ComesFirst (pairs_with (record { nodes = nodes; taken = taken })) piece)
-pairs_first nodes taken piece r h = IfErr-weaker r _ (ComesFirst (pairs_with (record { nodes = nodes; taken = taken })) piece)
-    (λ e to. first_of (pair_grammar nodes) (λ n fields. pairs_size-at n nodes fields) (λ size n fields. pair_of-at n size.nodes fields) as_pairs
-    (λ read. tt) (λ rest. told_with (pair_grammar nodes) taken (piece ++ rest)) e to) h
+pub pairs_text : (nodes : ℕ) → IsText (pair_grammar nodes) as_pairs (pairs_of nodes)
+pairs_text nodes = record { sizes = λ n fields. pairs_size-at n nodes fields; each = λ size n fields. pair_of-at n size.nodes fields; whole = λ read. tt; seen = pairs_seen nodes }
+
+pub first_taken : {E B : Type 0} {grammar : Grammar E} {view : Listing E → Result B GrError} {told : List ℕ → Result B GrError} → IsText grammar view told → (taken : Taken E) (piece : List ℕ) (r : Result ⊤ GrError)
+    → IfErr r (IsReadTo grammar (λ rest. told_with grammar taken (piece ++ rest))) → IfErr r (ComesFirst (λ rest. told_with grammar taken rest >>= view) piece)
+first_taken {grammar = grammar} {view = view} is taken piece r h = IfErr-weaker r _ (ComesFirst (λ rest. told_with grammar taken rest >>= view) piece)
+    (λ e to. first_of grammar is.sizes is.each view is.whole (λ rest. told_with grammar taken (piece ++ rest)) e to) h
 
 -- Where a reader stops
 
@@ -143,13 +151,46 @@ stops_there P taken None left e known h nothing = tt
 stops_there P taken (Some text) None e known h nothing = absurd known
 stops_there P taken (Some text) (Some rest) e known h nothing = (taken, known, h nothing)
 
-pub graph_stops : (had left : Option (List ℕ)) (e : GrError) → StopsWith (ReadTo graph_grammar (listed graph_grammar)) had left e → StopsWith (ComesFirst graph_of) had left e
-graph_stops had left e = stops_with (ReadTo graph_grammar (listed graph_grammar)) (ComesFirst graph_of) had left e (λ taken to fault all.
-    first_of graph_grammar graph_size-at (λ size n fields. road_of-at n size.nodes fields) as_graph (λ read. tt) (λ rest. listing_after graph_grammar 0 (lines_of (taken ++ rest))) e to fault (λ rest. graph_seen (taken ++ rest) ∙ all rest))
+-- What is read of a text, where this is read of its lines
 
-pub pairs_stops : (nodes : ℕ) (had left : Option (List ℕ)) (e : GrError) → StopsWith (ReadTo (pair_grammar nodes) (listed (pair_grammar nodes))) had left e → StopsWith (ComesFirst (pairs_of nodes)) had left e
-pairs_stops nodes had left e = stops_with (ReadTo (pair_grammar nodes) (listed (pair_grammar nodes))) (ComesFirst (pairs_of nodes)) had left e (λ taken to fault all.
-    first_of (pair_grammar nodes) (λ n fields. pairs_size-at n nodes fields) (λ size n fields. pair_of-at n size.nodes fields) as_pairs (λ read. tt) (λ rest. listing_after (pair_grammar nodes) 0 (lines_of (taken ++ rest))) e to fault (λ rest. pairs_seen nodes (taken ++ rest) ∙ all rest))
+module _ {E B : Type 0} {grammar : Grammar E} {view : Listing E → Result B GrError} {told : List ℕ → Result B GrError} (is : IsText grammar view told) where
+  known_read : (had : Option (List ℕ)) (listing : Listing E) (y : B) → IfSome had (λ text. listed grammar text ≡ Ok listing) → view listing ≡ Ok y → IfSome had (λ text. told text ≡ Ok y)
+  known_read None listing y read made = tt
+  known_read (Some text) listing y read made = sym (is.seen text) ∙ ap (λ (r : Result (Listing E) GrError). r >>= view) read ∙ made
+
+  known_fault : (had : Option (List ℕ)) (e : GrError) → IfSome had (λ text. FromText e.kind (listed grammar text ≡ Err e)) → IfSome had (λ text. FromText e.kind (told text ≡ Err e))
+  known_fault None e fault = tt
+  known_fault (Some text) e fault = from_text_map e.kind (λ h. sym (is.seen text) ∙ ap (λ (r : Result (Listing E) GrError). r >>= view) h) fault
+
+  pub text_read : {S A : Type 0} (step : S → S → Result ℕ Error → Type 0) (remaining : S → Option (List ℕ)) {most : ℕ} {from to : S} (shown : A → B) (listing : Listing E) (x : A)
+      → IfSome (remaining from) (λ text. listed grammar text ≡ Ok listing) → view listing ≡ Ok (shown x) → ReachesEnd step remaining most from to
+      → ReadsText step remaining told shown most from to (Ok x)
+  text_read step remaining {from = from} shown listing x read made end = record {
+    reading = known_read (remaining from) listing (shown x) read made;
+    ended = end.ended;
+    few = end.few;
+    calls = end.calls;
+    reached = tt;
+    stopped = tt;
+    before = tt;
+  }
+
+  pub text_refused : {S A : Type 0} (step : S → S → Result ℕ Error → Type 0) (remaining : S → Option (List ℕ)) {most : ℕ} {from to : S} (shown : A → B) (r : Result A GrError) (e : GrError)
+      → IsErrAnd r (λ d. d ≡ e) → IfSome (remaining from) (λ text. FromText e.kind (listed grammar text ≡ Err e)) → StopsBefore step remaining most from to e
+      → StopsWith (ReadTo grammar (listed grammar)) (remaining from) (remaining to) e → ReadsText step remaining told shown most from to r
+  text_refused step remaining shown (Ok x) e propagated fault stops before = absurd propagated
+  text_refused step remaining {from = from} {to = to} shown (Err d) e propagated fault stops before =
+      let same : d ≡ e = propagated in
+      rw same (record {
+        reading = known_fault (remaining from) e fault;
+        ended = tt;
+        few = tt;
+        calls = tt;
+        reached = stops.reached;
+        stopped = stops.calls;
+        before = stops_with (ReadTo grammar (listed grammar)) (ComesFirst told) (remaining from) (remaining to) e
+            (λ taken to found all. first_of grammar is.sizes is.each view is.whole (λ rest. listed grammar (taken ++ rest)) e to found (λ rest. is.seen (taken ++ rest) ∙ all rest)) before;
+      })
 
 -- How far the lines were read
 

@@ -1,5 +1,5 @@
 -- From what the lines of a text say to what the text says.
-use Rattle.std.proofs.Common.{ℕ, ◌≡◌, List, Option, Some, None, IfSome, Result, Ok, Err, All, refl, subst, ◌∙◌}
+use Rattle.std.proofs.Common.{ℕ, ◌≡◌, List, Result, Ok, Err, All, refl, subst, ◌∙◌}
 use Rattle.std.specs.Result.{IfOk}
 use Rattle.ch_graph.specs.Graph.{Graph}
 use Rattle.ch_graph.specs.Limits.{IsGraph}
@@ -28,22 +28,6 @@ from_text_map WeightTooBig f p = f p
 from_text_map TooManyNodes f p = f p
 from_text_map TooManyArcs f p = f p
 from_text_map ArcCount f p = f p
-
-pub graph_fault : (text : List ℕ) (e : GrError) → FromText e.kind (listing_after graph_grammar 0 (lines_of text) ≡ Err e) → FromText e.kind (graph_of text ≡ Err e)
-unfolding graph_of
-graph_fault text e told = from_text_map e.kind (λ h. rw h refl) told
-
-pub graph_read : (text : List ℕ) (listing : Listing Road) → listing_after graph_grammar 0 (lines_of text) ≡ Ok listing → graph_of text ≡ Ok (record { nodes = listing.size.nodes; arcs = listing.entries })
-unfolding graph_of
-graph_read text listing told = rw told refl
-
-pub pairs_fault : (nodes : ℕ) (text : List ℕ) (e : GrError) → FromText e.kind (listing_after (pair_grammar nodes) 0 (lines_of text) ≡ Err e) → FromText e.kind (pairs_of nodes text ≡ Err e)
-unfolding pairs_of
-pairs_fault nodes text e told = from_text_map e.kind (λ h. rw h refl) told
-
-pub pairs_read : (nodes : ℕ) (text : List ℕ) (listing : Listing (ℕ × ℕ)) → listing_after (pair_grammar nodes) 0 (lines_of text) ≡ Ok listing → pairs_of nodes text ≡ Ok listing.entries
-unfolding pairs_of
-pairs_read nodes text listing told = rw told refl
 
 -- From what a reader knows to what its text says
 
@@ -78,19 +62,3 @@ listed_pairs nodes (Err e) pairs h is = absurd (cc)
 
 pub pairs_sound : SpelledPairsAreInRange
 pairs_sound nodes text pairs is = listed_pairs nodes (listing_after (pair_grammar nodes) 0 (lines_of text)) pairs (pairs_listed nodes 0 (lines_of text)) (pairs_seen nodes text ∙ is)
-
-pub graph_fault_known : (had : Option (List ℕ)) (e : GrError) → IfSome had (λ text. FromText e.kind (listing_after graph_grammar 0 (lines_of text) ≡ Err e)) → IfSome had (λ text. FromText e.kind (graph_of text ≡ Err e))
-graph_fault_known None e told = tt
-graph_fault_known (Some text) e told = graph_fault text e told
-
-pub graph_read_known : (had : Option (List ℕ)) (listing : Listing Road) → IfSome had (λ text. listing_after graph_grammar 0 (lines_of text) ≡ Ok listing) → IfSome had (λ text. graph_of text ≡ Ok (record { nodes = listing.size.nodes; arcs = listing.entries }))
-graph_read_known None listing told = tt
-graph_read_known (Some text) listing told = graph_read text listing told
-
-pub pairs_fault_known : (nodes : ℕ) (had : Option (List ℕ)) (e : GrError) → IfSome had (λ text. FromText e.kind (listing_after (pair_grammar nodes) 0 (lines_of text) ≡ Err e)) → IfSome had (λ text. FromText e.kind (pairs_of nodes text ≡ Err e))
-pairs_fault_known nodes None e told = tt
-pairs_fault_known nodes (Some text) e told = pairs_fault nodes text e told
-
-pub pairs_read_known : (nodes : ℕ) (had : Option (List ℕ)) (listing : Listing (ℕ × ℕ)) → IfSome had (λ text. listing_after (pair_grammar nodes) 0 (lines_of text) ≡ Ok listing) → IfSome had (λ text. pairs_of nodes text ≡ Ok listing.entries)
-pairs_read_known nodes None listing told = tt
-pairs_read_known nodes (Some text) listing told = pairs_read nodes text listing told

@@ -1,13 +1,10 @@
-ghost use Rattle.std.specs.Prelude.{◌≡◌, ◌++◌, [], None, Some, min, IfErr, OnOk, IfSome, Err, List, ℕ};
-ghost use Rattle.std.specs.Io.KnownBytes.{IsAtEnd};
-ghost use Rattle.counted_io.specs.Handing.{IsGivenBy};
-ghost use Rattle.counted_io.specs.Limits.{IsReadWithin, ReadsWithin};
+ghost use Rattle.std.specs.Prelude.{◌≡◌, ◌++◌, [], None, Some, min, IfErr, IfSome, Err, List, ℕ};
 ghost use Rattle.counted_io.specs.declared.TheConstants.{MOST_CALLS};
 ghost use Rattle.grfile.specs.Outcome.{IsReading, Takes};
 ghost use Rattle.grfile.specs.Reading.{graph_of};
 ghost use Rattle.text_lines.specs.Lines.{line_feeds};
-ghost use Rattle.grfile.specs.Taken.{ComesFirst, CountsLines, IsAtEndOf, StopsAtReached, StopsWith, graph_with};
-ghost use Rattle.grfile.specs.declared.error.GrErrorKind.TheVariants.{Read};
+ghost use Rattle.grfile.specs.Taken.{ComesFirst, CountsLines, IsAtEndOf, graph_with};
+ghost use Rattle.grfile.specs.ToTheEnd.{ReadsText};
 
 use crate::error::GrError;
 use crate::listing::Listed;
@@ -84,13 +81,7 @@ impl GrReader {
 /// memory runs out, both at the line that was reached, and only where no earlier line has a fault. What is kept
 /// is the arcs so far, one line and 64 KiB: memory grows with what the text has spelled, never with what a line announces.
 pub fn read_graph<R: StepRead>(alloc: Global, reader: &mut R) -> Result<Graph, GrError>
-    ensures reading { IfSome (R.remaining reader.old) (λ text. IsReading (λ g. g) result (graph_of text)) }
-    ensures ended { OnOk result (IsAtEnd (R.remaining reader.new)) }
-    ensures few { OnOk result (IsGivenBy MOST_CALLS (R.remaining reader.old)) }
-    ensures reached { IfErr result (StopsAtReached (R.remaining reader.old) (R.remaining reader.new)) }
-    ensures before { IfErr result (StopsWith (ComesFirst graph_of) (R.remaining reader.old) (R.remaining reader.new)) }
-    ensures calls { OnOk result (IsReadWithin R.step MOST_CALLS reader.old reader.new) }
-    ensures stopped { IfErr result (λ e. ReadsWithin R.step MOST_CALLS (e.kind ≡ Read) reader.old reader.new) }
+    ensures reads { ReadsText R.step R.remaining graph_of (λ g. g) MOST_CALLS reader.old reader.new result }
 {
     read_graph_within(alloc, reader, MOST_CALLS)
 }
@@ -102,13 +93,7 @@ pub fn read_graph_within<R: StepRead>(
     reader: &mut R,
     calls: u64,
 ) -> Result<Graph, GrError>
-    ensures reading { IfSome (R.remaining reader.old) (λ text. IsReading (λ g. g) result (graph_of text)) }
-    ensures ended { OnOk result (IsAtEnd (R.remaining reader.new)) }
-    ensures few { OnOk result (IsGivenBy (min calls MOST_CALLS) (R.remaining reader.old)) }
-    ensures reached { IfErr result (StopsAtReached (R.remaining reader.old) (R.remaining reader.new)) }
-    ensures before { IfErr result (StopsWith (ComesFirst graph_of) (R.remaining reader.old) (R.remaining reader.new)) }
-    ensures calls { OnOk result (IsReadWithin R.step (min calls MOST_CALLS) reader.old reader.new) }
-    ensures stopped { IfErr result (λ e. ReadsWithin R.step (min calls MOST_CALLS) (e.kind ≡ Read) reader.old reader.new) }
+    ensures reads { ReadsText R.step R.remaining graph_of (λ g. g) (min calls MOST_CALLS) reader.old reader.new result }
 {
     let Listed { size, entries } = read_listing(alloc, Roads, reader, calls)?;
     Ok(Graph::new(size.nodes, entries))

@@ -21,7 +21,7 @@ pub(crate) struct Listed<E> {
     pub(crate) entries: Vec<E>,
 }
 
-/// Takes the line of an entry with this number, by its fields after the first.
+// Takes the line of an entry with this number, by its fields after the first.
 fn take_entry<F: Form>(
     listed: &mut Listed<F::Entry>,
     form: F,
@@ -66,7 +66,7 @@ pub(crate) fn take_line<F: Form>(
     Ok(())
 }
 
-/// Takes the line with this number.
+// Takes the line with this number.
 fn take_numbered<F: Form>(
     alloc: Global,
     listed: &mut Option<Listed<F::Entry>>,
@@ -117,7 +117,7 @@ pub(crate) fn take_plain<'a, F: Form>(
     }
 }
 
-/// The same, where a problem line has come.
+// The same, where a problem line has come.
 fn take_plain_entry<'a, F: Form>(
     listed: &mut Listed<F::Entry>,
     form: F,
@@ -149,7 +149,7 @@ pub(crate) fn end<E: Drop>(progress: Progress<E>) -> Result<Listed<E>, GrError>
     whole(listed, line)
 }
 
-/// What was listed, where all of its entries have come by the end of the text.
+// What was listed, where all of its entries have come by the end of the text.
 fn whole<E: Drop>(listed: Listed<E>, line: u64) -> Result<Listed<E>, GrError>
     ensures told { (grammar : Grammar E) → IsReading listing_of result (listing_from grammar line (Some (listing_of listed)) []) }
     ensures refused { IfErr result (λ e. (e.kind ≢ Read) × (e.kind ≢ OutOfMemory)) }

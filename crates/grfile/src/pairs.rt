@@ -50,7 +50,7 @@ fn pairs_size(nodes: u32, line: u64, fields: Fields<'_>) -> Result<Size, GrError
     count_in_range(nodes, line, count)
 }
 
-/// Whether the words are those that name the problem of pairs.
+// Whether the words are those that name the problem of pairs.
 fn is_point_to_point(first: &[u8], second: &[u8], third: &[u8]) -> bool
     ensures { result ≡ (bytes_eq first.now (codes "aux") && bytes_eq second.now (codes "sp") && bytes_eq third.now (codes "p2p")) }
 {
@@ -91,7 +91,7 @@ fn pair_in_range(nodes: u32, line: u64, source: u64, target: u64) -> Result<(u32
     Ok(((source - 1) as u32, (target - 1) as u32))
 }
 
-/// What the plain line `q S T` at the front of a text says, if there is one.
+// What the plain line `q S T` at the front of a text says, if there is one.
 fn plain_pair(nodes: u32, size: Size, line: u64, text: &[u8]) -> Option<PlainLine<'_, (u32, u32)>>
     ensures { IfSome result (λ found. IsEntryBefore (pair_grammar nodes) size line text.now found.entry found.rest.now) }
 {

@@ -70,7 +70,7 @@ pub(crate) fn feed<F: Form>(
     answer
 }
 
-/// Takes a piece after the bytes of a line that has begun.
+// Takes a piece after the bytes of a line that has begun.
 fn take<F: Form>(
     progress: &mut Progress<F::Entry>,
     begun: &mut Vec<u8>,
@@ -90,7 +90,7 @@ fn take<F: Form>(
     keep(begun, progress.line, rest)
 }
 
-/// Keeps bytes of the line after this one.
+// Keeps bytes of the line after this one.
 fn keep(begun: &mut Vec<u8>, line: u64, bytes: &[u8]) -> Result<(), GrError>
     ensures kept { OnOk result (begun.new.items ≡ begun.old.items ++ bytes.now) }
     ensures refused { IfErr result (λ e. e ≡ record { kind = OutOfMemory; line = next_line line }) }
@@ -101,7 +101,7 @@ fn keep(begun: &mut Vec<u8>, line: u64, bytes: &[u8]) -> Result<(), GrError>
     }
 }
 
-/// Takes the line that has begun, now that its last bytes have come.
+// Takes the line that has begun, now that its last bytes have come.
 fn end_line<F: Form>(
     progress: &mut Progress<F::Entry>,
     begun: &mut Vec<u8>,
@@ -123,7 +123,7 @@ fn end_line<F: Form>(
     Ok(())
 }
 
-/// Takes the first line that ends in a text, and returns what follows it, or `None` where no line ends.
+// Takes the first line that ends in a text, and returns what follows it, or `None` where no line ends.
 fn take_first<'a, F: Form>(
     alloc: Global,
     progress: &mut Progress<F::Entry>,
@@ -147,7 +147,7 @@ fn take_first<'a, F: Form>(
     Ok(Some(cut.rest))
 }
 
-/// Takes the lines that end in a text, and returns what follows the last of them.
+// Takes the lines that end in a text, and returns what follows the last of them.
 fn take_lines<'a, F: Form>(
     alloc: Global,
     progress: &mut Progress<F::Entry>,
@@ -208,7 +208,7 @@ pub(crate) fn read_listing<F: Form, R: StepRead>(
     finish(pieces, form)
 }
 
-/// Takes all that a reader gives in this many calls, in pieces of 64 KiB at most.
+// Takes all that a reader gives in this many calls, in pieces of 64 KiB at most.
 fn feed_all<F: Form, R: StepRead>(
     pieces: &mut Pieces<F::Entry>,
     form: F,
@@ -231,7 +231,7 @@ fn feed_all<F: Form, R: StepRead>(
     Ok(())
 }
 
-/// Reads the next bytes into the piece, and returns how many they are, or `None` at the end. This many lines have ended.
+// Reads the next bytes into the piece, and returns how many they are, or `None` at the end. This many lines have ended.
 fn read_piece<R: StepRead>(
     calls: &mut ReadCalls,
     reader: &mut R,

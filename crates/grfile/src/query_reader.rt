@@ -1,13 +1,10 @@
-ghost use Rattle.std.specs.Prelude.{◌≡◌, ◌++◌, [], None, Some, min, IfOk, IfErr, OnOk, IfSome, Err, All, List, ℕ};
-ghost use Rattle.std.specs.Io.KnownBytes.{IsAtEnd};
-ghost use Rattle.counted_io.specs.Handing.{IsGivenBy};
-ghost use Rattle.counted_io.specs.Limits.{IsReadWithin, ReadsWithin};
+ghost use Rattle.std.specs.Prelude.{◌≡◌, ◌++◌, [], None, Some, min, IfOk, IfErr, IfSome, Err, All, List, ℕ};
 ghost use Rattle.counted_io.specs.declared.TheConstants.{MOST_CALLS};
 ghost use Rattle.grfile.specs.Outcome.{IsReading, Takes};
 ghost use Rattle.grfile.specs.Reading.{pairs_of, IsPair};
 ghost use Rattle.text_lines.specs.Lines.{line_feeds};
-ghost use Rattle.grfile.specs.Taken.{ComesFirst, CountsLines, IsAtEndOf, StopsAtReached, StopsWith, pairs_with};
-ghost use Rattle.grfile.specs.declared.error.GrErrorKind.TheVariants.{Read};
+ghost use Rattle.grfile.specs.Taken.{ComesFirst, CountsLines, IsAtEndOf, pairs_with};
+ghost use Rattle.grfile.specs.ToTheEnd.{ReadsText};
 
 use crate::error::GrError;
 use crate::pairs::Pairs;
@@ -92,14 +89,8 @@ pub fn read_queries<R: StepRead>(
     reader: &mut R,
     nodes: u32,
 ) -> Result<Vec<(u32, u32)>, GrError>
-    ensures reading { IfSome (R.remaining reader.old) (λ text. IsReading (λ v. v.items) result (pairs_of nodes text)) }
+    ensures reads { ReadsText R.step R.remaining (pairs_of nodes) (λ v. v.items) MOST_CALLS reader.old reader.new result }
     ensures in_range { IfOk result (λ pairs. All (IsPair nodes) pairs.items) }
-    ensures ended { OnOk result (IsAtEnd (R.remaining reader.new)) }
-    ensures few { OnOk result (IsGivenBy MOST_CALLS (R.remaining reader.old)) }
-    ensures reached { IfErr result (StopsAtReached (R.remaining reader.old) (R.remaining reader.new)) }
-    ensures before { IfErr result (StopsWith (ComesFirst (pairs_of nodes)) (R.remaining reader.old) (R.remaining reader.new)) }
-    ensures calls { OnOk result (IsReadWithin R.step MOST_CALLS reader.old reader.new) }
-    ensures stopped { IfErr result (λ e. ReadsWithin R.step MOST_CALLS (e.kind ≡ Read) reader.old reader.new) }
 {
     read_queries_within(alloc, reader, nodes, MOST_CALLS)
 }
@@ -112,14 +103,8 @@ pub fn read_queries_within<R: StepRead>(
     nodes: u32,
     calls: u64,
 ) -> Result<Vec<(u32, u32)>, GrError>
-    ensures reading { IfSome (R.remaining reader.old) (λ text. IsReading (λ v. v.items) result (pairs_of nodes text)) }
+    ensures reads { ReadsText R.step R.remaining (pairs_of nodes) (λ v. v.items) (min calls MOST_CALLS) reader.old reader.new result }
     ensures in_range { IfOk result (λ pairs. All (IsPair nodes) pairs.items) }
-    ensures ended { OnOk result (IsAtEnd (R.remaining reader.new)) }
-    ensures few { OnOk result (IsGivenBy (min calls MOST_CALLS) (R.remaining reader.old)) }
-    ensures reached { IfErr result (StopsAtReached (R.remaining reader.old) (R.remaining reader.new)) }
-    ensures before { IfErr result (StopsWith (ComesFirst (pairs_of nodes)) (R.remaining reader.old) (R.remaining reader.new)) }
-    ensures calls { OnOk result (IsReadWithin R.step (min calls MOST_CALLS) reader.old reader.new) }
-    ensures stopped { IfErr result (λ e. ReadsWithin R.step (min calls MOST_CALLS) (e.kind ≡ Read) reader.old reader.new) }
 {
     let listed = read_listing(alloc, Pairs { nodes }, reader, calls)?;
     Ok(listed.entries)

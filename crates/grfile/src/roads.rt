@@ -91,7 +91,7 @@ fn road_in_range(nodes: u32, line: u64, from: u64, to: u64, weight: u64) -> Resu
     })
 }
 
-/// What the plain line `a U V W` at the front of a text says, if there is one.
+// What the plain line `a U V W` at the front of a text says, if there is one.
 fn plain_road(size: Size, line: u64, text: &[u8]) -> Option<PlainLine<'_, Road>>
     ensures { IfSome result (λ found. IsEntryBefore graph_grammar size line text.now found.entry found.rest.now) }
 {

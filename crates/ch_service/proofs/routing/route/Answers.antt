@@ -49,7 +49,7 @@ returns-clause-kinds g c = routing-kinds c.answer_pairs.result c.answer_pairs.en
 pub returns-in_err-pairs-clause-fault : goal.returns-in_err-pairs-clause-fault
 returns-in_err-pairs-clause-fault g c =
     fault-routed c.in_ok-hierarchy.hierarchy _ _ c.read_queries.result c.map_err-2.result c.in_err-pairs.field-0.0 c.from_residual-in_err-pairs.result (search rules)
-    (pairs-fault _ _ _ _ c.read_queries.result c.nodes.ensures.count c.read_queries.ensures.reading) c.map_err-2.ensures.cases c.in_err-pairs.was
+    (pairs-fault _ _ _ _ c.read_queries.result c.nodes.ensures.count c.read_queries.ensures.reads.reading) c.map_err-2.ensures.cases c.in_err-pairs.was
     c.from_residual-in_err-pairs.ensures.1
 
 pub returns-clause-reached : goal.returns-clause-reached

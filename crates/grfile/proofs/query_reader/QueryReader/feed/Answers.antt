@@ -1,6 +1,6 @@
 use Rattle.std.proofs.Common.{◌≡◌, None}
 use Rattle.std.specs.Result.{IfErr}
-use Rattle.grfile.proofs.Before.{pairs_first}
+use Rattle.grfile.proofs.Before.{first_taken, pairs_text}
 use Rattle.std.proofs.Common.{◌++◌, List, ℕ, All, subst}
 use Rattle.grfile.specs.Pairs.{pair_grammar}
 use Rattle.grfile.specs.Reading.{IsPair}
@@ -22,4 +22,4 @@ returns-clause-takes c = subst (λ (old : PairsTaken). Takes c.feed.result (λ (
 pub returns-clause-before : goal.returns-clause-before
 returns-clause-before c =
     subst (λ (old : PairsTaken). old.taken.failed ≡ None → IfErr c.feed.result (ComesFirst (pairs_with old) c.args.piece.now)) c.self.view_is
-    (λ fresh. pairs_first c.self.inside.nodes (taken_of c.self.inside.pieces) c.args.piece.now c.feed.result (c.feed.ensures.before fresh))
+    (λ fresh. first_taken (pairs_text c.self.inside.nodes) (taken_of c.self.inside.pieces) c.args.piece.now c.feed.result (c.feed.ensures.before fresh))
