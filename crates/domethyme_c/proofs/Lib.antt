@@ -1,2 +1,3 @@
 mod Seeds
 pub mod Steps
+mod Boxes

@@ -1,5 +1,8 @@
 -- A closed handle is null, and owns nothing.
-use Rattle.domethyme_c.proofs.Steps.{[], ◌∷◌, refl, ptr_val, proved, null_ptr, Ptr, suffices, ends_at, says, join, done, ‵, raw, ◌⊛◌, ◌$◌, ◌∵◌, !, qed, by, keep, drop, split, fjoin, feq_i, enter, of_opd, lit, no_more, and_then, returns, agg, alloc_all, pass_all, free_all, look_at, get, sets, yes, plain, types_at, nothing, owned, Stays, walk_of, stay_dropped, Goes-dropped, tables, owns, ftrue, None, Is}
+use Rattle.domethyme_c.proofs.Steps.{[], ◌∷◌, refl, proved, null_ptr, Ptr, suffices, ends_at, says, join, done, ‵, ◌⊛◌, ◌$◌}
+use Rattle.domethyme_c.proofs.Steps.{◌∵◌, !, qed, keep, fjoin, feq_i, enter, lit, no_more, and_then, returns, agg}
+use Rattle.domethyme_c.proofs.Steps.{alloc_all, pass_all, free_all, look_at, get, sets, yes, plain, types_at, nothing}
+use Rattle.domethyme_c.proofs.Steps.{owned, Stays, stay_dropped, Goes-dropped, owns, ftrue, None, Is}
 use lib.Dec.{lit<}
 use denote.Struct.Laws.{makes, owes}
 use Rattle.std_heap.specs.contracts.Global as Heap
@@ -23,10 +26,13 @@ closed_spec 𝓤 𝓛 𝓜 𝓡 wired =
     let new : Fields.the_row.Denot = record { at = null_ptr; alloc = a.0 } in
     qed 𝓛 ((‵ ftrue ⊛ ‵ (owns (types_at f.ended.signature.params κs) a (vs, tt))) ∷ ‵ ftrue ∷ []) ∵ keep ! [] $
     enter ! _ _ _ _ _ $ alloc_all ! (λ l. pass_all ! refl ((tt, ((tt, tt), tt)), tt) $
-    sets ! (agg ! (and_then ! (lit ! tt) (and_then ! (get ! refl) (no_more !)))) refl (tt, (record { fits = lit< tt }, (((tt, tt), tt), tt))) $
+    sets ! (agg ! (and_then ! (lit ! tt) (and_then ! (get ! refl) (no_more !)))) refl
+    (tt, (record { fits = lit< tt }, (((tt, tt), tt), tt))) $
     returns ! (look_at ! 0 refl) $ free_all ! refl $
     feq_i ! Ptr null_ptr null_ptr refl $
-    owned ! Fields.the_row (Is Fields.the_row) (makes Fields.the_type fields.the_plain 𝓛) new (fields.lowered new ∷ []) (owes Fields.the_type fields.the_laws new (refl, (are.0, tt))) $
+    owned ! Fields.the_row (Is Fields.the_row) (makes Fields.the_type fields.the_plain 𝓛) new (fields.lowered new ∷ [])
+    (owes Fields.the_type fields.the_laws new (refl, (are.0, tt))) $
     fjoin ! $
-    suffices ! _ (ends_at 𝓛 f.ended stayed c ((κs, qs, bounds, a, (vs, tt)), tt) (fields.lowered new) (record { at = null_ptr; alloc = a.0; hierarchy = None }) (tt, tt) (tt, tt)) $ says ! refl $
+    suffices ! _ (ends_at 𝓛 f.ended stayed c ((κs, qs, bounds, a, (vs, tt)), tt) (fields.lowered new)
+    (record { at = null_ptr; alloc = a.0; hierarchy = None }) (tt, tt) (tt, tt)) $ says ! refl $
     nothing ! $ nothing ! $ join ! $ nothing ! $ done !))
