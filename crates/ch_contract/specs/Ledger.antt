@@ -4,7 +4,7 @@ use Rattle.std.specs.List.{range_with_len, slice_get}
 use Rattle.ch_graph.specs.Graph.{Graph}
 use Rattle.ch_graph.specs.Limits.{IsGraph, bound_of}
 use Rattle.ch_laws.specs.declared.shortcut.Shortcut.{Shortcut}
-use Rattle.ch_laws.specs.Contraction.{Contraction, Step, IsReached, IsPlan, IsWitnessed, contracted}
+use Rattle.ch_laws.specs.Contraction.{Contraction, Step, IsReached, IsStart, IsPlan, IsWitnessed, contracted}
 use Rattle.ch_laws.specs.Rows.{Row}
 use Rattle.ch_overlay.specs.Overlay.{Overlay, IsOverlay, row_at, state_of}
 use Rattle.ch_overlay.specs.Change.{AreRenewed}
@@ -41,6 +41,13 @@ pub record IsLedger (l : Ledger) : Type 0 where
   pub overlay : IsOverlay l.overlay
   pub bound : l.overlay.bound ≡ bound_of l.graph
   pub reached : IsReached l.graph l.log (state_of l.overlay)
+
+-- the ledger of a graph in which no node is contracted, each node's version being its number
+pub record IsStartLedger (g : Graph) (l : Ledger) : Type 0 where
+  pub graph : l.graph ≡ g
+  pub log : l.log ≡ []
+  pub start : IsStart g (state_of l.overlay)
+  pub versions : versions_now l ≡ range_with_len 0 g.nodes
 
 -- the entry of rank k is at k, and its neighbours rise
 pub record IsLog (log : List Contraction) : Type 0 where

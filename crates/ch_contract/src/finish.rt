@@ -1,16 +1,16 @@
-ghost use Rattle.std.specs.Prelude.{◌≡◌, ◌↔◌, IfOk};
-ghost use Rattle.ch_graph.specs.Hierarchy.{IsRight};
-ghost use Rattle.ch_laws.specs.Contraction.{IsMade, IsOver};
+ghost use Rattle.std.specs.Prelude.{IfOk};
+ghost use Rattle.ch_laws.specs.Contraction.{IsOver};
 ghost use Rattle.ch_overlay.specs.Overlay.{state_of};
-ghost use Rattle.ch_contract.specs.Finish.{AreLinks, AreRanks, HasNodesLeft};
+ghost use Rattle.ch_contract.specs.Finish.{AreParts, IsMaking};
 
 use crate::contraction::Contraction;
 use crate::error::FinishError;
 use crate::ledger::Ledger;
-use crate::parts::{RanksAndLinks, links_of, parts_by_two, ranks_of};
+use crate::parts::{RanksAndLinks, parts_by_two, parts_of};
 use ch_graph::Hierarchy;
 use ch_laws::{reached_hierarchy_is_right, reached_hierarchy_is_well_made};
 use ch_overlay::Overlay;
+use std::alloc::AllocError;
 use std::thread::Threads;
 
 /// What a ledger comes to when each node is contracted.
@@ -30,9 +30,7 @@ pub struct Finished {
 /// Refused while a node isn't contracted, which is tested first, or where memory runs out. Takes memory for the ranks,
 /// for the links, and for where links and their halves are.
 pub fn hierarchy_of(ledger: &Ledger) -> Result<Hierarchy, FinishError>
-    ensures made { IfOk result (λ h. IsMade ledger.now.graph (state_of ledger.now.overlay) h) }
-    ensures right { IfOk result (λ h. IsRight ledger.now.graph h) }
-    ensures left { (result ≡ Err FinishError.NodesLeft) ↔ HasNodesLeft ledger.now }
+    ensures { IsMaking ledger.now result }
 {
     let hierarchy = match plain_hierarchy_of(ledger) {
         Ok(hierarchy) => hierarchy,
@@ -49,50 +47,44 @@ pub fn hierarchy_of(ledger: &Ledger) -> Result<Hierarchy, FinishError>
 /// Refused while a node isn't contracted, which is tested first, or where memory runs out. Takes memory for the ranks
 /// and the links, and for chains of the links while it works.
 pub fn plain_hierarchy_of(ledger: &Ledger) -> Result<Hierarchy, FinishError>
-    ensures made { IfOk result (λ h. IsMade ledger.now.graph (state_of ledger.now.overlay) h) }
-    ensures right { IfOk result (λ h. IsRight ledger.now.graph h) }
-    ensures left { (result ≡ Err FinishError.NodesLeft) ↔ HasNodesLeft ledger.now }
+    ensures { IsMaking ledger.now result }
 {
     if !ledger.is_over() {
         return Err(FinishError::NodesLeft);
     }
-    let overlay = ledger.overlay();
-    let Ok(ranks) = ranks_of(ledger.allocator(), overlay) else {
-        return Err(FinishError::OutOfMemory);
-    };
-    let Ok(links) = links_of(ledger.allocator(), overlay) else {
-        return Err(FinishError::OutOfMemory);
-    };
-    Ok(hierarchy_from(ledger, RanksAndLinks { ranks, links }))
+    hierarchy_from(ledger, parts_of(ledger.allocator(), ledger.overlay()))
 }
 
 /// The same as [`plain_hierarchy_of`] by two threads, of which one makes the ranks.
 pub fn plain_hierarchy_by_two<R: Threads>(rt: &R, ledger: &Ledger) -> Result<Hierarchy, FinishError>
-    ensures made { IfOk result (λ h. IsMade ledger.now.graph (state_of ledger.now.overlay) h) }
-    ensures right { IfOk result (λ h. IsRight ledger.now.graph h) }
-    ensures left { (result ≡ Err FinishError.NodesLeft) ↔ HasNodesLeft ledger.now }
+    ensures { IsMaking ledger.now result }
 {
     if ledger.is_over() {
-        match parts_by_two(rt, ledger.allocator(), ledger.overlay()) {
-            Ok(parts) => Ok(hierarchy_from(ledger, parts)),
-            Err(_refused) => Err(FinishError::OutOfMemory),
-        }
+        hierarchy_from(
+            ledger,
+            parts_by_two(rt, ledger.allocator(), ledger.overlay()),
+        )
     } else {
         Err(FinishError::NodesLeft)
     }
 }
 
-/// The hierarchy of the ranks and the links of a ledger's rows, whose nodes are all contracted.
-fn hierarchy_from(ledger: &Ledger, parts: RanksAndLinks) -> Hierarchy
+/// The hierarchy of the ranks and the links of a ledger's rows, whose nodes are all contracted, or out of memory as the
+/// parts are.
+fn hierarchy_from(
+    ledger: &Ledger,
+    parts: Result<RanksAndLinks, AllocError>,
+) -> Result<Hierarchy, FinishError>
     requires over { IsOver (state_of ledger.now.overlay) }
-    requires ranks { AreRanks ledger.now.overlay parts.ranks.items }
-    requires links { AreLinks ledger.now.overlay parts.links.items }
-    ensures made { IsMade ledger.now.graph (state_of ledger.now.overlay) result }
-    ensures right { IsRight ledger.now.graph result }
+    requires parts { IfOk parts (AreParts ledger.now.overlay) }
+    ensures { IsMaking ledger.now result }
 {
+    let Ok(parts) = parts else {
+        return Err(FinishError::OutOfMemory);
+    };
     ledger.holds();
     reached_hierarchy_is_right();
     reached_hierarchy_is_well_made();
     let bound = ledger.graph().bound();
-    Hierarchy::new(parts.ranks, parts.links, bound)
+    Ok(Hierarchy::new(parts.ranks, parts.links, bound))
 }

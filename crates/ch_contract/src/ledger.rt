@@ -1,15 +1,13 @@
-ghost use Rattle.std.specs.Prelude.{Ok, Err, ◌≡◌, ◌+◌, ◌<◌, ◌^◌, ℕ, List, [], ◌↔◌, IfOk, IfErr, IsErrOf, IsFalse, IsTrue, All, length, map, drop};
+ghost use Rattle.std.specs.Prelude.{◌≡◌, ◌+◌, ◌<◌, ◌^◌, ℕ, List, ◌↔◌, IfOk, IsFalse, IsTrue, All, length, map, drop};
 ghost use Rattle.std.specs.List.{zip, range_with_len};
 ghost use Rattle.std.specs.Arc.{arc_value};
 ghost use Rattle.ch_laws.specs.declared.shortcut.Shortcut.{Shortcut};
-ghost use Rattle.ch_graph.specs.Hierarchy.{IsRight};
-ghost use Rattle.ch_graph.specs.Limits.{bound_of};
-ghost use Rattle.ch_laws.specs.Contraction.{IsStart, IsOver, IsMade};
-ghost use Rattle.ch_overlay.specs.Overlay.{state_of};
+ghost use Rattle.ch_laws.specs.Contraction.{IsOver};
+ghost use Rattle.ch_overlay.specs.Overlay.{IsStartOverlay, state_of};
 ghost use Rattle.ch_overlay.specs.Change.{puts, changed_nodes};
-ghost use Rattle.ch_contract.specs.Ledger.{IsLedger, IsLog, AreLawful, IsContracted, versions_now};
+ghost use Rattle.ch_contract.specs.Ledger.{IsLedger, IsStartLedger, IsLog, AreLawful, IsContracted, versions_now};
 ghost use Rattle.ch_contract.specs.Ledger as ledgers;
-ghost use Rattle.ch_contract.specs.Finish.{HasNodesLeft};
+ghost use Rattle.ch_contract.specs.Finish.{HasNodesLeft, IsFinish, IsMaking};
 ghost use Rattle.ch_contract.specs.Planned.{IsPlanned, WasPlanned, AreNewVersions};
 ghost use Rattle.ch_contract.specs.Planned as plans;
 
@@ -78,10 +76,7 @@ impl Ledger {
     ///
     /// Takes memory for the rows, an entry for each end of an arc, and for the log of all contractions.
     pub fn new(alloc: Global, graph: Graph) -> Result<Ledger, AllocError>
-        ensures graph { IfOk result (λ l. l.graph ≡ graph) }
-        ensures log { IfOk result (λ l. l.log ≡ []) }
-        ensures start { IfOk result (λ l. IsStart graph (state_of l.overlay)) }
-        ensures versions { IfOk result (λ l. versions_now l ≡ range_with_len 0 graph.nodes) }
+        ensures { IfOk result (IsStartLedger graph) }
     {
         let overlay = Overlay::start(alloc, &graph)?;
         Ledger::opened(alloc, graph, overlay)
@@ -94,10 +89,7 @@ impl Ledger {
         graph: Graph,
         threads: u32,
     ) -> Result<Ledger, AllocError>
-        ensures graph { IfOk result (λ l. l.graph ≡ graph) }
-        ensures log { IfOk result (λ l. l.log ≡ []) }
-        ensures start { IfOk result (λ l. IsStart graph (state_of l.overlay)) }
-        ensures versions { IfOk result (λ l. versions_now l ≡ range_with_len 0 graph.nodes) }
+        ensures { IfOk result (IsStartLedger graph) }
     {
         let overlay = Overlay::start_by(rt, alloc, &graph, threads)?;
         Ledger::opened(alloc, graph, overlay)
@@ -105,11 +97,8 @@ impl Ledger {
 
     /// The ledger of this graph and its opening rows, with no node contracted.
     fn opened(alloc: Global, graph: Graph, overlay: Overlay) -> Result<Ledger, AllocError>
-        requires start { IsStart graph (state_of overlay) }
-        requires bound { overlay.bound ≡ bound_of graph }
-        ensures graph { IfOk result (λ l. l.graph ≡ graph) }
-        ensures log { IfOk result (λ l. l.log ≡ []) }
-        ensures overlay { IfOk result (λ l. l.overlay ≡ overlay) }
+        requires { IsStartOverlay graph overlay }
+        ensures { IfOk result (IsStartLedger graph) }
     {
         let nodes = overlay.nodes();
         let log = Vec::with_capacity(alloc, nodes as usize)?;
@@ -167,12 +156,7 @@ impl Ledger {
     /// Refused while a node isn't contracted, which is tested first, or where memory runs out; the ledger is returned as
     /// it was. Takes memory for the ranks and the links, and for chains of the links while it works.
     pub fn finish(self) -> Result<Finished, (Ledger, FinishError)>
-        ensures made { IfOk result (λ f. IsMade self.graph (state_of self.overlay) f.hierarchy) }
-        ensures right { IfOk result (λ f. IsRight self.graph f.hierarchy) }
-        ensures log { IfOk result (λ f. f.log.items ≡ self.log) }
-        ensures rows { IfOk result (λ f. f.rows ≡ self.overlay) }
-        ensures left { IsErrOf result (self, FinishError.NodesLeft) ↔ HasNodesLeft self }
-        ensures back { IfErr result (λ refused. refused.0 ≡ self) }
+        ensures { IsFinish self result }
     {
         let made = plain_hierarchy_of(&self);
         self.finished(made)
@@ -180,12 +164,7 @@ impl Ledger {
 
     /// The same as [`finish`](Ledger::finish) by two threads, of which one makes the ranks.
     pub fn finish_by_two<R: Threads>(self, rt: &R) -> Result<Finished, (Ledger, FinishError)>
-        ensures made { IfOk result (λ f. IsMade self.graph (state_of self.overlay) f.hierarchy) }
-        ensures right { IfOk result (λ f. IsRight self.graph f.hierarchy) }
-        ensures log { IfOk result (λ f. f.log.items ≡ self.log) }
-        ensures rows { IfOk result (λ f. f.rows ≡ self.overlay) }
-        ensures left { IsErrOf result (self, FinishError.NodesLeft) ↔ HasNodesLeft self }
-        ensures back { IfErr result (λ refused. refused.0 ≡ self) }
+        ensures { IsFinish self result }
     {
         let made = plain_hierarchy_by_two(rt, &self);
         self.finished(made)
@@ -196,11 +175,8 @@ impl Ledger {
         self,
         made: Result<Hierarchy, FinishError>,
     ) -> Result<Finished, (Ledger, FinishError)>
-        ensures made { IfOk result (λ f. made ≡ Ok f.hierarchy) }
-        ensures log { IfOk result (λ f. f.log.items ≡ self.log) }
-        ensures rows { IfOk result (λ f. f.rows ≡ self.overlay) }
-        ensures refused { IfErr result (λ refused. made ≡ Err refused.1) }
-        ensures back { IfErr result (λ refused. refused.0 ≡ self) }
+        requires { IsMaking self made }
+        ensures { IsFinish self result }
     {
         match made {
             Ok(hierarchy) => {

@@ -3,7 +3,7 @@ ghost use Rattle.ch_graph.specs.declared.link.Link.{Link};
 ghost use Rattle.ch_laws.specs.Contraction.{IsOver};
 ghost use Rattle.ch_overlay.specs.Overlay.{state_of};
 ghost use Rattle.ch_contract.specs.Chains.{AreChainsOf, AreChainsOfRows};
-ghost use Rattle.ch_contract.specs.Finish.{AreRanks, AreLinks, link_in};
+ghost use Rattle.ch_contract.specs.Finish.{AreRanks, AreLinks, AreParts, link_in};
 
 use crate::chains::Chains;
 use ch_graph::Link;
@@ -12,8 +12,8 @@ use std::alloc::{AllocError, Global};
 use std::thread;
 use std::thread::Threads;
 
-/// Returns the rank of each node of an overlay whose nodes are all contracted.
-pub fn ranks_of(alloc: Global, overlay: &Overlay) -> Result<Vec<u32>, AllocError>
+/// The rank of each node of an overlay whose nodes are all contracted.
+fn ranks_of(alloc: Global, overlay: &Overlay) -> Result<Vec<u32>, AllocError>
     requires { IsOver (state_of overlay.now) }
     ensures { IfOk result (λ ranks. AreRanks overlay.now ranks.items) }
 {
@@ -26,19 +26,6 @@ pub fn ranks_of(alloc: Global, overlay: &Overlay) -> Result<Vec<u32>, AllocError
         ranks.push(rank)?;
     }
     Ok(ranks)
-}
-
-/// Returns the links that all rows of an overlay describe, by their ends.
-///
-/// What rows hold of arcs into their nodes is put in chains, by the nodes that the arcs leave. Each chain rises, and is
-/// merged with the row of its node, so that nothing is sorted: it takes time by the number of nodes and links. Takes memory for the
-/// links once, as many as there are, and while it works 32 bytes for each of those arcs and 8 for each node.
-pub fn links_of(alloc: Global, overlay: &Overlay) -> Result<Vec<Link>, AllocError>
-    ensures { IfOk result (λ links. AreLinks overlay.now links.items) }
-{
-    let chains = chains_of(alloc, overlay)?;
-    let room = count_out(overlay).saturating_add(chains.len());
-    merge_rows(alloc, overlay, &chains, room)
 }
 
 /// The ranks of all nodes and the links of all rows.
@@ -55,23 +42,49 @@ struct Ranked {
     out: usize,
 }
 
-/// The ranks and the links that [`ranks_of`] and [`links_of`] make, where one thread makes the ranks and another the chains.
+/// Returns the ranks and the links of an overlay whose nodes are all contracted, the links by their ends.
+///
+/// What rows hold of arcs into their nodes is put in chains, by the nodes that the arcs leave. Each chain rises, and is
+/// merged with the row of its node, so that nothing is sorted: it takes time by the number of nodes and links. Takes memory
+/// for the ranks and the links, and while it works 32 bytes for each of those arcs and 8 for each node.
+pub fn parts_of(alloc: Global, overlay: &Overlay) -> Result<RanksAndLinks, AllocError>
+    requires { IsOver (state_of overlay.now) }
+    ensures { IfOk result (AreParts overlay.now) }
+{
+    let ranked = ranks_and_count(alloc, overlay)?;
+    merged(alloc, overlay, ranked, chains_of(alloc, overlay)?)
+}
+
+/// The same as [`parts_of`], where one thread makes the ranks and another the chains.
 pub fn parts_by_two<R: Threads>(
     rt: &R,
     alloc: Global,
     overlay: &Overlay,
 ) -> Result<RanksAndLinks, AllocError>
     requires { IsOver (state_of overlay.now) }
-    ensures ranks { IfOk result (λ parts. AreRanks overlay.now parts.ranks.items) }
-    ensures links { IfOk result (λ parts. AreLinks overlay.now parts.links.items) }
+    ensures { IfOk result (AreParts overlay.now) }
 {
     let (ranked, chains) = thread::join(
         rt,
         || ranks_and_count(alloc, overlay),
         || chains_of(alloc, overlay),
     );
-    let Ranked { ranks, out } = ranked?;
-    let chains = chains?;
+    let ranked = ranked?;
+    merged(alloc, overlay, ranked, chains?)
+}
+
+/// The ranks, and the links of all rows, each row merged with the chain of its node.
+fn merged(
+    alloc: Global,
+    overlay: &Overlay,
+    ranked: Ranked,
+    chains: Chains,
+) -> Result<RanksAndLinks, AllocError>
+    requires ranks { AreRanks overlay.now ranked.ranks.items }
+    requires chains { AreChainsOfRows overlay.now.rows chains }
+    ensures { IfOk result (AreParts overlay.now) }
+{
+    let Ranked { ranks, out } = ranked;
     let room = out.saturating_add(chains.len());
     let links = merge_rows(alloc, overlay, &chains, room)?;
     Ok(RanksAndLinks { ranks, links })

@@ -1,4 +1,4 @@
-use Rattle.std.proofs.Common.{List, [], arith, sym, subst}
+use Rattle.std.proofs.Common.{List, [], arith, sym, subst, refl}
 use Rattle.ch_graph.specs.Graph.{Graph}
 use Rattle.ch_graph.specs.Limits.{IsGraph}
 use Rattle.ch_laws.specs.Contraction.{Contraction, IsReached, Run}
@@ -18,3 +18,11 @@ invariant_of-result c =
       },
       omega (arith, c.nodes-nodes.ensures.count, c.in_ok-log.ensures.capacity),
     )
+
+pub returns : goal.returns
+returns c = record {
+  graph = refl;
+  log = c.in_ok-log.ensures.items;
+  start = c.requires.start;
+  versions = c.requires.versions;
+}
