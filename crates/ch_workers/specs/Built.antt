@@ -1,11 +1,11 @@
 -- What a build comes to.
-use Rattle.std.specs.Prelude.{ℕ, ◌≡◌, List, Option, MatchOption, codes, map, vec_len}
+use Rattle.std.specs.Prelude.{ℕ, ◌≡◌, ◌+◌, ◌↔◌, List, Option, Result, Err, IfOk, MatchOption, codes, map, vec_len}
 use Rattle.ch_graph.specs.Graph.{Graph}
 use Rattle.ch_graph.specs.Hierarchy.{Hierarchy, IsRight}
 use Rattle.ch_laws.specs.Contraction.{Contraction, State, IsReached, IsOver, IsMade}
 use Rattle.ch_multiqueue.specs.Closing.{Closed}
 use Rattle.ch_workers.specs.Account.{IsAccount}
-use Rattle.ch_workers.specs.Options.{queue_of}
+use Rattle.ch_workers.specs.Options.{AreBad, queue_of}
 use Rattle.ch_workers.specs.declared.options.Options.{Options}
 use Rattle.ch_workers.specs.declared.built.Built.{Built}
 use Rattle.ch_workers.specs.declared.error.BuildError.{BuildError}
@@ -30,6 +30,12 @@ pub record IsBuilt (graph : Graph) (count : ℕ) (b : Built) : Type 0 where
 -- The queue of the workers was closed; without workers there is none.
 abbrev pub IsClosed : Options → Option Closed → Type 0
 IsClosed o queue = MatchOption queue (o.workers ≡ 0) (λ closed. closed.queue ≡ queue_of o)
+
+-- What a build of a graph promises by its result, with these options and this many lists of estimators.
+pub record IsBuild (r : Result Built BuildError) (graph : Graph) (o : Options) (lists : ℕ) : Type 0 where
+  pub bad : (r ≡ Err BadOptions) ↔ AreBad o lists
+  pub ok : IfOk r (IsBuilt graph (o.workers + 1))
+  pub queue : IfOk r (λ b. IsClosed o b.queue)
 
 -- an error's name, as it is printed
 abbrev pub error_name : BuildError → List ℕ

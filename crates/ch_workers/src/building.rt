@@ -1,9 +1,6 @@
-ghost use Rattle.std.specs.Prelude.{◌≡◌, ◌+◌, ◌<◌, ◌≤◌, ◌↔◌, [], All, IfOk, MatchOption, map, vec_len};
-ghost use Rattle.ch_graph.specs.Hierarchy.{IsRight};
-ghost use Rattle.ch_workers.specs.Account.{IsAccount};
-ghost use Rattle.ch_workers.specs.Built.{IsMadeBy, IsBuilt, IsClosed};
-ghost use Rattle.ch_workers.specs.Options.{AreBad, queue_of};
-ghost use Rattle.ch_workers.specs.declared.error.BuildError.TheVariants.{BadOptions};
+ghost use Rattle.std.specs.Prelude.{◌≡◌, ◌+◌, ◌<◌, ◌≤◌, [], All, IfOk, MatchOption, vec_len};
+ghost use Rattle.ch_workers.specs.Built.{IsBuild, IsBuilt, IsClosed};
+ghost use Rattle.ch_workers.specs.Options.{queue_of};
 
 use crate::boxed::box_lists;
 use crate::built::{Built, with_index};
@@ -47,12 +44,7 @@ pub fn build<G: Gate, R: Threads + Wait + Sync>(
     gate: &G,
 ) -> Result<Built, BuildError>
     requires untold { All (λ list. All (λ estimator. heard estimator ≡ []) list.items) estimators.items }
-    ensures bad { (result ≡ Err BadOptions) ↔ AreBad options (vec_len estimators) }
-    ensures built { IfOk result (λ b. IsMadeBy graph b.log.items b.hierarchy) }
-    ensures right { IfOk result (λ b. IsRight graph b.hierarchy) }
-    ensures account { IfOk result (λ b. IsAccount b.log.items (map (λ v. v.items) b.receipts.items)) }
-    ensures lists { IfOk result (λ b. vec_len b.receipts ≡ options.workers + 1) }
-    ensures queue { IfOk result (λ b. IsClosed options b.queue) }
+    ensures built { IsBuild result graph options (vec_len estimators) }
     ensures leases { leases.new ≡ record leases.old { out = 0 } }
 {
     let mut disposal = Disposal::new();
@@ -86,12 +78,7 @@ pub fn build_plain<G: Gate, R: Threads + Wait + Sync>(
     disposal: &mut Disposal,
 ) -> Result<Built, BuildError>
     requires untold { All (λ list. All (λ estimator. heard estimator ≡ []) list.items) estimators.items }
-    ensures bad { (result ≡ Err BadOptions) ↔ AreBad options (vec_len estimators) }
-    ensures built { IfOk result (λ b. IsMadeBy graph b.log.items b.hierarchy) }
-    ensures right { IfOk result (λ b. IsRight graph b.hierarchy) }
-    ensures account { IfOk result (λ b. IsAccount b.log.items (map (λ v. v.items) b.receipts.items)) }
-    ensures lists { IfOk result (λ b. vec_len b.receipts ≡ options.workers + 1) }
-    ensures queue { IfOk result (λ b. IsClosed options b.queue) }
+    ensures built { IsBuild result graph options (vec_len estimators) }
     ensures leases { leases.new ≡ record leases.old { out = 0 } }
 {
     let built = build_with_good(rt, alloc, graph, options, estimators, gate, disposal);
@@ -110,9 +97,7 @@ fn build_with_good<G: Gate, R: Threads + Wait + Sync>(
     disposal: &mut Disposal,
 ) -> Result<Built, BuildError>
     requires untold { All (λ list. All (λ estimator. heard estimator ≡ []) list.items) estimators.items }
-    ensures bad { (result ≡ Err BadOptions) ↔ AreBad options (vec_len estimators) }
-    ensures built { IfOk result (IsBuilt graph (options.workers + 1)) }
-    ensures queue { IfOk result (λ b. IsClosed options b.queue) }
+    ensures { IsBuild result graph options (vec_len estimators) }
 {
     if options.are_bad(estimators.len()) {
         return Err(BuildError::BadOptions);

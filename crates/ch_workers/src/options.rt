@@ -51,7 +51,7 @@ impl Options {
         stint: Self::MAX_STINT,
     };
 
-    /// Whether a number is outside its range, or this many lists aren't one for each worker.
+    /// Whether a number is outside its range, or the number of lists isn't `workers`.
     pub fn are_bad(self, lists: usize) -> bool
         ensures bad { IsTrue result ↔ AreBad self lists }
         ensures good { IsFalse result → AreGood self lists }

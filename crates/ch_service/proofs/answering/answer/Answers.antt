@@ -11,23 +11,23 @@ use Rattle.ch_service.proofs.answering.answer.Goals as goal
 pub returns-clause-answers : goal.returns-clause-answers
 returns-clause-answers g c =
     answers-told {Is = IsLeastWalk} (walk-right c.routes_are_least.ensures.fewest) c.in-Ok.graph c.in_ok-hierarchy.field-0.hierarchy c.as_slice.result.now _ _ _ _ c.answer_pairs.result (search rules) (search rules)
-    (subst (λ (g : Graph). IsGraph g) c.graph.view_is c.graph.invariant.0) c.in_ok-hierarchy.ensures.right (search rules) c.answer_pairs.ensures.routed
+    (subst (λ (g : Graph). IsGraph g) c.graph.view_is c.graph.invariant.0) c.in_ok-hierarchy.ensures.built.ok.right (search rules) c.answer_pairs.ensures.routed
 
 pub returns-clause-fewest : goal.returns-clause-fewest
 returns-clause-fewest g c =
     answers-told {Is = IsFewestWalk} c.routes_are_least.ensures.fewest c.in-Ok.graph c.in_ok-hierarchy.field-0.hierarchy c.as_slice.result.now _ _ _ _ c.answer_pairs.result (search rules) (search rules)
-    (subst (λ (g : Graph). IsGraph g) c.graph.view_is c.graph.invariant.0) c.in_ok-hierarchy.ensures.right (search rules) c.answer_pairs.ensures.routed
+    (subst (λ (g : Graph). IsGraph g) c.graph.view_is c.graph.invariant.0) c.in_ok-hierarchy.ensures.built.ok.right (search rules) c.answer_pairs.ensures.routed
 
 pub returns-clause-stops : goal.returns-clause-stops
 returns-clause-stops g c =
     stops-answered c.routes_are_least.ensures.fewest c.routes_are_least.ensures.never_long c.in-Ok.graph c.in_ok-hierarchy.field-0.hierarchy c.as_slice.result.now _ _ _ _ c.answer_pairs.result (search rules) (search rules)
-    (subst (λ (g : Graph). IsGraph g) c.graph.view_is c.graph.invariant.0) c.in_ok-hierarchy.ensures.right (search rules) c.answer_pairs.ensures.stops
+    (subst (λ (g : Graph). IsGraph g) c.graph.view_is c.graph.invariant.0) c.in_ok-hierarchy.ensures.built.ok.right (search rules) c.answer_pairs.ensures.stops
 
 pub returns-clause-fault : goal.returns-clause-fault
 returns-clause-fault g c =
     fault-answering c.in-Ok.graph c.as_slice.result.now _ _ _ _ c.answer_pairs.result (search rules) (search rules) c.answer_pairs.ensures.fault
     (stops-answered c.routes_are_least.ensures.fewest c.routes_are_least.ensures.never_long c.in-Ok.graph c.in_ok-hierarchy.field-0.hierarchy c.as_slice.result.now _ _ _ _ c.answer_pairs.result (search rules) (search rules)
-    (subst (λ (g : Graph). IsGraph g) c.graph.view_is c.graph.invariant.0) c.in_ok-hierarchy.ensures.right (search rules) c.answer_pairs.ensures.stops)
+    (subst (λ (g : Graph). IsGraph g) c.graph.view_is c.graph.invariant.0) c.in_ok-hierarchy.ensures.built.ok.right (search rules) c.answer_pairs.ensures.stops)
 
 pub returns-in-Err-read_queries-clause-fault : goal.returns-in-Err-read_queries-clause-fault
 returns-in-Err-read_queries-clause-fault g c =
@@ -42,10 +42,10 @@ returns-in-Err-read_queries-clause-untouched g c = rw c.refuse-in-Err-read_queri
 pub returns-clause-kinds : goal.returns-clause-kinds
 returns-clause-kinds g c =
     texts-kinds c.routes_are_least.ensures.never_long c.in-Ok.graph c.in_ok-hierarchy.field-0.hierarchy c.as_slice.result.now _ _ c.answer_pairs.result
-    (subst (λ (g : Graph). IsGraph g) c.graph.view_is c.graph.invariant.0) c.in_ok-hierarchy.ensures.right (search rules) c.answer_pairs.ensures.fault c.answer_pairs.ensures.stops
+    (subst (λ (g : Graph). IsGraph g) c.graph.view_is c.graph.invariant.0) c.in_ok-hierarchy.ensures.built.ok.right (search rules) c.answer_pairs.ensures.fault c.answer_pairs.ensures.stops
 
 pub returns-clause-good : goal.returns-clause-good
-returns-clause-good g c = built-good c.build.result _ _ _ c.answer_pairs.result c.in_ok-hierarchy.was c.build.ensures.bad
+returns-clause-good g c = built-good c.build.result _ _ _ c.answer_pairs.result c.in_ok-hierarchy.was c.build.ensures.built.bad
 
 pub returns-clause-reached : goal.returns-clause-reached
 returns-clause-reached g c = no_text_fault _ _ c.answer_pairs.result c.answer_pairs.ensures.fault
@@ -103,7 +103,7 @@ pub returns-in-Err-read_queries-clause-stops : goal.returns-in-Err-read_queries-
 returns-in-Err-read_queries-clause-stops c = grind (arith, common_steps) steps 600000
 
 pub returns-clause-ready : goal.returns-clause-ready
-returns-clause-ready g c = ready-built c.build.result _ _ _ c.answer_pairs.result c.in_ok-hierarchy.was c.build.ensures.bad
+returns-clause-ready g c = ready-built c.build.result _ _ _ c.answer_pairs.result c.in_ok-hierarchy.was c.build.ensures.built.bad
 
 pub returns-in-Err-clause-ready : goal.returns-in-Err-clause-ready
 returns-in-Err-clause-ready g c = rw c.refuse.ensures.refused tt

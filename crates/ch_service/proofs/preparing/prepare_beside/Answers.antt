@@ -8,12 +8,14 @@ use Rattle.ch_service.proofs.Prepared.{is_done, is_unread, is_unbuilt, is_unwrit
 use Rattle.ch_service.proofs.preparing.prepare_beside.Goals as goal
 
 pub write-written-requires : goal.write-written-requires
-write-written-requires g c = ap version_number c.in_ok-built.ensures.built.made.version
+write-written-requires g c = ap version_number c.in_ok-built.ensures.built.ok.made.made.version
 
 pub returns-clause-prepared : goal.returns-clause-prepared
 returns-clause-prepared g c =
-    let good = built-good c.build_plain.result _ _ _ (Ok tt) c.in_ok-built.was c.build_plain.ensures.bad in
-    is_done _ _ _ _ _ _ c.in-Ok.graph c.in_ok-built.built.hierarchy good c.in-Ok.ensures.reads.reading c.in_ok-built.ensures.right (search rules) c.in_ok-built.ensures.built.made.version c.in_ok-written.ensures.writes.ok
+    let good = built-good c.build_plain.result _ _ _ (Ok tt) c.in_ok-built.was c.build_plain.ensures.built.bad in
+    let built = c.in_ok-built.ensures.built.ok in
+    is_done _ _ _ _ _ _ c.in-Ok.graph c.in_ok-built.built.hierarchy good c.in-Ok.ensures.reads.reading built.right (search rules)
+    built.made.made.version c.in_ok-written.ensures.writes.ok
 
 pub returns-clause-leases : goal.returns-clause-leases
 returns-clause-leases c = grind (arith, common_steps) steps 600000
@@ -25,12 +27,14 @@ pub returns-in_err-built-clause-prepared : goal.returns-in_err-built-clause-prep
 returns-in_err-built-clause-prepared g c =
     let exit = err_from_is_err_and c.from_residual.result c.from_residual.ensures.1 in
     let fault = c.in_err-built.field-0.0 in
-    let bad = refused-bad c.build_plain.result fault _ _ c.in_err-built.was c.build_plain.ensures.bad in
+    let bad = refused-bad c.build_plain.result fault _ _ c.in_err-built.was c.build_plain.ensures.built.bad in
     rw (exit.1, exit.2) (is_unbuilt _ _ _ _ _ _ c.in-Ok.graph fault bad c.in-Ok.ensures.reads.reading (search rules))
 
 pub returns-in_err-written-clause-prepared : goal.returns-in_err-written-clause-prepared
 returns-in_err-written-clause-prepared g c =
     let exit = err_from_is_err_and c.from_residual-in_err-written.result c.from_residual-in_err-written.ensures.1 in
-    let good = built-good c.build_plain.result _ _ _ (Ok tt) c.in_ok-built.was c.build_plain.ensures.bad in
+    let good = built-good c.build_plain.result _ _ _ (Ok tt) c.in_ok-built.was c.build_plain.ensures.built.bad in
+    let built = c.in_ok-built.ensures.built.ok in
     rw (exit.1, exit.2)
-    (is_unwritten _ _ _ _ _ _ c.in-Ok.graph c.in_ok-built.built.hierarchy c.in_err-written.field-0.0 good c.in-Ok.ensures.reads.reading c.in_ok-built.ensures.right (search rules) c.in_ok-built.ensures.built.made.version c.in_err-written.ensures.writes.err)
+    (is_unwritten _ _ _ _ _ _ c.in-Ok.graph c.in_ok-built.built.hierarchy c.in_err-written.field-0.0 good c.in-Ok.ensures.reads.reading
+    built.right (search rules) built.made.made.version c.in_err-written.ensures.writes.err)
