@@ -6,14 +6,14 @@ use Rattle.std.specs.Map.{lookup}
 use Rattle.ch_graph.specs.Graph.{Graph}
 use Rattle.ch_graph.specs.Limits.{bound_of}
 use Rattle.ch_laws.specs.declared.shortcut.Shortcut.{Shortcut}
-use Rattle.ch_laws.specs.Contraction.{State, IsStart, IsNeighbour, Contraction}
+use Rattle.ch_laws.specs.Contraction.{State, IsNeighbour, Contraction}
 use Rattle.ch_laws.specs.Rows.{Row, IsChanged}
 use Rattle.ch_overlay.specs.declared.source.Seen.{Seen}
 use Rattle.ch_overlay.specs.Source.{row_in}
 use Rattle.ch_overlay.specs.Overlay.{Overlay, no_arcs, row_at, state_of}
 use Rattle.ch_overlay.specs.Change.{puts}
 use Rattle.ch_contract.specs.declared.contraction.Receipt.{Receipt}
-use Rattle.ch_contract.specs.Ledger.{Ledger, receipt_of, row_now, version_now, versions_now}
+use Rattle.ch_contract.specs.Ledger.{Ledger, IsStartLedger, receipt_of, row_now, version_now}
 use Rattle.ch_contract.specs.Commit.{IsContractedYet}
 use Rattle.ch_contract.specs.Proposal.{Proposal}
 
@@ -58,10 +58,7 @@ pub record IsIn (book : List RowVersion) (node version : ℕ) (row : Row) : Type
 
 -- At the start no node is contracted, node x has the version x, which opens the book, and no worker has read a row.
 pub record IsOpening (g : Graph) (workers : ℕ) (w : World) : Type 0 where
-  pub graph : w.ledger.graph ≡ g
-  pub log : w.ledger.log ≡ []
-  pub start : IsStart g (state_of w.ledger.overlay)
-  pub versions : versions_now w.ledger ≡ range_with_len 0 g.nodes
+  pub ledger : IsStartLedger g w.ledger
   pub many : length w.book ≡ g.nodes
   pub book : (x : ℕ) → x < g.nodes → IsIn w.book x x (row_now w.ledger x)
   pub as_many : length w.views ≡ workers

@@ -13,7 +13,7 @@ pub events-init : goal.events-init
 events-init c = record {
   opens = c.in_ok-world.ensures.opens;
   runs = subst (λ (outcomes : List Outcome). Runs c.in_ok-world.world [] outcomes c.in_ok-world.world) (sym c.in_ok-outcomes.ensures.items) ends;
-  graph = c.in_ok-world.ensures.opens.graph;
+  graph = c.in_ok-world.ensures.opens.ledger.graph;
   rest = c.into_iter-event-iterator.ensures.into_iter_gives.0;
 }
 
