@@ -1,5 +1,5 @@
 -- Where a way may start and where it may end, as the fields of a line name it.
-use Rattle.std.specs.Prelude.{ℕ, ◌≡◌, true, suc, zero, ◌-◌, ◌/◌, ◌^◌, ◌<◌, ◌==◌, Bool, ◌||◌, ◌&&◌, if◌then◌else◌, nat_lt, List, [], ◌∷◌, length, drop, codes, Result, Ok}
+use Rattle.std.specs.Prelude.{ℕ, ◌≡◌, true, suc, zero, ◌-◌, ◌/◌, ◌%◌, ◌^◌, ◌<◌, ◌==◌, Bool, ◌&&◌, if◌then◌else◌, nat_le, nat_lt, List, [], ◌∷◌, length, drop, codes, Result, Ok}
 use Rattle.std.specs.Str.{bytes_eq}
 use Rattle.grfile.specs.declared.error.GrError.{GrError}
 use Rattle.grfile.specs.declared.error.GrErrorKind.TheVariants.{FieldCount, NodeRange, WeightTooBig}
@@ -37,7 +37,7 @@ behind_colon fields = drop (suc (colon_at fields)) fields
 
 -- this many fields are those of one to eight places
 abbrev pub is_of_places : ℕ → Bool
-is_of_places n = n == 2 || n == 4 || n == 6 || n == 8 || n == 10 || n == 12 || n == 14 || n == 16
+is_of_places n = n % 2 == 0 && nat_le 2 n && nat_le n 16
 
 -- there are one to eight places, a colon, and one to eight places
 abbrev pub are_ends : List (List ℕ) → Bool

@@ -69,14 +69,7 @@ fn sides_of(line: &[u8]) -> Option<Sides>
 fn is_of_places(fields: usize) -> bool
     ensures { result ≡ is_of_places fields }
 {
-    fields == 2
-        || fields == 4
-        || fields == 6
-        || fields == 8
-        || fields == 10
-        || fields == 12
-        || fields == 14
-        || fields == 16
+    fields % 2 == 0 && fields >= 2 && fields <= MOST_FIELDS
 }
 
 // The fields of the line behind the first ones, this many.
