@@ -1,8 +1,9 @@
-"""Runs the tests of this folder, as many at a time as there are processors, each in a process apart from the others'.
+"""Runs the tests of this folder side by side, each in a process apart from the others'.
 
     side_by_side.py [WORD ..]       by default all tests, else those whose names have one of the words
 
-What a test that fails has to say is printed as soon as it ends, and at the end which took longest. The last line counts the
+There are two more at a time than there are processors, since those of slow clients and of a minute's load mostly wait. What a
+test that fails has to say is printed as soon as it ends, and at the end which took longest. The last line counts the
 tests. The status is 0 only where tests ran and all of them passed, and 2 where a word is in no name.
 """
 import concurrent.futures
@@ -16,8 +17,9 @@ import unittest
 
 from .kit.counted import chosen, end, parser
 
-# Those that start a scheduler and workers take longest, so they begin first.
-FIRST = "DaskTests"
+# Those that take longest begin first, and those that wait most before the others.
+FIRST = ["MinuteTests", "SlowClientTests", "DaskTests"]
+WAITING = 2
 SLOWEST = 3
 # A test that takes longer hangs: where it is gets printed, and all ends with status 1.
 SECONDS = 900
@@ -26,7 +28,7 @@ SECONDS = 900
 def tests_of(suite):
     """The single tests of a suite, those first that take longest. One that can't be loaded is a test that fails."""
     tests = list(flat(suite))
-    return sorted(tests, key=lambda test: FIRST not in test.id())
+    return sorted(tests, key=lambda test: next((at for at, name in enumerate(FIRST) if name in test.id()), len(FIRST)))
 
 
 def flat(suite):
@@ -56,7 +58,7 @@ def main():
     ids = [test.id() for test in TESTS]
     named = {name for word in words.parse_args().words or [""] for name in chosen(words, ids, word)}
     start, failed, times = time.monotonic(), [], []
-    at_a_time = len(os.sched_getaffinity(0))
+    at_a_time = len(os.sched_getaffinity(0)) + WAITING
     # (a process that forks has the tests already)
     forking = multiprocessing.get_context("fork")
     with concurrent.futures.ProcessPoolExecutor(at_a_time, forking) as pool:
