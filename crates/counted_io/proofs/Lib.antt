@@ -1,3 +1,4 @@
 mod Calling
 mod Taking
+mod Sinking
 pub mod Gathering

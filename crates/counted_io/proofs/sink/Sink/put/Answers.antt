@@ -1,0 +1,5 @@
+use Rattle.counted_io.proofs.Sinking.{gathered}
+use Rattle.counted_io.proofs.sink.Sink.put.Goals as goal
+
+pub returns : goal.returns
+returns g c = gathered _ _ _ _ _ _ c.gather.ensures
