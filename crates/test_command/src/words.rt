@@ -4,11 +4,11 @@ use std::alloc::{AllocError, Global};
 use std::io::{self, ErrorKind, Write};
 use std::test::Fail;
 
-/// The arguments of a command line.
-fn words(alloc: Global, texts: &[&str]) -> Result<Vec<String>, AllocError> {
+/// The arguments of a command line, none of which has a blank.
+fn words(alloc: Global, line: &str) -> Result<Vec<String>, AllocError> {
     let mut words = Vec::new(alloc);
-    for text in texts {
-        words.push(String::from_str(alloc, text)?)?;
+    for word in line.split_ascii_whitespace() {
+        words.push(String::from_str(alloc, word)?)?;
     }
     Ok(words)
 }
@@ -27,10 +27,13 @@ impl Write for Broken {
     }
 }
 
-/// Arguments that name a job without options, and whether both texts of it come from standard input.
-const NAMED: [(&[&str], Job<'static>, bool); 9] = [
+/// A command line that names a job, the job, and whether both texts of it come from standard input.
+type Named = (&'static str, Job<'static>, bool);
+
+/// Jobs without options.
+const NAMED: [Named; 9] = [
     (
-        &["routecli", "answer", "a.gr", "b.p2p"],
+        "routecli answer a.gr b.p2p",
         Job::Answer {
             graph: "a.gr",
             queries: "b.p2p",
@@ -38,7 +41,7 @@ const NAMED: [(&[&str], Job<'static>, bool); 9] = [
         false,
     ),
     (
-        &["routecli", "answer", "-", "b.p2p"],
+        "routecli answer - b.p2p",
         Job::Answer {
             graph: "-",
             queries: "b.p2p",
@@ -46,7 +49,7 @@ const NAMED: [(&[&str], Job<'static>, bool); 9] = [
         false,
     ),
     (
-        &["routecli", "answer", "a.gr", "-"],
+        "routecli answer a.gr -",
         Job::Answer {
             graph: "a.gr",
             queries: "-",
@@ -54,7 +57,7 @@ const NAMED: [(&[&str], Job<'static>, bool); 9] = [
         false,
     ),
     (
-        &["routecli", "answer", "-", "-"],
+        "routecli answer - -",
         Job::Answer {
             graph: "-",
             queries: "-",
@@ -62,7 +65,7 @@ const NAMED: [(&[&str], Job<'static>, bool); 9] = [
         true,
     ),
     (
-        &["routecli", "route", "-", "-"],
+        "routecli route - -",
         Job::Route {
             hierarchy: "-",
             queries: "-",
@@ -70,17 +73,17 @@ const NAMED: [(&[&str], Job<'static>, bool); 9] = [
         false,
     ),
     (
-        &["routecli", "serve", "a.rch"],
+        "routecli serve a.rch",
         Job::Serve { hierarchy: "a.rch" },
         false,
     ),
     (
-        &["routecli", "info", "a.rch"],
+        "routecli info a.rch",
         Job::Info { hierarchy: "a.rch" },
         false,
     ),
     (
-        &["routecli", "check", "a.gr", "a.rch"],
+        "routecli check a.gr a.rch",
         Job::Check(Check {
             graph: "a.gr",
             hierarchy: "a.rch",
@@ -89,7 +92,7 @@ const NAMED: [(&[&str], Job<'static>, bool); 9] = [
         false,
     ),
     (
-        &["routecli", "check", "-", "--progress", "-"],
+        "routecli check - --progress -",
         Job::Check(Check {
             graph: "-",
             hierarchy: "-",
@@ -99,10 +102,10 @@ const NAMED: [(&[&str], Job<'static>, bool); 9] = [
     ),
 ];
 
-/// The arguments after the program's name, and what they choose.
+/// A command line, and what it chooses.
 #[derive(Clone, Copy)]
 struct Chosen {
-    words: &'static [&'static str],
+    line: &'static str,
     workers: u32,
     seed: u64,
     order: Order,
@@ -112,7 +115,7 @@ struct Chosen {
 
 const CHOSEN: [Chosen; 11] = [
     Chosen {
-        words: &["routecli", "prepare", "a.gr", "a.rch"],
+        line: "routecli prepare a.gr a.rch",
         workers: 4,
         seed: 1,
         order: Order::Edges,
@@ -120,18 +123,7 @@ const CHOSEN: [Chosen; 11] = [
         progress: false,
     },
     Chosen {
-        words: &[
-            "routecli",
-            "prepare",
-            "--workers",
-            "0",
-            "--seed",
-            "0",
-            "--order",
-            "neighbours",
-            "a.gr",
-            "a.rch",
-        ],
+        line: "routecli prepare --workers 0 --seed 0 --order neighbours a.gr a.rch",
         workers: 0,
         seed: 0,
         order: Order::Neighbours,
@@ -139,18 +131,7 @@ const CHOSEN: [Chosen; 11] = [
         progress: false,
     },
     Chosen {
-        words: &[
-            "routecli",
-            "prepare",
-            "a.gr",
-            "a.rch",
-            "--order",
-            "depth",
-            "--seed",
-            "18446744073709551615",
-            "--workers",
-            "64",
-        ],
+        line: "routecli prepare a.gr a.rch --order depth --seed 18446744073709551615 --workers 64",
         workers: 64,
         seed: 18_446_744_073_709_551_615,
         order: Order::Depth,
@@ -158,15 +139,7 @@ const CHOSEN: [Chosen; 11] = [
         progress: false,
     },
     Chosen {
-        words: &[
-            "routecli",
-            "prepare",
-            "--order=edges",
-            "a.gr",
-            "--workers=1",
-            "a.rch",
-            "--seed=7",
-        ],
+        line: "routecli prepare --order=edges a.gr --workers=1 a.rch --seed=7",
         workers: 1,
         seed: 7,
         order: Order::Edges,
@@ -174,7 +147,7 @@ const CHOSEN: [Chosen; 11] = [
         progress: false,
     },
     Chosen {
-        words: &["routecli", "prepare", "--workers", "63", "a.gr", "a.rch"],
+        line: "routecli prepare --workers 63 a.gr a.rch",
         workers: 63,
         seed: 1,
         order: Order::Edges,
@@ -182,7 +155,7 @@ const CHOSEN: [Chosen; 11] = [
         progress: false,
     },
     Chosen {
-        words: &["routecli", "prepare", "a.gr", "--seed", "12", "a.rch"],
+        line: "routecli prepare a.gr --seed 12 a.rch",
         workers: 4,
         seed: 12,
         order: Order::Edges,
@@ -190,7 +163,7 @@ const CHOSEN: [Chosen; 11] = [
         progress: false,
     },
     Chosen {
-        words: &["routecli", "prepare", "a.gr", "a.rch", "--order", "depth"],
+        line: "routecli prepare a.gr a.rch --order depth",
         workers: 4,
         seed: 1,
         order: Order::Depth,
@@ -198,7 +171,7 @@ const CHOSEN: [Chosen; 11] = [
         progress: false,
     },
     Chosen {
-        words: &["routecli", "prepare", "--stint", "1", "a.gr", "a.rch"],
+        line: "routecli prepare --stint 1 a.gr a.rch",
         workers: 4,
         seed: 1,
         order: Order::Edges,
@@ -206,15 +179,7 @@ const CHOSEN: [Chosen; 11] = [
         progress: false,
     },
     Chosen {
-        words: &[
-            "routecli",
-            "prepare",
-            "a.gr",
-            "--stint=1099511627776",
-            "--order",
-            "neighbours",
-            "a.rch",
-        ],
+        line: "routecli prepare a.gr --stint=1099511627776 --order neighbours a.rch",
         workers: 4,
         seed: 1,
         order: Order::Neighbours,
@@ -222,16 +187,7 @@ const CHOSEN: [Chosen; 11] = [
         progress: false,
     },
     Chosen {
-        words: &[
-            "routecli",
-            "prepare",
-            "--workers",
-            "2",
-            "a.gr",
-            "a.rch",
-            "--stint",
-            "0001000",
-        ],
+        line: "routecli prepare --workers 2 a.gr a.rch --stint 0001000",
         workers: 2,
         seed: 1,
         order: Order::Edges,
@@ -239,7 +195,7 @@ const CHOSEN: [Chosen; 11] = [
         progress: false,
     },
     Chosen {
-        words: &["routecli", "prepare", "--progress", "a.gr", "a.rch"],
+        line: "routecli prepare --progress a.gr a.rch",
         workers: 4,
         seed: 1,
         order: Order::Edges,
@@ -265,245 +221,224 @@ fn job_of(chosen: &Chosen) -> Option<Job<'static>> {
     }))
 }
 
-/// Whether the arguments name this job, and both texts of it come from standard input as it is said.
-fn names(
-    alloc: Global,
-    texts: &[&str],
-    job: Option<Job<'_>>,
-    is_joined: bool,
-) -> Result<bool, Fail> {
-    let words = words(alloc, texts)?;
+/// Whether a command line names this job, and both texts of it come from standard input as it is said.
+fn names(alloc: Global, line: &str, job: Option<Job<'_>>, is_joined: bool) -> Result<bool, Fail> {
+    let words = words(alloc, line)?;
     let named = command(alloc, words.as_slice()).ok().ok_or("a job")?;
     Ok((named.job.is_joined() == is_joined) & (Some(named.job) == job) & !named.explain)
 }
 
-/// Words of each command that ask for explanations.
-const EXPLAINED: [&[&str]; 7] = [
-    &["routecli", "answer", "--explain", "a.gr", "b.p2p"],
-    &["routecli", "prepare", "a.gr", "--explain", "a.rch"],
-    &[
-        "routecli",
-        "prepare",
-        "--progress",
-        "a.gr",
-        "a.rch",
-        "--explain",
-    ],
-    &["routecli", "route", "a.rch", "b.p2p", "--explain"],
-    &["routecli", "serve", "--explain", "a.rch"],
-    &["routecli", "info", "a.rch", "--explain"],
-    &["routecli", "check", "a.gr", "--explain", "a.rch"],
+/// Command lines of each command that ask for explanations.
+const EXPLAINED: [&str; 7] = [
+    "routecli answer --explain a.gr b.p2p",
+    "routecli prepare a.gr --explain a.rch",
+    "routecli prepare --progress a.gr a.rch --explain",
+    "routecli route a.rch b.p2p --explain",
+    "routecli serve --explain a.rch",
+    "routecli info a.rch --explain",
+    "routecli check a.gr --explain a.rch",
 ];
 
-/// Whether the arguments ask for explanations.
-fn explains(alloc: Global, texts: &[&str]) -> Result<bool, Fail> {
-    let words = words(alloc, texts)?;
+/// Whether a command line asks for explanations.
+fn explains(alloc: Global, line: &str) -> Result<bool, Fail> {
+    let words = words(alloc, line)?;
     let named = command(alloc, words.as_slice()).ok().ok_or("a job")?;
     Ok(named.explain)
 }
 
+/// Whether each of these asks for explanations.
+fn are_explained(alloc: Global, lines: &[&str]) -> Result<bool, Fail> {
+    for line in lines {
+        if !explains(alloc, line)? {
+            return Ok(false);
+        }
+    }
+    Ok(true)
+}
+
 #[test]
 fn words_that_ask_for_explanations(rt: HostRuntime) -> Result<(), Fail> {
-    for texts in EXPLAINED {
-        assert!(rt; explains(rt.alloc(), texts)?);
-    }
+    assert!(rt; are_explained(rt.alloc(), &EXPLAINED)?);
     Ok(())
+}
+
+/// Whether each of these names its job.
+fn are_named(alloc: Global, cases: &[Named]) -> Result<bool, Fail> {
+    for (line, job, is_joined) in cases {
+        if !names(alloc, line, Some(*job), *is_joined)? {
+            return Ok(false);
+        }
+    }
+    Ok(true)
+}
+
+/// Whether each of these chooses as it is said.
+fn are_chosen(alloc: Global, cases: &[Chosen]) -> Result<bool, Fail> {
+    for chosen in cases {
+        if !names(alloc, chosen.line, job_of(chosen), false)? {
+            return Ok(false);
+        }
+    }
+    Ok(true)
 }
 
 #[test]
 fn words_that_name_a_job(rt: HostRuntime) -> Result<(), Fail> {
-    for (texts, job, is_joined) in NAMED {
-        assert!(rt; names(rt.alloc(), texts, Some(job), is_joined)?);
-    }
-    for chosen in CHOSEN {
-        let job = job_of(&chosen);
-        assert!(rt; names(rt.alloc(), chosen.words, job, false)?);
-    }
+    assert!(rt; are_named(rt.alloc(), &NAMED)?);
+    assert!(rt; are_chosen(rt.alloc(), &CHOSEN)?);
     Ok(())
 }
 
-/// Why the arguments name no job.
-fn stop_of(alloc: Global, texts: &[&str]) -> Result<Stop, Fail> {
-    let words = words(alloc, texts)?;
+/// Why a command line names no job.
+fn stop_of(alloc: Global, line: &str) -> Result<Stop, Fail> {
+    let words = words(alloc, line)?;
     let why = command(alloc, words.as_slice()).err().ok_or("no job")?;
     Ok(why)
 }
 
-/// Words that are refused, and how the first line of the refusal goes on after `error: `.
-const REFUSED: [(&[&str], &[u8]); 41] = [
-    (&["routecli"], b""),
-    (&["routecli", "answer"], b""),
-    (&["routecli", "answer", "a.gr"], b""),
-    (&["routecli", "answer", "a.gr", "b.p2p", "c"], b""),
-    (&["routecli", "answer", "--fast", "a.gr", "b.p2p"], b""),
-    (&["routecli", "solve", "a.gr", "b.p2p"], b""),
-    (&["routecli", "route", "a.rch"], b""),
+/// Command lines that are refused, and how the first line of the refusal goes on after `error: `.
+const REFUSED: [(&str, &[u8]); 41] = [
+    ("routecli", b""),
+    ("routecli answer", b""),
+    ("routecli answer a.gr", b""),
+    ("routecli answer a.gr b.p2p c", b""),
+    ("routecli answer --fast a.gr b.p2p", b""),
+    ("routecli solve a.gr b.p2p", b""),
+    ("routecli route a.rch", b""),
     (
-        &["routecli", "prepare", "--workers", "65", "a.gr", "a.rch"],
+        "routecli prepare --workers 65 a.gr a.rch",
         b"invalid value '65' for '--workers <K>': 65 is not in 0..=64\n",
     ),
     (
-        &["routecli", "prepare", "--workers=-1", "a.gr", "a.rch"],
+        "routecli prepare --workers=-1 a.gr a.rch",
         b"invalid value '-1' for '--workers <K>': -1 is not in 0..=64\n",
     ),
     (
-        &["routecli", "prepare", "--workers", "-1", "a.gr", "a.rch"],
+        "routecli prepare --workers -1 a.gr a.rch",
         b"unexpected argument '-1' found\n",
     ),
     (
-        &["routecli", "prepare", "--workers", "x", "a.gr", "a.rch"],
+        "routecli prepare --workers x a.gr a.rch",
         b"invalid value 'x' for '--workers <K>': invalid digit found in string\n",
     ),
     (
-        &[
-            "routecli",
-            "prepare",
-            "--seed",
-            "18446744073709551616",
-            "a.gr",
-            "a.rch",
-        ],
+        "routecli prepare --seed 18446744073709551616 a.gr a.rch",
         b"invalid value '18446744073709551616' for '--seed <S>': number too large to fit in target type\n",
     ),
     (
-        &["routecli", "prepare", "--seed", "1.5", "a.gr", "a.rch"],
+        "routecli prepare --seed 1.5 a.gr a.rch",
         b"invalid value '1.5' for '--seed <S>': invalid digit found in string\n",
     ),
     (
-        &["routecli", "prepare", "--seed=-1", "a.gr", "a.rch"],
+        "routecli prepare --seed=-1 a.gr a.rch",
         b"invalid value '-1' for '--seed <S>': invalid digit found in string\n",
     ),
     (
-        &["routecli", "prepare", "--order", "foo", "a.gr", "a.rch"],
+        "routecli prepare --order foo a.gr a.rch",
         b"invalid value 'foo' for '--order <ORDER>'\n",
     ),
     (
-        &["routecli", "prepare", "--order", "Depth", "a.gr", "a.rch"],
+        "routecli prepare --order Depth a.gr a.rch",
         b"invalid value 'Depth' for '--order <ORDER>'\n",
     ),
     (
-        &[
-            "routecli", "prepare", "--seed", "1", "--seed", "2", "a.gr", "a.rch",
-        ],
+        "routecli prepare --seed 1 --seed 2 a.gr a.rch",
         b"the argument '--seed <S>' cannot be used multiple times\n",
     ),
     (
-        &["routecli", "prepare", "--stint", "0", "a.gr", "a.rch"],
+        "routecli prepare --stint 0 a.gr a.rch",
         b"invalid value '0' for '--stint <C>': 0 is not in 1..=1099511627776\n",
     ),
     (
-        &[
-            "routecli",
-            "prepare",
-            "--stint",
-            "1099511627777",
-            "a.gr",
-            "a.rch",
-        ],
+        "routecli prepare --stint 1099511627777 a.gr a.rch",
         b"invalid value '1099511627777' for '--stint <C>': 1099511627777 is not in 1..=1099511627776\n",
     ),
     (
-        &[
-            "routecli",
-            "prepare",
-            "--stint",
-            "18446744073709551616",
-            "a.gr",
-            "a.rch",
-        ],
+        "routecli prepare --stint 18446744073709551616 a.gr a.rch",
         b"invalid value '18446744073709551616' for '--stint <C>': number too large to fit in target type\n",
     ),
     (
-        &["routecli", "prepare", "--stint=-1", "a.gr", "a.rch"],
+        "routecli prepare --stint=-1 a.gr a.rch",
         b"invalid value '-1' for '--stint <C>': invalid digit found in string\n",
     ),
     (
-        &["routecli", "prepare", "--stint", "x", "a.gr", "a.rch"],
+        "routecli prepare --stint x a.gr a.rch",
         b"invalid value 'x' for '--stint <C>': invalid digit found in string\n",
     ),
     (
-        &["routecli", "prepare", "--stint=", "a.gr", "a.rch"],
+        "routecli prepare --stint= a.gr a.rch",
         b"invalid value '' for '--stint <C>': cannot parse integer from empty string\n",
     ),
     (
-        &["routecli", "prepare", "--stint", "1e3", "a.gr", "a.rch"],
+        "routecli prepare --stint 1e3 a.gr a.rch",
         b"invalid value '1e3' for '--stint <C>': invalid digit found in string\n",
     ),
     (
-        &[
-            "routecli", "prepare", "--stint", "1", "--stint", "1", "a.gr", "a.rch",
-        ],
+        "routecli prepare --stint 1 --stint 1 a.gr a.rch",
         b"the argument '--stint <C>' cannot be used multiple times\n",
     ),
     (
-        &["routecli", "prepare", "a.gr", "a.rch", "--stint"],
+        "routecli prepare a.gr a.rch --stint",
         b"a value is required for '--stint <C>' but none was supplied\n",
     ),
     (
-        &["routecli", "route", "--stint", "1", "a.rch", "a.p2p"],
+        "routecli route --stint 1 a.rch a.p2p",
         b"unexpected argument '--stint' found\n",
     ),
     (
-        &["routecli", "prepare", "--progress=yes", "a.gr", "a.rch"],
+        "routecli prepare --progress=yes a.gr a.rch",
         b"unexpected value 'yes' for '--progress' found; no more were expected\n",
     ),
     (
-        &[
-            "routecli",
-            "prepare",
-            "--progress",
-            "--progress",
-            "a.gr",
-            "a.rch",
-        ],
+        "routecli prepare --progress --progress a.gr a.rch",
         b"the argument '--progress' cannot be used multiple times\n",
     ),
     (
-        &["routecli", "route", "--progress", "a.rch", "a.p2p"],
+        "routecli route --progress a.rch a.p2p",
         b"unexpected argument '--progress' found\n",
     ),
     (
-        &["routecli", "answer", "--version", "a.gr", "a.p2p"],
+        "routecli answer --version a.gr a.p2p",
         b"unexpected argument '--version' found\n",
     ),
     (
-        &["routecli", "prepare", "a.gr", "a.rch", "--workers"],
+        "routecli prepare a.gr a.rch --workers",
         b"a value is required for '--workers <K>' but none was supplied\n",
     ),
     (
-        &["routecli", "answer", "--workers", "1", "a.gr", "a.p2p"],
+        "routecli answer --workers 1 a.gr a.p2p",
         b"unexpected argument '--workers' found\n",
     ),
     (
-        &["routecli", "prepare", "--workers", "1", "a.gr"],
+        "routecli prepare --workers 1 a.gr",
         b"the following required arguments were not provided:\n",
     ),
     (
-        &["routecli", "info"],
+        "routecli info",
         b"the following required arguments were not provided:\n",
     ),
     (
-        &["routecli", "info", "a.rch", "b.rch"],
+        "routecli info a.rch b.rch",
         b"unexpected argument 'b.rch' found\n",
     ),
     (
-        &["routecli", "check", "a.gr"],
+        "routecli check a.gr",
         b"the following required arguments were not provided:\n",
     ),
     (
-        &["routecli", "check", "a.gr", "a.rch", "b"],
+        "routecli check a.gr a.rch b",
         b"unexpected argument 'b' found\n",
     ),
     (
-        &["routecli", "check", "--workers", "1", "a.gr", "a.rch"],
+        "routecli check --workers 1 a.gr a.rch",
         b"unexpected argument '--workers' found\n",
     ),
     (
-        &["routecli", "route", "--explain=no", "a.rch", "a.p2p"],
+        "routecli route --explain=no a.rch a.p2p",
         b"unexpected value 'no' for '--explain' found; no more were expected\n",
     ),
     (
-        &["routecli", "prepare", "a.gr", "a.rch", "b"],
+        "routecli prepare a.gr a.rch b",
         b"unexpected argument 'b' found\n",
     ),
 ];
@@ -519,20 +454,28 @@ fn tells_error(alloc: Global, why: &Stop, line: &[u8]) -> bool {
     (status == 2) & out.is_empty() & text.starts_with(line)
 }
 
+/// Whether each of these is refused as it is said.
+fn are_refused(alloc: Global, cases: &[(&str, &[u8])]) -> Result<bool, Fail> {
+    for (line, refusal) in cases {
+        let why = stop_of(alloc, line)?;
+        if !tells_error(alloc, &why, refusal) {
+            return Ok(false);
+        }
+    }
+    Ok(true)
+}
+
 #[test]
 fn words_that_are_refused(rt: HostRuntime) -> Result<(), Fail> {
-    for (texts, line) in REFUSED {
-        let why = stop_of(rt.alloc(), texts)?;
-        assert!(rt; tells_error(rt.alloc(), &why, line));
-    }
+    assert!(rt; are_refused(rt.alloc(), &REFUSED)?);
     Ok(())
 }
 
 /// One word for both files, with and without options.
-const ONE_FILE: [&[&str]; 3] = [
-    &["routecli", "prepare", "a.gr", "a.gr"],
-    &["routecli", "prepare", "--workers", "0", "-", "-"],
-    &["routecli", "prepare", "../a", "--order=depth", "../a"],
+const ONE_FILE: [&str; 3] = [
+    "routecli prepare a.gr a.gr",
+    "routecli prepare --workers 0 - -",
+    "routecli prepare ../a --order=depth ../a",
 ];
 
 /// Whether the user is shown this line alone, on standard error, with this status.
@@ -545,27 +488,27 @@ fn tells_line(alloc: Global, why: &Stop, status: u8, line: &[u8]) -> bool {
 
 #[test]
 fn one_word_for_both_files(rt: HostRuntime) -> Result<(), Fail> {
-    for texts in ONE_FILE {
-        let why = stop_of(rt.alloc(), texts)?;
-        let line = b"routecli: GRAPH and OUT are one file\n";
-        assert!(rt; tells_line(rt.alloc(), &why, 2, line));
+    for line in ONE_FILE {
+        let why = stop_of(rt.alloc(), line)?;
+        let told = b"routecli: GRAPH and OUT are one file\n";
+        assert!(rt; tells_line(rt.alloc(), &why, 2, told));
     }
     Ok(())
 }
 
-/// Arguments that ask for help, and what the help says.
-const HELP: [(&[&str], &[&str]); 7] = [
-    (&["routecli", "--help"], &["--version"]),
-    (&["routecli", "help"], &["--version"]),
-    (&["routecli", "help", "answer"], &[]),
-    (&["routecli", "answer", "-h"], &[]),
-    (&["routecli", "route", "--help"], &[]),
+/// Command lines that ask for help, and what the help says.
+const HELP: [(&str, &[&str]); 7] = [
+    ("routecli --help", &["--version"]),
+    ("routecli help", &["--version"]),
+    ("routecli help answer", &[]),
+    ("routecli answer -h", &[]),
+    ("routecli route --help", &[]),
     (
-        &["routecli", "check", "--help"],
+        "routecli check --help",
         &["<GRAPH>", "<HIER>", "--progress", "--explain"],
     ),
     (
-        &["routecli", "prepare", "--help"],
+        "routecli prepare --help",
         &[
             "--workers <K>",
             "0 to 64",
@@ -605,20 +548,28 @@ fn is_shown(alloc: Global, why: &Stop) -> bool {
     is_told & (status == 0) & (broken == 7) & (err.as_slice() == b"routecli: write\n".as_slice())
 }
 
+/// Whether each of these gets its help.
+fn are_helped(alloc: Global, cases: &[(&str, &[&str])]) -> Result<bool, Fail> {
+    for (line, parts) in cases {
+        let why = stop_of(alloc, line)?;
+        if !is_shown(alloc, &why) || !tells(&why, parts) {
+            return Ok(false);
+        }
+    }
+    Ok(true)
+}
+
 #[test]
 fn words_that_ask_for_help(rt: HostRuntime) -> Result<(), Fail> {
-    for (texts, parts) in HELP {
-        let why = stop_of(rt.alloc(), texts)?;
-        assert!(rt; is_shown(rt.alloc(), &why) && tells(&why, parts));
-    }
+    assert!(rt; are_helped(rt.alloc(), &HELP)?);
     Ok(())
 }
 
-/// Words that ask for the version.
-const VERSION: [&[&str]; 3] = [
-    &["routecli", "--version"],
-    &["routecli", "-V"],
-    &["routecli", "--version", "prepare"],
+/// Command lines that ask for the version.
+const VERSION: [&str; 3] = [
+    "routecli --version",
+    "routecli -V",
+    "routecli --version prepare",
 ];
 
 /// Whether the text for the user is one line: the program's name, its version, and the logic by which it was proved.
@@ -631,8 +582,8 @@ fn tells_version(why: &Stop) -> bool {
 
 #[test]
 fn words_that_ask_for_the_version(rt: HostRuntime) -> Result<(), Fail> {
-    for texts in VERSION {
-        let why = stop_of(rt.alloc(), texts)?;
+    for line in VERSION {
+        let why = stop_of(rt.alloc(), line)?;
         assert!(rt; is_shown(rt.alloc(), &why) && tells_version(&why));
     }
     Ok(())
