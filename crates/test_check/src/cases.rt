@@ -214,13 +214,23 @@ pub fn hierarchy_of(
     Ok(hierarchy)
 }
 
+/// Whether a check of the case's graph and hierarchy ends so.
+fn ends_so(
+    alloc: Global,
+    graph: &Graph,
+    hierarchy: &Hierarchy,
+    case: &Case,
+) -> Result<bool, AllocError> {
+    let outcome = check(alloc, graph, hierarchy);
+    let refuted = is_refuted_at(alloc, graph, hierarchy, outcome)?;
+    Ok((outcome == case.outcome) & (refuted == case.refuted))
+}
+
 /// Whether a check ends as the case has it.
-pub fn holds(alloc: Global, case: &Case) -> Result<bool, Fail> {
+fn holds(alloc: Global, case: &Case) -> Result<bool, Fail> {
     let graph = graph_of(alloc, case.nodes, case.lines)?;
     let hierarchy = hierarchy_of(alloc, case.ranks, case.links, case.bound)?;
-    let outcome = check(alloc, &graph, &hierarchy);
-    let refuted = is_refuted_at(alloc, &graph, &hierarchy, outcome)?;
-    Ok((outcome == case.outcome) & (refuted == case.refuted))
+    Ok(ends_so(alloc, &graph, &hierarchy, case)?)
 }
 
 fn is_refuted_at(

@@ -66,59 +66,83 @@ const BACK: &[Linked] = &[
     (4, 3, (1, 1), None),
 ];
 
-fn link(from: u32, to: u32) -> Result<(), CheckError> {
-    Err(CheckError::Link { from, to })
-}
+/// A fault of the tied ways, and where the check of it ends. The pair there refutes the hierarchy.
+const WRONG_TIE: Case = Case {
+    refuted: true,
+    ..TIE
+};
 
-fn way(via: u32, from: u32, to: u32) -> Result<(), CheckError> {
-    Err(CheckError::Way { via, from, to })
-}
+/// The same of the graph that is drawn.
+const WRONG: Case = Case {
+    refuted: true,
+    ..RIGHT
+};
 
-/// A fault, and where the check of it ends. The pair there refutes the hierarchy.
-fn wrong(base: Case, links: &'static [Linked], outcome: Result<(), CheckError>) -> Case {
+const FAULTS: [Case; 9] = [
     Case {
-        links,
-        outcome,
-        refuted: true,
-        ..base
-    }
-}
-
-/// The same, where the pair refutes nothing.
-fn doubtful(base: Case, outcome: Result<(), CheckError>) -> Case {
-    Case { outcome, ..base }
-}
-
-fn all_faults() -> [Case; 9] {
-    [
-        wrong(TIE, HEAVIER, link(1, 0)),
-        wrong(TIE, FEWER, link(3, 2)),
-        wrong(TIE, MORE, link(2, 1)),
-        wrong(TIE, ARC, link(1, 2)),
-        wrong(RIGHT, ONE_WAY, way(4, 1, 3)),
-        wrong(RIGHT, BACK, way(4, 3, 1)),
-        // the hierarchy has no shortcut over 1, which is contracted first here
-        wrong(
-            Case {
-                nodes: 3,
-                lines: &[(0, 1, 2), (1, 2, 3)],
-                ranks: &[1, 0, 2],
-                bound: (6, 2),
-                ..TIE
-            },
-            &[(0, 1, (2, 1), None), (1, 2, (3, 1), None)],
-            way(1, 0, 2),
-        ),
-        doubtful(
-            Case {
-                bound: (21, 4),
-                ..RIGHT
-            },
-            Err(CheckError::Bound),
-        ),
-        doubtful(Case { nodes: 6, ..RIGHT }, Err(CheckError::Nodes)),
-    ]
-}
+        links: HEAVIER,
+        outcome: Err(CheckError::Link { from: 1, to: 0 }),
+        ..WRONG_TIE
+    },
+    Case {
+        links: FEWER,
+        outcome: Err(CheckError::Link { from: 3, to: 2 }),
+        ..WRONG_TIE
+    },
+    Case {
+        links: MORE,
+        outcome: Err(CheckError::Link { from: 2, to: 1 }),
+        ..WRONG_TIE
+    },
+    Case {
+        links: ARC,
+        outcome: Err(CheckError::Link { from: 1, to: 2 }),
+        ..WRONG_TIE
+    },
+    Case {
+        links: ONE_WAY,
+        outcome: Err(CheckError::Way {
+            via: 4,
+            from: 1,
+            to: 3,
+        }),
+        ..WRONG
+    },
+    Case {
+        links: BACK,
+        outcome: Err(CheckError::Way {
+            via: 4,
+            from: 3,
+            to: 1,
+        }),
+        ..WRONG
+    },
+    // the hierarchy has no shortcut over 1, which is contracted first here
+    Case {
+        nodes: 3,
+        lines: &[(0, 1, 2), (1, 2, 3)],
+        ranks: &[1, 0, 2],
+        links: &[(0, 1, (2, 1), None), (1, 2, (3, 1), None)],
+        bound: (6, 2),
+        outcome: Err(CheckError::Way {
+            via: 1,
+            from: 0,
+            to: 2,
+        }),
+        ..WRONG_TIE
+    },
+    // the pair refutes nothing
+    Case {
+        bound: (21, 4),
+        outcome: Err(CheckError::Bound),
+        ..RIGHT
+    },
+    Case {
+        nodes: 6,
+        outcome: Err(CheckError::Nodes),
+        ..RIGHT
+    },
+];
 
 /// The hierarchy of version 1 of two nodes without links.
 fn old_hierarchy(alloc: Global) -> Result<Hierarchy, Fail> {
@@ -140,20 +164,33 @@ fn refuted(alloc: Global, nodes: u32, from: u32, to: u32) -> Result<bool, Fail> 
     Ok(is_refuted_by(alloc, &graph, &hierarchy, from, to)?)
 }
 
+/// How many nodes the graph has, a pair, and whether the pair refutes the hierarchy of two.
+const PAIRS: [(u32, u32, u32, bool); 4] = [
+    (2, 0, 1, false),
+    (2, 2, 0, false),
+    (2, 0, 2, false),
+    (3, 0, 0, true),
+];
+
+/// Whether each of these pairs refutes as expected.
+fn are_refuted(alloc: Global, cases: &[(u32, u32, u32, bool)]) -> Result<bool, Fail> {
+    for (nodes, from, to, expected) in cases {
+        if refuted(alloc, *nodes, *from, *to)? != *expected {
+            return Ok(false);
+        }
+    }
+    Ok(true)
+}
+
 #[test]
 fn faults_are_found(rt: HostRuntime) -> Result<(), Fail> {
-    let alloc = rt.alloc();
-    assert!(rt; failures(alloc, &all_faults())? == 0);
-    assert!(rt; old_outcome(alloc)? == Err(CheckError::Version));
+    assert!(rt; failures(rt.alloc(), &FAULTS)? == 0);
+    assert!(rt; old_outcome(rt.alloc())? == Err(CheckError::Version));
     Ok(())
 }
 
 #[test]
 fn pairs_out_of_range_refute_nothing(rt: HostRuntime) -> Result<(), Fail> {
-    let alloc = rt.alloc();
-    assert!(rt; !refuted(alloc, 2, 0, 1)?);
-    assert!(rt; !refuted(alloc, 2, 2, 0)?);
-    assert!(rt; !refuted(alloc, 2, 0, 2)?);
-    assert!(rt; refuted(alloc, 3, 0, 0)?);
+    assert!(rt; are_refuted(rt.alloc(), &PAIRS)?);
     Ok(())
 }

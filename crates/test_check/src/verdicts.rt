@@ -150,12 +150,38 @@ fn holds(alloc: Global, case: &Case) -> Result<bool, AllocError> {
     ))
 }
 
+/// Whether each of these cases does.
+fn hold(alloc: Global, cases: &[Case]) -> Result<bool, AllocError> {
+    for case in cases {
+        if !holds(alloc, case)? {
+            return Ok(false);
+        }
+    }
+    Ok(true)
+}
+
 #[test]
 fn verdicts(rt: HostRuntime) -> Result<(), AllocError> {
-    for case in CASES {
-        assert!(rt; holds(rt.alloc(), &case)?);
-    }
+    assert!(rt; hold(rt.alloc(), &CASES)?);
     Ok(())
+}
+
+/// A text, a file, what a check of them ends with, and its line.
+type Found = (
+    &'static [u8],
+    &'static [u8],
+    Result<Verdict, Cause>,
+    &'static [u8],
+);
+
+/// Whether each of these checks ends so.
+fn are_found(alloc: Global, cases: &[Found]) -> bool {
+    for (text, file, end, line) in cases {
+        if !is_found(alloc, text, file, *end, line) {
+            return false;
+        }
+    }
+    true
 }
 
 /// The text of one arc.
@@ -169,29 +195,26 @@ const ONE_ARC: &[u8] = b"RCH2\0\0\0\x02\0\0\0\0\0\0\0\x01\0\0\0\0\0\0\0\x07\0\0\
 const ONE_ARC_V1: &[u8] = b"RCH1\0\0\0\x02\0\0\0\0\0\0\0\x01\0\0\0\0\0\0\0\x07\0\0\0\0\0\0\0\x01\
 \0\0\0\0\0\0\0\x01\0\0\0\0\0\0\0\x07\xff\xff\xff\xff";
 
-/// Texts, files, and the line of the verdict.
-const BY_BYTES: [(&[u8], &[u8], Verdict, &[u8]); 3] = [
+const BY_BYTES: [Found; 3] = [
     (
         b"p sp 0 0\n",
         b"RCH2\0\0\0\0\0\0\0\0\0\0\0\0\0\0\0\0\0\0\0\0",
-        Verdict::Right,
+        Ok(Verdict::Right),
         b"right\n",
     ),
-    (ONE_ARC_TEXT, ONE_ARC, Verdict::Right, b"right\n"),
+    (ONE_ARC_TEXT, ONE_ARC, Ok(Verdict::Right), b"right\n"),
     // another weight of the same arc
     (
         b"p sp 2 2\na 1 2 6\na 2 1 7\n",
         ONE_ARC,
-        Verdict::Wrong(Refutation::Pair { from: 0, to: 1 }),
+        Ok(Verdict::Wrong(Refutation::Pair { from: 0, to: 1 })),
         b"wrong: pair 1 2\n",
     ),
 ];
 
 #[test]
 fn files_to_the_byte(rt: HostRuntime) {
-    for (text, file, verdict, line) in BY_BYTES {
-        assert!(rt; is_found(rt.alloc(), text, file, Ok(verdict), line));
-    }
+    assert!(rt; are_found(rt.alloc(), &BY_BYTES));
 }
 
 const OUT_OF_RANGE: Cause = Cause::Graph(GrError {
@@ -199,20 +222,27 @@ const OUT_OF_RANGE: Cause = Cause::Graph(GrError {
     line: 2,
 });
 
-/// Texts, files, and why they are refused. The text is read first.
-const REFUSED: [(&[u8], &[u8], Cause); 5] = [
-    (ONE_ARC_TEXT, ONE_ARC_V1, Cause::OldVersion),
-    (b"p sp 3 1\na 1 2 7\n", ONE_ARC_V1, Cause::OldVersion),
-    (b"p sp 2 1\na 1 3 7\n", b"RCH3", OUT_OF_RANGE),
-    (ONE_ARC_TEXT, b"RCH3", Cause::Hierarchy(HierError::BadMagic)),
-    (ONE_ARC_TEXT, b"", Cause::Hierarchy(HierError::Truncated)),
+const BAD_MAGIC: Cause = Cause::Hierarchy(HierError::BadMagic);
+
+const TRUNCATED: Cause = Cause::Hierarchy(HierError::Truncated);
+
+/// Checks that are refused. The text is read first.
+const REFUSED: [Found; 5] = [
+    (ONE_ARC_TEXT, ONE_ARC_V1, Err(Cause::OldVersion), b""),
+    (
+        b"p sp 3 1\na 1 2 7\n",
+        ONE_ARC_V1,
+        Err(Cause::OldVersion),
+        b"",
+    ),
+    (b"p sp 2 1\na 1 3 7\n", b"RCH3", Err(OUT_OF_RANGE), b""),
+    (ONE_ARC_TEXT, b"RCH3", Err(BAD_MAGIC), b""),
+    (ONE_ARC_TEXT, b"", Err(TRUNCATED), b""),
 ];
 
 #[test]
 fn refusals_write_nothing(rt: HostRuntime) {
-    for (text, file, error) in REFUSED {
-        assert!(rt; is_found(rt.alloc(), text, file, Err(error), b""));
-    }
+    assert!(rt; are_found(rt.alloc(), &REFUSED));
 }
 
 /// A reader that fails.
