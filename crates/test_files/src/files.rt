@@ -184,12 +184,22 @@ fn refusal_of(
     Ok(refusal(alloc, bytes.as_slice()))
 }
 
+/// Files that are written as they were read.
+const KEPT: [&[u32]; 6] = [&NO_NODE, &ONE_ARC, &FREE, &ROW, &HEAVY, &BY_WAY_OF_0];
+
+/// Whether each of these files is.
+fn are_files_kept(alloc: Global, files: &[&[u32]]) -> Result<bool, AllocError> {
+    for words in files {
+        if !is_kept(alloc, words)? {
+            return Ok(false);
+        }
+    }
+    Ok(true)
+}
+
 #[test]
 fn keeps_files(rt: HostRuntime) -> Result<(), AllocError> {
-    let files: [&[u32]; 6] = [&NO_NODE, &ONE_ARC, &FREE, &ROW, &HEAVY, &BY_WAY_OF_0];
-    for file in files {
-        assert!(rt; is_kept(rt.alloc(), file)?);
-    }
+    assert!(rt; are_files_kept(rt.alloc(), &KEPT)?);
     Ok(())
 }
 
@@ -222,7 +232,7 @@ fn reads_numbers(rt: HostRuntime) -> Result<(), AllocError> {
 }
 
 /// Whether each front of a file but the whole of it is refused as cut.
-pub(crate) fn fronts_are_cut(alloc: Global, file: &[u8]) -> bool {
+fn fronts_are_cut(alloc: Global, file: &[u8]) -> bool {
     for length in 0..file.len() {
         if refusal(alloc, &file[..length]) != Some(HierError::Truncated) {
             return false;
@@ -231,34 +241,36 @@ pub(crate) fn fronts_are_cut(alloc: Global, file: &[u8]) -> bool {
     true
 }
 
-/// Whether bytes that are too long, and bytes with another magic, are refused.
-fn others_are_refused(alloc: Global, longer: &[u8]) -> bool {
-    let others: [(&[u8], HierError); 5] = [
-        (longer, HierError::Trailing),
-        (b"SCH2", HierError::BadMagic),
-        (b"RX", HierError::BadMagic),
-        (b"RCH3", HierError::BadMagic),
-        (b"RCH", HierError::Truncated),
-    ];
-    for (bytes, expected) in others {
-        if refusal(alloc, bytes) != Some(expected) {
+/// Whether each of these bytes is refused for its fault.
+pub(crate) fn are_refused_for(alloc: Global, cases: &[(&[u8], HierError)]) -> bool {
+    for (bytes, fault) in cases {
+        if refusal(alloc, bytes) != Some(*fault) {
             return false;
         }
     }
     true
 }
 
-/// Whether the row is refused where it is cut or longer.
-fn row_is_whole(alloc: Global) -> Result<bool, AllocError> {
-    let mut row = bytes(alloc, &ROW)?;
-    let are_cut = fronts_are_cut(alloc, row.as_slice()) & (row.len() == 108);
-    row.push(0)?;
-    Ok(are_cut & others_are_refused(alloc, row.as_slice()))
+/// Bytes with another magic, or with a part of one.
+const OTHERS: [(&[u8], HierError); 4] = [
+    (b"SCH2", HierError::BadMagic),
+    (b"RX", HierError::BadMagic),
+    (b"RCH3", HierError::BadMagic),
+    (b"RCH", HierError::Truncated),
+];
+
+/// Whether a file has this many bytes, each front of it but the whole is refused as cut, and a byte more is refused too.
+pub(crate) fn is_cut(alloc: Global, words: &[u32], count: usize) -> Result<bool, AllocError> {
+    let mut file = bytes(alloc, words)?;
+    let are_cut = fronts_are_cut(alloc, file.as_slice()) & (file.len() == count);
+    file.push(0)?;
+    Ok(are_cut & (refusal(alloc, file.as_slice()) == Some(HierError::Trailing)))
 }
 
 #[test]
 fn refuses_cut_files(rt: HostRuntime) -> Result<(), AllocError> {
-    assert!(rt; row_is_whole(rt.alloc())?);
+    assert!(rt; is_cut(rt.alloc(), &ROW, 108)?);
+    assert!(rt; are_refused_for(rt.alloc(), &OTHERS));
     Ok(())
 }
 
@@ -276,27 +288,37 @@ pub(crate) fn are_refused(
     Ok(true)
 }
 
-/// Whether the row is refused with its changes.
-fn changed_rows_are_refused(alloc: Global) -> Result<bool, AllocError> {
-    are_refused(alloc, &ROW, &CHANGES)
+/// Whether each of these files is refused with its changes.
+pub(crate) fn are_each_refused(
+    alloc: Global,
+    cases: &[(&[u32], &[Change])],
+) -> Result<bool, AllocError> {
+    for (file, changes) in cases {
+        if !are_refused(alloc, file, changes)? {
+            return Ok(false);
+        }
+    }
+    Ok(true)
 }
 
-/// Whether other files are refused, with changes or as they are.
-fn other_files_are_refused(alloc: Global) -> Result<bool, AllocError> {
-    let greatest: [Change; 3] = [
-        (&[], HierError::Truncated),
-        (&[(3, 0xfe00_0001)], HierError::TooBig),
-        (&[(1, 0x0200_0001)], HierError::TooBig),
-    ];
-    let exchanged = are_refused(alloc, &EXCHANGED, &[(&[], HierError::LinkOrder)])?;
-    let without_half = are_refused(alloc, &WITHOUT_HALF, &[(&[], HierError::HalfMissing)])?;
-    Ok(exchanged & without_half & are_refused(alloc, &GREATEST, &greatest)?)
-}
+/// Changes of the greatest head.
+const GREATEST_CHANGES: [Change; 3] = [
+    (&[], HierError::Truncated),
+    (&[(3, 0xfe00_0001)], HierError::TooBig),
+    (&[(1, 0x0200_0001)], HierError::TooBig),
+];
+
+/// Files that are refused, with changes or as they are.
+const REFUSED: [(&[u32], &[Change]); 3] = [
+    (&EXCHANGED, &[(&[], HierError::LinkOrder)]),
+    (&WITHOUT_HALF, &[(&[], HierError::HalfMissing)]),
+    (&GREATEST, &GREATEST_CHANGES),
+];
 
 #[test]
 fn refuses_files(rt: HostRuntime) -> Result<(), AllocError> {
-    assert!(rt; changed_rows_are_refused(rt.alloc())?);
-    assert!(rt; other_files_are_refused(rt.alloc())?);
+    assert!(rt; are_refused(rt.alloc(), &ROW, &CHANGES)?);
+    assert!(rt; are_each_refused(rt.alloc(), &REFUSED)?);
     Ok(())
 }
 
@@ -426,31 +448,39 @@ impl Read for Pieces<'_> {
     }
 }
 
-/// Whether a file in pieces is read, or refused, as it is said.
-fn is_read_in_pieces(alloc: Global, bytes: &[u8]) -> bool {
-    let table = [
-        (1, 1000, 218, None),
-        (1, 1000, 217, Some(HierError::Read)),
-        (7, 1000, MANY, None),
-        (40, 1, MANY, Some(HierError::Read)),
-    ];
-    for (most, calls, limit, expected) in table {
+/// How many bytes a reader gives at a call, after how many calls it fails, the limit of the calls, and the fault or none.
+type Reading = (usize, u32, u64, Option<HierError>);
+
+/// How the row is read in pieces.
+const READINGS: [Reading; 4] = [
+    (1, 1000, 218, None),
+    (1, 1000, 217, Some(HierError::Read)),
+    (7, 1000, MANY, None),
+    (40, 1, MANY, Some(HierError::Read)),
+];
+
+/// Whether a file in pieces is read, or refused, in each of these ways.
+fn is_read_in_pieces(alloc: Global, bytes: &[u8], readings: &[Reading]) -> bool {
+    for (most, calls, limit, expected) in readings {
         let mut pieces = Pieces {
             bytes,
-            most,
-            calls,
+            most: *most,
+            calls: *calls,
             is_odd: false,
         };
-        if read_within(alloc, &mut pieces, limit).err() != expected {
+        if read_within(alloc, &mut pieces, *limit).err() != *expected {
             return false;
         }
     }
     true
 }
 
-/// Files as numbers of four bytes, how many bytes of each the first fault takes, and that fault: a wrong third byte, too many
-/// nodes, a rank that came before, a link from a node to itself, and a sum that isn't that of the halves.
-const HOSTILE: [(&[u32], u32, HierError); 5] = [
+/// A file as numbers of four bytes, how many bytes of it the first fault takes, and that fault.
+type Hostile = (&'static [u32], u32, HierError);
+
+/// A wrong third byte, too many nodes, a rank that came before, a link from a node to itself, and a sum that isn't that of the
+/// halves.
+const HOSTILE: [Hostile; 5] = [
     (&[0x5243_5832, 0], 3, HierError::BadMagic),
     (&[MAGIC, 0x0200_0001, 0, 0, 0, 0, 0], 24, HierError::TooBig),
     (&[MAGIC, 3, 0, 3, 0, 6, 0, 0, 2], 32, HierError::RankTwice),
@@ -483,9 +513,7 @@ fn refusal_before(alloc: Global, bytes: &[u8], calls: u32) -> Option<HierError> 
 /// Whether a fault is reported by a reader that fails right behind it, and not by one that fails a byte before.
 fn comes_before_a_failed_read(
     alloc: Global,
-    words: &[u32],
-    calls: u32,
-    fault: HierError,
+    (words, calls, fault): Hostile,
 ) -> Result<bool, AllocError> {
     let file = bytes(alloc, words)?;
     let before = calls.saturating_sub(1);
@@ -495,19 +523,32 @@ fn comes_before_a_failed_read(
     )
 }
 
+/// Whether each of these faults is.
+fn come_before_a_failed_read(alloc: Global, cases: &[Hostile]) -> Result<bool, AllocError> {
+    for case in cases {
+        if !comes_before_a_failed_read(alloc, *case)? {
+            return Ok(false);
+        }
+    }
+    Ok(true)
+}
+
 #[test]
 fn faults_come_before_a_failed_read(rt: HostRuntime) -> Result<(), AllocError> {
-    for (words, calls, fault) in HOSTILE {
-        assert!(rt; comes_before_a_failed_read(rt.alloc(), words, calls, fault)?);
-    }
+    assert!(rt; come_before_a_failed_read(rt.alloc(), &HOSTILE)?);
     Ok(())
+}
+
+/// Whether the row is read in pieces as expected.
+fn row_is_read(alloc: Global) -> Result<bool, AllocError> {
+    let row = bytes(alloc, &ROW)?;
+    let is_read = is_read_in_pieces(alloc, row.as_slice(), &READINGS);
+    Ok(is_read & (refusal_before(alloc, row.as_slice(), 1) == Some(HierError::Read)))
 }
 
 #[test]
 fn reads_in_pieces(rt: HostRuntime) -> Result<(), AllocError> {
-    let row = bytes(rt.alloc(), &ROW)?;
-    assert!(rt; is_read_in_pieces(rt.alloc(), row.as_slice()));
-    assert!(rt; refusal_before(rt.alloc(), row.as_slice(), 1) == Some(HierError::Read));
+    assert!(rt; row_is_read(rt.alloc())?);
     Ok(())
 }
 
@@ -580,17 +621,20 @@ fn is_taken(
     Ok(is_answered & (Some(taker.taken.as_slice()) == bytes.get(..count)))
 }
 
-/// Whether the row, of these bytes, is written in pieces as it is said.
-fn is_written_in_pieces(alloc: Global, bytes: &[u8]) -> Result<bool, AllocError> {
-    let table = [
-        (1, 1000, 216, Ok(()), 108),
-        (1, 1000, 215, Err(WriteFault { written: 107 }), 107),
-        (1000, 30, MANY, Err(WriteFault { written: 30 }), 30),
-        (7, 30, MANY, Err(WriteFault { written: 30 }), 30),
-        (7, 0, MANY, Err(WriteFault { written: 0 }), 0),
-    ];
-    for writing in table {
-        if !is_taken(alloc, bytes, writing)? {
+/// How the row is written in pieces.
+const WRITINGS: [Writing; 5] = [
+    (1, 1000, 216, Ok(()), 108),
+    (1, 1000, 215, Err(WriteFault { written: 107 }), 107),
+    (1000, 30, MANY, Err(WriteFault { written: 30 }), 30),
+    (7, 30, MANY, Err(WriteFault { written: 30 }), 30),
+    (7, 0, MANY, Err(WriteFault { written: 0 }), 0),
+];
+
+/// Whether the row is written in each of these ways.
+fn is_written_in_pieces(alloc: Global, writings: &[Writing]) -> Result<bool, AllocError> {
+    let row = bytes(alloc, &ROW)?;
+    for writing in writings {
+        if !is_taken(alloc, row.as_slice(), *writing)? {
             return Ok(false);
         }
     }
@@ -599,8 +643,7 @@ fn is_written_in_pieces(alloc: Global, bytes: &[u8]) -> Result<bool, AllocError>
 
 #[test]
 fn writes_in_pieces(rt: HostRuntime) -> Result<(), AllocError> {
-    let row = bytes(rt.alloc(), &ROW)?;
-    assert!(rt; is_written_in_pieces(rt.alloc(), row.as_slice())?);
+    assert!(rt; is_written_in_pieces(rt.alloc(), &WRITINGS)?);
     Ok(())
 }
 

@@ -25,8 +25,11 @@ const MANY: u64 = 1 << 40;
 /// for none, and how many there may be. Of one each call is interrupted, and the other fails at its second.
 const FAILING: [(u64, u64, u64); 2] = [(1, 0, 3), (3, 2, MANY)];
 
+/// The kind and the line of a fault, or none.
+type Fault = Option<(GrErrorKind, u64)>;
+
 /// Texts of graphs, each with the fault that it has or none: that of one arc, with blanks and line ends, and others.
-const GRAPHS: [(&[u8], Option<(GrErrorKind, u64)>); 14] = [
+const GRAPHS: [(&[u8], Fault); 14] = [
     (b"c x\r\n\r\np\tsp 02 01\r\na  1\t2 007 ", None),
     (b"", Some((GrErrorKind::NoProblemLine, 0))),
     (b"a 1 2 7", Some((GrErrorKind::NoProblemLine, 1))),
@@ -50,7 +53,7 @@ const GRAPHS: [(&[u8], Option<(GrErrorKind, u64)>); 14] = [
 ];
 
 /// Texts of pairs of three nodes: that of the pair of 2 and 1, and others.
-const PAIRS: [(&[u8], Option<(GrErrorKind, u64)>); 8] = [
+const PAIRS: [(&[u8], Fault); 8] = [
     (b"p aux sp p2p 1\nq 2 1\n", None),
     (b"c\np aux sp p2p 1\r\n\nq\t02 01 ", None),
     (b"p aux sp sp 1\n", Some((GrErrorKind::UnknownLine, 1))),
@@ -108,12 +111,12 @@ const FILES: [(&[u32], Option<HierError>); 4] = [
 ];
 
 /// Whether memory ran out.
-fn lacks_memory<T>(answer: &Result<T, GrError>) -> bool {
-    matches!(answer, Err(error) if error.kind == GrErrorKind::OutOfMemory)
+fn lacks_memory(fault: Fault) -> bool {
+    matches!(fault, Some((GrErrorKind::OutOfMemory, _)))
 }
 
 /// The fault of a result; where another graph was read than that of one arc, a fault that no text has.
-fn graph_fault(answer: Result<Graph, GrError>) -> Option<(GrErrorKind, u64)> {
+fn graph_fault(answer: Result<Graph, GrError>) -> Fault {
     let (from, to, weight) = (0, 1, 7);
     match answer {
         Ok(graph) if graph.arcs() == [Road { from, to, weight }].as_slice() => None,
@@ -123,7 +126,7 @@ fn graph_fault(answer: Result<Graph, GrError>) -> Option<(GrErrorKind, u64)> {
 }
 
 /// The fault of a result; where other pairs were read than that of 2 and 1, a fault that no text has.
-fn pairs_fault(answer: Result<Vec<(u32, u32)>, GrError>) -> Option<(GrErrorKind, u64)> {
+fn pairs_fault(answer: Result<Vec<(u32, u32)>, GrError>) -> Fault {
     match answer {
         Ok(pairs) if pairs.as_slice() == [(1, 0)].as_slice() => None,
         Ok(_) => Some((GrErrorKind::Read, 0)),
@@ -131,117 +134,129 @@ fn pairs_fault(answer: Result<Vec<(u32, u32)>, GrError>) -> Option<(GrErrorKind,
     }
 }
 
-/// The graph of a text that is fed in pieces of five bytes. What is refused once has to be refused so again.
-fn graph_in_pieces(alloc: Global, text: &[u8]) -> Result<Graph, GrError> {
-    let mut reader = GrReader::new(alloc);
+/// Feeds a text in pieces of five bytes. What is refused once has to be refused so again.
+fn feed_graph(reader: &mut GrReader, text: &[u8]) -> Result<(), GrError> {
     for piece in text.chunks(5) {
         if let Err(error) = reader.feed(piece) {
             return if reader.feed(b"\n") == Err(error) {
-                reader.finish()
+                Ok(())
             } else {
                 Err(GrError { line: 0, ..error })
             };
         }
     }
+    Ok(())
+}
+
+/// The same of pairs.
+fn feed_pairs(reader: &mut QueryReader, text: &[u8]) -> Result<(), GrError> {
+    for piece in text.chunks(5) {
+        if let Err(error) = reader.feed(piece) {
+            return if reader.feed(b"\n") == Err(error) {
+                Ok(())
+            } else {
+                Err(GrError { line: 0, ..error })
+            };
+        }
+    }
+    Ok(())
+}
+
+/// The graph of a text that is fed in pieces.
+fn graph_in_pieces(alloc: Global, text: &[u8]) -> Result<Graph, GrError> {
+    let mut reader = GrReader::new(alloc);
+    feed_graph(&mut reader, text)?;
     reader.finish()
 }
 
-/// The pairs of a text that is fed in pieces of five bytes. What is refused once has to be refused so again.
+/// The pairs of a text that is fed in pieces.
 fn pairs_in_pieces(alloc: Global, text: &[u8]) -> Result<Vec<(u32, u32)>, GrError> {
     let mut reader = QueryReader::new(alloc, 3);
-    for piece in text.chunks(5) {
-        if let Err(error) = reader.feed(piece) {
-            return if reader.feed(b"\n") == Err(error) {
-                reader.finish()
-            } else {
-                Err(GrError { line: 0, ..error })
-            };
+    feed_pairs(&mut reader, text)?;
+    reader.finish()
+}
+
+/// How a text is read: as a graph or as pairs, fed in pieces, by a reader of it, or by one that fails.
+#[derive(Clone, Copy)]
+enum Way {
+    GraphInPieces,
+    PairsInPieces,
+    Graph,
+    Pairs,
+    GraphFailing(u64, u64, u64),
+    PairsFailing(u64, u64, u64),
+}
+
+/// The fault of a text.
+fn fault_once(alloc: Global, mut text: &[u8], way: Way) -> Fault {
+    match way {
+        Way::GraphInPieces => graph_fault(graph_in_pieces(alloc, text)),
+        Way::PairsInPieces => pairs_fault(pairs_in_pieces(alloc, text)),
+        Way::Graph => graph_fault(read_graph_within(alloc, &mut text, MANY)),
+        Way::Pairs => pairs_fault(read_queries_within(alloc, &mut text, 3, MANY)),
+        Way::GraphFailing(interrupted, fails_at, calls) => {
+            let mut failing = Uneven::new(text, interrupted, fails_at);
+            graph_fault(read_graph_within(alloc, &mut failing, calls))
+        }
+        Way::PairsFailing(interrupted, fails_at, calls) => {
+            let mut failing = Uneven::new(text, interrupted, fails_at);
+            pairs_fault(read_queries_within(alloc, &mut failing, 3, calls))
         }
     }
-    reader.finish()
+}
+
+/// Whether a text has this fault; where memory runs out it is read again.
+fn has_fault(alloc: Global, text: &[u8], way: Way, fault: Fault) -> bool {
+    let once = fault_once(alloc, text, way);
+    if lacks_memory(once) {
+        fault_once(alloc, text, way) == fault
+    } else {
+        once == fault
+    }
+}
+
+/// Whether each of these texts has its fault.
+fn have_faults(alloc: Global, cases: &[(&[u8], Fault)], way: Way) -> bool {
+    for (text, fault) in cases {
+        if !has_fault(alloc, text, way, *fault) {
+            return false;
+        }
+    }
+    true
 }
 
 #[test]
 fn graph_reader(rt: HostRuntime) {
-    let alloc = rt.alloc();
-    for (text, fault) in GRAPHS {
-        let mut answer = graph_in_pieces(alloc, text);
-        if lacks_memory(&answer) {
-            answer = graph_in_pieces(alloc, text);
-        }
-        assert!(rt; graph_fault(answer) == fault);
-    }
+    assert!(rt; have_faults(rt.alloc(), &GRAPHS, Way::GraphInPieces));
 }
 
 #[test]
 fn query_reader(rt: HostRuntime) {
-    let alloc = rt.alloc();
-    for (text, fault) in PAIRS {
-        let mut answer = pairs_in_pieces(alloc, text);
-        if lacks_memory(&answer) {
-            answer = pairs_in_pieces(alloc, text);
-        }
-        assert!(rt; pairs_fault(answer) == fault);
-    }
+    assert!(rt; have_faults(rt.alloc(), &PAIRS, Way::PairsInPieces));
 }
 
 #[test]
 fn read_graph(rt: HostRuntime) {
-    let alloc = rt.alloc();
-    for (text, fault) in GRAPHS {
-        let mut answer = read_graph_within(alloc, &mut { text }, MANY);
-        if lacks_memory(&answer) {
-            answer = read_graph_within(alloc, &mut { text }, MANY);
-        }
-        assert!(rt; graph_fault(answer) == fault);
-    }
+    assert!(rt; have_faults(rt.alloc(), &GRAPHS, Way::Graph));
     for (interrupted, fails_at, calls) in FAILING {
-        let text = b"p sp 2 1\na 1 2 7\n".as_slice();
-        let mut answer = read_graph_within(
-            alloc,
-            &mut Uneven::new(text, interrupted, fails_at),
-            calls,
-        );
-        if lacks_memory(&answer) {
-            answer = read_graph_within(alloc, &mut Uneven::new(text, interrupted, fails_at), calls);
-        }
-        assert!(rt; graph_fault(answer) == Some((GrErrorKind::Read, 1)));
+        let way = Way::GraphFailing(interrupted, fails_at, calls);
+        let read = Some((GrErrorKind::Read, 1));
+        assert!(rt; has_fault(rt.alloc(), b"p sp 2 1\na 1 2 7\n", way, read));
     }
 }
 
 #[test]
 fn read_queries(rt: HostRuntime) {
-    let alloc = rt.alloc();
-    for (text, fault) in PAIRS {
-        let mut answer = read_queries_within(alloc, &mut { text }, 3, MANY);
-        if lacks_memory(&answer) {
-            answer = read_queries_within(alloc, &mut { text }, 3, MANY);
-        }
-        assert!(rt; pairs_fault(answer) == fault);
-    }
+    assert!(rt; have_faults(rt.alloc(), &PAIRS, Way::Pairs));
     for (interrupted, fails_at, calls) in FAILING {
-        let text = b"p aux sp p2p 1\nq 2 1\n".as_slice();
-        let mut answer = read_queries_within(
-            alloc,
-            &mut Uneven::new(text, interrupted, fails_at),
-            3,
-            calls,
-        );
-        if lacks_memory(&answer) {
-            answer = read_queries_within(
-                alloc,
-                &mut Uneven::new(text, interrupted, fails_at),
-                3,
-                calls,
-            );
-        }
-        assert!(rt; pairs_fault(answer) == Some((GrErrorKind::Read, 1)));
+        let way = Way::PairsFailing(interrupted, fails_at, calls);
+        let read = Some((GrErrorKind::Read, 1));
+        assert!(rt; has_fault(rt.alloc(), b"p aux sp p2p 1\nq 2 1\n", way, read));
     }
 }
 
-/// The last result of a reader that is fed a problem line of another problem and then a long line in pieces.
-fn long_line(alloc: Global) -> Result<Graph, GrError> {
-    let mut reader = GrReader::new(alloc);
+/// Feeds a problem line of another problem and then a long line in pieces, and returns the last result.
+fn feed_long_line(reader: &mut GrReader) -> Result<(), GrError> {
     let mut answer = reader.feed(b"p max 2 1");
     if answer.is_ok() {
         answer = reader.feed(b"\n");
@@ -250,29 +265,33 @@ fn long_line(alloc: Global) -> Result<Graph, GrError> {
     for _ in 0..1000 {
         answer = reader.feed(piece.as_slice());
     }
-    answer?;
-    reader.finish()
+    answer
 }
 
-/// Whether this fault is refused in the first line.
-fn is_of_line_1(answer: &Result<Graph, GrError>, fault: GrErrorKind) -> bool {
-    matches!(answer, Err(GrError { kind, line: 1 }) if *kind == fault)
+/// The last result of a reader that is fed so.
+fn long_line(alloc: Global) -> Result<Graph, GrError> {
+    let mut reader = GrReader::new(alloc);
+    feed_long_line(&mut reader)?;
+    reader.finish()
 }
 
 /// Returns the fault of the first line, or out of memory for that line and then its fault; never out of memory for the
 /// second.
 #[test]
 fn before_a_long_line(rt: HostRuntime) {
-    let mut answer = long_line(rt.alloc());
-    if is_of_line_1(&answer, GrErrorKind::OutOfMemory) {
-        answer = long_line(rt.alloc());
+    let mut fault = graph_fault(long_line(rt.alloc()));
+    if fault == Some((GrErrorKind::OutOfMemory, 1)) {
+        fault = graph_fault(long_line(rt.alloc()));
     }
-    assert!(rt; is_of_line_1(&answer, GrErrorKind::UnknownLine));
+    assert!(rt; fault == Some((GrErrorKind::UnknownLine, 1)));
 }
+
+/// A text in two pieces, and the first and last line that may run out of memory.
+type Wanting = (&'static [u8], &'static [u8], u64, u64);
 
 /// Texts of graphs without a fault, each in two pieces, and the first and last line that may run out of memory: those of
 /// arcs, and those in which a piece ends.
-const WANTING: [(&[u8], &[u8], u64, u64); 4] = [
+const WANTING: [Wanting; 4] = [
     (b"c\nc\n\np sp 2 2\na 1 2 7\na 2 1 7\n", b"c\n", 5, 6),
     (b"c\nc\np sp 2", b" 0\nc\nc\n", 3, 3),
     (b"c\np sp 2 0\n", b"c\nc\nc x", 5, 5),
@@ -280,7 +299,7 @@ const WANTING: [(&[u8], &[u8], u64, u64); 4] = [
 ];
 
 /// The same of query files for three nodes.
-const PAIRS_WANTING: [(&[u8], &[u8], u64, u64); 2] = [
+const PAIRS_WANTING: [Wanting; 2] = [
     (b"c\n\np aux sp p2p 2\nq 1 2\nq 2 1\n", b"c\n", 4, 5),
     (b"c\nc\np aux", b" sp p2p 0\nc\nc\n", 3, 3),
 ];
@@ -299,34 +318,62 @@ fn is_within(refused: Option<GrError>, again: Option<GrError>, first: u64, last:
     }
 }
 
-/// The graph of a text in two pieces.
-fn graph_of_two(alloc: Global, first: &[u8], second: &[u8]) -> Result<Graph, GrError> {
-    let mut reader = GrReader::new(alloc);
+/// Feeds a text of a graph in two pieces.
+fn feed_two(reader: &mut GrReader, first: &[u8], second: &[u8]) -> Result<(), GrError> {
     reader.feed(first)?;
-    reader.feed(second)?;
-    reader.finish()
+    reader.feed(second)
 }
 
-/// The pairs of a text in two pieces.
-fn pairs_of_two(alloc: Global, first: &[u8], second: &[u8]) -> Result<Vec<(u32, u32)>, GrError> {
-    let mut reader = QueryReader::new(alloc, 3);
+/// Why a text of a graph in two pieces is refused.
+fn graph_refusal(alloc: Global, first: &[u8], second: &[u8]) -> Option<GrError> {
+    let mut reader = GrReader::new(alloc);
+    let fed = feed_two(&mut reader, first, second);
+    let finished = reader.finish().err();
+    fed.err().or(finished)
+}
+
+/// Feeds a text of pairs in two pieces.
+fn feed_two_of_pairs(reader: &mut QueryReader, first: &[u8], second: &[u8]) -> Result<(), GrError> {
     reader.feed(first)?;
-    reader.feed(second)?;
-    reader.finish()
+    reader.feed(second)
+}
+
+/// Why a text of pairs in two pieces is refused.
+fn pairs_refusal(alloc: Global, first: &[u8], second: &[u8]) -> Option<GrError> {
+    let mut reader = QueryReader::new(alloc, 3);
+    let fed = feed_two_of_pairs(&mut reader, first, second);
+    let finished = reader.finish().err();
+    fed.err().or(finished)
+}
+
+/// Whether graphs run out of memory in their lines alone.
+fn graphs_are_within(alloc: Global, cases: &[Wanting]) -> bool {
+    for (text, rest, first, last) in cases {
+        let refused = graph_refusal(alloc, text, rest);
+        let again = graph_refusal(alloc, text, rest);
+        if !is_within(refused, again, *first, *last) {
+            return false;
+        }
+    }
+    true
+}
+
+/// The same of pairs.
+fn pairs_are_within(alloc: Global, cases: &[Wanting]) -> bool {
+    for (text, rest, first, last) in cases {
+        let refused = pairs_refusal(alloc, text, rest);
+        let again = pairs_refusal(alloc, text, rest);
+        if !is_within(refused, again, *first, *last) {
+            return false;
+        }
+    }
+    true
 }
 
 #[test]
 fn lines_that_want_memory(rt: HostRuntime) {
-    for (text, rest, first, last) in WANTING {
-        let refused = graph_of_two(rt.alloc(), text, rest).err();
-        let again = graph_of_two(rt.alloc(), text, rest).err();
-        assert!(rt; is_within(refused, again, first, last));
-    }
-    for (text, rest, first, last) in PAIRS_WANTING {
-        let refused = pairs_of_two(rt.alloc(), text, rest).err();
-        let again = pairs_of_two(rt.alloc(), text, rest).err();
-        assert!(rt; is_within(refused, again, first, last));
-    }
+    assert!(rt; graphs_are_within(rt.alloc(), &WANTING));
+    assert!(rt; pairs_are_within(rt.alloc(), &PAIRS_WANTING));
 }
 
 /// Why a file is refused, or `None`; where it runs out of memory it is read again.
@@ -353,17 +400,31 @@ fn failing_fault(
     }
 }
 
+/// Whether each of these files has its fault.
+fn files_have_faults(
+    alloc: Global,
+    cases: &[(&[u32], Option<HierError>)],
+) -> Result<bool, AllocError> {
+    for (words, fault) in cases {
+        let bytes = bytes(alloc, words)?;
+        if file_fault(alloc, &bytes) != *fault {
+            return Ok(false);
+        }
+    }
+    Ok(true)
+}
+
+/// Whether the row isn't read by readers that fail.
+fn row_is_not_read(alloc: Global) -> Result<bool, AllocError> {
+    let row = bytes(alloc, &ROW)?;
+    let [interrupted, failing] = FAILING.map(|failing| failing_fault(alloc, &row, failing));
+    Ok((interrupted == Some(HierError::Read)) & (failing == Some(HierError::Read)))
+}
+
 #[test]
 fn read_file(rt: HostRuntime) -> Result<(), Fail> {
-    let alloc = rt.alloc();
-    for (words, fault) in FILES {
-        let bytes = bytes(alloc, words)?;
-        assert!(rt; file_fault(alloc, &bytes) == fault);
-    }
-    let row = bytes(alloc, &ROW)?;
-    for failing in FAILING {
-        assert!(rt; failing_fault(alloc, &row, failing) == Some(HierError::Read));
-    }
+    assert!(rt; files_have_faults(rt.alloc(), &FILES)?);
+    assert!(rt; row_is_not_read(rt.alloc())?);
     Ok(())
 }
 

@@ -2,8 +2,8 @@
 ghost use Rattle.std.specs.Prelude.{◌<◌, length};
 
 use crate::files::{
-    BY_WAY_OF_0, Change, GREATEST, MAGIC, ROW, are_refused, bytes, cascade, fronts_are_cut,
-    hierarchy_of, refusal,
+    BY_WAY_OF_0, Change, GREATEST, MAGIC, ROW, are_each_refused, are_refused, are_refused_for,
+    cascade, hierarchy_of, is_cut,
 };
 use ch_cost::Cost;
 use ch_graph::{Hierarchy, Link};
@@ -206,34 +206,57 @@ fn answers(
     Ok(true)
 }
 
+/// A file, pairs of nodes, and the weight of the least walk between each, if there is one.
+type Answered = (&'static [u32], &'static [(u32, u32, Option<u64>)]);
+
+const ANSWERED: [Answered; 4] = [
+    (
+        &ONE_ARC_1,
+        &[
+            (0, 0, Some(0)),
+            (0, 1, Some(7)),
+            (1, 0, None),
+            (1, 1, Some(0)),
+        ],
+    ),
+    (
+        &ROW_1,
+        &[
+            (0, 0, Some(0)),
+            (0, 1, None),
+            (0, 2, Some(3)),
+            (1, 0, Some(2)),
+            (1, 1, Some(0)),
+            (1, 2, Some(5)),
+            (2, 0, None),
+            (2, 1, None),
+            (2, 2, Some(0)),
+        ],
+    ),
+    (
+        &HEAVY_1,
+        &[
+            (2, 3, Some(8_589_934_590)),
+            (3, 2, None),
+            (2, 1, Some(8_589_934_590)),
+        ],
+    ),
+    (&BY_WAY_OF_0_1, &[(1, 3, Some(4))]),
+];
+
+/// Whether each of these files answers its pairs.
+fn answer_each(alloc: Global, cases: &[Answered]) -> Result<bool, AllocError> {
+    for (words, pairs) in cases {
+        if !answers(alloc, words, pairs)? {
+            return Ok(false);
+        }
+    }
+    Ok(true)
+}
+
 #[test]
 fn answers_by_weights(rt: HostRuntime) -> Result<(), AllocError> {
-    let one_arc = [
-        (0, 0, Some(0)),
-        (0, 1, Some(7)),
-        (1, 0, None),
-        (1, 1, Some(0)),
-    ];
-    let row = [
-        (0, 0, Some(0)),
-        (0, 1, None),
-        (0, 2, Some(3)),
-        (1, 0, Some(2)),
-        (1, 1, Some(0)),
-        (1, 2, Some(5)),
-        (2, 0, None),
-        (2, 1, None),
-        (2, 2, Some(0)),
-    ];
-    let heavy = [
-        (2, 3, Some(8_589_934_590)),
-        (3, 2, None),
-        (2, 1, Some(8_589_934_590)),
-    ];
-    assert!(rt; answers(rt.alloc(), &ONE_ARC_1, &one_arc)?);
-    assert!(rt; answers(rt.alloc(), &ROW_1, &row)?);
-    assert!(rt; answers(rt.alloc(), &HEAVY_1, &heavy)?);
-    assert!(rt; answers(rt.alloc(), &BY_WAY_OF_0_1, &[(1, 3, Some(4))])?);
+    assert!(rt; answer_each(rt.alloc(), &ANSWERED)?);
     Ok(())
 }
 
@@ -252,14 +275,6 @@ fn reads_a_cascade(rt: HostRuntime) -> Result<(), AllocError> {
     Ok(())
 }
 
-/// Whether a file has this many bytes, and each front of it but the whole is refused as cut.
-fn is_cut(alloc: Global, words: &[u32], count: usize) -> Result<bool, AllocError> {
-    let mut file = bytes(alloc, words)?;
-    let are_cut = fronts_are_cut(alloc, file.as_slice()) & (file.len() == count);
-    file.push(0)?;
-    Ok(are_cut & (refusal(alloc, file.as_slice()) == Some(HierError::Trailing)))
-}
-
 #[test]
 fn refuses_cut_files(rt: HostRuntime) -> Result<(), AllocError> {
     assert!(rt; is_cut(rt.alloc(), &ONE_ARC_1, 52)?);
@@ -267,23 +282,23 @@ fn refuses_cut_files(rt: HostRuntime) -> Result<(), AllocError> {
     Ok(())
 }
 
+/// Magics, parts of one, and others.
+const MAGICS: [(&[u8], HierError); 10] = [
+    (b"", HierError::Truncated),
+    (b"R", HierError::Truncated),
+    (b"RCH", HierError::Truncated),
+    (b"RCH1", HierError::Truncated),
+    (b"RCH2", HierError::Truncated),
+    (b"RCH0", HierError::BadMagic),
+    (b"RCH3", HierError::BadMagic),
+    (b"RCHa", HierError::BadMagic),
+    (b"RC1", HierError::BadMagic),
+    (b"1", HierError::BadMagic),
+];
+
 #[test]
 fn tells_magics(rt: HostRuntime) {
-    let fronts: [(&[u8], HierError); 10] = [
-        (b"", HierError::Truncated),
-        (b"R", HierError::Truncated),
-        (b"RCH", HierError::Truncated),
-        (b"RCH1", HierError::Truncated),
-        (b"RCH2", HierError::Truncated),
-        (b"RCH0", HierError::BadMagic),
-        (b"RCH3", HierError::BadMagic),
-        (b"RCHa", HierError::BadMagic),
-        (b"RC1", HierError::BadMagic),
-        (b"1", HierError::BadMagic),
-    ];
-    for (bytes, expected) in fronts {
-        assert!(rt; refusal(rt.alloc(), bytes) == Some(expected));
-    }
+    assert!(rt; are_refused_for(rt.alloc(), &MAGICS));
 }
 
 /// Changes of the row.
@@ -312,26 +327,26 @@ const CHANGES: [Change; 19] = [
     (&[(0, MAGIC)], HierError::LinkWeight),
 ];
 
+/// Changes of the greatest head.
+const GREATEST_CHANGES: [Change; 3] = [
+    (&[(0, MAGIC_1)], HierError::Truncated),
+    (&[(0, MAGIC_1), (3, 0xfe00_0001)], HierError::TooBig),
+    (&[(0, MAGIC_1), (1, 0x0200_0001)], HierError::TooBig),
+];
+
+/// Files that are refused, with changes or as they are. Of those of version 2 the number of arcs of a link would be its
+/// middle, whose rank isn't below those of both ends.
+const REFUSED: [(&[u32], &[Change]); 5] = [
+    (&EXCHANGED, &[(&[], HierError::LinkOrder)]),
+    (&WITHOUT_HALF, &[(&[], HierError::HalfMissing)]),
+    (&GREATEST, &GREATEST_CHANGES),
+    (&ROW, &[(&[(0, MAGIC_1)], HierError::MiddleRank)]),
+    (&BY_WAY_OF_0, &[(&[(0, MAGIC_1)], HierError::MiddleRank)]),
+];
+
 #[test]
 fn refuses_files(rt: HostRuntime) -> Result<(), AllocError> {
-    let alloc = rt.alloc();
-    let greatest: [Change; 3] = [
-        (&[(0, MAGIC_1)], HierError::Truncated),
-        (&[(0, MAGIC_1), (3, 0xfe00_0001)], HierError::TooBig),
-        (&[(0, MAGIC_1), (1, 0x0200_0001)], HierError::TooBig),
-    ];
-    assert!(rt; are_refused(alloc, &ROW_1, &CHANGES)?);
-    assert!(rt; are_refused(alloc, &EXCHANGED, &[(&[], HierError::LinkOrder)])?);
-    assert!(rt; are_refused(alloc, &WITHOUT_HALF, &[(&[], HierError::HalfMissing)])?);
-    assert!(rt; are_refused(alloc, &GREATEST, &greatest)?);
-    // The number of arcs of a link would be its middle, whose rank isn't below those of both ends.
-    assert!(rt; are_refused(alloc, &ROW, &[(&[(0, MAGIC_1)], HierError::MiddleRank)])?);
-    assert!(rt;
-        are_refused(
-            alloc,
-            &BY_WAY_OF_0,
-            &[(&[(0, MAGIC_1)], HierError::MiddleRank)]
-        )?
-    );
+    assert!(rt; are_refused(rt.alloc(), &ROW_1, &CHANGES)?);
+    assert!(rt; are_each_refused(rt.alloc(), &REFUSED)?);
     Ok(())
 }
