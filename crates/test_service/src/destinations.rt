@@ -113,8 +113,10 @@ fn is_ended<G: Read, D: Destination, R: Threads + Wait + Sync>(
     (ended.report(&mut err) == status) & (err.as_slice() == line)
 }
 
-/// The graph's text, whether the destination refuses it, the status, what is there then, and the line on standard error.
-const PUT: [(&[u8], bool, u8, &[u8], &[u8]); 3] = [
+/// A graph's text, whether the destination refuses it, the status, what is there then, and the line on standard error.
+type Put = (&'static [u8], bool, u8, &'static [u8], &'static [u8]);
+
+const PUT: [Put; 3] = [
     (ONE_ARC_TEXT, false, 0, ONE_ARC, b""),
     (ONE_ARC_TEXT, true, 7, b"old", b"routecli: write\n"),
     (
@@ -126,53 +128,82 @@ const PUT: [(&[u8], bool, u8, &[u8], &[u8]); 3] = [
     ),
 ];
 
-#[test]
-fn what_stands_stays_until_the_file_is_whole(rt: HostRuntime) -> Result<(), Fail> {
-    let alloc = rt.alloc();
-    for (mut graph, refuses, status, bytes, line) in PUT {
-        let mut shelf = Shelf {
-            alloc,
-            stands: Some(Vec::from_slice(alloc, b"old")?),
-            refuses,
-        };
-        assert!(rt; is_ended(&rt, alloc, &mut graph, &mut shelf, status, line));
-        let stands = shelf.stands.ok_or("a file")?;
-        assert!(rt; stands.as_slice() == bytes);
+/// Whether a preparation ends so where a file stands.
+fn is_put<R: Threads + Wait + Sync>(
+    rt: &R,
+    alloc: Global,
+    (mut graph, refuses, status, bytes, line): Put,
+) -> Result<bool, AllocError> {
+    let old = Vec::from_slice(alloc, b"old")?;
+    let mut shelf = Shelf {
+        alloc,
+        stands: Some(old),
+        refuses,
+    };
+    let is_ended = is_ended(rt, alloc, &mut graph, &mut shelf, status, line);
+    Ok(is_ended & matches!(&shelf.stands, Some(file) if file.as_slice() == bytes))
+}
+
+/// Whether each of these does.
+fn are_put<R: Threads + Wait + Sync>(
+    rt: &R,
+    alloc: Global,
+    cases: &[Put],
+) -> Result<bool, AllocError> {
+    for case in cases {
+        if !is_put(rt, alloc, *case)? {
+            return Ok(false);
+        }
     }
-    Ok(())
+    Ok(true)
 }
 
 #[test]
-fn a_file_comes_where_nothing_stood(rt: HostRuntime) {
-    let alloc = rt.alloc();
+fn what_stands_stays_until_the_file_is_whole(rt: HostRuntime) -> Result<(), Fail> {
+    assert!(rt; are_put(&rt, rt.alloc(), &PUT)?);
+    Ok(())
+}
+
+/// Whether a preparation whose reader fails puts nothing where nothing stands, and one behind it a file.
+fn comes_where_nothing_stood<R: Threads + Wait + Sync>(rt: &R, alloc: Global) -> bool {
     let mut shelf = Shelf {
         alloc,
         stands: None,
         refuses: false,
     };
-    assert!(rt; is_ended(&rt, alloc, &mut Broken, &mut shelf, 7, b"routecli: read\n"));
-    assert!(rt; shelf.stands.is_none());
+    let is_unread = is_ended(rt, alloc, &mut Broken, &mut shelf, 7, b"routecli: read\n");
+    let is_empty = shelf.stands.is_none();
     let mut graph = ONE_ARC_TEXT;
-    assert!(rt; is_ended(&rt, alloc, &mut graph, &mut shelf, 0, b""));
-    assert!(rt; shelf.stands.is_some());
+    let is_put = is_ended(rt, alloc, &mut graph, &mut shelf, 0, b"");
+    is_unread & is_empty & is_put & shelf.stands.is_some()
+}
+
+#[test]
+fn a_file_comes_where_nothing_stood(rt: HostRuntime) {
+    assert!(rt; comes_where_nothing_stood(&rt, rt.alloc()));
+}
+
+/// Whether a draft that takes this many bytes is put if it is whole, and else thrown away.
+fn is_thrown_away<R: Threads + Wait + Sync>(rt: &R, alloc: Global, room: usize) -> bool {
+    let mut graph = ONE_ARC_TEXT;
+    let mut bench = Bench {
+        room,
+        put: false,
+        thrown_away: false,
+    };
+    let is_whole = room == ONE_ARC.len();
+    let (status, line) = if is_whole {
+        (0, b"".as_slice())
+    } else {
+        (7, b"routecli: write\n".as_slice())
+    };
+    let is_ended = is_ended(rt, alloc, &mut graph, &mut bench, status, line);
+    is_ended & (bench.put == is_whole) & (bench.thrown_away != is_whole)
 }
 
 #[test]
 fn a_draft_that_is_cut_is_thrown_away(rt: HostRuntime) {
     for room in [0, 1, 55, 56] {
-        let mut graph = ONE_ARC_TEXT;
-        let mut bench = Bench {
-            room,
-            put: false,
-            thrown_away: false,
-        };
-        let is_whole = room == ONE_ARC.len();
-        let (status, line) = if is_whole {
-            (0, b"".as_slice())
-        } else {
-            (7, b"routecli: write\n".as_slice())
-        };
-        assert!(rt; is_ended(&rt, rt.alloc(), &mut graph, &mut bench, status, line));
-        assert!(rt; (bench.put == is_whole) & (bench.thrown_away != is_whole));
+        assert!(rt; is_thrown_away(&rt, rt.alloc(), room));
     }
 }

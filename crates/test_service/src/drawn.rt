@@ -1,11 +1,10 @@
 //! Networks that are drawn, with many arcs of weight 0 and many walks of one length. However they are answered, each answer
 //! is a walk of the least length that a plain search finds, and of the fewest arcs of such.
-use crate::kit::{answer_alone, joined};
-use crate::orders::{prepared, prepared_by_stints, routed};
+use crate::kit::{Command, joined, run};
+use crate::orders::{Plan, prepared, routed};
 use crate::plain::{Arcs, NODES, are_answers, lower};
 use crate::workers::{answers_by_edges, routes_by_two_kinds};
 use ch_estimate::Leases;
-use ch_service::answer_joined;
 use ch_workers::OpenGate;
 use jobs::Order;
 use std::alloc::{AllocError, Global};
@@ -73,11 +72,11 @@ fn drawn(alloc: Global, draw: &mut Draw) -> Result<Network, AllocError> {
     Ok(network)
 }
 
-/// The query file of all pairs of nodes, in order.
-fn all_pairs(alloc: Global) -> Result<String, AllocError> {
-    let mut text = format!(in alloc; "p aux sp p2p {}\n", NODES * NODES)?;
-    for source in 1..=NODES {
-        for target in 1..=NODES {
+/// The query file of all pairs of this many nodes, in order.
+pub(crate) fn all_pairs(alloc: Global, nodes: usize) -> Result<String, AllocError> {
+    let mut text = format!(in alloc; "p aux sp p2p {}\n", nodes.saturating_mul(nodes))?;
+    for source in 1..=nodes {
+        for target in 1..=nodes {
             let line = format!(in alloc; "q {source} {target}\n")?;
             text.push_str(line.as_str())?;
         }
@@ -96,10 +95,8 @@ enum Way {
     ByOne,
     /// In memory, by the file that two workers prepare.
     InMemory,
-    /// By the file that this many workers prepare in this order.
-    ByFile(Order, u32),
-    /// By one that this many workers prepare, in this order first, and after this many commits in another.
-    ByStints(Order, u32, u64),
+    /// By the file that is prepared by a plan.
+    ByFile(Plan),
 }
 
 const WAYS: [Way; 8] = [
@@ -107,28 +104,27 @@ const WAYS: [Way; 8] = [
     Way::Joined,
     Way::ByOne,
     Way::InMemory,
-    Way::ByFile(Order::Edges, 0),
-    Way::ByFile(Order::Edges, 3),
-    Way::ByFile(Order::Neighbours, 1),
-    Way::ByFile(Order::Depth, 2),
+    Way::ByFile((Order::Edges, 0, None)),
+    Way::ByFile((Order::Edges, 3, None)),
+    Way::ByFile((Order::Neighbours, 1, None)),
+    Way::ByFile((Order::Depth, 2, None)),
 ];
 
 const STINTS: [Way; 4] = [
-    Way::ByStints(Order::Edges, 1, 1),
-    Way::ByStints(Order::Neighbours, 2, 1),
-    Way::ByStints(Order::Depth, 1, 3),
-    Way::ByStints(Order::Edges, 2, 7),
+    Way::ByFile((Order::Edges, 1, Some(1))),
+    Way::ByFile((Order::Neighbours, 2, Some(1))),
+    Way::ByFile((Order::Depth, 1, Some(3))),
+    Way::ByFile((Order::Edges, 2, Some(7))),
 ];
 
-/// The answers of `answer` without workers.
-fn alone<R: Threads + Wait + Sync>(
+/// What a command writes.
+fn written<R: Threads + Wait + Sync>(
     rt: &R,
     alloc: Global,
-    mut graph: &[u8],
-    mut pairs: &[u8],
+    command: Command<'_>,
 ) -> Result<Vec<u8>, Fail> {
     let mut out = Vec::new(alloc);
-    answer_alone(rt, alloc, &mut graph, &mut pairs, &mut out)?;
+    run(rt, alloc, command, &mut out)?;
     Ok(out)
 }
 
@@ -140,21 +136,36 @@ fn by_one_input<R: Threads + Wait + Sync>(
     pairs: &[u8],
 ) -> Result<Vec<u8>, Fail> {
     let input = joined(alloc, graph, b"%\n", pairs)?;
-    let mut out = Vec::new(alloc);
-    answer_joined(rt, alloc, &mut input.as_slice(), &mut out)?;
-    Ok(out)
+    written(rt, alloc, Command::Joined(input.as_slice()))
 }
 
-/// The answers by the file that this many workers prepare in this order.
-fn by_file<R: Threads + Wait + Sync>(
+/// The answers by the file that is prepared by a plan.
+pub(crate) fn by_file<R: Threads + Wait + Sync>(
     rt: &R,
     alloc: Global,
     graph: &[u8],
     pairs: &[u8],
-    (order, workers): (Order, u32),
+    plan: Plan,
 ) -> Result<Vec<u8>, Fail> {
-    let file = prepared(rt, alloc, graph, order, workers)?;
+    let file = prepared(rt, alloc, graph, plan)?;
     Ok(routed(rt, alloc, file.as_slice(), pairs))
+}
+
+/// The answers by one worker, or in memory by two.
+fn by_workers<R: Threads + Wait + Sync>(
+    rt: &R,
+    alloc: Global,
+    graph: &[u8],
+    pairs: &[u8],
+    is_one: bool,
+) -> Result<Vec<u8>, Fail> {
+    let mut leases = Leases::new(alloc)?;
+    let answers = if is_one {
+        answers_by_edges(rt, alloc, graph, pairs, &mut leases, &OpenGate)
+    } else {
+        routes_by_two_kinds(rt, alloc, graph, pairs, &mut leases)
+    };
+    Ok(answers?)
 }
 
 /// The answers to the pairs of a graph in one of the ways.
@@ -165,21 +176,28 @@ fn answers<R: Threads + Wait + Sync>(
     pairs: &[u8],
     way: Way,
 ) -> Result<Vec<u8>, Fail> {
-    let mut leases = Leases::new(alloc)?;
     match way {
-        Way::Alone => alone(rt, alloc, graph, pairs),
+        Way::Alone => written(rt, alloc, Command::Answer(graph, pairs)),
         Way::Joined => by_one_input(rt, alloc, graph, pairs),
-        Way::ByOne => answers_by_edges(rt, alloc, graph, pairs, &mut leases, &OpenGate),
-        Way::InMemory => routes_by_two_kinds(rt, alloc, graph, pairs, &mut leases),
-        Way::ByFile(order, workers) => by_file(rt, alloc, graph, pairs, (order, workers)),
-        Way::ByStints(order, workers, stint) => {
-            let file = prepared_by_stints(rt, alloc, graph, (order, workers, stint))?;
-            Ok(routed(rt, alloc, file.as_slice(), pairs))
-        }
+        Way::ByOne => by_workers(rt, alloc, graph, pairs, true),
+        Way::InMemory => by_workers(rt, alloc, graph, pairs, false),
+        Way::ByFile(plan) => by_file(rt, alloc, graph, pairs, plan),
     }
 }
 
-/// Whether the answers to the pairs of a network are right in each of these ways.
+/// Whether the answers to the pairs of a network are right in one of the ways.
+fn is_right<R: Threads + Wait + Sync>(
+    rt: &R,
+    alloc: Global,
+    network: &Network,
+    pairs: &[u8],
+    way: Way,
+) -> Result<bool, Fail> {
+    let lines = answers(rt, alloc, network.text.as_bytes(), pairs, way)?;
+    Ok(are_answers(alloc, &network.arcs, &lines)?)
+}
+
+/// Whether they are in each of these ways.
 fn are_right<R: Threads + Wait + Sync>(
     rt: &R,
     alloc: Global,
@@ -187,34 +205,51 @@ fn are_right<R: Threads + Wait + Sync>(
     pairs: &[u8],
     ways: &[Way],
 ) -> Result<bool, Fail> {
-    let mut holds = true;
     for way in ways {
-        let lines = answers(rt, alloc, network.text.as_bytes(), pairs, *way)?;
-        holds &= are_answers(alloc, &network.arcs, &lines)?;
+        if !is_right(rt, alloc, network, pairs, *way)? {
+            return Ok(false);
+        }
     }
-    Ok(holds)
+    Ok(true)
+}
+
+/// Whether they are for the next network that is drawn.
+fn are_drawn_right<R: Threads + Wait + Sync>(
+    rt: &R,
+    alloc: Global,
+    draw: &mut Draw,
+    pairs: &[u8],
+    ways: &[Way],
+) -> Result<bool, Fail> {
+    let network = drawn(alloc, draw)?;
+    are_right(rt, alloc, &network, pairs, ways)
+}
+
+/// Whether they are for this many networks.
+fn are_all_right<R: Threads + Wait + Sync>(
+    rt: &R,
+    alloc: Global,
+    (state, count): (u64, u32),
+    ways: &[Way],
+) -> Result<bool, Fail> {
+    let pairs = all_pairs(alloc, NODES)?;
+    let mut draw = Draw { state };
+    for _ in 0..count {
+        if !are_drawn_right(rt, alloc, &mut draw, pairs.as_bytes(), ways)? {
+            return Ok(false);
+        }
+    }
+    Ok(true)
 }
 
 #[test]
 fn least_walks_of_fewest_arcs(rt: HostRuntime) -> Result<(), Fail> {
-    let alloc = rt.alloc();
-    let pairs = all_pairs(alloc)?;
-    let mut draw = Draw { state: 1962 };
-    for _ in 0..DRAWN {
-        let network = drawn(alloc, &mut draw)?;
-        assert!(rt; are_right(&rt, alloc, &network, pairs.as_bytes(), WAYS.as_slice())?);
-    }
+    assert!(rt; are_all_right(&rt, rt.alloc(), (1962, DRAWN), &WAYS)?);
     Ok(())
 }
 
 #[test]
 fn least_walks_of_fewest_arcs_by_stints(rt: HostRuntime) -> Result<(), Fail> {
-    let alloc = rt.alloc();
-    let pairs = all_pairs(alloc)?;
-    let mut draw = Draw { state: 2012 };
-    for _ in 0..20 {
-        let network = drawn(alloc, &mut draw)?;
-        assert!(rt; are_right(&rt, alloc, &network, pairs.as_bytes(), STINTS.as_slice())?);
-    }
+    assert!(rt; are_all_right(&rt, rt.alloc(), (2012, 20), &STINTS)?);
     Ok(())
 }

@@ -103,60 +103,99 @@ fn joined(alloc: Global, file: &[u8], parts: Parts) -> Result<Vec<u8>, AllocErro
     Ok(made)
 }
 
+/// Whether the parts of a file are refused with this change.
+fn are_parts_refused<R: Threads + Wait + Sync>(
+    rt: &R,
+    alloc: Global,
+    file: &[u8],
+    parts: Parts,
+    change: Change,
+) -> Result<bool, AllocError> {
+    let made = joined(alloc, file, parts)?;
+    is_refused_changed(rt, alloc, made.as_slice(), change)
+}
+
 /// Whether a file is refused with its first two links exchanged, and without the first of three.
 fn is_refused_in_order<R: Threads + Wait + Sync>(
     rt: &R,
     alloc: Global,
     (file, exchanged, fewer): (&[u8], Parts, Parts),
 ) -> Result<bool, AllocError> {
-    let exchanged = joined(alloc, file, exchanged)?;
-    let fewer = joined(alloc, file, fewer)?;
     let order: Change = (&[], b"routecli: hierarchy: LinkOrder\n");
     let missing: Change = (&[(15, 2)], b"routecli: hierarchy: HalfMissing\n");
-    Ok(
-        is_refused_changed(rt, alloc, &exchanged, order)?
-            & is_refused_changed(rt, alloc, &fewer, missing)?,
-    )
+    let is_ordered = are_parts_refused(rt, alloc, file, exchanged, order)?;
+    Ok(is_ordered & are_parts_refused(rt, alloc, file, fewer, missing)?)
 }
 
-/// Whether each front of a file is refused as cut, and the file with a byte more for that byte.
+/// Whether each front of a file is refused as cut.
+fn are_fronts_refused<R: Threads + Wait + Sync>(rt: &R, alloc: Global, file: &[u8]) -> bool {
+    for count in 0..file.len() {
+        if !is_refused(
+            rt,
+            alloc,
+            &file[..count],
+            b"routecli: hierarchy: Truncated\n",
+        ) {
+            return false;
+        }
+    }
+    true
+}
+
+/// Whether it is, and the file with a byte more for that byte.
 fn is_refused_cut<R: Threads + Wait + Sync>(
     rt: &R,
     alloc: Global,
     file: &[u8],
 ) -> Result<bool, AllocError> {
-    for count in 0..file.len() {
-        let (front, _) = file.split_at(count);
-        if !is_refused(rt, alloc, front, b"routecli: hierarchy: Truncated\n") {
-            return Ok(false);
-        }
-    }
     let mut longer = Vec::from_slice(alloc, file)?;
     longer.push(0)?;
     let line = b"routecli: hierarchy: Trailing\n".as_slice();
-    Ok(is_refused(rt, alloc, longer.as_slice(), line))
+    let is_longer_refused = is_refused(rt, alloc, longer.as_slice(), line);
+    Ok(is_longer_refused & are_fronts_refused(rt, alloc, file))
+}
+
+/// Whether a file with each of these changes is refused so.
+fn are_refused_changed<R: Threads + Wait + Sync>(
+    rt: &R,
+    alloc: Global,
+    file: &[u8],
+    changes: &[Change],
+) -> Result<bool, AllocError> {
+    for change in changes {
+        if !is_refused_changed(rt, alloc, file, *change)? {
+            return Ok(false);
+        }
+    }
+    Ok(true)
+}
+
+/// Whether each of these files is refused with its links in another order, or fewer of them.
+fn are_refused_in_order<R: Threads + Wait + Sync>(
+    rt: &R,
+    alloc: Global,
+    cases: &[(&[u8], Parts, Parts)],
+) -> Result<bool, AllocError> {
+    for case in cases {
+        if !is_refused_in_order(rt, alloc, *case)? {
+            return Ok(false);
+        }
+    }
+    Ok(true)
 }
 
 #[test]
 fn changed_heads(rt: HostRuntime) -> Result<(), AllocError> {
-    for change in HEADS {
-        assert!(rt; is_refused_changed(&rt, rt.alloc(), ROW, change)?);
-        assert!(rt; is_refused_changed(&rt, rt.alloc(), ROW_V1, change)?);
-    }
+    assert!(rt; are_refused_changed(&rt, rt.alloc(), ROW, &HEADS)?);
+    assert!(rt; are_refused_changed(&rt, rt.alloc(), ROW_V1, &HEADS)?);
     Ok(())
 }
 
 #[test]
 fn changed_links(rt: HostRuntime) -> Result<(), AllocError> {
-    for change in LINKS {
-        assert!(rt; is_refused_changed(&rt, rt.alloc(), ROW, change)?);
-    }
-    for change in LINKS_V1 {
-        assert!(rt; is_refused_changed(&rt, rt.alloc(), ROW_V1, change)?);
-    }
-    for case in ORDERS {
-        assert!(rt; is_refused_in_order(&rt, rt.alloc(), case)?);
-    }
+    assert!(rt; are_refused_changed(&rt, rt.alloc(), ROW, &LINKS)?);
+    assert!(rt; are_refused_changed(&rt, rt.alloc(), ROW_V1, &LINKS_V1)?);
+    assert!(rt; are_refused_in_order(&rt, rt.alloc(), &ORDERS)?);
     Ok(())
 }
 

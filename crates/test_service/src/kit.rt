@@ -1,8 +1,9 @@
 ghost use Rattle.std.specs.Prelude.{◌≡◌, [], All, IfOk};
 
-use ch_estimate::{Estimator, Leases};
+use ch_estimate::{Depth, EdgeDifference, Estimator, Leases, Neighbours};
 use ch_service::{ServiceError, answer, answer_joined, prepare, route};
 use ch_workers::{OpenGate, Options};
+use jobs::Order;
 use std::alloc::{AllocError, Global};
 use std::io::{Read, Write};
 use std::sync::Wait;
@@ -65,43 +66,60 @@ pub(crate) fn answer_alone<G: Read, Q: Read, W: Write, R: Threads + Wait + Sync>
     )
 }
 
-/// Whether `answer` writes these answers to the pairs.
-pub(crate) fn is_answered<R: Threads + Wait + Sync>(
-    rt: &R,
-    alloc: Global,
-    mut graph: &[u8],
-    mut pairs: &[u8],
-    answers: &[u8],
-) -> bool {
-    let mut out = Vec::new(alloc);
-    let result = answer_alone(rt, alloc, &mut graph, &mut pairs, &mut out);
-    (result == Ok(())) & (out.as_slice() == answers)
+/// A command, and the texts or the file that it reads.
+#[derive(Clone, Copy)]
+pub(crate) enum Command<'a> {
+    /// `prepare` without workers, of a graph.
+    Prepare(&'a [u8]),
+    /// `route`, by a file and of pairs.
+    Route(&'a [u8], &'a [u8]),
+    /// `answer` without workers, of a graph and of pairs.
+    Answer(&'a [u8], &'a [u8]),
+    /// `answer_joined`, of one input.
+    Joined(&'a [u8]),
 }
 
-/// Whether `answer_joined` ends so, and writes these answers.
-pub(crate) fn is_answered_joined<R: Threads + Wait + Sync>(
+/// How a command ends.
+pub(crate) fn run<W: Write, R: Threads + Wait + Sync>(
     rt: &R,
     alloc: Global,
-    mut input: &[u8],
-    end: Result<(), ServiceError>,
-    answers: &[u8],
-) -> bool {
-    let mut out = Vec::new(alloc);
-    let result = answer_joined(rt, alloc, &mut input, &mut out);
-    (result == end) & (out.as_slice() == answers)
+    command: Command<'_>,
+    out: &mut W,
+) -> Result<(), ServiceError> {
+    match command {
+        Command::Prepare(mut graph) => prepare_alone(rt, alloc, &mut graph, out),
+        Command::Route(mut hier, mut pairs) => route(alloc, &mut hier, &mut pairs, out),
+        Command::Answer(mut graph, mut pairs) => {
+            answer_alone(rt, alloc, &mut graph, &mut pairs, out)
+        }
+        Command::Joined(mut input) => answer_joined(rt, alloc, &mut input, out),
+    }
 }
 
-/// Whether `route` ends so, and writes these answers.
-pub(crate) fn is_routed(
+/// Whether a command ends so, and writes this.
+pub(crate) fn ends_so<R: Threads + Wait + Sync>(
+    rt: &R,
     alloc: Global,
-    mut hier: &[u8],
-    mut pairs: &[u8],
+    command: Command<'_>,
     end: Result<(), ServiceError>,
-    answers: &[u8],
+    written: &[u8],
 ) -> bool {
     let mut out = Vec::new(alloc);
-    let result = route(alloc, &mut hier, &mut pairs, &mut out);
-    (result == end) & (out.as_slice() == answers)
+    let result = run(rt, alloc, command, &mut out);
+    (result == end) & (out.as_slice() == written)
+}
+
+/// A command, how it ends, and what it writes.
+pub(crate) type Case = (Command<'static>, Result<(), ServiceError>, &'static [u8]);
+
+/// Whether each of these commands ends so.
+pub(crate) fn end_so<R: Threads + Wait + Sync>(rt: &R, alloc: Global, cases: &[Case]) -> bool {
+    for (command, end, written) in cases {
+        if !ends_so(rt, alloc, *command, *end, written) {
+            return false;
+        }
+    }
+    true
 }
 
 /// The file of a graph's hierarchy, or what was written before `prepare` was refused.
@@ -128,8 +146,24 @@ pub(crate) fn joined(
     Ok(input)
 }
 
+/// An estimator of this kind, which received nothing.
+pub(crate) fn estimator_of(
+    alloc: Global,
+    leases: &mut Leases,
+    kind: Order,
+) -> Result<Box<dyn Estimator + Send>, AllocError>
+    ensures untold { IfOk result (λ estimator. heard estimator ≡ []) }
+{
+    let lease = leases.lease()?;
+    match kind {
+        Order::Edges => Ok(Box::new(alloc, EdgeDifference::new(alloc, lease))?),
+        Order::Neighbours => Ok(Box::new(alloc, Neighbours::new(alloc, lease))?),
+        Order::Depth => Ok(Box::new(alloc, Depth::new(alloc, lease))?),
+    }
+}
+
 /// Puts in the list of one more worker, which has this estimator alone.
-pub(crate) fn add_list(
+fn add_list(
     alloc: Global,
     lists: &mut Lists,
     estimator: Box<dyn Estimator + Send>,
@@ -155,4 +189,33 @@ pub(crate) fn one_list(
     let mut lists = Vec::new(alloc);
     add_list(alloc, &mut lists, estimator)?;
     Ok(lists)
+}
+
+/// The lists of two workers, each of which has one of these estimators.
+fn one_list_each(
+    alloc: Global,
+    first: Box<dyn Estimator + Send>,
+    second: Box<dyn Estimator + Send>,
+) -> Result<Lists, AllocError>
+    requires first { heard first ≡ [] }
+    requires second { heard second ≡ [] }
+    ensures untold { IfOk result (λ lists. All (λ list. All (λ estimator. heard estimator ≡ []) list.items) lists.items) }
+{
+    let mut lists = one_list(alloc, first)?;
+    add_list(alloc, &mut lists, second)?;
+    Ok(lists)
+}
+
+/// The lists of two workers, each of which has one estimator of its kind.
+pub(crate) fn two_lists(
+    alloc: Global,
+    leases: &mut Leases,
+    first: Order,
+    second: Order,
+) -> Result<Lists, AllocError>
+    ensures untold { IfOk result (λ lists. All (λ list. All (λ estimator. heard estimator ≡ []) list.items) lists.items) }
+{
+    let one = estimator_of(alloc, leases, first)?;
+    let other = estimator_of(alloc, leases, second)?;
+    one_list_each(alloc, one, other)
 }

@@ -1,5 +1,5 @@
 use crate::examples::{ONE_ARC, ONE_ARC_TEXT, ROW, ROW_TEXT, TIE};
-use crate::statuses::{Broken, is_ended};
+use crate::statuses::{Broken, Given, is_ended, is_unwritten};
 use ch_service::ServiceError;
 use ch_unpack::UnpackError;
 use ch_workers::BuildError;
@@ -78,30 +78,27 @@ fn file_of<R: Threads + Wait + Sync>(
     }
 }
 
-/// The file of the graph's hierarchy by this many workers in this order.
+/// An order, how many workers prepare in it, and after how many commits they use another, if they do.
+pub(crate) type Plan = (Order, u32, Option<u64>);
+
+/// The job of a plan.
+fn job_of((order, workers, stint): Plan) -> Option<Job<'static>> {
+    let workers = Workers::new(workers)?;
+    let stint = match stint {
+        Some(commits) => Some(Stint::new(commits)?),
+        None => None,
+    };
+    Some(preparing(order, workers, stint))
+}
+
+/// The file of the graph's hierarchy by a plan.
 pub(crate) fn prepared<R: Threads + Wait + Sync>(
     rt: &R,
     alloc: Global,
     graph: &[u8],
-    order: Order,
-    workers: u32,
+    plan: Plan,
 ) -> Result<Vec<u8>, Fail> {
-    let workers = Workers::new(workers).ok_or("at most 64 workers")?;
-    let job = preparing(order, workers, None);
-    let file = file_of(rt, alloc, graph, &job).ok_or("a hierarchy")?;
-    Ok(file)
-}
-
-/// The file of the graph's hierarchy by this many workers, who use another order after this many commits.
-pub(crate) fn prepared_by_stints<R: Threads + Wait + Sync>(
-    rt: &R,
-    alloc: Global,
-    graph: &[u8],
-    (order, workers, stint): (Order, u32, u64),
-) -> Result<Vec<u8>, Fail> {
-    let workers = Workers::new(workers).ok_or("at most 64 workers")?;
-    let stint = Stint::new(stint).ok_or("a stint")?;
-    let job = preparing(order, workers, Some(stint));
+    let job = job_of(plan).ok_or("at most 64 workers, and a stint")?;
     let file = file_of(rt, alloc, graph, &job).ok_or("a hierarchy")?;
     Ok(file)
 }
@@ -123,37 +120,50 @@ pub(crate) fn routed<R: Threads + Wait + Sync>(
     out
 }
 
-#[test]
-fn hierarchies_are_prepared(rt: HostRuntime) {
-    let alloc = rt.alloc();
-    let alone = preparing(Order::Edges, Workers::none(), None);
+/// Whether the graph of one arc is prepared, and a text is refused with its line.
+fn are_prepared<R: Threads + Wait + Sync>(rt: &R, alloc: Global, alone: &Job<'_>) -> bool {
     let (mut graph, mut broken) = (ONE_ARC_TEXT, b"p sp 2 1\na 1 2\n".as_slice());
-    assert!(rt; is_ended(&rt, alloc, &alone, &mut graph, &mut Broken, 0, ONE_ARC, b""));
     let line = b"routecli: graph: FieldCount line 2\n";
-    assert!(rt; is_ended(&rt, alloc, &alone, &mut broken, &mut Broken, 3, b"", line));
+    is_ended(rt, alloc, alone, &mut graph, &mut Broken, 0, ONE_ARC, b"")
+        & is_ended(rt, alloc, alone, &mut broken, &mut Broken, 3, b"", line)
 }
 
 #[test]
-fn a_hierarchy_that_cannot_be_written(rt: HostRuntime) {
+fn hierarchies_are_prepared(rt: HostRuntime) {
     let alone = preparing(Order::Edges, Workers::none(), None);
-    let (mut graph, mut err) = (ONE_ARC_TEXT, Vec::new(rt.alloc()));
-    let status = perform(
-        &rt,
-        rt.alloc(),
-        &alone,
-        &mut graph,
-        &mut Broken,
-        &mut Broken,
-        &mut err,
-    );
-    assert!(rt; status == 7 && err.as_slice() == b"routecli: write\n".as_slice());
+    assert!(rt; are_prepared(&rt, rt.alloc(), &alone));
+    let graph = Given::Bytes(ONE_ARC_TEXT);
+    assert!(rt; is_unwritten(&rt, rt.alloc(), &alone, graph, Given::Nothing));
+}
+
+/// Whether a graph's file is this one.
+fn is_file<R: Threads + Wait + Sync>(
+    rt: &R,
+    alloc: Global,
+    graph: &[u8],
+    plan: Plan,
+    file: &[u8],
+) -> Result<bool, Fail> {
+    let prepared = prepared(rt, alloc, graph, plan)?;
+    Ok(prepared.as_slice() == file)
+}
+
+/// Whether a graph has the same file by two plans.
+pub(crate) fn is_same<R: Threads + Wait + Sync>(
+    rt: &R,
+    alloc: Global,
+    graph: &[u8],
+    plan: Plan,
+    other: Plan,
+) -> Result<bool, Fail> {
+    let prepared = prepared(rt, alloc, graph, plan)?;
+    is_file(rt, alloc, graph, other, prepared.as_slice())
 }
 
 #[test]
 fn without_workers_the_order_is_that_of_the_numbers(rt: HostRuntime) -> Result<(), Fail> {
     for order in [Order::Edges, Order::Neighbours, Order::Depth] {
-        let file = prepared(&rt, rt.alloc(), ROW_TEXT, order, 0)?;
-        assert!(rt; file.as_slice() == ROW);
+        assert!(rt; is_file(&rt, rt.alloc(), ROW_TEXT, (order, 0, None), ROW)?);
     }
     Ok(())
 }
@@ -175,52 +185,75 @@ fn is_tied<R: Threads + Wait + Sync>(rt: &R, alloc: Global, file: &[u8]) -> bool
     tied.starts_with(b"r 3 4 2 2 3 ") && tied.ends_with(b" 4\n")
 }
 
+/// Whether the row is answered as expected by a plan.
+fn is_row<R: Threads + Wait + Sync>(rt: &R, alloc: Global, plan: Plan) -> Result<bool, Fail> {
+    let row = prepared(rt, alloc, ROW_TEXT, plan)?;
+    Ok(are_routed(rt, alloc, row.as_slice(), ROW_PAIRS, ROW_ANSWERS))
+}
+
+/// Whether the tie is.
+fn is_tie<R: Threads + Wait + Sync>(rt: &R, alloc: Global, plan: Plan) -> Result<bool, Fail> {
+    let tie = prepared(rt, alloc, TIE, plan)?;
+    let are_routed = are_routed(rt, alloc, tie.as_slice(), TIE_PAIRS, TIE_ANSWERS);
+    Ok(are_routed & is_tied(rt, alloc, tie.as_slice()))
+}
+
+/// Whether both are by each of these orders and numbers of workers.
+fn are_the_same<R: Threads + Wait + Sync>(
+    rt: &R,
+    alloc: Global,
+    cases: &[(Order, u32)],
+    stint: Option<u64>,
+) -> Result<bool, Fail> {
+    for (order, workers) in cases {
+        let plan = (*order, *workers, stint);
+        if !is_row(rt, alloc, plan)? || !is_tie(rt, alloc, plan)? {
+            return Ok(false);
+        }
+    }
+    Ok(true)
+}
+
 #[test]
 fn answers_are_the_same_by_all_workers(rt: HostRuntime) -> Result<(), Fail> {
-    let alloc = rt.alloc();
-    for (order, workers) in CASES {
-        let row = prepared(&rt, alloc, ROW_TEXT, order, workers)?;
-        assert!(rt; are_routed(&rt, alloc, row.as_slice(), ROW_PAIRS, ROW_ANSWERS));
-        let tie = prepared(&rt, alloc, TIE, order, workers)?;
-        assert!(rt; are_routed(&rt, alloc, tie.as_slice(), TIE_PAIRS, TIE_ANSWERS));
-        assert!(rt; is_tied(&rt, alloc, tie.as_slice()));
-    }
+    assert!(rt; are_the_same(&rt, rt.alloc(), &CASES, None)?);
     Ok(())
 }
 
 #[test]
 fn answers_are_the_same_by_all_stints(rt: HostRuntime) -> Result<(), Fail> {
-    let alloc = rt.alloc();
-    for (order, workers) in CASES {
-        for stint in [1, 2, 1_099_511_627_776] {
-            let plan = (order, workers, stint);
-            let row = prepared_by_stints(&rt, alloc, ROW_TEXT, plan)?;
-            assert!(rt; are_routed(&rt, alloc, row.as_slice(), ROW_PAIRS, ROW_ANSWERS));
-            let tie = prepared_by_stints(&rt, alloc, TIE, plan)?;
-            assert!(rt; are_routed(&rt, alloc, tie.as_slice(), TIE_PAIRS, TIE_ANSWERS));
-            assert!(rt; is_tied(&rt, alloc, tie.as_slice()));
-        }
+    for stint in [1, 2, 1_099_511_627_776] {
+        assert!(rt; are_the_same(&rt, rt.alloc(), &CASES, Some(stint))?);
     }
     Ok(())
 }
 
-#[test]
-fn a_worker_leaves_the_middle_of_a_star_for_later(rt: HostRuntime) -> Result<(), Fail> {
-    let by_number = prepared(&rt, rt.alloc(), STAR, Order::Edges, 0)?;
-    assert!(rt; by_number.len() == 24 + 4 * 17 + 24 * 80);
-    let by_worker = prepared(&rt, rt.alloc(), STAR, Order::Edges, 1)?;
-    assert!(rt; by_worker.len() < by_number.len());
-    Ok(())
+/// How long the star's file is by the edge difference.
+fn star_len<R: Threads + Wait + Sync>(rt: &R, alloc: Global, workers: u32) -> Result<usize, Fail> {
+    let file = prepared(rt, alloc, STAR, (Order::Edges, workers, None))?;
+    Ok(file.len())
 }
 
 #[test]
+fn a_worker_leaves_the_middle_of_a_star_for_later(rt: HostRuntime) -> Result<(), Fail> {
+    let by_number = star_len(&rt, rt.alloc(), 0)?;
+    let by_worker = star_len(&rt, rt.alloc(), 1)?;
+    assert!(rt; (by_number == 24 + 4 * 17 + 24 * 80) & (by_worker < by_number));
+    Ok(())
+}
+
+/// Each two orders.
+const TWO_ORDERS: [(Order, Order); 3] = [
+    (Order::Edges, Order::Neighbours),
+    (Order::Edges, Order::Depth),
+    (Order::Neighbours, Order::Depth),
+];
+
+#[test]
 fn orders_differ(rt: HostRuntime) -> Result<(), Fail> {
-    let edges = prepared(&rt, rt.alloc(), SQUARE, Order::Edges, 1)?;
-    let neighbours = prepared(&rt, rt.alloc(), SQUARE, Order::Neighbours, 1)?;
-    let depth = prepared(&rt, rt.alloc(), SQUARE, Order::Depth, 1)?;
-    assert!(rt; edges.as_slice() != neighbours.as_slice());
-    assert!(rt; edges.as_slice() != depth.as_slice());
-    assert!(rt; neighbours.as_slice() != depth.as_slice());
+    for (order, other) in TWO_ORDERS {
+        assert!(rt; !is_same(&rt, rt.alloc(), SQUARE, (order, 1, None), (other, 1, None))?);
+    }
     Ok(())
 }
 
@@ -249,9 +282,17 @@ fn is_reported(alloc: Global, error: &ServiceError, status: u8, line: &[u8]) -> 
     (reported == status) & (err.as_slice() == line)
 }
 
+/// Whether each of these refusals is reported so.
+fn are_reported(alloc: Global, cases: &[(ServiceError, u8, &[u8])]) -> bool {
+    for (error, status, line) in cases {
+        if !is_reported(alloc, error, *status, line) {
+            return false;
+        }
+    }
+    true
+}
+
 #[test]
 fn refusals_are_reported(rt: HostRuntime) {
-    for (error, status, line) in REPORTED {
-        assert!(rt; is_reported(rt.alloc(), &error, status, line));
-    }
+    assert!(rt; are_reported(rt.alloc(), &REPORTED));
 }

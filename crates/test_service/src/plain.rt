@@ -79,7 +79,7 @@ pub(crate) fn are_answers(alloc: Global, arcs: &Arcs, lines: &[u8]) -> Result<bo
 }
 
 /// The first line of a text without its end, and what comes behind it. There is none where no line ends.
-fn first_line(text: &[u8]) -> (&[u8], &[u8]) {
+pub(crate) fn first_line(text: &[u8]) -> (&[u8], &[u8]) {
     match text.iter().position(|byte| *byte == b'\n') {
         Some(at) => (&text[..at], &text[at + 1..]),
         None => (b"", b""),

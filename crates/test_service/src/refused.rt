@@ -3,16 +3,14 @@
 //! A command either does all its work or reports that memory ran out, and has then written whole lines, `prepare`
 //! nothing. Made again it does its work. A growth of what a test sets up ends the test with that error. Writers have
 //! room from the start, so that none of them runs out of memory.
-ghost use Rattle.std.specs.Prelude.{◌≡◌, [], All, IfOk};
-
-use crate::answers::NO_PAIRS;
-use crate::examples::{EXAMPLES, Example, ONE_ARC, ONE_ARC_TEXT, ROW, ROW_TEXT};
-use crate::kit::{Lists, add_list, answer_alone, one_list, options, prepare_alone};
-use crate::prepared_files::FILES;
-use crate::version_1::{TOO_LONG, cascade};
-use ch_estimate::{EdgeDifference, Leases};
-use ch_service::{Cause, ServiceError, answer, answer_joined, prepare, route};
+use crate::answers::{JOINED, NO_PAIRS};
+use crate::examples::{EXAMPLES, Example, NO_NODE, ONE_ARC, ONE_ARC_TEXT, ROW, ROW_TEXT};
+use crate::kit::{Case, Command, options, run, two_lists};
+use crate::version_1::{TO_TOO_LONG, TOO_LONG, cascade};
+use ch_estimate::Leases;
+use ch_service::{Cause, ServiceError, answer, prepare};
 use ch_workers::OpenGate;
+use jobs::Order;
 use std::alloc::{AllocError, Global};
 use std::sync::Wait;
 use std::test::Fail;
@@ -27,8 +25,6 @@ const ANSWERS: &[u8] = b"r 2 3 5 2 2 1 3\nr 2 1 2 1 2 1\nn 3 2\n";
 const BACK_AND_FORTH: &[u8] = b"p aux sp p2p 2\nq 1 2\nq 2 1\n";
 
 const ONE_WAY: &[u8] = b"r 1 2 7 1 1 2\nn 2 1\n";
-
-const JOINED: &[u8] = b"p sp 2 1\na 1 2 7\n%\np aux sp p2p 2\nq 1 2\nq 2 1\n";
 
 /// How a command ends, and what it writes.
 #[derive(Clone, Copy)]
@@ -69,121 +65,120 @@ impl Ended {
     }
 }
 
-fn prepared<R: Threads + Wait + Sync>(rt: &R, alloc: Global, mut graph: &[u8]) -> Ended {
+/// How a command ends.
+fn outcome<R: Threads + Wait + Sync>(rt: &R, alloc: Global, command: Command<'_>) -> Ended {
     let mut room = [0u8; 128];
     let mut out = room.as_mut_slice();
-    let end = prepare_alone(rt, alloc, &mut graph, &mut out);
+    let end = run(rt, alloc, command, &mut out);
     let left = out.len();
     Ended::new(end, room, left)
 }
+
+/// Whether a command ends so and writes all this; where memory runs out it is run again.
+fn ends_so<R: Threads + Wait + Sync>(
+    rt: &R,
+    alloc: Global,
+    command: Command<'_>,
+    end: Result<(), ServiceError>,
+    all: &[u8],
+) -> bool {
+    let once = outcome(rt, alloc, command);
+    if once.lacks_memory(all) {
+        outcome(rt, alloc, command).is_so(end, all)
+    } else {
+        once.is_so(end, all)
+    }
+}
+
+/// Whether each of these commands ends so.
+fn end_so<R: Threads + Wait + Sync>(rt: &R, alloc: Global, cases: &[Case]) -> bool {
+    for (command, end, all) in cases {
+        if !ends_so(rt, alloc, *command, *end, all) {
+            return false;
+        }
+    }
+    true
+}
+
+const PREPARED: [Case; 3] = [
+    (Command::Prepare(b"p sp 0 0\n"), Ok(()), NO_NODE),
+    (Command::Prepare(ONE_ARC_TEXT), Ok(()), ONE_ARC),
+    (Command::Prepare(ROW_TEXT), Ok(()), ROW),
+];
 
 #[test]
 fn prepare_without_workers(rt: HostRuntime) {
-    for (text, file) in FILES {
-        let mut ended = prepared(&rt, rt.alloc(), text);
-        if ended.lacks_memory(b"") {
-            ended = prepared(&rt, rt.alloc(), text);
-        }
-        assert!(rt; ended.is_done(file));
-    }
+    assert!(rt; end_so(&rt, rt.alloc(), &PREPARED));
 }
 
-fn routed(alloc: Global, mut hier: &[u8], mut pairs: &[u8]) -> Ended {
-    let mut room = [0u8; 128];
-    let mut out = room.as_mut_slice();
-    let end = route(alloc, &mut hier, &mut pairs, &mut out);
-    let left = out.len();
-    Ended::new(end, room, left)
-}
+const ROUTED: [Case; 2] = [
+    (Command::Route(ONE_ARC, BACK_AND_FORTH), Ok(()), ONE_WAY),
+    (Command::Route(ROW, PAIRS), Ok(()), ANSWERS),
+];
 
 #[test]
 fn route_by_a_file(rt: HostRuntime) {
-    for (file, pairs, answers) in [(ONE_ARC, BACK_AND_FORTH, ONE_WAY), (ROW, PAIRS, ANSWERS)] {
-        let mut ended = routed(rt.alloc(), file, pairs);
-        if ended.lacks_memory(answers) {
-            ended = routed(rt.alloc(), file, pairs);
-        }
-        assert!(rt; ended.is_done(answers));
-    }
+    assert!(rt; end_so(&rt, rt.alloc(), &ROUTED));
 }
 
-/// Pairs of the cascade of which the last one's route is too long, and the line that answers the one before.
-const TO_TOO_LONG: [(&[u8], &[u8]); 2] = [
-    (b"p aux sp p2p 1\nq 38 37\n", b""),
-    (b"p aux sp p2p 2\nq 3 2\nq 38 37\n", b"r 3 2 2 2 3 1 2\n"),
-];
+/// Whether each of these routes of a file is too long.
+fn are_too_long<R: Threads + Wait + Sync>(
+    rt: &R,
+    alloc: Global,
+    file: &[u8],
+    cases: &[(&[u8], &[u8])],
+) -> bool {
+    for (pairs, answers) in cases {
+        if !ends_so(
+            rt,
+            alloc,
+            Command::Route(file, pairs),
+            Err(TOO_LONG),
+            answers,
+        ) {
+            return false;
+        }
+    }
+    true
+}
 
 #[test]
 fn route_that_is_too_long(rt: HostRuntime) -> Result<(), AllocError> {
     let file = cascade(rt.alloc())?;
-    for (pairs, answers) in TO_TOO_LONG {
-        let mut ended = routed(rt.alloc(), &file, pairs);
-        if ended.lacks_memory(answers) {
-            ended = routed(rt.alloc(), &file, pairs);
-        }
-        assert!(rt; ended.is_so(Err(TOO_LONG), answers));
-    }
+    assert!(rt; are_too_long(&rt, rt.alloc(), file.as_slice(), &TO_TOO_LONG));
     Ok(())
 }
 
-fn answered<R: Threads + Wait + Sync>(rt: &R, alloc: Global, example: &Example) -> Ended {
-    let mut room = [0u8; 128];
-    let mut out = room.as_mut_slice();
-    let (mut graph, mut pairs) = (example.graph, example.pairs);
-    let end = answer_alone(rt, alloc, &mut graph, &mut pairs, &mut out);
-    let left = out.len();
-    Ended::new(end, room, left)
+/// Whether each of these examples is answered.
+fn are_answered<R: Threads + Wait + Sync>(rt: &R, alloc: Global, examples: &[Example]) -> bool {
+    for example in examples {
+        let command = Command::Answer(example.graph, example.pairs);
+        if !ends_so(rt, alloc, command, Ok(()), example.answers) {
+            return false;
+        }
+    }
+    true
 }
 
 /// One node alone, one arc, three nodes, and a loop beside parallel arcs.
 #[test]
 fn answer_without_workers(rt: HostRuntime) {
-    for example in &EXAMPLES[..4] {
-        let mut ended = answered(&rt, rt.alloc(), example);
-        if ended.lacks_memory(example.answers) {
-            ended = answered(&rt, rt.alloc(), example);
-        }
-        assert!(rt; ended.is_done(example.answers));
-    }
+    assert!(rt; are_answered(&rt, rt.alloc(), &EXAMPLES[..4]));
 }
 
-fn answered_joined<R: Threads + Wait + Sync>(rt: &R, alloc: Global, mut input: &[u8]) -> Ended {
-    let mut room = [0u8; 128];
-    let mut out = room.as_mut_slice();
-    let end = answer_joined(rt, alloc, &mut input, &mut out);
-    let left = out.len();
-    Ended::new(end, room, left)
-}
+const ONE_INPUT: [Case; 2] = [
+    (Command::Joined(JOINED), Ok(()), ONE_WAY),
+    (Command::Joined(ONE_ARC_TEXT), Err(NO_PAIRS), b""),
+];
 
 #[test]
 fn answer_of_one_input(rt: HostRuntime) {
-    let cases = [
-        (JOINED, Ok(()), ONE_WAY),
-        (ONE_ARC_TEXT, Err(NO_PAIRS), b"".as_slice()),
-    ];
-    for (input, end, answers) in cases {
-        let mut ended = answered_joined(&rt, rt.alloc(), input);
-        if ended.lacks_memory(answers) {
-            ended = answered_joined(&rt, rt.alloc(), input);
-        }
-        assert!(rt; ended.is_so(end, answers));
-    }
-}
-
-/// The lists of two workers, each with one estimator.
-fn two_lists(alloc: Global, leases: &mut Leases) -> Result<Lists, AllocError>
-    ensures { IfOk result (λ lists. All (λ list. All (λ estimator. heard estimator ≡ []) list.items) lists.items) }
-{
-    let first = Box::new(alloc, EdgeDifference::new(alloc, leases.lease()?))?;
-    let second = Box::new(alloc, EdgeDifference::new(alloc, leases.lease()?))?;
-    let mut lists = one_list(alloc, first)?;
-    add_list(alloc, &mut lists, second)?;
-    Ok(lists)
+    assert!(rt; end_so(&rt, rt.alloc(), &ONE_INPUT));
 }
 
 fn answered_by_two<R: Threads + Wait + Sync>(rt: &R, alloc: Global) -> Result<Ended, AllocError> {
     let mut leases = Leases::new(alloc)?;
-    let lists = two_lists(alloc, &mut leases)?;
+    let lists = two_lists(alloc, &mut leases, Order::Edges, Order::Edges)?;
     let mut room = [0u8; 128];
     let mut out = room.as_mut_slice();
     let end = answer(
@@ -213,7 +208,7 @@ fn answer_by_two_workers(rt: HostRuntime) -> Result<(), Fail> {
 
 fn prepared_by_two<R: Threads + Wait + Sync>(rt: &R, alloc: Global) -> Result<Ended, AllocError> {
     let mut leases = Leases::new(alloc)?;
-    let lists = two_lists(alloc, &mut leases)?;
+    let lists = two_lists(alloc, &mut leases, Order::Edges, Order::Edges)?;
     let mut room = [0u8; 128];
     let mut out = room.as_mut_slice();
     let end = prepare(
@@ -237,12 +232,14 @@ fn prepare_by_two_workers(rt: HostRuntime) -> Result<(), Fail> {
     if ended.lacks_memory(b"") {
         ended = prepared_by_two(&rt, rt.alloc())?;
     }
-    assert!(rt; ended.end == Ok(()));
     let file = ended.room.get(..ended.written).unwrap_or(b"");
-    let mut routes = routed(rt.alloc(), file, PAIRS);
-    if routes.lacks_memory(ANSWERS) {
-        routes = routed(rt.alloc(), file, PAIRS);
-    }
-    assert!(rt; routes.is_done(ANSWERS));
+    let is_routed = ends_so(
+        &rt,
+        rt.alloc(),
+        Command::Route(file, PAIRS),
+        Ok(()),
+        ANSWERS,
+    );
+    assert!(rt; is_routed & (ended.end == Ok(())));
     Ok(())
 }

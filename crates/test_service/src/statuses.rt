@@ -1,13 +1,10 @@
 use crate::examples::{ONE_ARC, ONE_ARC_TEXT, ONE_ARC_V1, ROW, TWICE};
-use crate::kit::joined;
 use jobs::{Check, Job};
 use performing::perform;
 use std::alloc::Global;
 use std::io::{self, ErrorKind, Read, Write};
 use std::sync::Wait;
-use std::test::Fail;
 use std::thread::Threads;
-use test_kit::Uneven;
 
 /// A reader and writer that fails.
 #[derive(Drop)]
@@ -26,6 +23,35 @@ impl Write for Broken {
 
     fn flush(&mut self) -> io::Result<()> {
         Ok(())
+    }
+}
+
+/// What a job reads.
+#[derive(Clone, Copy)]
+pub(crate) enum Given {
+    /// These bytes.
+    Bytes(&'static [u8]),
+    /// This byte, before a read that fails.
+    First(u8),
+    /// Nothing: each read fails.
+    Nothing,
+}
+
+impl Read for Given {
+    fn read(&mut self, buf: &mut [u8]) -> io::Result<usize> {
+        match *self {
+            Given::Bytes(mut rest) => {
+                let result = rest.read(buf);
+                *self = Given::Bytes(rest);
+                result
+            }
+            Given::First(byte) if !buf.is_empty() => {
+                buf[0] = byte;
+                *self = Given::Nothing;
+                Ok(1)
+            }
+            _ => Err(io::Error::from(ErrorKind::Other)),
+        }
     }
 }
 
@@ -58,74 +84,104 @@ pub(crate) fn is_ended<A: Read, B: Read, R: Threads + Wait + Sync>(
     (ended == status) & (written.as_slice() == out) & (told.as_slice() == err)
 }
 
-/// What a job ends with: its status, its answers and the line on standard error.
-#[derive(Clone, Copy)]
-struct Ended {
-    graph: &'static [u8],
-    pairs: &'static [u8],
-    status: u8,
-    out: &'static [u8],
-    err: &'static [u8],
+/// A job, what it reads first and second, its status, what it writes, and the line on standard error.
+pub(crate) type Case = (Job<'static>, Given, Given, u8, &'static [u8], &'static [u8]);
+
+/// Whether each of these jobs ends so.
+pub(crate) fn are_ended<R: Threads + Wait + Sync>(rt: &R, alloc: Global, cases: &[Case]) -> bool {
+    for (job, first, second, status, out, err) in cases {
+        let (mut first, mut second) = (*first, *second);
+        if !is_ended(rt, alloc, job, &mut first, &mut second, *status, out, err) {
+            return false;
+        }
+    }
+    true
 }
 
-const ENDED: [Ended; 4] = [
-    Ended {
-        graph: ONE_ARC_TEXT,
-        pairs: PAIRS,
-        status: 0,
-        out: b"r 1 2 7 1 1 2\nn 2 1\n",
-        err: b"",
-    },
-    Ended {
-        graph: b"p sp 2 1\na 1 3 7\n",
-        pairs: PAIRS,
-        status: 3,
-        out: b"",
-        err: b"routecli: graph: NodeRange line 2\n",
-    },
-    Ended {
-        graph: ONE_ARC_TEXT,
-        pairs: b"p aux sp p2p 2\nq 1 2\nq 2 3\n",
-        status: 5,
-        out: b"",
-        err: b"routecli: queries: NodeRange line 3\n",
-    },
-    Ended {
-        graph: ONE_ARC_TEXT,
-        pairs: b"",
-        status: 5,
-        out: b"",
-        err: b"routecli: queries: NoProblemLine line 0\n",
-    },
+/// Of two texts.
+const OF_TWO: [Case; 4] = [
+    (
+        TWO,
+        Given::Bytes(ONE_ARC_TEXT),
+        Given::Bytes(PAIRS),
+        0,
+        b"r 1 2 7 1 1 2\nn 2 1\n",
+        b"",
+    ),
+    (
+        TWO,
+        Given::Bytes(b"p sp 2 1\na 1 3 7\n"),
+        Given::Bytes(PAIRS),
+        3,
+        b"",
+        b"routecli: graph: NodeRange line 2\n",
+    ),
+    (
+        TWO,
+        Given::Bytes(ONE_ARC_TEXT),
+        Given::Bytes(b"p aux sp p2p 2\nq 1 2\nq 2 3\n"),
+        5,
+        b"",
+        b"routecli: queries: NodeRange line 3\n",
+    ),
+    (
+        TWO,
+        Given::Bytes(ONE_ARC_TEXT),
+        Given::Bytes(b""),
+        5,
+        b"",
+        b"routecli: queries: NoProblemLine line 0\n",
+    ),
+];
+
+/// Of the same in one input, and of a graph without the line that parts them.
+const OF_ONE: [Case; 5] = [
+    (
+        JOINED,
+        Given::Bytes(b"p sp 2 1\na 1 2 7\n%\np aux sp p2p 2\nq 1 2\nq 2 1\n"),
+        Given::Nothing,
+        0,
+        b"r 1 2 7 1 1 2\nn 2 1\n",
+        b"",
+    ),
+    (
+        JOINED,
+        Given::Bytes(b"p sp 2 1\na 1 3 7\n%\np aux sp p2p 2\nq 1 2\nq 2 1\n"),
+        Given::Nothing,
+        3,
+        b"",
+        b"routecli: graph: NodeRange line 2\n",
+    ),
+    (
+        JOINED,
+        Given::Bytes(b"p sp 2 1\na 1 2 7\n%\np aux sp p2p 2\nq 1 2\nq 2 3\n"),
+        Given::Nothing,
+        5,
+        b"",
+        b"routecli: queries: NodeRange line 3\n",
+    ),
+    (
+        JOINED,
+        Given::Bytes(b"p sp 2 1\na 1 2 7\n%\n"),
+        Given::Nothing,
+        5,
+        b"",
+        b"routecli: queries: NoProblemLine line 0\n",
+    ),
+    (
+        JOINED,
+        Given::Bytes(ONE_ARC_TEXT),
+        Given::Nothing,
+        5,
+        b"",
+        b"routecli: queries: NoProblemLine line 0\n",
+    ),
 ];
 
 #[test]
-fn two_texts_and_joined_ones(rt: HostRuntime) -> Result<(), Fail> {
-    let alloc = rt.alloc();
-    for case in ENDED {
-        let (status, out, err) = (case.status, case.out, case.err);
-        let (mut graph, mut pairs) = (case.graph, case.pairs);
-        assert!(rt; is_ended(&rt, alloc, &TWO, &mut graph, &mut pairs, status, out, err));
-        let input = joined(alloc, case.graph, b"%\n", case.pairs)?;
-        let mut first = input.as_slice();
-        assert!(rt;
-            is_ended(
-                &rt,
-                alloc,
-                &JOINED,
-                &mut first,
-                &mut Broken,
-                status,
-                out,
-                err
-            )
-        );
-    }
-    // Without the line that parts them.
-    let mut first = ONE_ARC_TEXT;
-    let line = b"routecli: queries: NoProblemLine line 0\n";
-    assert!(rt; is_ended(&rt, alloc, &JOINED, &mut first, &mut Broken, 5, b"", line));
-    Ok(())
+fn two_texts_and_joined_ones(rt: HostRuntime) {
+    assert!(rt; are_ended(&rt, rt.alloc(), &OF_TWO));
+    assert!(rt; are_ended(&rt, rt.alloc(), &OF_ONE));
 }
 
 pub(crate) const ROUTE: Job<'static> = Job::Route {
@@ -133,30 +189,51 @@ pub(crate) const ROUTE: Job<'static> = Job::Route {
     queries: "pairs.p2p",
 };
 
-/// What a route ends with: the file, the pairs, the status, the answers and the line on standard error.
-type Routed = (
-    &'static [u8],
-    &'static [u8],
-    u8,
-    &'static [u8],
-    &'static [u8],
-);
-
-const ROUTED: [Routed; 6] = [
-    (ONE_ARC, PAIRS, 0, b"r 1 2 7 1 1 2\nn 2 1\n", b""),
-    (ONE_ARC_V1, PAIRS, 0, b"r 1 2 7 1 1 2\nn 2 1\n", b""),
-    (b"RCH3", b"", 4, b"", b"routecli: hierarchy: BadMagic\n"),
-    (b"RCH", b"", 4, b"", b"routecli: hierarchy: Truncated\n"),
+const ROUTED: [Case; 6] = [
     (
-        TWICE,
-        b"p aux sp p2p 1\nq 2 4\n",
+        ROUTE,
+        Given::Bytes(ONE_ARC),
+        Given::Bytes(PAIRS),
+        0,
+        b"r 1 2 7 1 1 2\nn 2 1\n",
+        b"",
+    ),
+    (
+        ROUTE,
+        Given::Bytes(ONE_ARC_V1),
+        Given::Bytes(PAIRS),
+        0,
+        b"r 1 2 7 1 1 2\nn 2 1\n",
+        b"",
+    ),
+    (
+        ROUTE,
+        Given::Bytes(b"RCH3"),
+        Given::Bytes(b""),
+        4,
+        b"",
+        b"routecli: hierarchy: BadMagic\n",
+    ),
+    (
+        ROUTE,
+        Given::Bytes(b"RCH"),
+        Given::Bytes(b""),
+        4,
+        b"",
+        b"routecli: hierarchy: Truncated\n",
+    ),
+    (
+        ROUTE,
+        Given::Bytes(TWICE),
+        Given::Bytes(b"p aux sp p2p 1\nq 2 4\n"),
         4,
         b"",
         b"routecli: hierarchy: TooLong\n",
     ),
     (
-        ONE_ARC,
-        b"",
+        ROUTE,
+        Given::Bytes(ONE_ARC),
+        Given::Bytes(b""),
         5,
         b"",
         b"routecli: queries: NoProblemLine line 0\n",
@@ -165,57 +242,64 @@ const ROUTED: [Routed; 6] = [
 
 #[test]
 fn routes(rt: HostRuntime) {
-    let alloc = rt.alloc();
-    for (mut hierarchy, mut pairs, status, out, err) in ROUTED {
-        assert!(rt;
-            is_ended(
-                &rt,
-                alloc,
-                &ROUTE,
-                &mut hierarchy,
-                &mut pairs,
-                status,
-                out,
-                err
-            )
-        );
-    }
+    assert!(rt; are_ended(&rt, rt.alloc(), &ROUTED));
 }
 
 pub(crate) const INFO: Job<'static> = Job::Info { hierarchy: "a.rch" };
 
-/// What printing of a file ends with: the file, the status, the text and the line on standard error.
-type Informed = (&'static [u8], u8, &'static [u8], &'static [u8]);
-
-const INFORMED: [Informed; 7] = [
+const INFORMED: [Case; 7] = [
     (
-        ONE_ARC,
+        INFO,
+        Given::Bytes(ONE_ARC),
+        Given::Nothing,
         0,
         b"version 2\nnodes 2\nlinks 1\nbound 7\nbytes 56\n",
         b"",
     ),
     (
-        ONE_ARC_V1,
+        INFO,
+        Given::Bytes(ONE_ARC_V1),
+        Given::Nothing,
         0,
         b"version 1\nnodes 2\nlinks 1\nbound 7\nbytes 52\n",
         b"",
     ),
     (
-        ROW,
+        INFO,
+        Given::Bytes(ROW),
+        Given::Nothing,
         0,
         b"version 2\nnodes 3\nlinks 3\nbound 6\nbytes 108\n",
         b"",
     ),
     (
-        b"RCH2\0\0\0\0\0\0\0\0\0\0\0\0\0\0\0\0\0\0\0\0",
+        INFO,
+        Given::Bytes(b"RCH2\0\0\0\0\0\0\0\0\0\0\0\0\0\0\0\0\0\0\0\0"),
+        Given::Nothing,
         0,
         b"version 2\nnodes 0\nlinks 0\nbound 0\nbytes 24\n",
         b"",
     ),
-    (b"", 4, b"", b"routecli: hierarchy: Truncated\n"),
-    (ONE_ARC_TEXT, 4, b"", b"routecli: hierarchy: BadMagic\n"),
     (
-        b"RCH2\0\0\0\0\0\0\0\0\0\0\0\0\0\0\0\0\0\0\0\0x",
+        INFO,
+        Given::Bytes(b""),
+        Given::Nothing,
+        4,
+        b"",
+        b"routecli: hierarchy: Truncated\n",
+    ),
+    (
+        INFO,
+        Given::Bytes(ONE_ARC_TEXT),
+        Given::Nothing,
+        4,
+        b"",
+        b"routecli: hierarchy: BadMagic\n",
+    ),
+    (
+        INFO,
+        Given::Bytes(b"RCH2\0\0\0\0\0\0\0\0\0\0\0\0\0\0\0\0\0\0\0\0x"),
+        Given::Nothing,
         4,
         b"",
         b"routecli: hierarchy: Trailing\n",
@@ -224,10 +308,7 @@ const INFORMED: [Informed; 7] = [
 
 #[test]
 fn what_files_have(rt: HostRuntime) {
-    let alloc = rt.alloc();
-    for (mut file, status, out, err) in INFORMED {
-        assert!(rt; is_ended(&rt, alloc, &INFO, &mut file, &mut Broken, status, out, err));
-    }
+    assert!(rt; are_ended(&rt, rt.alloc(), &INFORMED));
 }
 
 const CHECK: Job<'static> = Job::Check(Check {
@@ -236,41 +317,59 @@ const CHECK: Job<'static> = Job::Check(Check {
     progress: false,
 });
 
-/// What a check ends with: the text, the file, the status, the line of the verdict and that on standard error.
-const CHECKED: [Routed; 7] = [
-    (ONE_ARC_TEXT, ONE_ARC, 0, b"right\n", b""),
-    (b"p sp 3 1\na 1 2 7\n", ONE_ARC, 9, b"wrong: nodes\n", b""),
+const CHECKED: [Case; 7] = [
     (
-        b"p sp 2 2\na 1 2 6\na 2 1 7\n",
-        ONE_ARC,
+        CHECK,
+        Given::Bytes(ONE_ARC_TEXT),
+        Given::Bytes(ONE_ARC),
+        0,
+        b"right\n",
+        b"",
+    ),
+    (
+        CHECK,
+        Given::Bytes(b"p sp 3 1\na 1 2 7\n"),
+        Given::Bytes(ONE_ARC),
+        9,
+        b"wrong: nodes\n",
+        b"",
+    ),
+    (
+        CHECK,
+        Given::Bytes(b"p sp 2 2\na 1 2 6\na 2 1 7\n"),
+        Given::Bytes(ONE_ARC),
         9,
         b"wrong: pair 1 2\n",
         b"",
     ),
     (
-        b"p sp 2 1\na 1 2 8\n",
-        ONE_ARC,
+        CHECK,
+        Given::Bytes(b"p sp 2 1\na 1 2 8\n"),
+        Given::Bytes(ONE_ARC),
         10,
         b"not shown: bound\n",
         b"",
     ),
     (
-        b"p sp 2 1\na 1 3 7\n",
-        b"RCH3",
+        CHECK,
+        Given::Bytes(b"p sp 2 1\na 1 3 7\n"),
+        Given::Bytes(b"RCH3"),
         3,
         b"",
         b"routecli: graph: NodeRange line 2\n",
     ),
     (
-        ONE_ARC_TEXT,
-        b"RCH3",
+        CHECK,
+        Given::Bytes(ONE_ARC_TEXT),
+        Given::Bytes(b"RCH3"),
         4,
         b"",
         b"routecli: hierarchy: BadMagic\n",
     ),
     (
-        ONE_ARC_TEXT,
-        ONE_ARC_V1,
+        CHECK,
+        Given::Bytes(ONE_ARC_TEXT),
+        Given::Bytes(ONE_ARC_V1),
         4,
         b"",
         b"routecli: hierarchy: OldVersion\n",
@@ -279,78 +378,98 @@ const CHECKED: [Routed; 7] = [
 
 #[test]
 fn checks(rt: HostRuntime) {
-    let alloc = rt.alloc();
-    for (mut text, mut file, status, out, err) in CHECKED {
-        assert!(rt; is_ended(&rt, alloc, &CHECK, &mut text, &mut file, status, out, err));
-    }
+    assert!(rt; are_ended(&rt, rt.alloc(), &CHECKED));
 }
+
+/// Whether a job ends with status 7 and the line of a failed read, and writes nothing.
+fn is_unread<R: Threads + Wait + Sync>(
+    rt: &R,
+    alloc: Global,
+    job: &Job<'_>,
+    mut first: Given,
+    mut second: Given,
+) -> bool {
+    let line = b"routecli: read\n";
+    is_ended(rt, alloc, job, &mut first, &mut second, 7, b"", line)
+}
+
+/// Whether each of these jobs does.
+fn are_unread<R: Threads + Wait + Sync>(
+    rt: &R,
+    alloc: Global,
+    cases: &[(Job<'_>, Given, Given)],
+) -> bool {
+    for (job, first, second) in cases {
+        if !is_unread(rt, alloc, job, *first, *second) {
+            return false;
+        }
+    }
+    true
+}
+
+/// Jobs of which a reader fails at once.
+const FAILED: [(Job, Given, Given); 8] = [
+    (TWO, Given::Nothing, Given::Bytes(PAIRS)),
+    (JOINED, Given::Nothing, Given::Bytes(PAIRS)),
+    (ROUTE, Given::Nothing, Given::Bytes(PAIRS)),
+    (INFO, Given::Nothing, Given::Bytes(PAIRS)),
+    (CHECK, Given::Nothing, Given::Bytes(PAIRS)),
+    (TWO, Given::Bytes(ONE_ARC_TEXT), Given::Nothing),
+    (ROUTE, Given::Bytes(ONE_ARC), Given::Nothing),
+    (CHECK, Given::Bytes(ONE_ARC_TEXT), Given::Nothing),
+];
 
 #[test]
 fn failed_reads(rt: HostRuntime) {
-    let alloc = rt.alloc();
-    let line = b"routecli: read\n";
-    for job in [TWO, JOINED, ROUTE, INFO, CHECK] {
-        let mut pairs = PAIRS;
-        assert!(rt; is_ended(&rt, alloc, &job, &mut Broken, &mut pairs, 7, b"", line));
-    }
-    for (job, mut first) in [(TWO, ONE_ARC_TEXT), (ROUTE, ONE_ARC), (CHECK, ONE_ARC_TEXT)] {
-        assert!(rt; is_ended(&rt, alloc, &job, &mut first, &mut Broken, 7, b"", line));
-    }
+    assert!(rt; are_unread(&rt, rt.alloc(), &FAILED));
 }
 
-/// Jobs and what their first reader has.
-const FIRST: [(Job, &[u8]); 4] = [
-    (TWO, ONE_ARC_TEXT),
-    (JOINED, ONE_ARC_TEXT),
-    (ROUTE, ONE_ARC),
-    (INFO, ONE_ARC),
+/// Jobs of which a reader fails after the first byte.
+const FAILED_SECOND: [(Job, Given, Given); 6] = [
+    (TWO, Given::First(b'p'), Given::Bytes(PAIRS)),
+    (JOINED, Given::First(b'p'), Given::Bytes(PAIRS)),
+    (ROUTE, Given::First(b'R'), Given::Bytes(PAIRS)),
+    (INFO, Given::First(b'R'), Given::Bytes(PAIRS)),
+    (TWO, Given::Bytes(ONE_ARC_TEXT), Given::First(b'p')),
+    (ROUTE, Given::Bytes(ONE_ARC), Given::First(b'p')),
 ];
 
 #[test]
 fn failed_second_reads(rt: HostRuntime) {
-    let alloc = rt.alloc();
-    let line = b"routecli: read\n";
-    for (job, first) in FIRST {
-        let (mut failing, mut pairs) = (Uneven::new(first, 0, 2), PAIRS);
-        assert!(rt; is_ended(&rt, alloc, &job, &mut failing, &mut pairs, 7, b"", line));
-    }
-    for (job, mut first) in [(TWO, ONE_ARC_TEXT), (ROUTE, ONE_ARC)] {
-        let mut failing = Uneven::new(PAIRS, 0, 2);
-        assert!(rt; is_ended(&rt, alloc, &job, &mut first, &mut failing, 7, b"", line));
-    }
+    assert!(rt; are_unread(&rt, rt.alloc(), &FAILED_SECOND));
+}
+
+/// Whether a job ends with status 7 and the line of a failed write, where the writer fails.
+pub(crate) fn is_unwritten<R: Threads + Wait + Sync>(
+    rt: &R,
+    alloc: Global,
+    job: &Job<'_>,
+    mut first: Given,
+    mut second: Given,
+) -> bool {
+    let mut err = Vec::new(alloc);
+    let status = perform(
+        rt,
+        alloc,
+        job,
+        &mut first,
+        &mut second,
+        &mut Broken,
+        &mut err,
+    );
+    (status == 7) & (err.as_slice() == b"routecli: write\n".as_slice())
 }
 
 #[test]
 fn failed_writes(rt: HostRuntime) {
-    let mut err = Vec::new(rt.alloc());
-    let (mut graph, mut pairs) = (ONE_ARC_TEXT, PAIRS);
-    let status = perform(
-        &rt,
-        rt.alloc(),
-        &TWO,
-        &mut graph,
-        &mut pairs,
-        &mut Broken,
-        &mut err,
-    );
-    assert!(rt; status == 7 && err.as_slice() == b"routecli: write\n".as_slice());
+    let (graph, pairs) = (Given::Bytes(ONE_ARC_TEXT), Given::Bytes(PAIRS));
+    assert!(rt; is_unwritten(&rt, rt.alloc(), &TWO, graph, pairs));
 }
 
 #[test]
 fn a_failed_write_of_what_a_file_has(rt: HostRuntime) {
-    let mut err = Vec::new(rt.alloc());
-    let mut file = ONE_ARC;
-    let (mut nothing, mut out) = (Broken, Broken);
-    let status = perform(
-        &rt,
-        rt.alloc(),
-        &INFO,
-        &mut file,
-        &mut nothing,
-        &mut out,
-        &mut err,
-    );
-    assert!(rt; status == 7 && err.as_slice() == b"routecli: write\n".as_slice());
+    let file = Given::Bytes(ONE_ARC);
+    assert!(rt; is_unwritten(&rt, rt.alloc(), &INFO, file, Given::Nothing));
 }
 
 #[test]

@@ -2,13 +2,14 @@
 //! whatever the stint.
 ghost use Rattle.std.specs.Prelude.{◌≡◌, [], All, IfOk};
 
-use crate::drawn::Draw;
-use crate::kit::{Lists, options};
-use crate::orders::{SQUARE, prepared, prepared_by_stints, routed};
+use crate::drawn::{Draw, all_pairs, by_file};
+use crate::kit::{Lists, estimator_of, options};
+use crate::orders::{Plan, SQUARE, is_same, prepared};
+use crate::plain::first_line;
 use ch_cost::Cost;
-use ch_estimate::{Depth, EdgeDifference, Estimator, Leases, Neighbours};
+use ch_estimate::{Estimator, Leases};
 use ch_graph::Graph;
-use ch_service::prepare;
+use ch_service::{ServiceError, prepare};
 use ch_workers::{OpenGate, Options};
 use grfile::read_graph;
 use jobs::Order;
@@ -51,20 +52,34 @@ fn list_of_three(
     Ok(lists)
 }
 
-/// The file of the square's hierarchy that one worker prepares by these lists, each stint of this many commits.
-fn prepared_by_lists<R: Threads + Wait + Sync>(
+/// The list of one worker, which has an estimator of each of these kinds.
+fn list_in_sequence(
+    alloc: Global,
+    leases: &mut Leases,
+    sequence: (Order, Order, Order),
+) -> Result<Lists, AllocError>
+    ensures untold { IfOk result (λ lists. All (λ list. All (λ estimator. heard estimator ≡ []) list.items) lists.items) }
+{
+    let (first, second, third) = sequence;
+    let one = estimator_of(alloc, leases, first)?;
+    let two = estimator_of(alloc, leases, second)?;
+    let three = estimator_of(alloc, leases, third)?;
+    list_of_three(alloc, one, two, three)
+}
+
+/// The file of the square's hierarchy that one worker prepares by these orders, each stint of this many commits.
+fn prepared_in_sequence<R: Threads + Wait + Sync>(
     rt: &R,
     alloc: Global,
-    lists: Lists,
     leases: &mut Leases,
+    sequence: (Order, Order, Order),
     stint: u64,
-) -> Result<Vec<u8>, Fail>
-    requires { All (λ list. All (λ estimator. heard estimator ≡ []) list.items) lists.items }
-{
+) -> Result<Vec<u8>, ServiceError> {
     let options = Options {
         stint,
         ..options(1)
     };
+    let lists = list_in_sequence(alloc, leases, sequence)?;
     let mut graph = SQUARE;
     let mut file = Vec::new(alloc);
     prepare(
@@ -73,107 +88,78 @@ fn prepared_by_lists<R: Threads + Wait + Sync>(
     Ok(file)
 }
 
-/// The orders that one worker uses, one after the other.
-#[derive(Clone, Copy)]
-enum Sequence {
-    EdgesNeighboursDepth,
-    EdgesDepthNeighbours,
-    NeighboursEdgesDepth,
-    NeighboursDepthEdges,
-    DepthEdgesNeighbours,
-    DepthNeighboursEdges,
-}
-
-/// The list of one worker that uses these estimators in that order.
-fn in_sequence(
-    alloc: Global,
-    sequence: Sequence,
-    edges: Box<dyn Estimator + Send>,
-    gone: Box<dyn Estimator + Send>,
-    depth: Box<dyn Estimator + Send>,
-) -> Result<Lists, AllocError>
-    requires edges { heard edges ≡ [] }
-    requires gone { heard gone ≡ [] }
-    requires depth { heard depth ≡ [] }
-    ensures untold { IfOk result (λ lists. All (λ list. All (λ estimator. heard estimator ≡ []) list.items) lists.items) }
-{
-    match sequence {
-        Sequence::EdgesNeighboursDepth => list_of_three(alloc, edges, gone, depth),
-        Sequence::EdgesDepthNeighbours => list_of_three(alloc, edges, depth, gone),
-        Sequence::NeighboursEdgesDepth => list_of_three(alloc, gone, edges, depth),
-        Sequence::NeighboursDepthEdges => list_of_three(alloc, gone, depth, edges),
-        Sequence::DepthEdgesNeighbours => list_of_three(alloc, depth, edges, gone),
-        Sequence::DepthNeighboursEdges => list_of_three(alloc, depth, gone, edges),
-    }
-}
-
-/// The file of the square's hierarchy that one worker prepares by these orders, each stint of this many commits.
-fn prepared_in_sequence<R: Threads + Wait + Sync>(
+/// Whether it is the file that is prepared by the order that is asked for.
+fn follow<R: Threads + Wait + Sync>(
     rt: &R,
     alloc: Global,
-    sequence: Sequence,
-    stint: u64,
-) -> Result<Vec<u8>, Fail> {
+    file: &[u8],
+    sequence: (Order, Order, Order),
+) -> Result<bool, Fail> {
     let mut leases = Leases::new(alloc)?;
-    let (one, two, three) = (leases.lease()?, leases.lease()?, leases.lease()?);
-    let edges: Box<dyn Estimator + Send> = Box::new(alloc, EdgeDifference::new(alloc, one))?;
-    let gone: Box<dyn Estimator + Send> = Box::new(alloc, Neighbours::new(alloc, two))?;
-    let depth: Box<dyn Estimator + Send> = Box::new(alloc, Depth::new(alloc, three))?;
-    let lists = in_sequence(alloc, sequence, edges, gone, depth)?;
-    prepared_by_lists(rt, alloc, lists, &mut leases, stint)
+    let same = prepared_in_sequence(rt, alloc, &mut leases, sequence, 4)?;
+    Ok(same.as_slice() == file)
 }
 
-/// The order that is asked for, the sequence that it means, and one that it doesn't.
-const SEQUENCES: [(Order, Sequence, Sequence); 3] = [
-    (
-        Order::Edges,
-        Sequence::EdgesNeighboursDepth,
-        Sequence::EdgesDepthNeighbours,
-    ),
-    (
-        Order::Neighbours,
-        Sequence::NeighboursEdgesDepth,
-        Sequence::NeighboursDepthEdges,
-    ),
-    (
-        Order::Depth,
-        Sequence::DepthEdgesNeighbours,
-        Sequence::DepthNeighboursEdges,
-    ),
+/// Whether after an order these two follow, and not in the other order.
+fn is_in_sequence<R: Threads + Wait + Sync>(
+    rt: &R,
+    alloc: Global,
+    (first, second, third): (Order, Order, Order),
+) -> Result<bool, Fail> {
+    let file = prepared(rt, alloc, SQUARE, (first, 1, Some(4)))?;
+    let is_same = follow(rt, alloc, file.as_slice(), (first, second, third))?;
+    Ok(is_same & !follow(rt, alloc, file.as_slice(), (first, third, second))?)
+}
+
+/// The order that is asked for, and the two that follow.
+const SEQUENCES: [(Order, Order, Order); 3] = [
+    (Order::Edges, Order::Neighbours, Order::Depth),
+    (Order::Neighbours, Order::Edges, Order::Depth),
+    (Order::Depth, Order::Edges, Order::Neighbours),
 ];
 
 #[test]
 fn the_other_two_orders_follow(rt: HostRuntime) -> Result<(), Fail> {
-    let alloc = rt.alloc();
-    for (order, follows, other) in SEQUENCES {
-        let file = prepared_by_stints(&rt, alloc, SQUARE, (order, 1, 4))?;
-        let same = prepared_in_sequence(&rt, alloc, follows, 4)?;
-        assert!(rt; file.as_slice() == same.as_slice());
-        let differs = prepared_in_sequence(&rt, alloc, other, 4)?;
-        assert!(rt; file.as_slice() != differs.as_slice());
+    for sequence in SEQUENCES {
+        assert!(rt; is_in_sequence(&rt, rt.alloc(), sequence)?);
     }
     Ok(())
 }
 
-#[test]
-fn a_stint_of_all_commits_is_none(rt: HostRuntime) -> Result<(), Fail> {
-    let alloc = rt.alloc();
-    for (order, _, _) in SEQUENCES {
-        let file = prepared(&rt, alloc, SQUARE, order, 1)?;
-        for stint in [16, 1_099_511_627_776] {
-            let same = prepared_by_stints(&rt, alloc, SQUARE, (order, 1, stint))?;
-            assert!(rt; file.as_slice() == same.as_slice());
+/// Plans that have the same file of the square: a stint of all commits is none, and without workers it changes nothing.
+const SAME: [(Plan, Plan); 7] = [
+    ((Order::Edges, 1, None), (Order::Edges, 1, Some(16))),
+    ((Order::Edges, 1, None), (Order::Edges, 1, Some(1 << 40))),
+    (
+        (Order::Neighbours, 1, None),
+        (Order::Neighbours, 1, Some(16)),
+    ),
+    (
+        (Order::Neighbours, 1, None),
+        (Order::Neighbours, 1, Some(1 << 40)),
+    ),
+    ((Order::Depth, 1, None), (Order::Depth, 1, Some(16))),
+    ((Order::Depth, 1, None), (Order::Depth, 1, Some(1 << 40))),
+    ((Order::Edges, 0, None), (Order::Depth, 0, Some(1))),
+];
+
+/// Whether each of these do.
+fn are_same<R: Threads + Wait + Sync>(
+    rt: &R,
+    alloc: Global,
+    cases: &[(Plan, Plan)],
+) -> Result<bool, Fail> {
+    for (plan, other) in cases {
+        if !is_same(rt, alloc, SQUARE, *plan, *other)? {
+            return Ok(false);
         }
     }
-    Ok(())
+    Ok(true)
 }
 
 #[test]
-fn without_workers_a_stint_changes_nothing(rt: HostRuntime) -> Result<(), Fail> {
-    let alloc = rt.alloc();
-    let file = prepared(&rt, alloc, SQUARE, Order::Edges, 0)?;
-    let same = prepared_by_stints(&rt, alloc, SQUARE, (Order::Depth, 0, 1))?;
-    assert!(rt; file.as_slice() == same.as_slice());
+fn stints_that_change_nothing(rt: HostRuntime) -> Result<(), Fail> {
+    assert!(rt; are_same(&rt, rt.alloc(), &SAME)?);
     Ok(())
 }
 
@@ -183,92 +169,121 @@ const NODES: usize = 12;
 /// Its arcs.
 const ARCS: usize = 40;
 
-/// The text of a network of weights from 0 to 99.
+/// Adds an arc that is drawn, of a weight from 0 to 99.
+fn add_drawn(alloc: Global, draw: &mut Draw, text: &mut String) -> Result<(), AllocError> {
+    let (from, to, weight) = (draw.below(NODES), draw.below(NODES), draw.below(100));
+    let (source, target) = (from.saturating_add(1), to.saturating_add(1));
+    let line = format!(in alloc; "a {source} {target} {weight}\n")?;
+    text.push_str(line.as_str())
+}
+
+/// The text of a network.
 fn drawn(alloc: Global, draw: &mut Draw) -> Result<String, AllocError> {
     let mut text = format!(in alloc; "p sp {NODES} {ARCS}\n")?;
     for _ in 0..ARCS {
-        let (from, to, weight) = (draw.below(NODES), draw.below(NODES), draw.below(100));
-        let (source, target) = (from.saturating_add(1), to.saturating_add(1));
-        let line = format!(in alloc; "a {source} {target} {weight}\n")?;
-        text.push_str(line.as_str())?;
+        add_drawn(alloc, draw, &mut text)?;
     }
     Ok(text)
 }
 
-/// The query file of all pairs of nodes, in order.
-fn all_pairs(alloc: Global) -> Result<String, AllocError> {
-    let mut text = format!(in alloc; "p aux sp p2p {}\n", NODES * NODES)?;
-    for source in 1..=NODES {
-        for target in 1..=NODES {
-            let line = format!(in alloc; "q {source} {target}\n")?;
-            text.push_str(line.as_str())?;
-        }
-    }
-    Ok(text)
-}
-
-/// How the line of a pair begins, or the whole line where there is no walk.
-fn front(
+/// Whether a line begins as that of a pair, or is the whole line where there is no walk.
+fn begins_so(
     alloc: Global,
-    source: u32,
-    target: u32,
+    line: &[u8],
+    (source, target): (u32, u32),
     least: Option<Cost>,
-) -> Result<String, AllocError> {
-    match least {
+) -> Result<bool, AllocError> {
+    let (from, to) = (source.saturating_add(1), target.saturating_add(1));
+    let front = match least {
         Some(cost) => {
             let (length, arcs) = (cost.length(), cost.arcs());
-            format!(in alloc; "r {source} {target} {length} {arcs} ")
+            format!(in alloc; "r {from} {to} {length} {arcs} ")?
         }
-        None => format!(in alloc; "n {source} {target}"),
-    }
+        None => format!(in alloc; "n {from} {to}")?,
+    };
+    Ok(line.starts_with(front.as_bytes()))
 }
 
-/// How the lines of all pairs begin, by the plain search.
-fn fronts(alloc: Global, graph: &Graph) -> Result<Vec<String>, AllocError> {
-    let mut fronts = Vec::new(alloc);
+/// Whether there is a line for each pair that begins as the plain search has it, in order, and no other.
+fn begin_so(alloc: Global, graph: &Graph, lines: &[u8]) -> Result<bool, AllocError> {
+    let mut rest = lines;
+    let mut holds = true;
     for source in 0..graph.nodes() {
         for target in 0..graph.nodes() {
             let least = graph.least(source, target)?;
-            let (from, to) = (source.saturating_add(1), target.saturating_add(1));
-            fronts.push(front(alloc, from, to, least)?)?;
+            let (line, later) = first_line(rest);
+            holds &= begins_so(alloc, line, (source, target), least)?;
+            rest = later;
         }
     }
-    Ok(fronts)
+    Ok(holds & rest.is_empty())
 }
 
-/// Whether there is a line for each beginning, in order, and no other.
-fn begin_so(lines: &[u8], fronts: &[String]) -> bool {
-    let mut rest = lines;
-    for front in fronts {
-        let Some(at) = rest.iter().position(|byte| *byte == b'\n') else {
-            return false;
-        };
-        if !rest[..at].starts_with(front.as_bytes()) {
-            return false;
-        }
-        rest = &rest[at + 1..];
-    }
-    rest.is_empty()
+/// Whether the lines of all pairs begin as the plain search has it, by the graph of a text.
+fn are_least_lines(alloc: Global, mut text: &[u8], lines: &[u8]) -> Result<bool, Fail> {
+    let graph = read_graph(alloc, &mut text)?;
+    Ok(begin_so(alloc, &graph, lines)?)
+}
+
+/// Whether the answers over a network are the least by a plan.
+fn is_least<R: Threads + Wait + Sync>(
+    rt: &R,
+    alloc: Global,
+    text: &[u8],
+    pairs: &[u8],
+    plan: Plan,
+) -> Result<bool, Fail> {
+    let lines = by_file(rt, alloc, text, pairs, plan)?;
+    are_least_lines(alloc, text, lines.as_slice())
+}
+
+/// Whether they are over a network that is drawn, in an order that is.
+fn is_drawn_least<R: Threads + Wait + Sync>(
+    rt: &R,
+    alloc: Global,
+    draw: &mut Draw,
+    pairs: &[u8],
+    (workers, stint): (u32, u64),
+) -> Result<bool, Fail> {
+    let text = drawn(alloc, draw)?;
+    let order = ORDERS.get(draw.below(3)).copied().unwrap_or(Order::Edges);
+    is_least(
+        rt,
+        alloc,
+        text.as_bytes(),
+        pairs,
+        (order, workers, Some(stint)),
+    )
 }
 
 const ORDERS: [Order; 3] = [Order::Edges, Order::Neighbours, Order::Depth];
 
-/// Whether answers are the least by 0 to 8 workers and each stint, over a network for each.
+/// Whether answers are the least by 0 to 8 workers and a stint, over a network for each.
 fn are_least<R: Threads + Wait + Sync>(
     rt: &R,
     alloc: Global,
     draw: &mut Draw,
+    pairs: &[u8],
     stint: u64,
 ) -> Result<bool, Fail> {
-    let pairs = all_pairs(alloc)?;
-    for workers in 0..9 {
-        let text = drawn(alloc, draw)?;
-        let graph = read_graph(alloc, &mut text.as_bytes())?;
-        let fronts = fronts(alloc, &graph)?;
-        let order = ORDERS.get(draw.below(3)).copied().ok_or("an order")?;
-        let file = prepared_by_stints(rt, alloc, text.as_bytes(), (order, workers, stint))?;
-        let lines = routed(rt, alloc, file.as_slice(), pairs.as_bytes());
-        if !begin_so(lines.as_slice(), fronts.as_slice()) {
+    for workers in 0..9u32 {
+        if !is_drawn_least(rt, alloc, draw, pairs, (workers, stint))? {
+            return Ok(false);
+        }
+    }
+    Ok(true)
+}
+
+/// Whether they are by each of these stints.
+fn are_least_by_all<R: Threads + Wait + Sync>(
+    rt: &R,
+    alloc: Global,
+    stints: &[u64],
+) -> Result<bool, Fail> {
+    let pairs = all_pairs(alloc, NODES)?;
+    let mut draw = Draw { state: 2026 };
+    for stint in stints {
+        if !are_least(rt, alloc, &mut draw, pairs.as_bytes(), *stint)? {
             return Ok(false);
         }
     }
@@ -277,9 +292,6 @@ fn are_least<R: Threads + Wait + Sync>(
 
 #[test]
 fn lengths_are_the_least_by_all_stints(rt: HostRuntime) -> Result<(), Fail> {
-    let mut draw = Draw { state: 2026 };
-    for stint in [1, 7, 1_000] {
-        assert!(rt; are_least(&rt, rt.alloc(), &mut draw, stint)?);
-    }
+    assert!(rt; are_least_by_all(&rt, rt.alloc(), &[1, 7, 1_000])?);
     Ok(())
 }
