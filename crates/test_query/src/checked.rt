@@ -21,17 +21,17 @@ const DOWN: Given = (1, 0, (2, 1), None);
 const SHORTCUT: Given = (1, 2, (5, 2), Some(0));
 
 /// The row.
-pub const ROW: [Given; 3] = [UP, DOWN, SHORTCUT];
+pub const ROW: &[Given] = &[UP, DOWN, SHORTCUT];
 
 /// The row as files of version 1 have it.
-const ROW_BY_WEIGHT: [Given; 3] = [
+const ROW_BY_WEIGHT: &[Given] = &[
     (0, 2, (3, 0), None),
     (1, 0, (2, 0), None),
     (1, 2, (5, 0), Some(0)),
 ];
 
 /// Nodes 1 to 3, each joined to the next by way of node 0.
-pub const BY_WAY_OF_0: [Given; 6] = [
+pub const BY_WAY_OF_0: &[Given] = &[
     (0, 2, (1, 1), None),
     (0, 3, (1, 1), None),
     (1, 0, (1, 1), None),
@@ -41,7 +41,7 @@ pub const BY_WAY_OF_0: [Given; 6] = [
 ];
 
 /// The same with a link of as many arcs as there are nodes.
-const TOO_MANY_ARCS: [Given; 7] = [
+const TOO_MANY_ARCS: &[Given] = &[
     (0, 2, (1, 1), None),
     (0, 3, (1, 1), None),
     (1, 0, (1, 1), None),
@@ -52,10 +52,10 @@ const TOO_MANY_ARCS: [Given; 7] = [
 ];
 
 /// The ranks of the hierarchy that is drawn at `Search::distance`.
-pub const DRAWN_RANKS: [u32; 5] = [0, 4, 2, 3, 1];
+pub const DRAWN_RANKS: &[u32] = &[0, 4, 2, 3, 1];
 
 /// Its links.
-pub const DRAWN: [Given; 11] = [
+pub const DRAWN: &[Given] = &[
     (0, 1, (2, 1), None),
     (1, 2, (3, 1), None),
     (1, 3, (2, 2), Some(4)),
@@ -118,8 +118,11 @@ fn checked(
 
 /// Whether the hierarchy finds each of its links where it is.
 fn finds_each_link(hierarchy: &Hierarchy) -> bool {
-    hierarchy.links().iter().enumerate().all(|(place, link)| hierarchy.find(link.from, link.to)
-        == Some(LinkId(place)))
+    let mut holds = true;
+    for (place, link) in hierarchy.links().iter().enumerate() {
+        holds &= hierarchy.find(link.from, link.to) == Some(LinkId(place));
+    }
+    holds
 }
 
 /// Whether it has these links, and finds each of them.
@@ -152,67 +155,258 @@ fn is_refused(alloc: Global, case: Case<'_>, error: HierarchyError) -> Result<bo
     }
 }
 
+/// What hierarchies are made of.
+const WELL_MADE: &[Case<'static>] = &[
+    (2, &[0, 1, 2], ROW, (6, 2)),
+    (2, &[0, 2, 1], ROW, (5, 2)),
+    (2, &[2, 0, 1], &[UP, DOWN], (GREATEST, 2)),
+    (2, &[0, 1, 2, 3], BY_WAY_OF_0, (4, 3)),
+    // Links of no weight.
+    (
+        2,
+        &[0, 1],
+        &[(0, 1, (0, 1), None), (1, 0, (0, 1), None)],
+        (0, 1),
+    ),
+    (2, &[0], &[], (0, 0)),
+    (2, &[], &[], (0, 0)),
+    (1, &[0, 1, 2], ROW_BY_WEIGHT, (6, 0)),
+    (1, &[2, 0, 1], &[], (GREATEST, 0)),
+    (1, &[], &[], (0, 0)),
+];
+
+/// Whether there is a hierarchy of each of these.
+fn are_made(alloc: Global, cases: &[Case<'_>]) -> Result<bool, Fail> {
+    let mut holds = true;
+    for case in cases {
+        holds &= is_made(alloc, *case)?;
+    }
+    Ok(holds)
+}
+
 #[test]
 fn is_made_of_what_is_well_made(rt: HostRuntime) -> Result<(), Fail> {
-    let cases: [Case<'_>; 10] = [
-        (2, &[0, 1, 2], &ROW, (6, 2)),
-        (2, &[0, 2, 1], &ROW, (5, 2)),
-        (2, &[2, 0, 1], &[UP, DOWN], (GREATEST, 2)),
-        (2, &[0, 1, 2, 3], &BY_WAY_OF_0, (4, 3)),
-        // Links of no weight.
+    assert!(rt; are_made(rt.alloc(), WELL_MADE)?);
+    Ok(())
+}
+
+/// What no hierarchy is made of, and why.
+type Refused = (Case<'static>, HierarchyError);
+
+const REFUSED: &[Refused] = &[
+    // Bounds that aren't allowed.
+    (
+        (2, &[0, 1, 2], ROW, (GREATEST + 1, 2)),
+        HierarchyError::BadBound,
+    ),
+    ((2, &[0], &[], (1, 0)), HierarchyError::BadBound),
+    ((2, &[], &[], (1, 0)), HierarchyError::BadBound),
+    // The arcs are one fewer than the nodes.
+    ((2, &[0, 1, 2], ROW, (6, 1)), HierarchyError::BadBound),
+    ((2, &[0, 1, 2], ROW, (6, 3)), HierarchyError::BadBound),
+    ((2, &[0], &[], (0, 1)), HierarchyError::BadBound),
+    ((2, &[], &[], (0, u64::MAX)), HierarchyError::BadBound),
+    // In version 1 there are none.
+    (
+        (1, &[0, 1, 2], ROW_BY_WEIGHT, (6, 2)),
+        HierarchyError::BadBound,
+    ),
+    (
+        (1, &[0, 1, 2], ROW_BY_WEIGHT, (GREATEST + 1, 0)),
+        HierarchyError::BadBound,
+    ),
+    ((1, &[0], &[], (1, 0)), HierarchyError::BadBound),
+    ((1, &[], &[], (0, 1)), HierarchyError::BadBound),
+    // Ranks that aren't a permutation.
+    ((2, &[0, 1, 3], ROW, (6, 2)), HierarchyError::BadRank(2)),
+    (
+        (2, &[u32::MAX, 0, 0], ROW, (6, 2)),
+        HierarchyError::BadRank(0),
+    ),
+    ((2, &[0, 0, 1], ROW, (6, 2)), HierarchyError::BadRank(1)),
+    ((2, &[2, 1, 2], ROW, (6, 2)), HierarchyError::BadRank(2)),
+    // Links out of order.
+    (
+        (2, &[0, 1, 2], &[DOWN, UP, SHORTCUT], (6, 2)),
+        HierarchyError::LinkOutOfOrder(1),
+    ),
+    (
+        (2, &[0, 1, 2], &[UP, SHORTCUT, DOWN], (6, 2)),
+        HierarchyError::LinkOutOfOrder(2),
+    ),
+    (
+        (2, &[0, 1, 2], &[UP, UP, DOWN], (6, 2)),
+        HierarchyError::LinkOutOfOrder(1),
+    ),
+    (
         (
             2,
-            &[0, 1],
-            &[(0, 1, (0, 1), None), (1, 0, (0, 1), None)],
-            (0, 1),
+            &[0, 1, 2],
+            &[(0, 0, (0, 0), None), UP, (0, 1, (3, 1), None)],
+            (6, 2),
         ),
-        (2, &[0], &[], (0, 0)),
-        (2, &[], &[], (0, 0)),
-        (1, &[0, 1, 2], &ROW_BY_WEIGHT, (6, 0)),
-        (1, &[2, 0, 1], &[], (GREATEST, 0)),
-        (1, &[], &[], (0, 0)),
-    ];
-    for case in cases {
-        assert!(rt; is_made(rt.alloc(), case)?);
+        HierarchyError::LinkOutOfOrder(2),
+    ),
+    // Links that are wrong by themselves.
+    (
+        (2, &[0, 1, 2], &[(0, 3, (3, 1), None)], (6, 2)),
+        HierarchyError::BadLink(0),
+    ),
+    (
+        (2, &[0, 1, 2], &[UP, (3, 0, (3, 1), None)], (6, 2)),
+        HierarchyError::BadLink(1),
+    ),
+    (
+        (2, &[0, 1, 2], &[UP, (1, 1, (3, 1), None)], (6, 2)),
+        HierarchyError::BadLink(1),
+    ),
+    (
+        (
+            2,
+            &[0, 1, 2],
+            &[UP, (1, 0, (6, 1), None), (1, 2, (7, 1), None)],
+            (6, 2),
+        ),
+        HierarchyError::BadLink(2),
+    ),
+    (
+        (2, &[0, 1, 2], &[(0, 1, (u64::MAX, 1), None)], (6, 2)),
+        HierarchyError::BadLink(0),
+    ),
+    (
+        (
+            2,
+            &[0, 1, 2],
+            &[UP, DOWN, (1, 2, (5, 1), None), (2, 2, (1, 1), None)],
+            (6, 2),
+        ),
+        HierarchyError::BadLink(3),
+    ),
+    // Links that count arcs wrongly.
+    // One arc where there is no middle, and else some.
+    (
+        (2, &[0, 1, 2], &[UP, (1, 0, (0, 0), None)], (6, 2)),
+        HierarchyError::BadLink(1),
+    ),
+    (
+        (2, &[0, 1, 2], &[UP, (1, 0, (2, 0), None)], (6, 2)),
+        HierarchyError::BadLink(1),
+    ),
+    (
+        (2, &[0, 1, 2], &[UP, (1, 0, (2, 2), None)], (6, 2)),
+        HierarchyError::BadLink(1),
+    ),
+    (
+        (2, &[0, 1, 2], &[(0, 1, (3, u64::MAX), None)], (6, 2)),
+        HierarchyError::BadLink(0),
+    ),
+    (
+        (2, &[0, 1, 2], &[UP, DOWN, (1, 2, (5, 0), Some(0))], (6, 2)),
+        HierarchyError::BadLink(2),
+    ),
+    // Fewer arcs than there are nodes.
+    (
+        (2, &[0, 1, 2, 3], TOO_MANY_ARCS, (4, 3)),
+        HierarchyError::BadLink(4),
+    ),
+    // In version 1 some weight, and no arcs.
+    (
+        (1, &[0, 1, 2], &[(0, 2, (0, 0), None)], (6, 0)),
+        HierarchyError::BadLink(0),
+    ),
+    (
+        (1, &[0, 1, 2], &[(0, 2, (7, 0), None)], (6, 0)),
+        HierarchyError::BadLink(0),
+    ),
+    (
+        (1, &[0, 1, 2], &[(0, 2, (3, 0), None), DOWN], (6, 0)),
+        HierarchyError::BadLink(1),
+    ),
+    (
+        (
+            1,
+            &[0, 1, 2],
+            &[
+                (0, 2, (3, 0), None),
+                (1, 0, (2, 0), None),
+                (1, 2, (4, 0), Some(0)),
+            ],
+            (6, 0),
+        ),
+        HierarchyError::BadLink(2),
+    ),
+    // Shortcuts without their halves.
+    // One half or both aren't there.
+    (
+        (2, &[0, 1, 2], &[DOWN, SHORTCUT], (6, 2)),
+        HierarchyError::BadLink(1),
+    ),
+    (
+        (2, &[0, 1, 2], &[UP, SHORTCUT], (6, 2)),
+        HierarchyError::BadLink(1),
+    ),
+    (
+        (2, &[0, 1, 2], &[SHORTCUT], (6, 2)),
+        HierarchyError::BadLink(0),
+    ),
+    // They don't sum to its length or its arcs.
+    (
+        (2, &[0, 1, 2], &[UP, DOWN, (1, 2, (4, 2), Some(0))], (6, 2)),
+        HierarchyError::BadLink(2),
+    ),
+    (
+        (2, &[0, 1, 2], &[UP, DOWN, (1, 2, (6, 2), Some(0))], (6, 2)),
+        HierarchyError::BadLink(2),
+    ),
+    (
+        (2, &[0, 1, 2], &[UP, DOWN, (1, 2, (5, 1), Some(0))], (6, 2)),
+        HierarchyError::BadLink(2),
+    ),
+    (
+        (
+            2,
+            &[1, 2, 0],
+            &[
+                (0, 1, (1, 2), Some(2)),
+                (0, 2, (u64::MAX, 1), None),
+                (2, 1, (2, 1), None),
+            ],
+            (6, 2),
+        ),
+        HierarchyError::BadLink(0),
+    ),
+    // Their middle ranks above an end, or both.
+    ((2, &[1, 0, 2], ROW, (6, 2)), HierarchyError::BadLink(2)),
+    ((2, &[1, 2, 0], ROW, (6, 2)), HierarchyError::BadLink(2)),
+    ((2, &[2, 0, 1], ROW, (6, 2)), HierarchyError::BadLink(2)),
+    // Their middle is no node.
+    (
+        (
+            2,
+            &[0, 1, 2],
+            &[
+                (1, 2, (5, 2), Some(7)),
+                (1, 7, (2, 1), None),
+                (7, 2, (3, 1), None),
+            ],
+            (6, 2),
+        ),
+        HierarchyError::BadLink(1),
+    ),
+];
+
+/// Whether there is none of each of these, for its reason.
+fn are_refused(alloc: Global, cases: &[Refused]) -> Result<bool, AllocError> {
+    let mut holds = true;
+    for (case, error) in cases {
+        holds &= is_refused(alloc, *case, *error)?;
     }
-    Ok(())
+    Ok(holds)
 }
 
 #[test]
-fn tells_of_bounds(rt: HostRuntime) -> Result<(), Fail> {
-    let cases: [Case<'_>; 11] = [
-        (2, &[0, 1, 2], &ROW, (GREATEST + 1, 2)),
-        (2, &[0], &[], (1, 0)),
-        (2, &[], &[], (1, 0)),
-        // The arcs are one fewer than the nodes.
-        (2, &[0, 1, 2], &ROW, (6, 1)),
-        (2, &[0, 1, 2], &ROW, (6, 3)),
-        (2, &[0], &[], (0, 1)),
-        (2, &[], &[], (0, u64::MAX)),
-        // In version 1 there are none.
-        (1, &[0, 1, 2], &ROW_BY_WEIGHT, (6, 2)),
-        (1, &[0, 1, 2], &ROW_BY_WEIGHT, (GREATEST + 1, 0)),
-        (1, &[0], &[], (1, 0)),
-        (1, &[], &[], (0, 1)),
-    ];
-    for case in cases {
-        assert!(rt; is_refused(rt.alloc(), case, HierarchyError::BadBound)?);
-    }
-    Ok(())
-}
-
-#[test]
-fn tells_of_ranks(rt: HostRuntime) -> Result<(), Fail> {
-    let cases: [(&[u32], usize); 4] = [
-        (&[0, 1, 3], 2),
-        (&[u32::MAX, 0, 0], 0),
-        (&[0, 0, 1], 1),
-        (&[2, 1, 2], 2),
-    ];
-    for (ranks, place) in cases {
-        let error = HierarchyError::BadRank(place);
-        assert!(rt; is_refused(rt.alloc(), (2, ranks, &ROW, (6, 2)), error)?);
-    }
+fn tells_why_it_is_not_made(rt: HostRuntime) -> Result<(), Fail> {
+    assert!(rt; are_refused(rt.alloc(), REFUSED)?);
     Ok(())
 }
 
@@ -221,118 +415,6 @@ fn tells_of_too_many_nodes(rt: HostRuntime) -> Result<(), Fail> {
     let ranks = vec![in rt.alloc(); 0u32; 33_554_433]?;
     let refused = Hierarchy::checked(rt.alloc(), ranks, Vec::new(rt.alloc()), Cost::ZERO).err();
     assert!(rt; refused == Some(HierarchyError::TooManyNodes));
-    Ok(())
-}
-
-#[test]
-fn tells_of_links_out_of_order(rt: HostRuntime) -> Result<(), Fail> {
-    let cases: [(&[Given], usize); 4] = [
-        (&[DOWN, UP, SHORTCUT], 1),
-        (&[UP, SHORTCUT, DOWN], 2),
-        (&[UP, UP, DOWN], 1),
-        (&[(0, 0, (0, 0), None), UP, (0, 1, (3, 1), None)], 2),
-    ];
-    for (links, place) in cases {
-        let error = HierarchyError::LinkOutOfOrder(place);
-        assert!(rt; is_refused(rt.alloc(), (2, &[0, 1, 2], links, (6, 2)), error)?);
-    }
-    Ok(())
-}
-
-#[test]
-fn tells_of_links_by_themselves(rt: HostRuntime) -> Result<(), Fail> {
-    let cases: [(&[Given], usize); 6] = [
-        (&[(0, 3, (3, 1), None)], 0),
-        (&[UP, (3, 0, (3, 1), None)], 1),
-        (&[UP, (1, 1, (3, 1), None)], 1),
-        (&[UP, (1, 0, (6, 1), None), (1, 2, (7, 1), None)], 2),
-        (&[(0, 1, (u64::MAX, 1), None)], 0),
-        (&[UP, DOWN, (1, 2, (5, 1), None), (2, 2, (1, 1), None)], 3),
-    ];
-    for (links, place) in cases {
-        let error = HierarchyError::BadLink(place);
-        assert!(rt; is_refused(rt.alloc(), (2, &[0, 1, 2], links, (6, 2)), error)?);
-    }
-    Ok(())
-}
-
-#[test]
-fn tells_of_what_links_count(rt: HostRuntime) -> Result<(), Fail> {
-    let cases: [(Case<'_>, usize); 10] = [
-        // One arc where there is no middle, and else some.
-        ((2, &[0, 1, 2], &[UP, (1, 0, (0, 0), None)], (6, 2)), 1),
-        ((2, &[0, 1, 2], &[UP, (1, 0, (2, 0), None)], (6, 2)), 1),
-        ((2, &[0, 1, 2], &[UP, (1, 0, (2, 2), None)], (6, 2)), 1),
-        ((2, &[0, 1, 2], &[(0, 1, (3, u64::MAX), None)], (6, 2)), 0),
-        (
-            (2, &[0, 1, 2], &[UP, DOWN, (1, 2, (5, 0), Some(0))], (6, 2)),
-            2,
-        ),
-        // Fewer arcs than there are nodes.
-        ((2, &[0, 1, 2, 3], &TOO_MANY_ARCS, (4, 3)), 4),
-        // In version 1 some weight, and no arcs.
-        ((1, &[0, 1, 2], &[(0, 2, (0, 0), None)], (6, 0)), 0),
-        ((1, &[0, 1, 2], &[(0, 2, (7, 0), None)], (6, 0)), 0),
-        ((1, &[0, 1, 2], &[(0, 2, (3, 0), None), DOWN], (6, 0)), 1),
-        (
-            (
-                1,
-                &[0, 1, 2],
-                &[
-                    (0, 2, (3, 0), None),
-                    (1, 0, (2, 0), None),
-                    (1, 2, (4, 0), Some(0)),
-                ],
-                (6, 0),
-            ),
-            2,
-        ),
-    ];
-    for (case, place) in cases {
-        assert!(rt; is_refused(rt.alloc(), case, HierarchyError::BadLink(place))?);
-    }
-    Ok(())
-}
-
-#[test]
-fn tells_of_links_without_their_halves(rt: HostRuntime) -> Result<(), Fail> {
-    let cases: [(&[u32], &[Given], usize); 11] = [
-        // One half or both aren't there.
-        (&[0, 1, 2], &[DOWN, SHORTCUT], 1),
-        (&[0, 1, 2], &[UP, SHORTCUT], 1),
-        (&[0, 1, 2], &[SHORTCUT], 0),
-        // They don't sum to its length or its arcs.
-        (&[0, 1, 2], &[UP, DOWN, (1, 2, (4, 2), Some(0))], 2),
-        (&[0, 1, 2], &[UP, DOWN, (1, 2, (6, 2), Some(0))], 2),
-        (&[0, 1, 2], &[UP, DOWN, (1, 2, (5, 1), Some(0))], 2),
-        (
-            &[1, 2, 0],
-            &[
-                (0, 1, (1, 2), Some(2)),
-                (0, 2, (u64::MAX, 1), None),
-                (2, 1, (2, 1), None),
-            ],
-            0,
-        ),
-        // Their middle ranks above an end, or both.
-        (&[1, 0, 2], &ROW, 2),
-        (&[1, 2, 0], &ROW, 2),
-        (&[2, 0, 1], &ROW, 2),
-        // Their middle is no node.
-        (
-            &[0, 1, 2],
-            &[
-                (1, 2, (5, 2), Some(7)),
-                (1, 7, (2, 1), None),
-                (7, 2, (3, 1), None),
-            ],
-            1,
-        ),
-    ];
-    for (ranks, links, place) in cases {
-        let error = HierarchyError::BadLink(place);
-        assert!(rt; is_refused(rt.alloc(), (2, ranks, links, (6, 2)), error)?);
-    }
     Ok(())
 }
 

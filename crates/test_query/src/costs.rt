@@ -18,7 +18,11 @@ fn sum(a: Cost, b: Cost) -> Option<Cost> {
 
 // Whether each of these statements holds.
 fn all_hold(statements: &[bool]) -> bool {
-    statements.iter().all(|holds| *holds)
+    let mut all = true;
+    for holds in statements {
+        all &= *holds;
+    }
+    all
 }
 
 #[test]
@@ -41,7 +45,7 @@ fn sums(rt: HostRuntime) {
 }
 
 /// Costs, each below the next.
-const RISING: [Numbers; 9] = [
+const RISING: &[Numbers] = &[
     (0, 0),
     (0, 1),
     (0, u64::MAX),
@@ -53,12 +57,8 @@ const RISING: [Numbers; 9] = [
     (u64::MAX, u64::MAX),
 ];
 
-// Whether two costs compare as their places among the rising ones do.
-fn compare_so(first: usize, second: usize) -> bool {
-    if first >= RISING.len() || second >= RISING.len() {
-        return false;
-    }
-    let (a, b) = (cost_of(RISING[first]), cost_of(RISING[second]));
+// Whether two costs compare as their places do.
+fn compare_so((first, a): (usize, Cost), (second, b): (usize, Cost)) -> bool {
     (a.cmp(&b) == first.cmp(&second))
         & (a.partial_cmp(&b) == Some(first.cmp(&second)))
         & (a.is_below(b) == (first < second))
@@ -66,15 +66,33 @@ fn compare_so(first: usize, second: usize) -> bool {
         & ((a == b) == (first == second))
 }
 
-#[test]
-fn weights_are_compared_before_arcs(rt: HostRuntime) {
-    for first in 0..RISING.len() {
-        assert!(rt; (0..RISING.len()).all(|second| compare_so(first, second)));
+// Whether a cost and each of these compare as their places do.
+fn compares_so(first: (usize, Cost), all: &[Numbers]) -> bool {
+    let mut holds = true;
+    for (second, numbers) in all.iter().enumerate() {
+        holds &= compare_so(first, (second, cost_of(*numbers)));
     }
+    holds
 }
 
-/// Costs, whether each is within that of a length of 12 and 3 arcs, and whether its length is at most 12.
-const BOUNDED: [(Numbers, bool, bool); 7] = [
+// Whether each two of these do.
+fn all_compare_so(all: &[Numbers]) -> bool {
+    let mut holds = true;
+    for (first, numbers) in all.iter().enumerate() {
+        holds &= compares_so((first, cost_of(*numbers)), all);
+    }
+    holds
+}
+
+#[test]
+fn weights_are_compared_before_arcs(rt: HostRuntime) {
+    assert!(rt; all_compare_so(RISING));
+}
+
+/// A cost, whether it is within that of a length of 12 and 3 arcs, and whether its length is at most 12.
+type Bounded = (Numbers, bool, bool);
+
+const BOUNDED: &[Bounded] = &[
     ((12, 3), true, true),
     ((0, 0), true, true),
     ((13, 3), false, false),
@@ -84,15 +102,27 @@ const BOUNDED: [(Numbers, bool, bool); 7] = [
     ((0, u64::MAX), false, true),
 ];
 
+// Whether a cost is within that bound, no longer, and their sum, as its case says.
+fn is_bounded_so((numbers, is_within, is_no_longer): Bounded) -> bool {
+    let bound = Cost::of_walk(12, 3);
+    let cost = cost_of(numbers);
+    let sum = Cost::ZERO.plus_within(cost, bound);
+    (cost.is_within(bound) == is_within)
+        & (cost.is_no_longer(bound) == is_no_longer)
+        & (sum == if is_within { Some(cost) } else { None })
+}
+
+fn are_bounded_so(cases: &[Bounded]) -> bool {
+    let mut holds = true;
+    for case in cases {
+        holds &= is_bounded_so(*case);
+    }
+    holds
+}
+
 #[test]
 fn a_cost_is_heavy_by_either_number(rt: HostRuntime) {
-    let bound = Cost::of_walk(12, 3);
-    for (numbers, is_within, is_no_longer) in BOUNDED {
-        let cost = cost_of(numbers);
-        assert!(rt; (cost.is_within(bound), cost.is_no_longer(bound)) == (is_within, is_no_longer));
-        let sum = Cost::ZERO.plus_within(cost, bound);
-        assert!(rt; sum == is_within.then_some(cost));
-    }
+    assert!(rt; are_bounded_so(BOUNDED));
 }
 
 #[test]
@@ -107,7 +137,9 @@ fn summands_have_a_limit(rt: HostRuntime) {
 }
 
 /// Two costs, and their sum where both numbers of it fit 64 bits.
-const SUMS: [(Numbers, Numbers, Option<Numbers>); 6] = [
+type Sum = (Numbers, Numbers, Option<Numbers>);
+
+const SUMS: &[Sum] = &[
     ((u64::MAX - 1, 2), (1, 3), Some((u64::MAX, 5))),
     ((u64::MAX, 2), (1, 3), None),
     ((2, u64::MAX - 1), (3, 1), Some((5, u64::MAX))),
@@ -116,15 +148,30 @@ const SUMS: [(Numbers, Numbers, Option<Numbers>); 6] = [
     ((u64::MAX, u64::MAX), (u64::MAX, u64::MAX), None),
 ];
 
-#[test]
-fn sums_of_any_costs(rt: HostRuntime) {
-    for (first, second, sum) in SUMS {
-        assert!(rt; cost_of(first).checked_plus(cost_of(second)) == sum.map(cost_of));
+// Whether two costs have this sum.
+fn is_sum((first, second, sum): Sum) -> bool {
+    let found = cost_of(first).checked_plus(cost_of(second));
+    match sum {
+        Some(numbers) => found == Some(cost_of(numbers)),
+        None => found.is_none(),
     }
 }
 
+fn are_sums(cases: &[Sum]) -> bool {
+    let mut holds = true;
+    for case in cases {
+        holds &= is_sum(*case);
+    }
+    holds
+}
+
+#[test]
+fn sums_of_any_costs(rt: HostRuntime) {
+    assert!(rt; are_sums(SUMS));
+}
+
 /// Costs, and whether each fits in half of its memory.
-const SHORT: [(Numbers, bool); 8] = [
+const SHORT: &[(Numbers, bool)] = &[
     ((0, 0), true),
     ((7, 1), true),
     ((4_294_967_294, 4_294_967_295), true),
@@ -135,11 +182,20 @@ const SHORT: [(Numbers, bool); 8] = [
     ((u64::MAX, u64::MAX), false),
 ];
 
+// Whether a cost fits in half of its memory, as its case says.
+fn is_short(cost: Cost, fits: bool) -> bool {
+    ShortCost::of(cost).cost() == if fits { Some(cost) } else { None }
+}
+
+fn are_short(cases: &[(Numbers, bool)]) -> bool {
+    let mut holds = true;
+    for (numbers, fits) in cases {
+        holds &= is_short(cost_of(*numbers), *fits);
+    }
+    holds
+}
+
 #[test]
 fn short_costs(rt: HostRuntime) {
-    for (numbers, fits) in SHORT {
-        let cost = cost_of(numbers);
-        assert!(rt; ShortCost::of(cost).cost() == fits.then_some(cost));
-    }
-    assert!(rt; ShortCost::none().cost().is_none());
+    assert!(rt; are_short(SHORT) & ShortCost::none().cost().is_none());
 }

@@ -30,24 +30,26 @@ fn two_nodes(alloc: Global, is_indexed: bool) -> Result<Hierarchy, Fail> {
     Ok(hierarchy)
 }
 
+/// Two nodes, and the place of the link from one to the other among three links.
+const PLACES: &[(u32, u32, Option<LinkId>)] = &[
+    (0, 2, Some(LinkId(0))),
+    (1, 0, Some(LinkId(1))),
+    (1, 2, Some(LinkId(2))),
+    (1, 1, None),
+    (0, 0, None),
+    (2, 1, None),
+    (3, 0, None),
+    (u32::MAX, u32::MAX, None),
+];
+
 /// Whether three links are found where they are, and no others.
 fn finds_three(index: &LinkIndex, links: &[Link]) -> bool
     requires sorted { AllPairs ComesBefore links.now }
     requires index { IsIndexOf links.now index.now }
 {
-    let places = [
-        (0, 2, Some(0)),
-        (1, 0, Some(1)),
-        (1, 2, Some(2)),
-        (1, 1, None),
-        (0, 0, None),
-        (2, 1, None),
-        (3, 0, None),
-        (u32::MAX, u32::MAX, None),
-    ];
     let mut holds = true;
-    for (from, to, place) in places {
-        holds &= index.find(links, from, to) == place.map(LinkId);
+    for (from, to, place) in PLACES {
+        holds &= index.find(links, *from, *to) == *place;
     }
     holds
 }

@@ -1,7 +1,8 @@
 //! What a router returns: shortest paths and their lengths, none where there is no way, and a route that is too long.
 ghost use Rattle.std.specs.Prelude.{◌≡◌, length};
 
-use crate::checked::{BY_WAY_OF_0, DRAWN, DRAWN_RANKS, hierarchy_of};
+use crate::checked::{BY_WAY_OF_0, DRAWN, DRAWN_RANKS, Given, hierarchy_of};
+use crate::costs::Numbers;
 use ch_graph::Hierarchy;
 use ch_route::{Route, Router, UnpackError};
 use std::alloc::Global;
@@ -58,31 +59,55 @@ fn answers_all(alloc: Global, hierarchy: &Hierarchy, questions: &[Question]) -> 
     Ok(holds)
 }
 
+/// Ranks, links and a bound, and what is asked.
+type Case = (
+    &'static [u32],
+    &'static [Given],
+    Numbers,
+    &'static [Question],
+);
+
 /// The hierarchy that is drawn at `Search::distance`: by the arcs of its graph.
-#[test]
-fn drawn(rt: HostRuntime) -> Result<(), Fail> {
-    let hierarchy = hierarchy_of(rt.alloc(), &DRAWN_RANKS, &DRAWN, (20, 4))?;
-    let questions: [Question; 6] = [
+const BY_ARCS: Case = (
+    DRAWN_RANKS,
+    DRAWN,
+    (20, 4),
+    &[
         (0, 3, Some(4), Nodes::Are(&[0, 1, 4, 3])),
         (2, 3, Some(5), Nodes::Are(&[2, 3])),
         (0, 2, Some(5), Nodes::Are(&[0, 1, 2])),
         (3, 0, None, Nodes::No),
         (2, 2, Some(0), Nodes::Are(&[2])),
         (0, 3, Some(4), Nodes::Are(&[0, 1, 4, 3])),
-    ];
-    assert!(rt; answers_all(rt.alloc(), &hierarchy, &questions)?);
-    Ok(())
-}
+    ],
+);
 
 /// The only rise-fall walk from 1 to 3 goes over 0 twice. It has a length all the same, and the router goes on.
-#[test]
-fn too_long(rt: HostRuntime) -> Result<(), Fail> {
-    let hierarchy = hierarchy_of(rt.alloc(), &[0, 1, 2, 3], &BY_WAY_OF_0, (4, 3))?;
-    let questions: [Question; 3] = [
+const OVER_0_TWICE: Case = (
+    &[0, 1, 2, 3],
+    BY_WAY_OF_0,
+    (4, 3),
+    &[
         (1, 2, Some(2), Nodes::Are(&[1, 0, 2])),
         (1, 3, Some(4), Nodes::TooMany),
         (2, 3, Some(2), Nodes::Are(&[2, 0, 3])),
-    ];
-    assert!(rt; answers_all(rt.alloc(), &hierarchy, &questions)?);
+    ],
+);
+
+/// Whether a router of the hierarchy of a case returns what it should.
+fn holds_so(alloc: Global, (ranks, links, bound, questions): Case) -> Result<bool, Fail> {
+    let hierarchy = hierarchy_of(alloc, ranks, links, bound)?;
+    answers_all(alloc, &hierarchy, questions)
+}
+
+#[test]
+fn drawn(rt: HostRuntime) -> Result<(), Fail> {
+    assert!(rt; holds_so(rt.alloc(), BY_ARCS)?);
+    Ok(())
+}
+
+#[test]
+fn too_long(rt: HostRuntime) -> Result<(), Fail> {
+    assert!(rt; holds_so(rt.alloc(), OVER_0_TWICE)?);
     Ok(())
 }

@@ -14,7 +14,7 @@ fn two_nodes(alloc: Global) -> Result<Hierarchy, Fail> {
 
 /// Three nodes and a link from 1 to 2 by way of 0; with an index, the places of its halves are kept.
 fn three_nodes(alloc: Global, is_indexed: bool) -> Result<Hierarchy, Fail> {
-    let hierarchy = hierarchy_of(alloc, &[0, 1, 2], &ROW, (6, 2))?;
+    let hierarchy = hierarchy_of(alloc, &[0, 1, 2], ROW, (6, 2))?;
     if is_indexed {
         return Ok(hierarchy.into_indexed(alloc)?);
     }
@@ -65,7 +65,7 @@ fn by_way_of_a_middle(rt: HostRuntime) -> Result<(), Fail> {
 /// The only rise-fall walk from 1 to 3 goes over 0 twice, so it has as many arcs as there are nodes.
 #[test]
 fn twice_by_way_of_a_middle(rt: HostRuntime) -> Result<(), Fail> {
-    let hierarchy = hierarchy_of(rt.alloc(), &[0, 1, 2, 3], &BY_WAY_OF_0, (4, 3))?;
+    let hierarchy = hierarchy_of(rt.alloc(), &[0, 1, 2, 3], BY_WAY_OF_0, (4, 3))?;
     assert!(rt; is_route(route(rt.alloc(), &hierarchy, 1, 2), &[1, 0, 2]));
     assert!(rt; is_too_long(route_over(rt.alloc(), &hierarchy, (1, 2, 3))));
     Ok(())
@@ -74,7 +74,7 @@ fn twice_by_way_of_a_middle(rt: HostRuntime) -> Result<(), Fail> {
 /// The route that is drawn: an arc that rises, and a shortcut by way of 4 that falls.
 #[test]
 fn over_a_top(rt: HostRuntime) -> Result<(), Fail> {
-    let hierarchy = hierarchy_of(rt.alloc(), &DRAWN_RANKS, &DRAWN, (20, 4))?;
+    let hierarchy = hierarchy_of(rt.alloc(), DRAWN_RANKS, DRAWN, (20, 4))?;
     assert!(rt; is_route(route_over(rt.alloc(), &hierarchy, (0, 1, 3)), &[0, 1, 4, 3]));
     Ok(())
 }

@@ -9,7 +9,7 @@ use std::test::Fail;
 
 /// Four nodes, ranked in their order. The walk from 0 to 1 over 3 costs 6, and that over 2, where the sides meet
 /// first, costs 8.
-const TWO_TOPS: [Given; 4] = [
+const TWO_TOPS: &[Given] = &[
     (0, 2, (4, 1), None),
     (0, 3, (5, 1), None),
     (2, 1, (4, 1), None),
@@ -19,11 +19,11 @@ const TWO_TOPS: [Given; 4] = [
 fn two_tops(alloc: Global) -> Result<Hierarchy, Fail>
     ensures { IfOk result (λ h. length h.ranks ≡ 4) }
 {
-    hierarchy_of(alloc, &[0, 1, 2, 3], &TWO_TOPS, (15, 3))
+    hierarchy_of(alloc, &[0, 1, 2, 3], TWO_TOPS, (15, 3))
 }
 
 /// What a walk between two of these nodes costs at least, found by hand.
-const COSTS: [[Option<Numbers>; 4]; 4] = [
+static COSTS: [[Option<Numbers>; 4]; 4] = [
     [Some((0, 0)), Some((6, 2)), Some((4, 1)), Some((5, 1))],
     [None, Some((0, 0)), None, None],
     [None, Some((4, 1)), Some((0, 0)), None],
@@ -31,7 +31,7 @@ const COSTS: [[Option<Numbers>; 4]; 4] = [
 ];
 
 /// Two rise-fall walks from 0 to 1 of length 4: over 2, where the sides meet first, of three arcs, and over 3 of two.
-const TIED: [Given; 6] = [
+const TIED: &[Given] = &[
     (0, 2, (1, 1), None),
     (0, 3, (4, 1), None),
     (2, 1, (3, 2), Some(4)),
@@ -46,11 +46,15 @@ fn finds_nothing(alloc: Global, hierarchy: &Hierarchy) -> Result<bool, AllocErro
     Ok(search.between(&[], &[])?.is_none())
 }
 
+/// Whether the hierarchy of no node has none, and a search of it finds nothing.
+fn is_empty(alloc: Global) -> Result<bool, Fail> {
+    let hierarchy = hierarchy_of(alloc, &[], &[], (0, 0))?;
+    Ok(finds_nothing(alloc, &hierarchy)? & (hierarchy.nodes() == 0))
+}
+
 #[test]
 fn no_node(rt: HostRuntime) -> Result<(), Fail> {
-    let hierarchy = hierarchy_of(rt.alloc(), &[], &[], (0, 0))?;
-    assert!(rt; hierarchy.nodes() == 0);
-    assert!(rt; finds_nothing(rt.alloc(), &hierarchy)?);
+    assert!(rt; is_empty(rt.alloc())?);
     Ok(())
 }
 
@@ -111,7 +115,7 @@ type Case = (
     &'static [Question],
 );
 
-const CASES: [Case; 9] = [
+const CASES: &[Case] = &[
     // A node and itself.
     (&[0], &[], (0, 0), &[(0, 0, Some(((0, 0), &[])))]),
     // One arc, with and against it.
@@ -145,21 +149,21 @@ const CASES: [Case; 9] = [
     // A search goes on after the first meeting.
     (
         &[0, 1, 2, 3],
-        &TWO_TOPS,
+        TWO_TOPS,
         (15, 3),
         &[(0, 1, Some(((6, 2), &[LinkId(1), LinkId(3)])))],
     ),
     // Of walks of one length that of fewest arcs is found.
     (
         &[1, 2, 3, 4, 0],
-        &TIED,
+        TIED,
         (16, 4),
         &[(0, 1, Some(((4, 2), &[LinkId(1), LinkId(4)])))],
     ),
     // The one that is drawn.
     (
-        &DRAWN_RANKS,
-        &DRAWN,
+        DRAWN_RANKS,
+        DRAWN,
         (20, 4),
         &[
             (0, 3, Some(((4, 3), &[LinkId(0), LinkId(2)]))),
@@ -170,11 +174,11 @@ const CASES: [Case; 9] = [
     // The limit is that of the length alone.
     (
         &[0, 1, 2, 3],
-        &BY_WAY_OF_0,
+        BY_WAY_OF_0,
         (4, 3),
         &[(1, 3, Some(((4, 4), &[LinkId(3), LinkId(5)])))],
     ),
-    (&[0, 1, 2, 3], &BY_WAY_OF_0, (3, 3), &[(1, 3, None)]),
+    (&[0, 1, 2, 3], BY_WAY_OF_0, (3, 3), &[(1, 3, None)]),
 ];
 
 /// Whether searches of the hierarchy of a case return its results.
@@ -183,11 +187,18 @@ fn holds_so(alloc: Global, (ranks, links, bound, questions): Case) -> Result<boo
     are_answered(alloc, &hierarchy, questions)
 }
 
+/// Whether they do for each of these cases.
+fn all_hold_so(alloc: Global, cases: &[Case]) -> Result<bool, Fail> {
+    let mut holds = true;
+    for case in cases {
+        holds &= holds_so(alloc, *case)?;
+    }
+    Ok(holds)
+}
+
 #[test]
 fn least_walks(rt: HostRuntime) -> Result<(), Fail> {
-    for case in CASES {
-        assert!(rt; holds_so(rt.alloc(), case)?);
-    }
+    assert!(rt; all_hold_so(rt.alloc(), CASES)?);
     Ok(())
 }
 

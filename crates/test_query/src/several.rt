@@ -191,10 +191,15 @@ fn all_are_least(alloc: Global, hierarchy: &Hierarchy) -> Result<bool, Fail> {
     Ok(holds)
 }
 
+/// Whether those of the drawn hierarchy do.
+fn drawn_are_least(alloc: Global) -> Result<bool, Fail> {
+    let hierarchy = hierarchy_of(alloc, DRAWN_RANKS, DRAWN, (20, 4))?;
+    all_are_least(alloc, &hierarchy)
+}
+
 #[test]
 fn the_least_over_all_pairs(rt: HostRuntime) -> Result<(), Fail> {
-    let hierarchy = hierarchy_of(rt.alloc(), &DRAWN_RANKS, &DRAWN, (20, 4))?;
-    assert!(rt; all_are_least(rt.alloc(), &hierarchy)?);
+    assert!(rt; drawn_are_least(rt.alloc())?);
     Ok(())
 }
 
@@ -224,20 +229,20 @@ type Case = (
 );
 
 /// Two ways from 0 and 1 over 2 to 3.
-const FORK: [Given; 3] = [
+const FORK: &[Given] = &[
     (0, 2, (9, 1), None),
     (1, 2, (1, 1), None),
     (2, 3, (5, 1), None),
 ];
 
-const CASES: [Case; 10] = [
+const CASES: &[Case] = &[
     // No start, and no end.
-    (&DRAWN_RANKS, &DRAWN, (20, 4), &[], &[(0, (0, 0))], None),
-    (&DRAWN_RANKS, &DRAWN, (20, 4), &[(0, (0, 0))], &[], None),
+    (DRAWN_RANKS, DRAWN, (20, 4), &[], &[(0, (0, 0))], None),
+    (DRAWN_RANKS, DRAWN, (20, 4), &[(0, (0, 0))], &[], None),
     // No walk leads to 0.
     (
-        &DRAWN_RANKS,
-        &DRAWN,
+        DRAWN_RANKS,
+        DRAWN,
         (20, 4),
         &[(3, (0, 0)), (1, (4, 1))],
         &[(0, (0, 0))],
@@ -245,8 +250,8 @@ const CASES: [Case; 10] = [
     ),
     // One node is start and end.
     (
-        &DRAWN_RANKS,
-        &DRAWN,
+        DRAWN_RANKS,
+        DRAWN,
         (20, 4),
         &[(0, (3, 1)), (2, (4, 1))],
         &[(2, (2, 1)), (4, (9, 1))],
@@ -254,8 +259,8 @@ const CASES: [Case; 10] = [
     ),
     // The least of three seeds at one node.
     (
-        &DRAWN_RANKS,
-        &DRAWN,
+        DRAWN_RANKS,
+        DRAWN,
         (20, 4),
         &[(0, (5, 1)), (0, (2, 1)), (0, (5, 1))],
         &[(3, (1, 0))],
@@ -263,8 +268,8 @@ const CASES: [Case; 10] = [
     ),
     // Of starts of one length that of fewer arcs.
     (
-        &DRAWN_RANKS,
-        &DRAWN,
+        DRAWN_RANKS,
+        DRAWN,
         (20, 4),
         &[(0, (2, 2)), (0, (2, 1))],
         &[(3, (0, 0))],
@@ -273,7 +278,7 @@ const CASES: [Case; 10] = [
     // The nearer start costs more than the way from the other saves.
     (
         &[0, 1, 2, 3],
-        &FORK,
+        FORK,
         (27, 3),
         &[(0, (0, 0)), (1, (9, 1))],
         &[(3, (0, 0))],
@@ -281,7 +286,7 @@ const CASES: [Case; 10] = [
     ),
     (
         &[0, 1, 2, 3],
-        &FORK,
+        FORK,
         (27, 3),
         &[(0, (0, 0)), (1, (7, 1))],
         &[(3, (0, 0))],
@@ -290,7 +295,7 @@ const CASES: [Case; 10] = [
     // The bound of the hierarchy isn't that of the sum.
     (
         &[0, 1, 2, 3],
-        &BY_WAY_OF_0,
+        BY_WAY_OF_0,
         (3, 3),
         &[(1, (0, 0))],
         &[(3, (0, 0))],
@@ -322,10 +327,17 @@ fn holds_so(alloc: Global, case: Case) -> Result<bool, Fail> {
     Ok(finds(alloc, &hierarchy, case)?)
 }
 
+/// Whether the hierarchies of these cases do.
+fn all_hold_so(alloc: Global, cases: &[Case]) -> Result<bool, Fail> {
+    let mut holds = true;
+    for case in cases {
+        holds &= holds_so(alloc, *case)?;
+    }
+    Ok(holds)
+}
+
 #[test]
 fn several_starts_and_ends(rt: HostRuntime) -> Result<(), Fail> {
-    for case in CASES {
-        assert!(rt; holds_so(rt.alloc(), case)?);
-    }
+    assert!(rt; all_hold_so(rt.alloc(), CASES)?);
     Ok(())
 }

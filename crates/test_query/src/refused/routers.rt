@@ -50,7 +50,7 @@ fn is_drawn_by(alloc: Global, hierarchy: &Hierarchy) -> Result<bool, Fail> {
 
 #[test]
 fn router(rt: HostRuntime) -> Result<(), Fail> {
-    let hierarchy = hierarchy_of(rt.alloc(), &DRAWN_RANKS, &DRAWN, (20, 4))?;
+    let hierarchy = hierarchy_of(rt.alloc(), DRAWN_RANKS, DRAWN, (20, 4))?;
     assert!(rt; is_drawn_by(rt.alloc(), &hierarchy)?);
     Ok(())
 }
@@ -71,7 +71,7 @@ fn is_drawn_beside(alloc: Global, hierarchy: &Hierarchy) -> Result<bool, Fail> {
 
 #[test]
 fn router_beside(rt: HostRuntime) -> Result<(), Fail> {
-    let hierarchy = hierarchy_of(rt.alloc(), &DRAWN_RANKS, &DRAWN, (20, 4))?;
+    let hierarchy = hierarchy_of(rt.alloc(), DRAWN_RANKS, DRAWN, (20, 4))?;
     assert!(rt; is_drawn_beside(rt.alloc(), &hierarchy)?);
     Ok(())
 }
