@@ -9,13 +9,11 @@ pub mod Halves
 pub mod WellMade
 pub mod Bodies
 pub mod Whole
-pub mod Handing
-mod HandCalls
 mod Came
 pub mod ReadParts
-pub mod WriteParts
 pub mod OneSpelling
 pub mod FewLinks
 pub mod NoFault
 pub mod Respelled
 pub mod Faultless
+pub mod Parts

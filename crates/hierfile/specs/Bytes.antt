@@ -1,9 +1,6 @@
 -- What is known of the bytes of a reader and of a writer on the way.
-use Rattle.std.specs.Prelude.{ℕ, ◌≡◌, ◌≢◌, ◌+◌, ◌-◌, take, ◌^◌, ◌<◌, ◌≤◌, List, ◌++◌, length, Option, Some, None, IfSome, MatchOption, ◌⊎◌, Result, Ok, Err}
+use Rattle.std.specs.Prelude.{ℕ, ◌≡◌, ◌≢◌, ◌-◌, take, ◌^◌, ◌<◌, ◌≤◌, List, ◌++◌, length, Option, Some, None, IfSome, MatchOption, ◌⊎◌, Result, Ok, Err}
 use Rattle.std.specs.Io.KnownBytes.{Appends, prepend_known}
-use Rattle.std.specs.declared.io.Error.{Error}
-use Rattle.counted_io.specs.Handing.{HandsOn}
-use Rattle.counted_io.specs.Limits.{IsWritten, StopsWithin}
 use Rattle.ch_cost.specs.Cost.{length_of, arcs_of}
 use Rattle.ch_graph.specs.declared.link.Link.{Link}
 use Rattle.ch_graph.specs.declared.version.Version.{Version}
@@ -91,24 +88,6 @@ pub record Buffered : Type 0 where
 -- no more bytes wait than the buffer holds
 abbrev pub Fits : Buffered → Type 0
 Fits input = length input.waiting ≤ 2 ^ 16
-
--- bytes that are gathered for a writer, how many it has taken before, and how often it may still be called
-pub record Gathered : Type 0 where
-  pub waiting : List ℕ
-  pub written : ℕ
-  pub left : ℕ
-
--- Gathered bytes were passed to a writer. None of its calls failed, and what they took was counted, and they themselves.
-abbrev pub Hands : {S : Type 0} → (S → S → Result ℕ Error → Type 0) → Gathered → Gathered → S → S → Type 0
-Hands step before after old new = (taken : ℕ) × (after.written ≡ before.written + taken) × IsWritten step before.left after.left taken old new
-
--- The writer was called until it failed, or until no call was left, and had then taken this many bytes in all.
-abbrev pub Stops : {S : Type 0} → (S → S → Result ℕ Error → Type 0) → Gathered → ℕ → S → S → Type 0
-Stops step before written old new = (taken : ℕ) × (written ≡ before.written + taken) × StopsWithin step before.left taken old new
-
--- The writer took a first part of what was gathered and of these bytes, but not all of it.
-abbrev pub IsPartOf : Option (List ℕ) → Option (List ℕ) → Gathered → List ℕ → ℕ → Type 0
-IsPartOf old new gathered bytes written = (front : List ℕ) × (back : List ℕ) × (rest : List ℕ) × (bytes ≡ front ++ back) × HandsOn old new (gathered.waiting ++ front) rest gathered.written written × (0 < length rest)
 
 -- the writer took this many of the bytes, from the first on, but not all
 abbrev pub Took : Option (List ℕ) → Option (List ℕ) → ℕ → List ℕ → Type 0

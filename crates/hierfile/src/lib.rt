@@ -1,8 +1,7 @@
 //! Hierarchies in files.
 //!
 //! Builds on `ch_graph` for hierarchies and links, on `ch_cost` for lengths, and on `counted_io` for the calls of readers
-//! and writers; numbers are written by `byteorder`.
-//! [`write`] and [`read`] carry its promise: what is written is the spelling of the hierarchy (`bytes_of` in
+//! and for the sink that gathers what is written. [`write`] and [`read`] carry its promise: what is written is the spelling of the hierarchy (`bytes_of` in
 //! `specs/Spelling.antt`); what is read is a hierarchy whose spelling the bytes are, and what is refused has the
 //! first fault that is reported (`first_fault` in `specs/Fault.antt`). Files have two versions, and a hierarchy knows of
 //! which it is: both are read, and version 2 alone is written.
@@ -26,7 +25,6 @@ mod guesses;
 mod input;
 mod laws;
 mod links;
-mod output;
 mod ranks;
 mod reading;
 mod taken;

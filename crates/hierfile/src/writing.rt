@@ -1,19 +1,16 @@
 ghost use Rattle.std.specs.Prelude.{◌≡◌, length, min, All};
 ghost use Rattle.std.specs.List.{flat_map};
-ghost use Rattle.hierfile.specs.Spelling.{bytes_of, word, head_bytes, link_bytes, middle_number};
+ghost use Rattle.hierfile.specs.Spelling.{bytes_of, word, long, head_bytes, link_bytes, middle_number};
+ghost use Rattle.counted_io.specs.Sinks.{Puts};
 ghost use Rattle.counted_io.specs.declared.TheConstants.{MOST_CALLS};
 ghost use Rattle.ch_graph.specs.declared.version.Version.TheVariants.{Two};
 ghost use Rattle.ch_graph.specs.Hierarchy.{version_number};
 ghost use Rattle.hierfile.specs.Bytes.{IsWritable};
-ghost use Rattle.hierfile.specs.Writing.{WritesFile, WritesPart};
+ghost use Rattle.hierfile.specs.Writing.{WritesFile};
 
 use crate::links::NO_MIDDLE;
-use crate::output::Output;
 use ch_graph::{Hierarchy, Link};
-use counted_io::{MOST_CALLS, StepWrite, WriteFault};
-
-/// The magic of version 2, as a number of four bytes.
-const MAGIC: u32 = 0x5243_4832;
+use counted_io::{MOST_CALLS, Sink, StepWrite, WriteFault};
 
 /// Writes a hierarchy of version 2 to a file.
 ///
@@ -37,73 +34,71 @@ pub fn write_within<W: StepWrite>(
     requires { version_number hierarchy.now.version ≡ 2 }
     ensures writes { WritesFile W.step W.contents (min calls MOST_CALLS) writer.old writer.new (bytes_of hierarchy.now) result }
 {
-    let mut output = Output::new(calls);
-    write_head(hierarchy, &mut output, writer)?;
-    write_ranks(hierarchy, &mut output, writer)?;
-    write_links(hierarchy.links(), &mut output, writer)?;
-    output.hand_over(writer)?;
-    Ok(())
+    let mut sink = Sink::new(calls);
+    write_head(hierarchy, &mut sink, writer);
+    write_ranks(hierarchy, &mut sink, writer);
+    write_links(hierarchy.links(), &mut sink, writer);
+    sink.finish(writer)
 }
 
 // Writes the magic of version 2, how many nodes and links there are, and the bound.
-fn write_head<W: StepWrite>(
-    hierarchy: &Hierarchy,
-    output: &mut Output,
-    writer: &mut W,
-) -> Result<(), WriteFault>
-    ensures writes { WritesPart W.step W.contents output.old output.new writer.old writer.new (head_bytes Two (length hierarchy.now.ranks) (length hierarchy.now.links) hierarchy.now.bound) result }
+fn write_head<W: StepWrite>(hierarchy: &Hierarchy, sink: &mut Sink, writer: &mut W)
+    ensures { Puts W.step W.contents sink.old sink.new writer.old writer.new (head_bytes Two (length hierarchy.now.ranks) (length hierarchy.now.links) hierarchy.now.bound) }
 {
-    output.word(writer, MAGIC)?;
-    output.word(writer, hierarchy.nodes())?;
-    output.long(writer, hierarchy.links().len() as u64)?;
-    output.long(writer, hierarchy.bound().length())?;
-    Ok(())
+    sink.put(writer, b"RCH2");
+    write_word(hierarchy.nodes(), sink, writer);
+    write_long(hierarchy.links().len() as u64, sink, writer);
+    write_long(hierarchy.bound().length(), sink, writer);
 }
 
 // Writes the rank of each node.
-fn write_ranks<W: StepWrite>(
-    hierarchy: &Hierarchy,
-    output: &mut Output,
-    writer: &mut W,
-) -> Result<(), WriteFault>
-    ensures writes { WritesPart W.step W.contents output.old output.new writer.old writer.new (flat_map word hierarchy.now.ranks) result }
+fn write_ranks<W: StepWrite>(hierarchy: &Hierarchy, sink: &mut Sink, writer: &mut W)
+    ensures { Puts W.step W.contents sink.old sink.new writer.old writer.new (flat_map word hierarchy.now.ranks) }
 {
     'nodes: for node in 0..hierarchy.nodes() {
-        output.word(writer, hierarchy.rank(node))?;
+        write_word(hierarchy.rank(node), sink, writer);
     }
-    Ok(())
 }
 
-// Writes each link, as version 2 has it.
-fn write_links<W: StepWrite>(
-    links: &[Link],
-    output: &mut Output,
-    writer: &mut W,
-) -> Result<(), WriteFault>
+// Writes each link, as version 2 has it, and stops once the writer has failed.
+fn write_links<W: StepWrite>(links: &[Link], sink: &mut Sink, writer: &mut W)
     requires { All (IsWritable Two) links.now }
-    ensures writes { WritesPart W.step W.contents output.old output.new writer.old writer.new (flat_map (link_bytes Two) links.now) result }
+    ensures { Puts W.step W.contents sink.old sink.new writer.old writer.new (flat_map (link_bytes Two) links.now) }
 {
     'links: for link in links {
-        write_link(*link, output, writer)?;
+        if sink.has_failed() {
+            return;
+        }
+        write_link(*link, sink, writer);
     }
-    Ok(())
 }
 
 // Writes one link, as version 2 has it.
-fn write_link<W: StepWrite>(
-    link: Link,
-    output: &mut Output,
-    writer: &mut W,
-) -> Result<(), WriteFault>
+fn write_link<W: StepWrite>(link: Link, sink: &mut Sink, writer: &mut W)
     requires { IsWritable Two link }
-    ensures writes { WritesPart W.step W.contents output.old output.new writer.old writer.new (link_bytes Two link) result }
+    ensures { Puts W.step W.contents sink.old sink.new writer.old writer.new (link_bytes Two link) }
 {
-    output.word(writer, link.from)?;
-    output.word(writer, link.to)?;
-    output.long(writer, link.cost.length())?;
-    output.word(writer, link.cost.arcs() as u32)?;
-    output.word(writer, number_of(link.middle))?;
-    Ok(())
+    write_word(link.from, sink, writer);
+    write_word(link.to, sink, writer);
+    write_long(link.cost.length(), sink, writer);
+    write_word(link.cost.arcs() as u32, sink, writer);
+    write_word(number_of(link.middle), sink, writer);
+}
+
+// Writes a number of four bytes.
+#[tactic(auto, unfolding(crate::specs::Spelling::word))]
+fn write_word<W: StepWrite>(number: u32, sink: &mut Sink, writer: &mut W)
+    ensures { Puts W.step W.contents sink.old sink.new writer.old writer.new (word number) }
+{
+    sink.put(writer, &number.to_be_bytes());
+}
+
+// Writes a number of eight bytes.
+#[tactic(auto, unfolding(crate::specs::Spelling::long))]
+fn write_long<W: StepWrite>(number: u64, sink: &mut Sink, writer: &mut W)
+    ensures { Puts W.step W.contents sink.old sink.new writer.old writer.new (long number) }
+{
+    sink.put(writer, &number.to_be_bytes());
 }
 
 // The number that represents a middle.
