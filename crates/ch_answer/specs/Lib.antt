@@ -1,4 +1,3 @@
 pub mod Line
 pub mod File
 pub mod Written
-pub mod Sending

@@ -1,22 +1,21 @@
-//! How routes are written as lines, and how lines are gathered for a writer.
+//! How routes are written as lines.
 //!
-//! Uses `ch_route` for routes, `counted_io` for the calls of writers, and `itoa` for decimals. What it is for is that a
-//! file of pairs and a service have the same words for a route: [`push_line`] appends the line of a pair and its route,
-//! and [`Lines`] gathers lines, for a writer that may be flushed. `specs/Line.antt` says what a line is, `specs/File.antt`
-//! which bytes are the file of a hierarchy that was prepared from a graph's text, `specs/Written.antt` what it means that a
-//! writer took a text, and `specs/Sending.antt` which calls of it were made and what they returned.
+//! Uses `ch_route` for routes, `counted_io` for the sink that takes the lines, and `itoa` for decimals. What it is for is
+//! that a file of pairs and a service have the same words for a route: [`put_line`] puts the line of a pair and its route into a
+//! sink. `specs/Line.antt` says what a line is, `specs/File.antt` which bytes are the file of a hierarchy that was prepared
+//! from a graph's text, and `specs/Written.antt` what it means that a writer took a text.
 //!
 //! Nodes are numbered from 0 inside, and from 1 in every text:
 //!
 //! ```rust
 //! let mut lines = Vec::new(alloc);
-//! push_line((1, 2), &None, &mut lines)?;
+//! let mut sink = Sink::new(MOST_CALLS);
+//! put_line((1, 2), &None, &mut sink, &mut lines);
+//! sink.finish(&mut lines)?;
 //! assert!(rt; lines.as_slice() == b"n 2 3\n".as_slice());
 //! ```
 #![tactic(auto)]
 
 mod line;
-mod output;
 
-pub use line::{push_along, push_line, push_nodes, push_number};
-pub use output::Lines;
+pub use line::{put_along, put_line, put_nodes, put_number};

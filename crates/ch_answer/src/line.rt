@@ -1,10 +1,10 @@
-ghost use Rattle.std.specs.Prelude.{◌≡◌, ◌+◌, ◌≤◌, ◌++◌, [], ◌∷◌, OnOk, OnErr, codes, decimal, drop, length};
-ghost use Rattle.std.specs.Io.{StartsWith};
+ghost use Rattle.std.specs.Prelude.{◌≡◌, ◌≤◌, ◌++◌, [], ◌∷◌, codes, decimal, drop, length};
+ghost use Rattle.counted_io.specs.Sinks.{Puts};
 ghost use Rattle.ch_answer.specs.Line.{named, told_along, line_of};
 
 use ch_route::Route;
+use counted_io::{Sink, StepWrite};
 use itoa::{Buffer, write_digits};
-use std::alloc::AllocError;
 
 /// How many nodes are written at a time.
 const FEW: usize = 32;
@@ -12,74 +12,46 @@ const FEW: usize = 32;
 /// How many bytes these take at most, at a space and ten digits for each.
 const ROOM: usize = 352;
 
-/// Appends the line that answers the pair by the route. Where memory runs out the lines stay as they were. Takes
-/// memory for the line.
-pub fn push_line(
-    pair: (u32, u32),
-    route: &Option<Route>,
-    lines: &mut Vec<u8>,
-) -> Result<(), AllocError>
-    ensures ok { OnOk result (lines.new.items ≡ lines.old.items ++ line_of pair route.now) }
-    ensures err { OnErr result (lines.new.items ≡ lines.old.items) }
-{
-    let start = lines.len();
-    let pushed = push_answer(pair, route, lines);
-    if pushed.is_err() {
-        lines.truncate(start);
-    }
-    pushed
-}
-
-// Appends the line that answers the pair, or a part of it where memory runs out.
-fn push_answer(
-    pair: (u32, u32),
-    route: &Option<Route>,
-    lines: &mut Vec<u8>,
-) -> Result<(), AllocError>
-    ensures ok { OnOk result (lines.new.items ≡ lines.old.items ++ line_of pair route.now) }
-    ensures err { StartsWith lines.new.items lines.old.items }
+/// Puts the line that answers the pair by the route. Takes no memory.
+pub fn put_line<W: StepWrite>(pair: (u32, u32), route: &Option<Route>, sink: &mut Sink, out: &mut W)
+    ensures { Puts W.step W.contents sink.old sink.new out.old out.new (line_of pair route.now) }
 {
     match route {
         Some(route) => {
-            lines.push(b'r')?;
-            push_nodes(&[pair.0, pair.1], lines)?;
-            push_along(route.cost.length(), route.nodes.as_slice(), lines)?;
+            sink.put(out, b"r");
+            put_nodes(&[pair.0, pair.1], sink, out);
+            put_along(route.cost.length(), route.nodes.as_slice(), sink, out);
+            sink.put(out, b"\n");
         }
         None => {
-            lines.push(b'n')?;
-            push_nodes(&[pair.0, pair.1], lines)?;
+            sink.put(out, b"n");
+            put_nodes(&[pair.0, pair.1], sink, out);
+            sink.put(out, b"\n");
         }
     }
-    lines.push(b'\n')?;
-    Ok(())
 }
 
-/// Appends a length, how many arcs there are from node to node, and the nodes. Where memory runs out a part of that
-/// text may be there.
-pub fn push_along(length: u64, nodes: &[u32], lines: &mut Vec<u8>) -> Result<(), AllocError>
-    ensures ok { OnOk result (lines.new.items ≡ lines.old.items ++ told_along length nodes.now) }
-    ensures err { StartsWith lines.new.items lines.old.items }
+/// Puts a length, how many arcs there are from node to node, and the nodes. Takes no memory.
+pub fn put_along<W: StepWrite>(length: u64, nodes: &[u32], sink: &mut Sink, out: &mut W)
+    ensures { Puts W.step W.contents sink.old sink.new out.old out.new (told_along length nodes.now) }
 {
-    push_number(length, lines)?;
-    push_number(nodes.len().saturating_sub(1) as u64, lines)?;
-    push_nodes(nodes, lines)
+    put_number(length, sink, out);
+    put_number(nodes.len().saturating_sub(1) as u64, sink, out);
+    put_nodes(nodes, sink, out);
 }
 
-/// Appends the nodes as a line names them, numbered from 1, a space before each. Where memory runs out a part of that
-/// text may be there.
-pub fn push_nodes(nodes: &[u32], lines: &mut Vec<u8>) -> Result<(), AllocError>
-    ensures ok { OnOk result (lines.new.items ≡ lines.old.items ++ named nodes.now) }
-    ensures err { StartsWith lines.new.items lines.old.items }
+/// Puts the nodes as a line names them, numbered from 1, a space before each. Takes no memory.
+pub fn put_nodes<W: StepWrite>(nodes: &[u32], sink: &mut Sink, out: &mut W)
+    ensures { Puts W.step W.contents sink.old sink.new out.old out.new (named nodes.now) }
 {
     let mut text = [0; ROOM];
     let mut at = 0;
     'pieces: while at < nodes.len() {
         let end = nodes.len().min(at + FEW);
         let start = write_nodes(&nodes[at..end], &mut text);
-        lines.extend_from_slice(&text[start..])?;
+        sink.put(out, &text[start..]);
         at = end;
     }
-    Ok(())
 }
 
 // Writes a few nodes as a line names them so that they end where the text ends, the last one first. Returns where they
@@ -99,11 +71,10 @@ fn write_nodes(nodes: &[u32], text: &mut [u8; ROOM]) -> usize
     at
 }
 
-/// Appends a space and the number in decimals. Where memory runs out a part of that text may be there.
-pub fn push_number(number: u64, lines: &mut Vec<u8>) -> Result<(), AllocError>
-    ensures ok { OnOk result (lines.new.items ≡ lines.old.items ++ codes " " ++ decimal number) }
-    ensures err { StartsWith lines.new.items lines.old.items }
+/// Puts a space and the number in decimals. Takes no memory.
+pub fn put_number<W: StepWrite>(number: u64, sink: &mut Sink, out: &mut W)
+    ensures { Puts W.step W.contents sink.old sink.new out.old out.new (codes " " ++ decimal number) }
 {
-    lines.push(b' ')?;
-    lines.extend_from_slice(Buffer::new().format(number).as_bytes())
+    sink.put(out, b" ");
+    sink.put(out, Buffer::new().format(number).as_bytes());
 }

@@ -1,7 +1,6 @@
 -- From a hierarchy in memory to its file.
-use Rattle.std.proofs.Common.{ℕ, ◌≡◌, List, length, take, Option, Some, None, Result, Ok, Err, subst}
+use Rattle.std.proofs.Common.{ℕ, ◌≡◌, List, length, Option, Some, None, Result, Ok, Err}
 use Rattle.std.specs.Prelude.{⊤, IfSome, IfErr, OnOk}
-use Rattle.std.specs.Io.KnownBytes.{Consumes, IsAtEnd}
 use Rattle.ch_graph.specs.Graph.{Graph}
 use Rattle.ch_graph.specs.Hierarchy.{Hierarchy, IsWellMade}
 use Rattle.ch_graph.specs.declared.version.Version.{Version}
@@ -17,26 +16,6 @@ use Rattle.ch_requests.specs.declared.error.ServeError.{ServeError}
 use Rattle.ch_requests.specs.declared.error.ServeError.TheVariants as stops
 use Rattle.ch_requests.specs.Reply.{by_hierarchy, ready}
 use Rattle.ch_requests.specs.Serving.{AreServed, IsFileFault, IsOwn, KeepsBefore, ServedFirst, Serves, ServesFirst, ServesOver, ServicesAre, StopsServing}
-use Rattle.ch_requests.proofs.Served.{read_all}
-
--- what was served behind these lines by this router
-abbrev pub ReadsAll : List ℕ → Hierarchy → Option (List ℕ) → Option (List ℕ) → Option (List ℕ) → Option (List ℕ) → Type 0
-ReadsAll lines h had left old new = (read : List ℕ) × Consumes had left read × IsAtEnd left × Writes (AreServed lines (by_hierarchy h) (requests_of (length h.ranks) read)) old new
-
-pub by_front : {E : Type 0} (r : Result ⊤ E) (front lines : List ℕ) (h now : Hierarchy) (had left old new : Option (List ℕ)) → lines ≡ front → now ≡ h
-    → OnOk r (ReadsAll lines now had left old new)
-    → OnOk r (IfSome had (λ text. Writes (AreServed front (by_hierarchy h) (requests_of (length h.ranks) text)) old new))
-by_front r front lines h now had left old new same is served =
-    let here : OnOk r (ReadsAll front now had left old new) = subst (λ (l : List ℕ). OnOk r (ReadsAll l now had left old new)) same served in
-    let there : OnOk r (ReadsAll front h had left old new) = subst (λ (k : Hierarchy). OnOk r (ReadsAll front k had left old new)) is here in
-    read_all r (λ (text : List ℕ). Writes (AreServed front (by_hierarchy h) (requests_of (length h.ranks) text)) old new) had left there
-
-pub stops_front : (r : Result ⊤ ServeError) (front lines : List ℕ) (h now : Hierarchy) (had left old new : Option (List ℕ)) → lines ≡ front → now ≡ h
-    → IfErr r (StopsServing (λ count read. AreServed lines (by_hierarchy now) (take count (requests_of (length now.ranks) read))) had left old new)
-    → IfErr r (StopsServing (λ count read. AreServed front (by_hierarchy h) (take count (requests_of (length h.ranks) read))) had left old new)
-stops_front r front lines h now had left old new same is served =
-    let here = subst (λ (l : List ℕ). IfErr r (StopsServing (λ count read. AreServed l (by_hierarchy now) (take count (requests_of (length now.ranks) read))) had left old new)) same served in
-    subst (λ (k : Hierarchy). IfErr r (StopsServing (λ count read. AreServed front (by_hierarchy k) (take count (requests_of (length k.ranks) read))) had left old new)) is here
 
 -- By a file
 

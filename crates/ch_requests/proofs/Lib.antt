@@ -3,9 +3,11 @@ pub mod KeptBytes
 pub mod AskedInRange
 pub mod Letters
 pub mod Seeding
-pub mod Handed
+pub mod Spaced
+pub mod Replied
+pub mod Delivered
 pub mod Served
+pub mod Ended
 pub mod ServedOver
 pub mod Fronts
 pub mod Called
-pub mod Sessions

@@ -5,3 +5,4 @@ pub mod Seeds
 pub mod Reply
 pub mod Serving
 pub mod Progress
+pub mod Sending

@@ -1,150 +1,116 @@
--- How far requests are replied to, while replies are gathered for the writer. `from` and `to` are how many bytes it had taken
--- before and has taken after. `step`, `flush` and `contents` are the writer's, and `remaining` is what a reader has left.
-use Rattle.std.specs.Prelude.{ℕ, ◌≡◌, ◌≤◌, ◌<◌, ◌^◌, ⊤, List, [], ◌++◌, length, Option, Result}
+-- How far the requests of a text are replied to. `step`, `flush` and `contents` are the writer's, `read_step` and `remaining`
+-- those of the reader of the requests.
+use Rattle.std.specs.Prelude.{ℕ, ◌≡◌, ◌≤◌, ◌+◌, ◌⊎◌, ⊤, List, [], ◌++◌, length, Option, None, Result, Ok, Err}
+use Rattle.std.specs.Io.KnownBytes.{Appends, Consumes, IsAtEnd}
 use Rattle.std.specs.declared.io.Error.{Error}
-use Rattle.std.specs.Io.KnownBytes.{Consumes}
-use Rattle.counted_io.specs.Handing.{HandsOn, HandsOnPart}
+use Rattle.counted_io.specs.Handing.{HandsOnPart}
+use Rattle.counted_io.specs.Limits.{IsRead, ReadsWithin}
+use Rattle.counted_io.specs.Sinks.{Puts, nothing_put}
+use Rattle.counted_io.specs.declared.TheConstants.{MOST_CALLS}
+use Rattle.ch_graph.specs.Hierarchy.{Hierarchy}
 use Rattle.text_lines.specs.Lines.{line_feeds}
-use Rattle.ch_requests.specs.declared.request.Request.{Request}
+use Rattle.ch_requests.specs.Reply.{AreReplies, Told, by_hierarchy, ready}
+use Rattle.ch_requests.specs.Requests.{requests_of, requests_with}
+use Rattle.ch_requests.specs.Sending.{IsSendingBy, StopsAtFlush, StopsAtWrite}
 use Rattle.ch_requests.specs.declared.error.ServeError.{ServeError}
 use Rattle.ch_requests.specs.declared.error.ServeError.TheVariants as stops
-use Rattle.counted_io.specs.declared.TheConstants.{MOST_CALLS}
-use Rattle.ch_answer.specs.Sending.{IsSending}
-use Rattle.ch_answer.specs.declared.output.Lines.{Lines}
-use Rattle.counted_io.specs.declared.writing.WriteFault.{WriteFault}
-use Rattle.ch_graph.specs.Hierarchy.{Hierarchy}
+use Rattle.ch_requests.specs.declared.request.Request.{Request}
+use Rattle.ch_requests.specs.declared.sending.Output.{Output}
 use Rattle.ch_requests.specs.declared.session.Session.{Session}
-use Rattle.ch_requests.specs.Reply.{AreReplies, IsReply, Told, by_hierarchy, ready}
-use Rattle.ch_requests.specs.Requests.{requests_of, requests_with}
-use Rattle.ch_requests.specs.Serving.{AreServed, StopsSending}
 
--- a request was replied to, behind the lines that were gathered
-pub record RepliesOnce (told : Told) (request : Request) (old new : Option (List ℕ)) (lines rest : List ℕ) (from to : ℕ) : Type 0 where
-  pub reply : List ℕ
-  pub is : IsReply told request reply
-  pub handed : HandsOn old new (lines ++ reply) rest from to
-
--- the writer failed at that
-pub record BreaksAt (told : Told) (request : Request) (old new : Option (List ℕ)) (lines : List ℕ) (from to : ℕ) : Type 0 where
-  pub reply : List ℕ
-  pub is : IsReply told request reply
-  pub handed : HandsOnPart old new (lines ++ reply) from to
-
--- As many requests were replied to as lines have ended: the first of those that were to come, whatever bytes follow.
-pub record Replies (told : Told) (ended : ℕ) (before after : List ℕ → List Request) (old new : Option (List ℕ)) (lines rest : List ℕ) (from to : ℕ) : Type 0 where
+-- The text has a reply to as many requests as lines have ended: the first of those that were to come, whatever bytes follow.
+pub record Replies (told : Told) (ended : ℕ) (before after : List ℕ → List Request) (text : List ℕ) : Type 0 where
   pub asked : List Request
   pub cuts : (more : List ℕ) → before more ≡ asked ++ after more
   pub many : length asked ≡ ended
-  pub text : List ℕ
   pub replied : AreReplies told asked text
-  pub handed : HandsOn old new (lines ++ text) rest from to
 
--- the writer failed while the first of them were replied to, of lines that have ended
-pub record Breaks (told : Told) (ended : ℕ) (before : List ℕ → List Request) (old new : Option (List ℕ)) (lines : List ℕ) (from to : ℕ) : Type 0 where
-  pub asked : List Request
-  pub cuts : (more : List ℕ) → (left : List Request) × (before more ≡ asked ++ left)
-  pub many : length asked ≤ ended
-  pub text : List ℕ
-  pub replied : AreReplies told asked text
-  pub handed : HandsOnPart old new (lines ++ text) from to
+-- no reply yet, and all calls of the writer are left
+abbrev pub nothing_sent : Output
+nothing_sent = record { sink = nothing_put MOST_CALLS; flushes = record { left = MOST_CALLS } }
 
--- a reader gave some bytes, and the requests of the lines that end in them were replied to
-pub record RepliesTo (told : Told) (had left : Option (List ℕ)) (before after : List ℕ → List Request) (old new : Option (List ℕ)) (lines rest : List ℕ) (from to : ℕ) : Type 0 where
-  pub bytes : List ℕ
-  pub consumed : Consumes had left bytes
-  pub replies : Replies told (line_feeds bytes) (λ more. before (bytes ++ more)) after old new lines rest from to
+-- no reply waits, and no write has failed
+pub record IsIdle (output : Output) : Type 0 where
+  pub none_waits : output.sink.waiting ≡ []
+  pub none_failed : output.sink.fault ≡ None
 
--- the writer failed while they were replied to
-pub record BreaksIn (told : Told) (had left : Option (List ℕ)) (before : List ℕ → List Request) (old new : Option (List ℕ)) (lines : List ℕ) (from to : ℕ) : Type 0 where
-  pub bytes : List ℕ
-  pub consumed : Consumes had left bytes
-  pub breaks : Breaks told (line_feeds bytes) (λ more. before (bytes ++ more)) old new lines from to
-
--- nothing is left to pass on of the replies to the lines that end in what the reader gave
-pub record StopsAtRead (told : Told) (had left : Option (List ℕ)) (before : List ℕ → List Request) (old new : Option (List ℕ)) (lines : List ℕ) (from : ℕ) : Type 0 where
-  pub after : List ℕ → List Request
-  pub to : ℕ
-  pub served : RepliesTo told had left before after old new lines [] from to
-
--- why it was stopped, and what was done before
-abbrev pub StopsReplying : Told → Option (List ℕ) → Option (List ℕ) → (List ℕ → List Request) → Option (List ℕ) → Option (List ℕ) → List ℕ → ℕ → ServeError → Type 0
-StopsReplying told had left before old new lines from (stops.Hierarchy e) = ⊥
-StopsReplying told had left before old new lines from stops.OutOfMemory = ⊥
-StopsReplying told had left before old new lines from stops.Read = StopsAtRead told had left before old new lines from
-StopsReplying told had left before old new lines from (stops.Write fault) = BreaksIn told had left before old new lines from fault.written
-StopsReplying told had left before old new lines from stops.Flush = StopsAtRead told had left before old new lines from
-
--- what became of lines that should be sent: the writer failed at them, or it took all and couldn't be flushed
-abbrev pub IsUnsent : Option (List ℕ) → Option (List ℕ) → List ℕ → ℕ → ServeError → Type 0
-IsUnsent old new lines from (stops.Hierarchy e) = ⊥
-IsUnsent old new lines from stops.OutOfMemory = ⊥
-IsUnsent old new lines from stops.Read = ⊥
-IsUnsent old new lines from (stops.Write fault) = HandsOnPart old new lines from fault.written
-IsUnsent old new lines from stops.Flush = (to : ℕ) × HandsOn old new lines [] from to
-
--- A session by this hierarchy has read and written nothing, and the line that it is ready waits for the writer.
+-- a session by this hierarchy has read and written nothing
 pub record IsNew (h : Hierarchy) (session : Session) : Type 0 where
-  pub router : session.router ≡ h
-  pub begins : (text : List ℕ) → requests_with session.reader text ≡ requests_of (length session.router.ranks) text
-  pub lines : session.output.lines.items ≡ ready h
-  pub written : session.output.calls.written ≡ 0
-  pub calls : session.output.calls.left ≡ MOST_CALLS
-  pub flushes : session.output.flushes.left ≡ MOST_CALLS
+  pub router : session.replier.router ≡ h
+  pub begins : (text : List ℕ) → requests_with session.replier.reader text ≡ requests_of (length h.ranks) text
+  pub calls : session.calls.left ≡ MOST_CALLS
+  pub output : session.output ≡ nothing_sent
 
--- A session has the same router, and fewer than 64 KiB of lines wait. No call of the writer failed.
-pub record GoesOn {W : Type 0} (step : W → W → Result ℕ Error → Type 0) (flush : W → W → Result ⊤ Error → Type 0) (before after : Session) (old new : W) : Type 0 where
-  pub same : after.router ≡ before.router
-  pub few : length after.output.lines.items < 2 ^ 16
-  pub sends : IsSending step flush before.output after.output old new
+module _ {W : Type 0} (contents : W → Option (List ℕ)) (step : W → W → Result ℕ Error → Type 0) (flush : W → W → Result ⊤ Error → Type 0) where
+  -- The writer took all of the text and was flushed. No call failed, and no reply waits.
+  pub record Delivers (was now : Output) (old new : W) (text : List ℕ) : Type 0 where
+    pub idle : IsIdle now
+    pub given : Appends (contents old) (contents new) text
+    pub counted : now.sink.written ≡ was.sink.written + length text
+    pub calls : IsSendingBy step flush was.sink.left now.sink.left was.flushes.left now.flushes.left was.sink.written now.sink.written old new
 
--- It replied to the lines that end in what the reader gave, and no line waits. No call of the writer failed.
-pub record ServesTo {Q W : Type 0} (remaining : Q → Option (List ℕ)) (contents : W → Option (List ℕ)) (step : W → W → Result ℕ Error → Type 0) (flush : W → W → Result ⊤ Error → Type 0)
-    (before after : Session) (had left : Q) (old new : W) : Type 0 where
-  pub same : after.router ≡ before.router
-  pub empty : after.output.lines.items ≡ []
-  pub replies : RepliesTo (by_hierarchy before.router) (remaining had) (remaining left) (requests_with before.reader) (requests_with after.reader)
-      (contents old) (contents new) [] [] before.output.calls.written after.output.calls.written
-  pub sends : IsSending step flush before.output after.output old new
+  -- The writer failed at the text, or it took all of it and couldn't be flushed.
+  abbrev pub Undelivered : Output → W → W → List ℕ → ServeError → Type 0
+  Undelivered was old new text (stops.Hierarchy e) = ⊥
+  Undelivered was old new text stops.OutOfMemory = ⊥
+  Undelivered was old new text stops.Read = ⊥
+  Undelivered was old new text (stops.Write fault) = HandsOnPart (contents old) (contents new) text was.sink.written fault.written × StopsAtWrite step flush was.sink.left was.flushes.left was.sink.written fault.written old new
+  Undelivered was old new text stops.Flush = Appends (contents old) (contents new) text × StopsAtFlush step flush was.sink.left was.flushes.left was.sink.written old new
 
--- It was stopped at that.
-pub record StopsIn {Q W : Type 0} (remaining : Q → Option (List ℕ)) (contents : W → Option (List ℕ)) (step : W → W → Result ℕ Error → Type 0) (flush : W → W → Result ⊤ Error → Type 0)
-    (before : Session) (had left : Q) (old new : W) (e : ServeError) : Type 0 where
-  pub replies : StopsReplying (by_hierarchy before.router) (remaining had) (remaining left) (requests_with before.reader) (contents old) (contents new) [] before.output.calls.written e
-  pub unsent : StopsSending step flush before.output.calls.left before.output.flushes.left before.output.calls.written old new e
+  -- either, by the result of the call that was to send the text
+  abbrev pub Delivery : Output → Output → W → W → List ℕ → Result ⊤ ServeError → Type 0
+  Delivery was now old new text (Ok u) = Delivers was now old new text
+  Delivery was now old new text (Err e) = Undelivered was old new text e
 
--- It replied to one request, or the writer failed at that.
-abbrev pub RepliesBy : {W : Type 0} → (W → Option (List ℕ)) → Request → Session → Session → W → W → Type 0
-RepliesBy contents request before after old new = RepliesOnce (by_hierarchy before.router) request (contents old) (contents new)
-    before.output.lines.items after.output.lines.items before.output.calls.written after.output.calls.written
+  -- What was put since no reply waited was to be sent.
+  abbrev pub SendsAll : Output → Output → W → W → Result ⊤ ServeError → Type 0
+  SendsAll put now old new result = (was : Output) (from : W) (text : List ℕ) → IsIdle was → put.flushes ≡ was.flushes → Puts step contents was.sink put.sink from old text → Delivery was now from new text result
 
-abbrev pub BreaksBy : {W : Type 0} → (W → Option (List ℕ)) → Request → Session → W → W → WriteFault → Type 0
-BreaksBy contents request before old new fault = BreaksAt (by_hierarchy before.router) request (contents old) (contents new)
-    before.output.lines.items before.output.calls.written fault.written
+  -- The text was delivered, or it wasn't; and what ends a service whose requests can't be read any more comes behind all replies.
+  pub data Sent {A : Type 0} (was now : Output) (old new : W) (text : List ℕ) : Result A ServeError → Type 0 where
+    all : {x : A} → Delivers was now old new text → Sent was now old new text (Ok x)
+    unread : Delivers was now old new text → Sent was now old new text (Err stops.Read)
+    unsent : {e : ServeError} → Undelivered was old new text e → Sent was now old new text (Err e)
 
--- the same of the lines that end in a piece of the requests
-abbrev pub RepliesToPiece : {W : Type 0} → (W → Option (List ℕ)) → List ℕ → Session → Session → W → W → Type 0
-RepliesToPiece contents piece before after old new = Replies (by_hierarchy before.router) (line_feeds piece)
-    (λ more. requests_with before.reader (piece ++ more)) (requests_with after.reader) (contents old) (contents new)
-    before.output.lines.items after.output.lines.items before.output.calls.written after.output.calls.written
+  -- the reply to the line that hasn't ended was to be sent, where there is one
+  pub record EndsLast (before after : Session) (old new : W) (result : Result ⊤ ServeError) : Type 0 where
+    pub text : List ℕ
+    pub replied : AreReplies (by_hierarchy before.replier.router) (requests_with before.replier.reader []) text
+    pub delivery : Delivery before.output after.output old new text result
 
-abbrev pub BreaksInPiece : {W : Type 0} → (W → Option (List ℕ)) → List ℕ → Session → W → W → WriteFault → Type 0
-BreaksInPiece contents piece before old new fault = Breaks (by_hierarchy before.router) (line_feeds piece)
-    (λ more. requests_with before.reader (piece ++ more)) (contents old) (contents new)
-    before.output.lines.items before.output.calls.written fault.written
+-- No call of the reader failed, or the error says that it gave out.
+abbrev pub ReadsBy : {Q A : Type 0} → (Q → Q → Result ℕ Error → Type 0) → ℕ → ℕ → Q → Q → Result A ServeError → Type 0
+ReadsBy read_step before after had left (Ok x) = IsRead read_step before after had left
+ReadsBy read_step before after had left (Err e) = ReadsWithin read_step before (e ≡ stops.Read) had left
 
--- and of the line that hasn't ended
-abbrev pub RepliesToLast : {W : Type 0} → (W → Option (List ℕ)) → Session → Session → W → W → Type 0
-RepliesToLast contents before after old new = (text : List ℕ) × AreReplies (by_hierarchy before.router) (requests_with before.reader []) text
-    × HandsOn (contents old) (contents new) text [] before.output.calls.written after.output.calls.written
+-- How many requests were replied to of a text that has this many line feeds: all at its end, and else those of the lines that
+-- have ended, but that a reply to a last line may be among those that couldn't be sent.
+abbrev pub IsAsFar : {A : Type 0} → ℕ → ℕ → List Request → Type 0 → Result A ServeError → Type 0
+IsAsFar ended count others at_end (Ok x) = (others ≡ []) × at_end
+IsAsFar ended count others at_end (Err e) = (e ≡ stops.Read → count ≡ ended) × ((count ≡ ended) ⊎ (at_end × (ended ≤ count)))
 
-abbrev pub BreaksAtLast : {W : Type 0} → (W → Option (List ℕ)) → Session → W → W → ServeError → Type 0
-BreaksAtLast contents before old new e = (text : List ℕ) × AreReplies (by_hierarchy before.router) (requests_with before.reader []) text
-    × IsUnsent (contents old) (contents new) text before.output.calls.written e
+module _ {Q W : Type 0} (remaining : Q → Option (List ℕ)) (contents : W → Option (List ℕ)) (read_step : Q → Q → Result ℕ Error → Type 0) (step : W → W → Result ℕ Error → Type 0) (flush : W → W → Result ⊤ Error → Type 0) where
+  -- A session read some bytes, and sent the replies to the lines that end in them, or failed at that.
+  pub record Serving {A : Type 0} (before after : Session) (had left : Q) (old new : W) (result : Result A ServeError) : Type 0 where
+    pub same : after.replier.router ≡ before.replier.router
+    pub bytes : List ℕ
+    pub consumed : Consumes (remaining had) (remaining left) bytes
+    pub text : List ℕ
+    pub replies : Replies (by_hierarchy before.replier.router) (line_feeds bytes) (λ more. requests_with before.replier.reader (bytes ++ more)) (requests_with after.replier.reader) text
+    pub reads : ReadsBy read_step before.calls.left after.calls.left had left result
+    pub sent : Sent contents step flush before.output after.output old new text result
 
--- the lines that wait, and a reply to each of these requests
-abbrev pub IsServedBy : Session → List Request → List ℕ → Type 0
-IsServedBy session requests = AreServed session.output.lines.items (by_hierarchy session.router) requests
-
--- what was to be sent wasn't, after these calls of the writer
-abbrev pub StopsOutput : {W : Type 0} → (W → W → Result ℕ Error → Type 0) → (W → W → Result ⊤ Error → Type 0) → Lines → W → W → ServeError → Type 0
-StopsOutput step flush before old new = StopsSending step flush before.calls.left before.flushes.left before.calls.written old new
+  -- A whole service by a hierarchy, from its first line on.
+  pub record Ran (h : Hierarchy) (had left : Q) (old new : W) (result : Result ⊤ ServeError) : Type 0 where
+    pub bytes : List ℕ
+    pub consumed : Consumes (remaining had) (remaining left) bytes
+    pub asked : List Request
+    pub others : List Request
+    pub first : requests_of (length h.ranks) bytes ≡ asked ++ others
+    pub far : IsAsFar (line_feeds bytes) (length asked) others (IsAtEnd (remaining left)) result
+    pub text : List ℕ
+    pub replied : AreReplies (by_hierarchy h) asked text
+    pub calls : ℕ
+    pub reads : ReadsBy read_step MOST_CALLS calls had left result
+    pub now : Output
+    pub sent : Sent contents step flush nothing_sent now old new (ready h ++ text) result

@@ -1,5 +1,5 @@
 -- The reply to a request: one line.
-use Rattle.std.specs.Prelude.{ℕ, ◌≡◌, ◌⊎◌, List, [], ◌∷◌, ◌++◌, codes, decimal, length, Option, Some, None, slice_get}
+use Rattle.std.specs.Prelude.{ℕ, ◌≡◌, ◌⊎◌, ⊤, List, [], ◌∷◌, ◌++◌, codes, decimal, length, Option, Some, None, slice_get}
 use Rattle.ch_cost.specs.Cost.{length_of}
 use Rattle.ch_graph.specs.Graph.{Graph, IsLeastLength}
 use Rattle.ch_graph.specs.Hierarchy.{Hierarchy, version_number}
@@ -73,9 +73,23 @@ Gets told (asks.Between ends) reply = IsBetweenTold told (seeds_of ends.starts.i
 Gets told (asks.Fault kind) reply = reply ≡ refused (kind_name kind)
 Gets told asks.LineTooLong reply = reply ≡ refused (codes "LineTooLong")
 
--- The same, or memory ran out for this request.
+-- the request asks for a search of the hierarchy, for which memory may run out
+abbrev pub IsSearch : Request → Type 0
+IsSearch asks.Comment = ⊥
+IsSearch (asks.Route pair) = ⊤
+IsSearch (asks.Length pair) = ⊤
+IsSearch (asks.Between ends) = ⊤
+IsSearch (asks.Fault kind) = ⊥
+IsSearch asks.LineTooLong = ⊥
+
+-- the reply is of this kind, or memory ran out where it may
+abbrev pub OrOutOfMemory : Type 0 → (List ℕ → Type 0) → List ℕ → Type 0
+OrOutOfMemory may P reply = P reply ⊎ (may × (reply ≡ refused (codes "OutOfMemory")))
+
+-- What was asked for, or why it can't be said. For a route, a length or a way between places memory may run out, and for nothing
+-- else.
 abbrev pub IsReply : Told → Request → List ℕ → Type 0
-IsReply told request reply = Gets told request reply ⊎ (reply ≡ refused (codes "OutOfMemory"))
+IsReply told request = OrOutOfMemory (IsSearch request) (Gets told request)
 
 -- the text has one reply to each request, in order, and nothing else
 pub data AreReplies (told : Told) : List Request → List ℕ → Type 0 where

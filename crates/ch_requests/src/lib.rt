@@ -22,6 +22,7 @@ mod line;
 mod places;
 mod reader;
 mod reply;
+mod replying;
 mod request;
 mod seeds;
 mod sending;

@@ -1,71 +1,63 @@
-ghost use Rattle.std.specs.Prelude.{◌≡◌, ◌++◌, OnOk};
-ghost use Rattle.std.specs.Io.{StartsWith};
+ghost use Rattle.std.specs.Prelude.{◌≡◌};
+ghost use Rattle.counted_io.specs.Sinks.{Puts};
 ghost use Rattle.ch_requests.specs.Reply.{length_line, ready, refused, way_line};
 
-use ch_answer::{push_along, push_nodes, push_number};
+use ch_answer::{put_along, put_line, put_nodes, put_number};
 use ch_graph::Hierarchy;
 use ch_route::RouteBetween;
-use std::alloc::AllocError;
+use counted_io::{Sink, StepWrite};
 
-/// Appends the line that the hierarchy is ready, or a part of it where memory runs out.
-pub(crate) fn push_ready(hierarchy: &Hierarchy, lines: &mut Vec<u8>) -> Result<(), AllocError>
-    ensures ok { OnOk result (lines.new.items ≡ lines.old.items ++ ready hierarchy.now) }
+/// Puts the line that the hierarchy is ready.
+pub(crate) fn put_ready<W: StepWrite>(hierarchy: &Hierarchy, sink: &mut Sink, out: &mut W)
+    ensures { Puts W.step W.contents sink.old sink.new out.old out.new (ready hierarchy.now) }
 {
-    lines.extend_from_slice(b"ready")?;
-    push_number(u64::from(hierarchy.nodes()), lines)?;
-    push_number(hierarchy.links().len() as u64, lines)?;
-    push_number(u64::from(hierarchy.version()), lines)?;
-    lines.push(b'\n')?;
-    Ok(())
+    sink.put(out, b"ready");
+    put_number(u64::from(hierarchy.nodes()), sink, out);
+    put_number(hierarchy.links().len() as u64, sink, out);
+    put_number(u64::from(hierarchy.version()), sink, out);
+    sink.put(out, b"\n");
 }
 
-/// Appends the line that refuses a request for this reason, or a part of it where memory runs out.
-pub(crate) fn push_refusal(reason: &[u8], lines: &mut Vec<u8>) -> Result<(), AllocError>
-    ensures ok { OnOk result (lines.new.items ≡ lines.old.items ++ refused reason.now) }
-    ensures err { StartsWith lines.new.items lines.old.items }
+/// Puts the line that refuses a request for this reason.
+pub(crate) fn put_refusal<W: StepWrite>(reason: &[u8], sink: &mut Sink, out: &mut W)
+    ensures { Puts W.step W.contents sink.old sink.new out.old out.new (refused reason.now) }
 {
-    lines.extend_from_slice(b"e ")?;
-    lines.extend_from_slice(reason)?;
-    lines.push(b'\n')?;
-    Ok(())
+    sink.put(out, b"e ");
+    sink.put(out, reason);
+    sink.put(out, b"\n");
 }
 
-/// Appends the line of a pair and its length, or a part of it where memory runs out.
-pub(crate) fn push_length(
+/// Puts the line of a pair and its length.
+pub(crate) fn put_length<W: StepWrite>(
     pair: (u32, u32),
     length: Option<u64>,
-    lines: &mut Vec<u8>,
-) -> Result<(), AllocError>
-    ensures ok { OnOk result (lines.new.items ≡ lines.old.items ++ length_line pair length) }
-    ensures err { StartsWith lines.new.items lines.old.items }
+    sink: &mut Sink,
+    out: &mut W,
+)
+    ensures { Puts W.step W.contents sink.old sink.new out.old out.new (length_line pair length) }
 {
     match length {
         Some(length) => {
-            lines.push(b'd')?;
-            push_nodes(&[pair.0, pair.1], lines)?;
-            push_number(length, lines)?;
+            sink.put(out, b"d");
+            put_nodes(&[pair.0, pair.1], sink, out);
+            put_number(length, sink, out);
+            sink.put(out, b"\n");
         }
-        None => {
-            lines.push(b'n')?;
-            push_nodes(&[pair.0, pair.1], lines)?;
-        }
+        None => put_line(pair, &None, sink, out),
     }
-    lines.push(b'\n')?;
-    Ok(())
 }
 
-/// Appends the line of a route between the nodes of a start and an end, or a part of it where memory runs out.
-pub(crate) fn push_way(
+/// Puts the line of a route between the nodes of a start and an end.
+pub(crate) fn put_way<W: StepWrite>(
     pair: (u32, u32),
     route: &RouteBetween,
-    lines: &mut Vec<u8>,
-) -> Result<(), AllocError>
-    ensures ok { OnOk result (lines.new.items ≡ lines.old.items ++ way_line pair route.now) }
-    ensures err { StartsWith lines.new.items lines.old.items }
+    sink: &mut Sink,
+    out: &mut W,
+)
+    ensures { Puts W.step W.contents sink.old sink.new out.old out.new (way_line pair route.now) }
 {
-    lines.push(b'r')?;
-    push_nodes(&[pair.0, pair.1], lines)?;
-    push_along(route.cost.length(), route.nodes.as_slice(), lines)?;
-    lines.push(b'\n')?;
-    Ok(())
+    sink.put(out, b"r");
+    put_nodes(&[pair.0, pair.1], sink, out);
+    put_along(route.cost.length(), route.nodes.as_slice(), sink, out);
+    sink.put(out, b"\n");
 }

@@ -4,7 +4,7 @@ ghost use Rattle.counted_io.specs.declared.TheConstants.{MOST_CALLS};
 ghost use Rattle.ch_route.specs.Routes.{IsFewestWalk, IsLeastWalk};
 ghost use Rattle.ch_graph.specs.declared.version.Version.TheVariants.{One, Two};
 ghost use Rattle.ch_answer.specs.File.{PreparesIn};
-ghost use Rattle.ch_answer.specs.Sending.{IsSentWithin};
+ghost use Rattle.ch_requests.specs.Sending.{IsSentWithin};
 ghost use Rattle.ch_answer.specs.Written.{IfTold, Writes};
 ghost use Rattle.hierfile.specs.declared.error.HierError.TheVariants as faults;
 ghost use Rattle.ch_requests.specs.Requests.{requests_of};
@@ -26,11 +26,11 @@ use std::alloc::Global;
 /// and the replies are written and flushed before the next read. Where the file was prepared from the text of a graph, lengths are least
 /// over all walks of that graph, and routes are shortest paths, in version 2 with the fewest arcs.
 ///
-/// A request that is refused, for a fault of its line or because memory ran out, gets a line that says so, and the
-/// service continues. It ends with an error where the hierarchy is refused, where memory for it runs out, or where a reader
+/// A request that is refused, for a fault of its line or because memory ran out for its search, gets a line that says so, and
+/// the service continues. It ends with an error where the hierarchy is refused, where memory for it runs out, or where a reader
 /// or the writer fails; each of them is called 2^40 times at most, and the writer flushed 2^40 times at most. Takes memory for the hierarchy and once more for its
-/// links by their ends, for one query at a time, and for about 64 KiB of lines and one line more; of a request 4,097 bytes
-/// are kept at most.
+/// links by their ends, and for one query at a time. Replies take none, however long they are; of a request 4,097 bytes are
+/// kept at most.
 pub fn serve<H: StepRead, Q: StepRead, W: StepFlush>(
     alloc: Global,
     hier: &mut H,
@@ -83,5 +83,5 @@ pub fn serve_by<Q: StepRead, W: StepFlush>(
     ensures unsent { IfErr result (StopsSending W.step W.flush_step MOST_CALLS MOST_CALLS 0 out.old out.new) }
 {
     let mut session = Session::new(alloc, hierarchy)?;
-    session.run(requests, out)
+    session.run(hierarchy, requests, out)
 }

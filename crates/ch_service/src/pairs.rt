@@ -1,13 +1,14 @@
-ghost use Rattle.std.specs.Prelude.{◌≡◌, ◌<◌, ◌^◌, ◌++◌, ℕ, List, All, OnOk, IfErr, length, take};
+ghost use Rattle.std.specs.Prelude.{◌≡◌, ℕ, All, OnOk, IfErr, length, take};
 ghost use Rattle.grfile.specs.Reading.{IsPair};
-ghost use Rattle.ch_service.specs.Answer.{IsAnswer};
-ghost use Rattle.ch_service.specs.Outcome.{Writes, StopsShort, IsPairFault, ComesOfAnswering};
-ghost use Rattle.ch_service.specs.Route.{IsRouteBy, Routed, StopsAtTooLong};
+ghost use Rattle.ch_service.specs.Outcome.{Writes, StopsShort, ComesOfAnswering};
+ghost use Rattle.ch_service.specs.Progress.{PutsPairs};
+ghost use Rattle.ch_service.specs.Route.{Routed, StopsAtTooLong};
 
 use crate::error::ServiceError;
-use ch_answer::{Lines, push_line};
+use ch_answer::put_line;
 use ch_graph::Hierarchy;
 use ch_route::Router;
+use counted_io::{MOST_CALLS, Sink, StepWrite};
 use std::alloc::Global;
 use std::io::Write;
 
@@ -25,31 +26,28 @@ pub fn answer_pairs<W: Write>(
     ensures stops { IfErr result (StopsShort (λ text. (count : ℕ) × Routed hierarchy.now (take count pairs.now) text) (StopsAtTooLong hierarchy.now pairs.now) (W.contents out.old) (W.contents out.new)) }
 {
     let mut router = Router::new(alloc, hierarchy)?;
-    let mut output = Lines::new(alloc);
-    'pairs: for pair in pairs {
-        if let Err(refused) = answer_pair(&mut router, *pair, &mut output.lines) {
-            output.hand_over(out)?;
-            return Err(refused);
-        }
-        output.hand_over_if_many(out)?;
-    }
-    output.hand_over(out)?;
-    Ok(())
+    let mut sink = Sink::new(MOST_CALLS);
+    let answered = put_pairs(&mut router, pairs, &mut sink, out);
+    sink.finish(out)?;
+    answered
 }
 
-// Appends the line that answers the pair to fewer than 64 KiB of lines. Where it is refused they stay as they were.
-fn answer_pair(
+// Puts the answers to the pairs, up to the first that is refused, or to a failure of the writer.
+fn put_pairs<W: StepWrite>(
     router: &mut Router<'_>,
-    pair: (u32, u32),
-    lines: &mut Vec<u8>,
+    pairs: &[(u32, u32)],
+    sink: &mut Sink,
+    out: &mut W,
 ) -> Result<(), ServiceError>
-    requires in_range { IsPair (length router.old.ranks) pair }
-    requires few { length lines.old.items < 2 ^ 16 }
-    ensures ok { OnOk result ((line : List ℕ) × IsAnswer (IsRouteBy router.old) pair line × (lines.new.items ≡ lines.old.items ++ line)) }
-    ensures err { IfErr result (λ e. IsPairFault router.old pair e × (lines.new.items ≡ lines.old.items)) }
-    ensures kept { router.new ≡ router.old }
+    requires { All (IsPair (length router.old.ranks)) pairs.now }
+    ensures { PutsPairs W.step W.contents router.old pairs.now sink.old sink.new out.old out.new result }
 {
-    let route = router.route(pair)?;
-    push_line(pair, &route, lines)?;
+    'pairs: for pair in pairs {
+        if sink.has_failed() {
+            return Ok(());
+        }
+        let route = router.route(*pair)?;
+        put_line(*pair, &route, sink, out);
+    }
     Ok(())
 }

@@ -24,8 +24,7 @@ use std::io::{Read, Write};
 /// arcs, it is any of them. The hierarchy is read before the pairs, and where one is refused nothing is written. Where a
 /// pair is refused, because memory ran out or its route is too long, the lines of the pairs before are written first; no
 /// route is too long where the hierarchy is right for some graph, in the sense of its version. Takes memory for the
-/// hierarchy and once more for its links by their ends, for the pairs, one query at a time, and for about 64 KiB of lines
-/// and one line more.
+/// hierarchy and once more for its links by their ends, for the pairs, and one query at a time. Lines take none.
 pub fn route<H: Read, Q: Read, W: Write>(
     alloc: Global,
     hier: &mut H,

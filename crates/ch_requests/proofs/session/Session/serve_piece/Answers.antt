@@ -1,75 +1,62 @@
-use Rattle.std.proofs.Common.{[], refl, take}
+use Rattle.std.proofs.Common.{ℕ, List, [], refl, subst, take}
+use Rattle.std.specs.Io.KnownBytes.{Consumes}
 use Rattle.std.proofs.lemmas.Result.{err_from_is_err_and}
-use Rattle.ch_requests.specs.Requests.{requests_with}
-use Rattle.ch_requests.specs.Reply.{by_hierarchy}
-use Rattle.ch_requests.proofs.Handed.{piece_broken, piece_served, piece_unsent, read_stop, to_nothing}
 use Rattle.counted_io.specs.Limits.{gives_out}
 use Rattle.counted_io.specs.Limits.Laws.{gave_out, read_by, refused_after}
-use Rattle.ch_requests.proofs.Called.{unsent_no_read, write_no_read}
-use Rattle.ch_requests.proofs.Called.{stops_then_after}
-use Rattle.ch_answer.specs.Sending.Laws.{sending_none, sending_then}
+use Rattle.ch_requests.specs.Progress.{Sent}
+use Rattle.ch_requests.proofs.Delivered.{delivers_nothing, no_read}
+use Rattle.ch_requests.proofs.Replied.{replies_none}
+use Rattle.ch_requests.proofs.Served.{consumes_none}
 use Rattle.ch_requests.proofs.session.Session.serve_piece.Goals as goal
 
-pub returns-in_err-count-clause-err : goal.returns-in_err-count-clause-err
-returns-in_err-count-clause-err g c =
+pub returns-in_err-count-clause-serves : goal.returns-in_err-count-clause-serves
+returns-in_err-count-clause-serves g c =
     let exit = err_from_is_err_and c.from_residual.result c.from_residual.ensures.1 in
     rw (exit.1, exit.2) (record {
-      replies = read_stop (by_hierarchy c.args.self.now.router) _ _ (requests_with c.args.self.now.reader) _ _ c.in_err-count.ensures.bytes;
-      unsent = (_, _, _, sending_none g.W.StepWrite.step g.W.StepFlush.flush_step _ _ _ _);
+      same = refl;
+      bytes = [];
+      consumed = consumes_none _ _ c.in_err-count.ensures.bytes;
+      text = [];
+      replies = replies_none (λ (more : List ℕ). refl);
+      reads = gives_out refl (gave_out g.Q.StepRead.step _ _ c.in_err-count.ensures.failed);
+      sent = Sent.unread (delivers_nothing _ _ c.requires.idle);
     })
 
-pub returns-then-count-eq0-clause-ok : goal.returns-then-count-eq0-clause-ok
-returns-then-count-eq0-clause-ok g c = record {
+pub returns-then-count-eq0-clause-serves : goal.returns-then-count-eq0-clause-serves
+returns-then-count-eq0-clause-serves g c = record {
   same = refl;
-  empty = c.requires.empty;
-  replies = to_nothing (by_hierarchy c.args.self.now.router) _ _ (requests_with c.args.self.now.reader) _ _ c.in_ok-count.count c.read.new.buffer c.if-count-eq0.true c.in_ok-count.ensures.bytes.0;
-  sends = sending_none g.W.StepWrite.step g.W.StepFlush.flush_step _ _ _ _;
+  bytes = [];
+  consumed = subst (λ (n : ℕ). Consumes (g.Q.Read.remaining c.args.requests.now) (g.Q.Read.remaining c.read.new.reader) (take n c.read.new.buffer)) c.if-count-eq0.true c.in_ok-count.ensures.bytes.0;
+  text = [];
+  replies = replies_none (λ (more : List ℕ). refl);
+  reads = read_by g.Q.StepRead.step _ _ _ c.in_ok-count.ensures.given;
+  sent = Sent.all (delivers_nothing _ _ c.requires.idle);
 }
 
-pub returns-in_err-reply_to_lines-clause-err : goal.returns-in_err-reply_to_lines-clause-err
-returns-in_err-reply_to_lines-clause-err g c =
-    let exit = err_from_is_err_and c.from_residual-in_err-reply_to_lines.result c.from_residual-in_err-reply_to_lines.ensures.1 in
+pub returns-in_err-send-clause-serves : goal.returns-in_err-send-clause-serves
+returns-in_err-send-clause-serves g c =
+    let exit = err_from_is_err_and c.from_residual-in_err-send.result c.from_residual-in_err-send.ensures.1 in
+    let replies = c.reply_to_lines.ensures.replies in
+    let unsent = c.in_err-send.ensures c.args.self.now.output c.args.out.now replies.bytes c.requires.idle refl replies.puts in
     rw (exit.1, exit.2) (record {
-      replies = piece_broken (by_hierarchy c.args.self.now.router) _ _ (requests_with c.args.self.now.reader) (take c.in_ok-count.count c.read.new.buffer) _ _ _ _ _ c.requires.empty c.in_ok-count.ensures.bytes.0 c.in_err-reply_to_lines.ensures.err;
-      unsent = c.in_err-reply_to_lines.ensures.stopped;
+      same = c.reply_to_lines.ensures.same;
+      bytes = take c.in_ok-count.count c.read.new.buffer;
+      consumed = c.in_ok-count.ensures.bytes.0;
+      text = replies.bytes;
+      replies = replies.is;
+      reads = refused_after g.Q.StepRead.step (read_by g.Q.StepRead.step _ _ _ c.in_ok-count.ensures.given) (no_read g.W.Write.contents g.W.StepWrite.step g.W.StepFlush.flush_step c.args.self.now.output c.args.out.now c.send.new.out replies.bytes c.in_err-send.field-0.0 unsent);
+      sent = Sent.unsent unsent;
     })
 
-pub returns-in_err-send-clause-err : goal.returns-in_err-send-clause-err
-returns-in_err-send-clause-err g c =
-    let exit = err_from_is_err_and c.from_residual-in_err-send.result c.from_residual-in_err-send.ensures.1 in
-    rw (exit.1, exit.2) (record {
-      replies = piece_unsent (by_hierarchy c.args.self.now.router) _ _ (requests_with c.args.self.now.reader)
-          (requests_with c.reply_to_lines.new.self.reader)
-          (take c.in_ok-count.count c.read.new.buffer) _ _ _ _ _ _ _ _ c.requires.empty c.in_ok-count.ensures.bytes.0 c.in_ok-reply_to_lines.ensures.ok c.in_err-send.ensures.err;
-      unsent = stops_then_after g.W.StepWrite.step g.W.StepFlush.flush_step _ _ c.in_ok-reply_to_lines.ensures.goes_on.sends c.in_err-send.ensures.unsent;
-    })
-
-pub returns-clause-ok : goal.returns-clause-ok
-returns-clause-ok g c = record {
-  same = c.in_ok-reply_to_lines.ensures.goes_on.same;
-  empty = c.in_ok-send.ensures.all;
-  replies = piece_served (by_hierarchy c.args.self.now.router) _ _ (requests_with c.args.self.now.reader) (requests_with c.reply_to_lines.new.self.reader)
-      (take c.in_ok-count.count c.read.new.buffer) _ _ _ _ _ [] _ _ _ c.requires.empty refl c.in_ok-count.ensures.bytes.0 c.in_ok-reply_to_lines.ensures.ok c.in_ok-send.ensures.ok;
-  sends = sending_then g.W.StepWrite.step g.W.StepFlush.flush_step c.in_ok-reply_to_lines.ensures.goes_on.sends c.in_ok-send.ensures.sends;
-}
-
-pub returns-in_err-count-clause-stopped : goal.returns-in_err-count-clause-stopped
-returns-in_err-count-clause-stopped g c =
-    let exit = err_from_is_err_and c.from_residual.result c.from_residual.ensures.1 in
-    rw (exit.1, exit.2) (gives_out refl (gave_out g.Q.StepRead.step _ _ c.in_err-count.ensures.failed))
-
-pub returns-then-count-eq0-clause-calls : goal.returns-then-count-eq0-clause-calls
-returns-then-count-eq0-clause-calls g c = read_by g.Q.StepRead.step _ _ _ c.in_ok-count.ensures.given
-
-pub returns-in_err-reply_to_lines-clause-stopped : goal.returns-in_err-reply_to_lines-clause-stopped
-returns-in_err-reply_to_lines-clause-stopped g c =
-    let exit = err_from_is_err_and c.from_residual-in_err-reply_to_lines.result c.from_residual-in_err-reply_to_lines.ensures.1 in
-    rw (exit.1, exit.2) (refused_after g.Q.StepRead.step (read_by g.Q.StepRead.step _ _ _ c.in_ok-count.ensures.given) (write_no_read c.in_err-reply_to_lines.field-0.0))
-
-pub returns-in_err-send-clause-stopped : goal.returns-in_err-send-clause-stopped
-returns-in_err-send-clause-stopped g c =
-    let exit = err_from_is_err_and c.from_residual-in_err-send.result c.from_residual-in_err-send.ensures.1 in
-    rw (exit.1, exit.2) (refused_after g.Q.StepRead.step (read_by g.Q.StepRead.step _ _ _ c.in_ok-count.ensures.given) (unsent_no_read _ _ _ _ _ c.in_err-send.ensures.err))
-
-pub returns-clause-calls : goal.returns-clause-calls
-returns-clause-calls g c = read_by g.Q.StepRead.step _ _ _ c.in_ok-count.ensures.given
+pub returns-clause-serves : goal.returns-clause-serves
+returns-clause-serves g c =
+    let replies = c.reply_to_lines.ensures.replies in
+    record {
+      same = c.reply_to_lines.ensures.same;
+      bytes = take c.in_ok-count.count c.read.new.buffer;
+      consumed = c.in_ok-count.ensures.bytes.0;
+      text = replies.bytes;
+      replies = replies.is;
+      reads = read_by g.Q.StepRead.step _ _ _ c.in_ok-count.ensures.given;
+      sent = Sent.all (c.in_ok-send.ensures c.args.self.now.output c.args.out.now replies.bytes c.requires.idle refl replies.puts);
+    }
