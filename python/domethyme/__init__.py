@@ -42,6 +42,7 @@ from .errors import (
     ReadWriteError,
     WrongHierarchy,
 )
+from .extras import need
 from .graphs import Graph, prepare, unscaled, write_graph
 from .hierarchy import Hierarchy, Route
 from .keys import Keys
@@ -90,6 +91,8 @@ Fault = DomethymeError
 
 def __getattr__(name: str) -> Any:
     """What needs numpy is loaded when it is first asked for."""
+    if name in ("Network", "Routes"):
+        need("numpy")
     if name == "Network":
         from .network.network import Network
 

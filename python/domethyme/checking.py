@@ -1,7 +1,7 @@
 """Whether the file of a hierarchy is right for a graph, whoever made it: by `routecli check`, which is proved."""
 import os
 import subprocess
-from collections.abc import Sequence
+from collections.abc import Callable, Sequence
 from typing import TYPE_CHECKING
 
 from .errors import NotShown, ProgramError, WrongHierarchy, error_of, os_reason
@@ -28,21 +28,24 @@ def check(graph: "Graph | StrPath", hierarchy: StrPath, program: StrPath | None 
         run_check(find_program(program), text, os.fspath(hierarchy), os.fspath(hierarchy))
 
 
-def run_check(program: str, graph: str, hierarchy: str, name: str, files: Sequence[int] = ()) -> None:
+def run_check(
+    program: str, graph: str, hierarchy: str, name: str, files: Sequence[int] = (), before: Callable[[], None] | None = None
+) -> None:
     """Checks a hierarchy's file, which messages call by this name, against a graph's, as `check` does. The program has the open
-    `files`, too."""
+    `files`, too. `before` is called in its process before it begins, for a caller without threads."""
     nothing, pipe = subprocess.DEVNULL, subprocess.PIPE
-    words = [program, "check", "--explain", graph, hierarchy]
+    words = [program, "check", "--explain", "--", graph, hierarchy]
     try:
-        ended = subprocess.run(words, stdin=nothing, stdout=pipe, stderr=pipe, pass_fds=files)
+        ended = subprocess.run(words, stdin=nothing, stdout=pipe, stderr=pipe, pass_fds=files, preexec_fn=before)
     except OSError as error:
         raise ProgramError(f"{program}: {os_reason(error)}") from error
     if ended.returncode == 0:
         return
     if ended.returncode not in (WRONG, NOT_SHOWN):
-        raise error_of(ended.returncode, ended.stderr, name)
+        raise error_of(ended.returncode, ended.stderr.replace(os.fsencode(hierarchy), os.fsencode(name)), name)
     line = ended.stdout.decode("ascii", "replace").strip()
-    explanation = [" ".join(each.split()) for each in ended.stderr.decode("utf-8", "replace").splitlines()]
+    told = ended.stderr.decode("utf-8", "replace").replace(hierarchy, name)
+    explanation = [" ".join(each.split()) for each in told.splitlines()]
     if ended.returncode == NOT_SHOWN:
         raise NotShown(f"{name}: {line}", NOT_SHOWN, explanation)
     fault = WrongHierarchy(f"{name}: {line}", WRONG, explanation)

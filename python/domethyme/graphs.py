@@ -7,8 +7,9 @@ import warnings
 from collections.abc import Iterator
 from typing import TYPE_CHECKING, Any, Literal
 
-from . import texts
+from . import library, texts
 from .errors import ReadWriteError, os_reason
+from .extras import need
 from .files import writing
 from .hierarchy import Hierarchy
 from .keys import Keys
@@ -41,6 +42,7 @@ class Graph:
     ) -> None:
         """Nodes are whole numbers from 0, weights from 0 to 4294967295. Without `nodes` there are those up to the greatest
         of an arc. Raises ValueError for arrays that can't be meant so."""
+        need("numpy")
         from .arrays import whole_numbers
 
         self.from_nodes: "NDArray[np.int64]" = whole_numbers("from_nodes", from_nodes, 0, MOST_NODES - 1)
@@ -67,6 +69,7 @@ class Graph:
         Raises ValueError where an end has no key, the three aren't as long as one another, `scale` isn't above 0, or a weight
         isn't from 0 to 4294967295.
         """
+        need("numpy")
         import numpy as np
 
         from .keys import as_list, is_missing, plain
@@ -172,13 +175,14 @@ def prepare(
     program   the path of `routecli`, else it is looked for (find_program)
 
     Time and memory: some 20 s and 1.3 GB for a million nodes, by four workers. Raises GraphError, OutOfMemory,
-    ReadWriteError, ProgramNotFound, ProgramError.
+    ReadWriteError, ProgramNotFound, ProgramError, LibraryNotFound.
     """
     found = find_program(program)
+    library.loaded()  # (the result is a Hierarchy: what it needs is looked for before the work)
     options = {"--order": order, "--workers": workers, "--seed": seed, "--stint": stint}
     words = [str(word) for name, value in options.items() if value is not None for word in (name, value)]
     with text_of(graph) as text:
-        run_program(found, ["prepare", *words, text, os.fspath(hierarchy)])
+        run_program(found, ["prepare", *words], [text, os.fspath(hierarchy)])
     keys = graph.keys if isinstance(graph, Graph) else None
     if keys is not None and keys.can_be_saved():
         keys.save(hierarchy)

@@ -87,8 +87,9 @@ def loaded() -> ctypes.CDLL:
             call = getattr(found, f"domethyme_{name}")
             call.argtypes, call.restype = arguments, RETURNS.get(name, ctypes.c_uint32)
     except (OSError, AttributeError) as error:
-        said = f"{path}: {error}; install libdomethyme1, build it by packaging/build-library, or set DOMETHYME_LIBRARY"
-        raise LibraryNotFound(said) from error
+        why = str(error).removeprefix(f"{path}: ")
+        said = f"{path}: {why}; install libdomethyme1, build it by packaging/build-library, or set DOMETHYME_LIBRARY"
+        raise LibraryNotFound(said) from None
     return found
 
 

@@ -32,12 +32,12 @@ def find_program(named: StrPath | None = None) -> str:
     raise ProgramNotFound("routecli isn't found: name it as `program`, set ROUTECLI, or build it as README.md says")
 
 
-def run_program(program: str, words: list[str]) -> None:
-    """Runs the program to its end, with empty standard input; raises the error of its exit status if that isn't 0, with the
-    program's explanation."""
+def run_program(program: str, words: list[str], files: list[str]) -> None:
+    """Runs the program to its end, with empty standard input, on files of any names; raises the error of its exit status if that
+    isn't 0, with the program's explanation."""
     try:
         nothing = subprocess.DEVNULL
-        ended = subprocess.run([program, *words, "--explain"], stdin=nothing, stdout=nothing, stderr=subprocess.PIPE)
+        ended = subprocess.run([program, *words, "--explain", "--", *files], stdin=nothing, stdout=nothing, stderr=subprocess.PIPE)
     except OSError as error:
         raise ProgramError(f"{program}: {os_reason(error)}") from error
     if ended.returncode != 0:

@@ -1,14 +1,15 @@
 """A hierarchy in the memory of this process, asked through the library libdomethyme.
 
 Several threads may ask at once, each by a seat: a handle of the library with room for its answers. A question borrows a seat.
-Where all are taken it waits, and another one of the same hierarchy is made. Other threads of Python go on while the library
-works. After a fork the child has its parent's hierarchy, in the same pages of memory. Nodes are numbered from 0. Needs Python
-alone.
+Where all are taken another one of the same hierarchy is made, beside the first, which is never lent. So a seat that an interrupt
+loses on its way is no loss: its memory is freed with it. Other threads of Python go on while the library works. After a fork the
+child has its parent's hierarchy, in the same pages of memory. Nodes are numbered from 0. Needs Python alone.
 """
 import contextlib
 import ctypes
 import os
-import queue
+import threading
+import time
 import weakref
 from collections.abc import Iterator, Sequence
 from ctypes import addressof, byref
@@ -21,6 +22,8 @@ from .library import (
 
 # How many nodes of a route a seat has room for at first.
 ROOM = 1 << 10
+# Where there is no memory for a seat, how long one that is lent is waited for, and how often that is looked at, in seconds.
+PATIENCE, PAUSE = 60.0, 0.01
 
 
 class Answer(NamedTuple):
@@ -54,6 +57,10 @@ class Seat:
 
     def close(self) -> None:
         self._library.domethyme_close(self._at)
+
+    def __del__(self) -> None:
+        if hasattr(self, "_at"):
+            self.close()
 
     @property
     def count(self) -> int:
@@ -134,19 +141,20 @@ class Router:
     def __init__(self, data: bytes, name: str) -> None:
         """Opens the bytes of a file that messages call `name`. Raises HierarchyError, with the file's first fault, OutOfMemory
         and LibraryNotFound."""
-        self.name, seat = name, Seat(name)
-        seat.open(data)
-        self.nodes, self.version = seat.count, seat.version
-        self._idle: "queue.SimpleQueue[Seat]" = queue.SimpleQueue()
-        self._idle.put(seat)
-        self._waiting = 0
-        self._end, self._is_closed = weakref.finalize(self, close_all, self._idle), False
+        self.name, self._first = name, Seat(name)
+        self._first.open(data)
+        self.nodes, self.version = self._first.count, self._first.version
+        self._idle: list[Seat] = []
+        self._seats: "weakref.WeakSet[Seat]" = weakref.WeakSet()
+        self._making, self._is_closed = threading.Lock(), False
         _routers.add(self)
 
     def close(self) -> None:
-        """Frees the memory. Questions then raise ValueError."""
+        """Frees the memory, that of a seat which is lent once it comes back. Questions then raise ValueError."""
         self._is_closed = True
-        self._end()
+        with self._making:
+            self._first.close()
+        self._idle.clear()
 
     @contextlib.contextmanager
     def seat(self) -> Iterator[Seat]:
@@ -184,40 +192,45 @@ class Router:
             return Answer(starts[info.start][0], ends[info.end][0], info.length, nodes)
 
     def _take(self) -> Seat:
-        """A seat. Where all are taken it waits for one, and another one is made."""
+        """A seat: one that is idle, or another one."""
         if self._is_closed:
             raise ValueError(f"the hierarchy {self.name} is closed")
         try:
-            return self._idle.get_nowait()
-        except queue.Empty:
-            self._waiting += 1
-            return self._idle.get()
+            return self._idle.pop()
+        except IndexError:
+            return self._made()
+
+    def _made(self) -> Seat:
+        """Another seat. Where there is no memory for one it waits for one that is lent. Raises OutOfMemory."""
+        end = time.monotonic() + PATIENCE
+        while True:
+            with self._making:
+                if self._is_closed:
+                    raise ValueError(f"the hierarchy {self.name} is closed")
+                made = self._first.beside()
+            if made is not None:
+                self._seats.add(made)
+                return made
+            if not self._seats or time.monotonic() > end:
+                raise OutOfMemory(f"{self.name}: {text_of(OUT_OF_MEMORY)}", 6)
+            time.sleep(PAUSE)
+            with contextlib.suppress(IndexError):
+                return self._idle.pop()
 
     def _give(self, seat: Seat) -> None:
-        """Gives a seat back. If another thread waits it makes one more, since that thread comes too late for this one where its
-        owner takes it again at once."""
-        if self._waiting > 0 and not self._is_closed and (other := seat.beside()) is not None:
-            self._waiting -= 1
-            self._idle.put(other)
-        self._idle.put(seat)
+        """Gives a seat back."""
+        self._idle.append(seat)
         if self._is_closed:
-            close_all(self._idle)
+            self._idle.clear()
 
     def _keep_after_fork(self) -> None:
-        """In a child after a fork: where other threads had all seats, which are as those left them, it is closed."""
-        self._is_closed = self._is_closed or self._idle.empty()
+        """In a child after a fork: where another thread was making a seat, which is as it left it, the hierarchy is closed."""
+        self._is_closed, self._making = self._is_closed or self._making.locked(), threading.Lock()
 
 
 def seeds_of(rows: Sequence[tuple[int, int]]) -> "ctypes.Array[Seed]":
     """Starts or ends: a node and a length that is added there in each row."""
     return (Seed * len(rows))(*[Seed(added, node, 0) for node, added in rows])
-
-
-def close_all(idle: "queue.SimpleQueue[Seat]") -> None:
-    """Closes the seats that aren't taken."""
-    with contextlib.suppress(queue.Empty):
-        while True:
-            idle.get_nowait().close()
 
 
 _routers: "weakref.WeakSet[Router]" = weakref.WeakSet()

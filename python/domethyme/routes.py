@@ -6,6 +6,7 @@ from typing import TYPE_CHECKING, Any, overload
 import numpy as np
 from numpy.typing import NDArray
 
+from .extras import need
 from .keys import Keys
 
 if TYPE_CHECKING:
@@ -78,6 +79,7 @@ class Routes:
     def to_frame(self) -> Any:
         """A DataFrame of pandas with a row for each pair: from, to (nodes or keys), length and arcs, which are Int64 and missing
         where there is no way. It has the index of the frame that the pairs came as."""
+        need("pandas")
         import pandas
 
         from .arrays import with_missing

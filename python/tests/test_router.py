@@ -1,6 +1,8 @@
 """Tests of a hierarchy in this process: threads, forks, its end, files that are refused, and what can't be found."""
+import collections
 import concurrent.futures
 import os
+import signal
 import subprocess
 import sys
 import threading
@@ -50,10 +52,8 @@ class RouterTests(ToolCase):
     def test_a_seat_is_made_where_all_are_taken(self):
         router = self.ring()._router
         with concurrent.futures.ThreadPoolExecutor(1) as pool, router.seat() as first:
-            waits = pool.submit(router.length, 0, 7)
+            self.assertEqual(pool.submit(router.length, 0, 7).result(20), 7)
             self.assertEqual(first.length(0, 8), 8)
-            self.assertFalse(waits.done())
-        self.assertEqual(waits.result(20), 7)
         with router.seat() as first, router.seat() as second:
             self.assertEqual((first.length(1, 3), second.length(1, 4)), (2, 3))
 
@@ -84,19 +84,66 @@ class RouterTests(ToolCase):
         self.assertEqual([hierarchy.length(1, end) for end in range(1, 50)], [*range(49)])
         self.assertEqual(os.waitpid(child, 0)[1], 0)
 
-    def test_a_fork_while_all_seats_are_taken(self):
-        """The child doesn't ask by a seat that another thread has."""
+    def test_a_fork_while_seats_are_taken(self):
+        """The child asks by a seat of its own; where one was being made, which is as another thread left it, it is closed."""
         hierarchy = self.ring()
-        with hierarchy._router.seat():
+
+        def child_fails():
             child = os.fork()
             if child == 0:
                 try:
-                    hierarchy.length(0, 1)
+                    os._exit(0 if hierarchy.length(0, 1) == 1 else 1)
                 except ValueError:
-                    os._exit(0)
-                os._exit(1)
-        self.assertEqual(os.waitpid(child, 0)[1], 0)
+                    os._exit(2)
+            return os.waitstatus_to_exitcode(os.waitpid(child, 0)[1])
+
+        with hierarchy._router.seat():
+            self.assertEqual(child_fails(), 0)
+        with hierarchy._router._making:
+            self.assertEqual(child_fails(), 2)
         self.assertEqual(hierarchy.length(0, 1), 1)
+
+    def test_an_interrupt_loses_no_seat(self):
+        """An alarm that raises between any two steps of Python: the next question is answered, and lost seats are closed."""
+        hierarchy, counts = self.ring(), collections.Counter()
+
+        def alarm(*_):
+            raise TimeoutError
+
+        old = signal.signal(signal.SIGALRM, alarm)
+        self.addCleanup(signal.signal, signal.SIGALRM, old)
+        for number in range(300):
+            try:
+                signal.setitimer(signal.ITIMER_REAL, 0.0005 + number % 7 / 10000)
+                while True:
+                    hierarchy.length(0, 7)
+                    hierarchy.route(0, 7)
+            except TimeoutError:
+                counts["interrupts"] += 1
+            finally:
+                signal.setitimer(signal.ITIMER_REAL, 0)
+            self.assertEqual(hierarchy.length(0, 8), 8)
+        self.assertEqual(counts["interrupts"], 300)
+        self.assertLess(len(hierarchy._router._seats), 5)
+
+    def test_a_seat_that_is_lost_in_the_hands_of_an_interrupt(self):
+        router = self.ring()._router
+        self.assertIsNotNone(router._take())
+        self.assertEqual((router.length(0, 7), len(router._seats)), (7, 1))
+        lost = router._take()
+        self.assertEqual((router.length(0, 7), len(router._seats)), (7, 2))
+        del lost
+        self.assertEqual(len(router._seats), 1)
+
+    def test_no_memory_for_a_seat(self):
+        router = self.ring()._router
+        with unittest.mock.patch.object(type(router._first), "beside", return_value=None):
+            with self.assertRaisesRegex(domethyme.OutOfMemory, "ring.rch: "):
+                router.length(0, 7)
+        with router.seat() as seat, unittest.mock.patch.object(type(router._first), "beside", return_value=None):
+            with unittest.mock.patch.object(domethyme.router, "PATIENCE", 0.05), self.assertRaises(domethyme.OutOfMemory):
+                router.length(0, 7)
+            self.assertEqual(seat.length(0, 8), 8)
 
     def test_the_end(self):
         with self.ring() as hierarchy:
@@ -160,11 +207,12 @@ with domethyme.Hierarchy(*sys.argv[1:], keys="abcdefgh") as hierarchy:
         try:
             attempt()
         except ImportError as error:
-            print(error.name)
+            print(error)
 """
         eight = np.arange(8)
         domethyme.write_graph(self.folder / "ring.gr", eight, (eight + 1) % 8, np.ones(8, int))
         domethyme.prepare(self.folder / "ring.gr", self.folder / "ring.rch", workers=1).close()
         words = [sys.executable, "-P", "-c", code, self.folder / "ring.rch"]
         told = self.run_program(words, environment={"PYTHONPATH": str(PYTHON)}).stdout
-        self.assertEqual(told, "2 ['a', 'b', 'c'] 8\n" + "numpy\n" * 3)
+        says = "this call needs numpy, which is missing: pip install 'domethyme[arrays]', or Debian's python3-numpy\n"
+        self.assertEqual(told, "2 ['a', 'b', 'c'] 8\n" + 3 * says)
