@@ -7,6 +7,7 @@ import numpy as np
 from numpy.typing import ArrayLike, NDArray
 
 from .errors import NoSuchNode
+from .extras import need
 from .keys import Keys, as_list
 
 Numbers = NDArray[np.int64]
@@ -28,8 +29,8 @@ def whole_numbers(name: str, values: "ArrayLike | list[Hashable]", low: int, hig
 def pairs_of(pairs: Any, keys: Keys | None, nodes: int) -> Numbers:
     """The pairs as an array of shape (n, 2) of nodes from 0.
 
-    `pairs` are rows (from, to): an array, a list, or a frame with two columns, or with columns of one of the names in
-    COLUMNS. Raises NoSuchNode, with the row, and ValueError.
+    `pairs` are rows (from, to): an array, a list, or a frame with columns of one of the names in COLUMNS. Raises NoSuchNode, with the
+    row, and ValueError.
     """
     columns = columns_of(pairs)
     if keys is not None:
@@ -54,9 +55,9 @@ def columns_of(pairs: Any) -> list[Any] | None:
     for names in COLUMNS:
         if all(name in pairs.columns for name in names):
             return [pairs[name].to_numpy() for name in names]
-    if len(pairs.columns) != 2:
-        raise ValueError("pairs have to be rows of two nodes, or have the columns from and to")
-    return [pairs.iloc[:, place].to_numpy() for place in (0, 1)]
+    found = ", ".join(map(repr, pairs.columns))
+    array = f"frame[[{found}]].to_numpy()" if len(pairs.columns) == 2 else "two columns of them as an array"
+    raise ValueError(f"a frame of pairs has to have the columns from and to, or source and target, and has {found}: rename, or give {array}")
 
 
 def split(pairs: Iterable[Any]) -> tuple[list[Hashable], list[Hashable]]:
@@ -101,15 +102,29 @@ def like_frame(lengths: Numbers, pairs: Any) -> Any:
     return sys.modules["pandas"].Series(with_missing(lengths), index=pairs.index, name="length")
 
 
-def like_axes(table: Numbers, sources: Any, targets: Any) -> Any:
-    """The table as a DataFrame of Int64 where the places came as pandas' objects, else as it is."""
-    if not (is_pandas(sources) or is_pandas(targets)):
-        return table
-    pandas = sys.modules["pandas"]
-    columns = {place: with_missing(column) for place, column in enumerate(table.T)}
-    frame = pandas.DataFrame(columns, index=pandas.Index(labels(sources)))
-    frame.columns = pandas.Index(labels(targets))
+def like_axes(table: Numbers, sources: Any, targets: Any, has_keys: bool, missing: Any) -> Any:
+    """The table as a DataFrame where the places came as pandas' objects, or as lists of keys, else as an array. Where there is no way
+    it has `missing`, and without that a frame of Int64 has missing values and an array NO_WAY."""
+    is_frame = any(is_pandas(side) or has_keys and not hasattr(side, "__array__") for side in (sources, targets))
+    filled = table if missing is None else np.where(table < 0, missing, table)
+    if not is_frame:
+        return filled
+    need("pandas")
+    import pandas
+
+    columns = {place: with_missing(column) if missing is None else column for place, column in enumerate(filled.T)}
+    frame = pandas.DataFrame(columns, index=axis(sources))
+    frame.columns = axis(targets)
     return frame
+
+
+def axis(values: Any) -> Any:
+    """The labels of an axis for values that a caller gave."""
+    import pandas
+
+    if hasattr(values, "__array__"):
+        return pandas.Index(labels(values))
+    return pandas.Index(as_list(values), tupleize_cols=False)
 
 
 def with_missing(lengths: Numbers) -> Any:

@@ -6,7 +6,8 @@ from collections.abc import Hashable, Iterable, Mapping, Sequence
 from typing import TYPE_CHECKING, Any, Literal, NamedTuple, Union, overload
 
 from .errors import NoSuchNode
-from .keys import Keys, keys_path
+from .extras import need
+from .keys import Keys, as_list
 from .opening import looked_at, opened, read_at
 from .program import StrPath
 from .router import Answer, Router
@@ -60,7 +61,7 @@ class Hierarchy:
 
     The library libdomethyme answers, in this process. It has read the file when the object was made, so another file that takes
     its name later changes nothing. Several threads may ask at once, and other threads of Python go on meanwhile. A child of a fork
-    has the hierarchy too. Where the object is pickled, the file is opened anew.
+    has the hierarchy too, where no other thread ran at that moment. Where the object is pickled, the file is opened anew.
 
     Nodes are numbered from 0, as rows of arrays are: node n is node n + 1 of a file. With `keys` all methods take and give
     the user's own keys in their place. Lengths are whole numbers in the unit of the graph's weights.
@@ -78,25 +79,31 @@ class Hierarchy:
         *,
         keys: "Keys | Mapping[Any, int] | Iterable[Hashable] | None" = None,
         network: "Network | StrPath | None" = None,
+        compare_all: bool = False,
     ) -> None:
-        """Reads the file, which takes 0.4 seconds for a million nodes, and some 200 bytes of memory a node.
+        """Reads the file, which takes 0.4 seconds for a million nodes, and some 350 bytes of memory a node.
 
-        keys      a key for each node, in order, or a mapping from keys to nodes from 0; Keys.saved has those that Graph.prepare
-                  saved, and others that contradict them are refused
-        network   the network of the nodes: a Network, or the beginning of its files' names
+        keys         a key for each node, in order, or a mapping from keys to nodes from 0; Keys.saved has those that Graph.prepare
+                     saved. Saved keys of another file are refused, and others that contradict those saved beside it
+        network      the network of the nodes: a Network, or the beginning of its files' names. It is compared with the hierarchy,
+                     which takes a second for a million nodes: their nodes, and the weights of all links that are arcs
+        compare_all  all links are compared with the network, also of a file with more than ten million; else 5,000 of these
 
-        Raises HierarchyNotFound, HierarchyError, OutOfMemory, LibraryNotFound, NetworkError, and ValueError for keys that don't
-        fit.
+        Raises HierarchyNotFound, HierarchyError, OutOfMemory, LibraryNotFound, NetworkError, WrongHierarchy for that of another
+        network, and ValueError for keys that don't fit.
         """
         self.path, self._name = path, os.fspath(path)
         self._file = opened(self._name)
         try:
             self.nodes, self.links = looked_at(self._file.fileno(), self._name)
+            data = read_at(self._file.fileno(), 0, os.fstat(self._file.fileno()).st_size)
             self.keys = None if keys is None else Keys(keys, self.nodes)
-            if self.keys is not None and os.path.exists(keys_path(path)):
-                self.keys.need_fitting(path)
-            self.network = network_of(network)
-            self._router = Router(read_at(self._file.fileno(), 0, os.fstat(self._file.fileno()).st_size), self._name)
+            if self.keys is not None:
+                self.keys.need_fitting(path, data)
+            self.network, self._compare_all = network_of(network), compare_all
+            self._router = Router(data, self._name)
+            if self.network is not None:
+                self.network.compare(self._file.fileno(), self._name, compare_all)
         except BaseException:
             self._file.close()
             raise
@@ -117,7 +124,8 @@ class Hierarchy:
         return f"<Hierarchy {self._name} of {self.nodes} nodes and {self.links} links>"
 
     def __reduce__(self) -> tuple[Any, ...]:
-        return functools.partial(Hierarchy, keys=self.keys, network=self.network), (self.path,)
+        more = {"keys": self.keys, "network": self.network, "compare_all": self._compare_all}
+        return functools.partial(Hierarchy, **more), (self.path,)
 
     def close(self) -> None:
         """Frees the memory. Questions then raise ValueError, as those of a closed file do."""
@@ -152,16 +160,19 @@ class Hierarchy:
     def lengths(self, pairs: Any) -> Any:
         """The least lengths of many pairs, an array of int64 of shape (n,), -1 where there is no way.
 
-        `pairs` are rows (from, to): an array of shape (n, 2), a list, or a frame of pandas with two columns or with the
-        columns `from` and `to`; for a frame the lengths are a Series of Int64 with its index, missing where there is no way. As many
-        threads ask as there are processors. Raises NoSuchNode, with the row, and ValueError for what can't be pairs.
+        `pairs` are rows (from, to): an array of shape (n, 2), a list, or a frame of pandas with the columns `from` and `to`, or
+        `source` and `target`, or `from_node` and `to_node`; for a frame the lengths are a Series of Int64 with its index, missing
+        where there is no way. As many threads ask as there are processors. Raises NoSuchNode, with the row, and ValueError for what
+        can't be pairs.
         """
+        need("numpy")
         from . import arrays, many
 
         return arrays.like_frame(many.lengths(self._router, arrays.pairs_of(pairs, self.keys, self.nodes)), pairs)
 
     def routes(self, pairs: Any) -> "Routes":
         """The Routes of many pairs, which are given and asked for as for `lengths`."""
+        need("numpy")
         import numpy as np
 
         from . import arrays, many, routes
@@ -172,29 +183,33 @@ class Hierarchy:
         return routes.Routes(found.lengths, found.nodes, offsets, asked, self.keys, routes.index_of(pairs))
 
     @overload
-    def matrix(self, sources: Rows, targets: "Rows | None" = None, by: By | None = None) -> "NDArray[np.int64]": ...
+    def matrix(self, sources: "NDArray[Any]", targets: "NDArray[Any] | None" = None, by: By | None = None) -> "NDArray[np.int64]": ...
     @overload
-    def matrix(self, sources: Any, targets: Any = None, by: By | None = None) -> Any: ...
-    def matrix(self, sources: Any, targets: Any = None, by: By | None = None) -> Any:
+    def matrix(self, sources: Any, targets: Any = None, by: By | None = None, *, missing: Any = None) -> Any: ...
+    def matrix(self, sources: Any, targets: Any = None, by: By | None = None, *, missing: Any = None) -> Any:
         """The least lengths from each source to each target, an array of int64 of shape (sources, targets), -1 where there
-        is no way. Without targets they are the sources. Where one of the two is a Series or Index of pandas the table is a
-        DataFrame of Int64, missing where there is no way, whose axes are the sources and the targets.
+        is no way. Without targets they are the sources. Where one of the two is a Series or Index of pandas, or a list of keys, the
+        table is a DataFrame of Int64, missing where there is no way, whose axes are the sources and the targets. Arrays of numpy
+        give an array, of keys too.
 
-        by   "library" (None): the library is asked for each length, by as many threads as there are processors.
-             "sweeps": all are computed here, by numpy, from the links of the file, which are read once. That is no part of
-             what is proved, and is tested against it. For tables of many thousand places it is several times as fast.
+        missing   what a cell without a way has in place of these, as numpy.inf: take it for the nearest, since -1 is the least of all
+        by        "library" (None): the library is asked for each length, by as many threads as there are processors.
+                  "sweeps": all are computed here, by numpy, from the links of the file, which are read once. That is no part of
+                  what is proved, and is tested against it. For tables of many thousand places it is several times as fast.
 
         Raises NoSuchNode and ValueError.
         """
+        need("numpy")
         from . import arrays, many
 
-        targets = sources if targets is None else targets
+        sources = sources if hasattr(sources, "__array__") else as_list(sources)
+        targets = sources if targets is None else targets if hasattr(targets, "__array__") else as_list(targets)
         starts = arrays.nodes_of("sources", sources, self.keys, self.nodes)
         ends = arrays.nodes_of("targets", targets, self.keys, self.nodes)
         if by not in ("library", "sweeps", None):
             raise ValueError(f"a matrix is made by library or by sweeps, and not by {by!r}")
         table = self._swept().lengths(starts, ends) if by == "sweeps" else many.table(self._router, starts, ends)
-        return arrays.like_axes(table, sources, targets)
+        return arrays.like_axes(table, sources, targets, self.keys is not None, missing)
 
     @overload
     def nearest(self, lon: float, lat: float, end: bool = False, *, within: float = WITHIN) -> tuple[Any, float]: ...
@@ -221,10 +236,9 @@ class Hierarchy:
         """The number of a node or key, from 0."""
         if self.keys is not None:
             return self.keys.node(node)
-        try:
-            number = node.__index__()  # type: ignore[attr-defined]
-        except AttributeError:
-            raise ValueError(f"{node!r} is no node: nodes are whole numbers, or keys where Hierarchy has keys=") from None
+        if not is_whole(node):
+            raise ValueError(f"{node!r} is no node: nodes are whole numbers, or keys where Hierarchy has keys=")
+        number: int = node.__index__()  # type: ignore[attr-defined]
         if not 0 <= number < self.nodes:
             raise NoSuchNode(f"there is no node {number}: the hierarchy has nodes 0 to {self.nodes - 1}", node)
         return int(number)
@@ -261,6 +275,7 @@ class Hierarchy:
 def network_of(network: "Network | StrPath | None") -> "Network | None":
     if network is None or not isinstance(network, (str, os.PathLike)):
         return network
+    need("numpy")
     from .network.network import Network
 
     return Network(network)
@@ -279,10 +294,14 @@ def need_near(metres: Any, within: float) -> None:
 
 def whole(name: str, added: Any) -> int:
     """An added length as an int, which it has to be."""
-    try:
-        return int(added.__index__())
-    except AttributeError:
-        raise ValueError(f"the lengths added at {name} have to be whole numbers, and {added!r} is none") from None
+    if not is_whole(added):
+        raise ValueError(f"the lengths added at {name} have to be whole numbers, and {added!r} is none")
+    return int(added.__index__())
+
+
+def is_whole(value: Any) -> bool:
+    """Whether a value is a whole number, of Python or numpy, and no truth value."""
+    return hasattr(value, "__index__") and not isinstance(value, bool) and getattr(value, "dtype", None) != bool
 
 
 def is_pair(row: Any) -> bool:

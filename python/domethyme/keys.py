@@ -5,6 +5,7 @@ import os
 from collections.abc import Hashable, Iterable, Mapping, Sequence
 from typing import TYPE_CHECKING, Any
 
+from .belonging import digest_of
 from .errors import FileError, NoSuchNode, os_reason
 from .files import writing
 from .program import StrPath
@@ -18,18 +19,21 @@ FORMAT = "domethyme keys 1"
 
 
 class Keys:
-    """The key of each node. A node may have none (None), and each key names one node."""
+    """The key of each node. A node may have none (None), and each key names one node. Saved keys know the file that they are of."""
 
     def __init__(self, keys: "Keys | Mapping[Any, int] | Iterable[Hashable]", nodes: int | None = None) -> None:
         """Of a mapping from keys to nodes, counted from 0, or of a key for each node in order, None for no key.
 
-        Raises ValueError where two nodes have one key, or where there are more keys than `nodes`.
+        Raises ValueError where two nodes have one key, or where there aren't as many keys as `nodes`; a mapping may have fewer.
         """
         self._names: list[Hashable]
         self._nodes: dict[Any, int]
         self._shared: set[Hashable]
+        self._digest: str | None = None
+        self._is_partial = isinstance(keys, Mapping)
         if isinstance(keys, Keys):
             self._names, self._nodes, self._shared = keys._names, keys._nodes, keys._shared
+            self._digest, self._is_partial = keys._digest, keys._is_partial
         elif isinstance(keys, Mapping):
             self._names, self._nodes, self._shared = names_of(keys), {plain(key): int(keys[key]) for key in keys}, set()
         else:
@@ -38,7 +42,7 @@ class Keys:
             if self._shared:
                 raise ValueError(f"key {next(iter(self._shared))!r} names two nodes")
         if nodes is not None:
-            if len(self._names) > nodes:
+            if len(self._names) > nodes or len(self._names) < nodes and not self._is_partial:
                 raise ValueError(f"there are keys of {len(self._names)} nodes, and the hierarchy has {nodes}")
             self._names = self._names + [None] * (nodes - len(self._names))
 
@@ -78,18 +82,27 @@ class Keys:
             raise ValueError("keys that are saved have to be str or int")
         plainly, _ = numbers_of(self._names)
         chosen = [[key, node] for key, node in self._nodes.items() if key not in plainly]
-        saved = {"format": FORMAT, "hierarchy": digest_of(hierarchy), "keys": self._names, "chosen": chosen}
+        digest = digest_of(hierarchy)
+        saved = {"format": FORMAT, "hierarchy": digest, "keys": self._names, "chosen": chosen}
         with writing(keys_path(hierarchy)) as file:
             json.dump(saved, file, ensure_ascii=False, separators=(",", ":"))
+        self._digest = self._digest and digest
 
     def can_be_saved(self) -> bool:
         """Whether all keys are str or int."""
         return all(key is None or type(key) in (str, int) for key in self._names)
 
-    def need_fitting(self, hierarchy: StrPath) -> None:
-        """Raises ValueError where the keys saved beside the file of a hierarchy are its own, and have a key at another node."""
+    def need_fitting(self, hierarchy: StrPath, data: bytes) -> None:
+        """Raises ValueError where these are the saved keys of another file than the hierarchy's, whose bytes are given, or where the
+        keys saved beside it are its own and have a key at another node."""
+        if self._digest is None and not os.path.exists(keys_path(hierarchy)):
+            return
+        digest = hashlib.sha256(data).hexdigest()
+        if self._digest is not None and self._digest != digest:
+            again = "if its nodes are numbered as in that file, save them for it: keys.save(path)"
+            raise ValueError(f"the keys were saved for another file than {os.fspath(hierarchy)}: {again}")
         try:
-            saved = saved_with(hierarchy, digest_of(hierarchy))
+            saved = saved_with(hierarchy, digest)
         except FileError:
             return
         if saved is None:
@@ -149,15 +162,6 @@ def keys_path(hierarchy: StrPath) -> str:
     return f"{os.fspath(hierarchy)}.keys"
 
 
-def digest_of(hierarchy: StrPath) -> str:
-    """The SHA-256 of a file. Raises FileError."""
-    try:
-        with open(hierarchy, "rb") as file:
-            return hashlib.file_digest(file, "sha256").hexdigest()
-    except OSError as error:
-        raise FileError(os_reason(error), hierarchy) from error
-
-
 def saved_with(hierarchy: StrPath, digest: str) -> Keys | None:
     """The keys saved beside a hierarchy's file if they are of the file with this digest, else None. Raises FileError."""
     path = keys_path(hierarchy)
@@ -169,7 +173,7 @@ def saved_with(hierarchy: StrPath, digest: str) -> Keys | None:
         if saved["hierarchy"] != digest:
             return None
         keys = Keys(())
-        keys._names = list(saved["keys"])
+        keys._names, keys._digest, keys._is_partial = list(saved["keys"]), digest, True
         keys._nodes, keys._shared = numbers_of(keys._names)
         chosen = dict(saved["chosen"])
         if any(keys._names[node] != key for key, node in chosen.items()):
@@ -208,9 +212,10 @@ def numbers_of(names: Sequence[Hashable]) -> tuple[dict[Any, int], set[Hashable]
 
 
 def key_of(text: str) -> Hashable:
-    """The key that a field of a table means."""
+    """The key that a field of a table means: a whole number as it is written plainly, another text, or none."""
     digits = text.removeprefix("-")
-    return int(text) if digits.isascii() and digits.isdigit() else text or None
+    is_plain = digits.isascii() and digits.isdigit() and (digits[0] != "0" or text == "0")
+    return int(text) if is_plain else text or None
 
 
 def plain(key: Any) -> Hashable:

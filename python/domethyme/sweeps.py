@@ -10,7 +10,6 @@ This reads the file of a hierarchy by itself and is no part of what is proved; i
 lengths that the library returns.
 """
 import itertools
-import os
 from collections.abc import Callable
 from typing import NamedTuple
 
@@ -19,6 +18,7 @@ from numpy.typing import NDArray
 
 from .errors import HierarchyError
 from .lines import NO_WAY as NO_WAY
+from .links import Links
 from .opening import HEAD_BYTES, read_at
 
 Numbers = NDArray[np.int64]
@@ -26,12 +26,8 @@ Nodes = NDArray[np.int32]
 
 # No length is as great: there are at most 2^25 nodes, and an arc weighs less than 2^32. It may be added to without a wrap.
 FAR = np.int64(1 << 60)
-FIELDS = [("start", ">u4"), ("end", ">u4"), ("weight", ">i8"), ("arcs", ">u4"), ("middle", ">u4")]
-LINKS = {b"RCH1": np.dtype(FIELDS[:3] + FIELDS[4:]), b"RCH2": np.dtype(FIELDS)}
-
-# So many lengths are worked on at a time, 8 bytes each, and so many links of a file.
+# So many lengths are worked on at a time, 8 bytes each.
 CELLS = 1 << 22
-LINKS_AT_A_TIME = 1 << 20
 
 
 class Seeds(NamedTuple):
@@ -109,20 +105,16 @@ class Sweeps:
     def read(cls, file: int, name: str) -> "Sweeps":
         """Of the open file of a hierarchy, version 1 or 2, whose head fits its size. Raises HierarchyError where its ranks
         or links can't be."""
-        head = os.pread(file, HEAD_BYTES, 0)
-        kind, nodes, links = LINKS[head[:4]], int.from_bytes(head[4:8], "big"), int.from_bytes(head[8:16], "big")
-        ranks = np.frombuffer(read_at(file, HEAD_BYTES, 4 * nodes), ">u4").astype(np.uint32)
-        if nodes and (ranks.max() >= nodes or np.bincount(ranks, minlength=nodes).max() > 1):
-            raise HierarchyError(f"{name}: its ranks aren't the numbers from 0 to {nodes - 1}", 4)
-        starts, ends, weights = np.empty(links, np.int32), np.empty(links, np.int32), np.empty(links, np.int64)
-        for begin in range(0, links, LINKS_AT_A_TIME):
-            end = min(begin + LINKS_AT_A_TIME, links)
-            place = HEAD_BYTES + 4 * nodes + begin * kind.itemsize
-            table = np.frombuffer(read_at(file, place, (end - begin) * kind.itemsize), kind)
-            most = max(table["start"].max(), table["end"].max())
-            if most >= nodes or (table["start"] == table["end"]).any() or table["weight"].min() < 0:
-                raise HierarchyError(f"{name}: a link of it has an end or a weight that can't be", 4)
-            starts[begin:end], ends[begin:end], weights[begin:end] = table["start"], table["end"], table["weight"]
+        links = Links.of(file, name)
+        ranks = np.frombuffer(read_at(file, HEAD_BYTES, 4 * links.nodes), ">u4").astype(np.uint32)
+        if links.nodes and (ranks.max() >= links.nodes or np.bincount(ranks, minlength=links.nodes).max() > 1):
+            raise HierarchyError(f"{name}: its ranks aren't the numbers from 0 to {links.nodes - 1}", 4)
+        starts, ends, weights = (np.empty(links.size, kind) for kind in (np.int32, np.int32, np.int64))
+        begin = 0
+        for part in links.parts():
+            end = begin + len(part)
+            starts[begin:end], ends[begin:end], weights[begin:end] = part["start"], part["end"], part["weight"]
+            begin = end
         return cls(ranks, starts, ends, weights)
 
     def lengths(self, sources: Numbers, targets: Numbers) -> Numbers:

@@ -4,10 +4,10 @@
                                  names in order, those of `needed` are there
     read_graph(path)             Graph(nodes, starts, ends, weights): a number and three lists, in the file's order
     write_graph(file, nodes, arcs, comments=())     arcs are (start, end, weight)
-    write_pairs(file, pairs)     the query file
+    write_pairs(file, pairs, comments=())           the query file
     read_answers(path)           yields the lines.Answer of each line that `routecli route` prints
     dimacs_lines, problem_number what lines of graphs, pairs and coordinates have in common
-    reading(path)                with-block: a stream of bytes
+    reading(path)                with-block: a stream of bytes, unpacked if the file is one of gzip
     whole_number(text, what, path, row, low, high)  the int
     number(text, what, path, row, low, high)        the float
     safe(text), plain(text)      a text as a field of CSV that no program takes for a formula, and back
@@ -17,11 +17,15 @@ Needs nothing but Python's own library.
 """
 import contextlib
 import csv
+import difflib
+import gzip
+import io
 import math
 import re
 import sys
+import zlib
 from collections.abc import Collection, Iterable, Iterator
-from typing import IO, NamedTuple
+from typing import IO, NamedTuple, cast
 
 from .errors import NetworkError, os_reason
 from .lines import NO_WAY, WRONG, Answer, answer_of
@@ -31,6 +35,9 @@ MOST_NODES = 1 << 25
 MOST_LINES = 1 << 27
 HEAVIEST = (1 << 32) - 1
 MOST_COLUMNS = 12
+GZIP = b"\x1f\x8b"
+# How alike two names of columns are, from 0 to 1, for one to be suggested in place of the other.
+ALIKE = 0.7
 # How a formula begins for programs that show tables, and what is a number to them.
 FORMULA, NUMBER = re.compile("'*[-=+@\t\r]"), re.compile(r"[-+]?[0-9]*\.?[0-9]+(?:[eE][-+]?[0-9]+)?")
 DIGITS, BYTES_OF_DIGITS = re.compile("[-+]?[0-9]{1,4000}"), re.compile(b"[-+]?[0-9]{1,4000}")
@@ -38,16 +45,21 @@ DIGITS, BYTES_OF_DIGITS = re.compile("[-+]?[0-9]{1,4000}"), re.compile(b"[-+]?[0
 
 @contextlib.contextmanager
 def reading(path: StrPath) -> Iterator[IO[bytes]]:
-    """A stream of the file's bytes; `-` is standard input."""
-    if str(path) == "-":
-        yield sys.stdin.buffer
-        return
-    try:
-        stream = open(path, "rb")
-    except OSError as error:
-        raise NetworkError(os_reason(error), path) from error
-    with stream:
-        yield stream
+    """A stream of the file's bytes, unpacked if they are those of gzip; `-` is standard input."""
+    with contextlib.ExitStack() as opened:
+        stream = cast(io.BufferedReader, sys.stdin.buffer)
+        if str(path) != "-":
+            try:
+                stream = opened.enter_context(open(path, "rb"))
+            except OSError as error:
+                raise NetworkError(os_reason(error), path) from error
+        if stream.peek(2)[:2] != GZIP:
+            yield stream
+            return
+        try:
+            yield cast(IO[bytes], opened.enter_context(gzip.open(stream)))
+        except (gzip.BadGzipFile, EOFError, zlib.error) as error:
+            raise NetworkError(f"isn't a whole file of gzip: {error}", path) from error
 
 
 # Tables
@@ -59,10 +71,11 @@ class Table:
     def __init__(self, path: StrPath, stream: IO[bytes], needed: Iterable[str]) -> None:
         self.path = path
         self.reader = csv.reader(text_lines(path, stream), strict=True)
-        self.columns = self.next_record() or []
-        for name in needed:
-            if self.columns.count(name) != 1:
-                raise NetworkError(wrong_column(name, self.columns), path, 1)
+        found = self.next_record()
+        if found is None:
+            raise NetworkError("is empty", path)
+        self.columns = found
+        need_columns(path, self.columns, needed)
 
     def __iter__(self) -> Iterator[tuple[int, dict[str, str]]]:
         while (record := self.next_record()) is not None:
@@ -82,17 +95,30 @@ class Table:
         return record and [plain(field) for field in record]
 
 
-def wrong_column(name: str, columns: list[str]) -> str:
-    """The error of a missing or repeated column."""
-    if name in columns:
-        return f"has two columns {name}"
+def need_columns(path: StrPath, columns: list[str], needed: Iterable[str]) -> None:
+    """Raises NetworkError that names all columns that are missing, or one that is there twice."""
+    names = list(needed)
+    if twice := [name for name in names if columns.count(name) > 1]:
+        raise NetworkError(f"has two columns {twice[0]}", path, 1)
+    if not (missing := [name for name in names if name not in columns]):
+        return
     found = ", ".join(columns[:MOST_COLUMNS]) + ", ..." * (len(columns) > MOST_COLUMNS)
     doubt = ""
     if len(columns) == 1 and (";" in columns[0] or "\t" in columns[0]):
-        doubt = ": fields have to be parted by commas"
-    elif name in map(str.strip, columns):
-        doubt = f": there is a blank beside {name}"
-    return f"has no column {name}; its columns are {found}{doubt}" if columns else f"has no column {name}"
+        doubt = ": fields have to be separated by commas"
+    elif blank := next((name for name in missing if name in map(str.strip, columns)), None):
+        doubt = f": there is a blank beside {blank}"
+    elif near := [f"{other} for {name}" for name in missing if (other := alike(name, columns)) is not None]:
+        doubt = f": is it {', '.join(near)}?"
+    what = "no column" if len(missing) == 1 else "no columns"
+    raise NetworkError(f"has {what} {', '.join(missing)}; its columns are {found}{doubt}", path, 1)
+
+
+def alike(name: str, others: Iterable[str]) -> str | None:
+    """The one of other names that is most like a name, whatever its case; None where none is."""
+    by_small_letters = {other.lower(): other for other in others}
+    found = difflib.get_close_matches(name.lower(), by_small_letters, 1, ALIKE)
+    return by_small_letters[found[0]] if found else None
 
 
 @contextlib.contextmanager
@@ -215,8 +241,9 @@ def write_graph(
     file.writelines(f"a {start} {end} {weight}\n" for start, end, weight in arcs)
 
 
-def write_pairs(file: IO[str], pairs: Collection[tuple[int, int]]) -> None:
-    """Writes a query file."""
+def write_pairs(file: IO[str], pairs: Collection[tuple[int, int]], comments: Iterable[str] = ()) -> None:
+    """Writes a query file, the comments first, a line each."""
+    file.writelines(f"c {comment}\n" for comment in comments)
     file.write(f"p aux sp p2p {len(pairs)}\n")
     file.writelines(f"q {source} {target}\n" for source, target in pairs)
 

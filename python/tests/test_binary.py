@@ -94,9 +94,9 @@ class SameTests(BinaryCase):
             self.assertEqual(set(roads.copies(node)), wanted)
 
     def test_the_package_reads_it(self):
-        network, tables = domethyme.Network(self.prefix), domethyme.Network(self.folder / "copy")
         for name in ("nodes.csv", "arcs.csv"):
             shutil.copy(f"{self.prefix}.{name}", self.folder / f"copy.{name}")
+        network, tables = domethyme.Network(self.prefix), domethyme.Network(self.folder / "copy")
         self.assertEqual([binary.is_current(each.prefix) for each in (network, tables)], [True, False])
         weights = {ends: arc.weight for ends, arc in lightest(arcs_of(self.prefix)).items()}
         for (start, end), weight in weights.items():
@@ -138,7 +138,7 @@ class OtherTests(BinaryCase):
         self.assertFalse(binary.is_current(self.prefix))
         self.assertEqual(len(binary.arrays_of(self.prefix).node_osm), text.count("\n") - 1)
         (self.folder / "v.arcs.csv").unlink()
-        with self.assertRaisesRegex(domethyme.NetworkError, "v.arcs.csv: No such file"):
+        with self.assertRaisesRegex(domethyme.NetworkError, "v.nodes.csv: has changed since .*v.net was made of it: run `to_network` again"):
             binary.arrays_of(self.prefix)
 
     def test_an_archive_of_an_earlier_version(self):
@@ -156,17 +156,30 @@ class OtherTests(BinaryCase):
         self.refused("is no regular file")
 
     def test_written_in_place(self):
-        """A file that is written while it is mapped: what was verified isn't used, and nothing new is."""
-        roads = Roads(self.prefix)
-        arrays = roads.arrays
-        self.assertEqual(arrays.node_lon[:].tolist()[0], 0)
+        """A file that is written while it is mapped: what was verified is verified anew, and another file is refused."""
+        arrays = Roads(self.prefix).arrays
+        before = {name: column[:].tolist() for name, column in arrays.file.columns.items()}
+        os.utime(self.path, (1, 1))
+        arrays.file.unchanged()
+        self.assertEqual({name: column[:].tolist() for name, column in arrays.file.columns.items()}, before)
         with open(self.path, "r+b") as file:
             file.seek(4000)
             file.write(b"\x77")
-        with self.assertRaisesRegex(domethyme.NetworkError, "was written to while it was in use"):
-            arrays.file.unchanged()
-        with self.assertRaisesRegex(domethyme.NetworkError, "was written to while it was in use"):
-            arrays.node_lat[0]
+        arrays.file.unchanged()
+        damaged = []
+        for name, column in arrays.file.columns.items():
+            try:
+                column[:]
+            except domethyme.NetworkError as error:
+                self.assertIn(f"v.net: is damaged: {name} has another checksum", str(error))
+                damaged.append(name)
+        self.assertEqual(len(damaged), 1)
+        with open(self.path, "r+b") as file:
+            file.seek(-1, os.SEEK_END)
+            file.write(b"\x77")
+        for attempt in (arrays.file.unchanged, lambda: arrays.file.columns[damaged[0]][:]):
+            with self.assertRaisesRegex(domethyme.NetworkError, "was written to while it was in use"):
+                attempt()
 
     def test_replaced_by_a_rename(self):
         roads = Roads(self.prefix)
@@ -253,7 +266,7 @@ class SmallTests(BinaryCase):
         with open(self.path, "r+b") as file:
             file.seek(8)
             file.write(bytes([99]))
-        self.refused("has version 99 and not 2; convert the map anew, or make it of its tables, as `to_network")
+        self.refused("has version 99 and not 2 or 3; convert the map anew, or make it of its tables, as `to_network")
 
     def test_a_route_that_meets_a_damaged_block(self):
         """The file opens, and what isn't damaged is answered; what is read of the damaged block is refused, each time."""

@@ -1,12 +1,14 @@
 """Tests of the package domethyme: what goes through arrays, files and the program, beside scipy's plain search."""
 import pickle
+import re
+import sys
 import unittest.mock
 
 import numpy as np
 import pandas as pd
 from scipy.sparse import coo_array
 from scipy.sparse.csgraph import dijkstra
-from tool_case import ToolCase
+from tool_case import PYTHON, ROOT, ToolCase
 
 import domethyme
 from domethyme import find_program, many
@@ -130,6 +132,29 @@ class DomethymeTests(ToolCase):
         with self.assertRaisesRegex(domethyme.ProgramError, "--stint"):
             self.prepared("options", *SQUARE, stint=0)
 
+    def test_names_that_begin_with_a_hyphen(self):
+        """They are names of files, and no options."""
+        domethyme.write_graph(self.folder / "-x.gr", *SQUARE)
+        code = """
+import domethyme
+domethyme.prepare("-x.gr", "--help").close()
+domethyme.check("-x.gr", "--help")
+print(domethyme.Hierarchy("--help").length(0, 2))
+"""
+        ended = self.run_program([sys.executable, "-P", "-c", code], environment={"PYTHONPATH": str(PYTHON)})
+        self.assertEqual(ended.stdout, "7\n")
+
+    def test_the_library_is_looked_for_before_the_work(self):
+        """Without it nothing is prepared, and the error is one line that names it once."""
+        domethyme.write_graph(self.folder / "square.gr", *SQUARE)
+        code = "import domethyme; domethyme.prepare('square.gr', 'square.rch')"
+        environment = {"PYTHONPATH": str(PYTHON), "DOMETHYME_LIBRARY": str(self.write("no.so", "no library"))}
+        ended = self.run_program([sys.executable, "-P", "-c", code], 1, environment=environment)
+        last = ended.stderr.splitlines()[-1]
+        self.assertRegex(last, r"^domethyme.errors.LibraryNotFound: .*no.so: .*build it by packaging/build-library")
+        self.assertEqual((last.count("no.so"), ended.stderr.count("Traceback")), (1, 1))
+        self.assertFalse((self.folder / "square.rch").exists())
+
     def test_all_that_is_public_has_a_docstring(self):
         for name in domethyme.__all__:
             found = getattr(domethyme, name)
@@ -213,7 +238,7 @@ class DomethymeTests(ToolCase):
         for node in (4, -1, np.uint64(1 << 63)):
             with self.assertRaisesRegex(domethyme.NoSuchNode, "nodes 0 to 3"):
                 hierarchy.length(0, node)
-        for node in ("0", 0.0, None):
+        for node in ("0", 0.0, None, True, np.True_):
             with self.assertRaisesRegex(ValueError, "is no node"):
                 hierarchy.route(node, 0)
 
@@ -249,7 +274,9 @@ class DomethymeTests(ToolCase):
         with graph.prepare(self.folder / "keys.rch", program=find_program()) as hierarchy:
             self.assertEqual(hierarchy.route("a", ("c", 3)).nodes, ["a", "b", ("c", 3)])
             self.assertEqual(hierarchy.routes([("a", ("c", 3)), ("b", "a")])[1].tolist(), ["b", ("c", 3), "a"])
-            self.assertEqual(hierarchy.matrix(["b"], ["a", "b"]).tolist(), [[9, 0]])
+            self.assertEqual(hierarchy.matrix(np.array(["b"]), np.array(["a", "b"])).tolist(), [[9, 0]])
+            table = hierarchy.matrix(["b"], ["a", ("c", 3)])
+            self.assertEqual((list(table.index), list(table.columns), table.values.tolist()), (["b"], ["a", ("c", 3)], [[9, 4]]))
             self.assertEqual(hierarchy.between({"a": 1}, ["b"]).length, 4)
             for attempt in (lambda: hierarchy.length("a", "z"), lambda: hierarchy.lengths([("a", "z")])):
                 with self.assertRaisesRegex(domethyme.NoSuchNode, "key 'z' names no node"):
@@ -263,7 +290,7 @@ class DomethymeTests(ToolCase):
                 self.assertEqual(hierarchy.routes([[1 << 40, 7]])[0].tolist(), [1 << 40, -5, 7])
                 self.assertEqual(hierarchy.length(np.int64(1 << 40), -5), 3)
         for keys, says in [([1, 1], "key 1 names two nodes"), (range(5), "has 4"), ({"a": 0, "b": 0}, "name one node"),
-                           ({"a": -1}, "is no node")]:
+                           ({"a": -1}, "is no node"), (large[:3], "keys of 3 nodes, and the hierarchy has 4")]:
             with self.subTest(says=says), self.assertRaisesRegex(ValueError, says):
                 domethyme.Hierarchy(self.folder / "square.rch", keys=keys)
 
@@ -279,7 +306,7 @@ class DomethymeTests(ToolCase):
             lengths = [hierarchy.length("a", "c"), hierarchy.length("c", "a")]
             self.assertEqual([domethyme.unscaled(length, 1000) for length in lengths], [2.5, float("inf")])
             for by in ("library", "sweeps"):
-                table = domethyme.unscaled(hierarchy.matrix(["a", "c"], by=by), 1000)
+                table = domethyme.unscaled(hierarchy.matrix(np.array(["a", "c"]), by=by), 1000)
                 self.assertEqual(table.tolist(), [[0, 2.5], [float("inf"), 0]])
             frame = domethyme.unscaled(hierarchy.matrix(pd.Series(["a", "c"])), 1000)
             self.assertEqual(frame.loc["c"].to_dict(), {"a": float("inf"), "c": 0})
@@ -307,8 +334,36 @@ class DomethymeTests(ToolCase):
             table = hierarchy.matrix(asked["from"], ["b", "c"])
             self.assertEqual((table.loc["a"].to_dict(), table["c"].sum()), ({"b": 3, "c": 7}, 7))
             self.assertIs(table.loc["c", "b"], pd.NA)
-            with self.assertRaisesRegex(ValueError, "columns from and to"):
-                hierarchy.lengths(asked[["name", "from", "to"]].rename(columns={"to": "there"}))
+            for wrong, says in [
+                (asked[["name", "from", "to"]].rename(columns={"to": "there"}), "has 'name', 'from', 'there': rename"),
+                (pd.DataFrame({"destination": ["c"], "origin": ["a"]}), r"give frame\[\['destination', 'origin'\]\].to_numpy\(\)"),
+            ]:
+                with self.assertRaisesRegex(ValueError, f"columns from and to, or source and target, and .*{says}"):
+                    hierarchy.lengths(wrong)
+            self.assertEqual(hierarchy.lengths(pd.DataFrame({"target": ["c"], "source": ["a"]})).tolist(), [7])
+            self.assertEqual(hierarchy.lengths(pd.DataFrame({"o": ["a"], "d": ["c"]}).to_numpy()).tolist(), [7])
+
+    def test_the_nearest_depot(self):
+        """One that can't be reached is never the nearest: by frames of lists of keys, and by arrays with what stands for no way."""
+        graph = domethyme.Graph.of_keys(["north", "south", "shop", "far"], ["shop", "far", "far", "shop"], [5, 9, 2, 4])
+        with graph.prepare(self.folder / "depots.rch", program=find_program()) as hierarchy:
+            depots, customers = ["south", "north"], ["shop", "far", "north"]
+            table = hierarchy.matrix(depots, customers)
+            self.assertEqual(domethyme.unscaled(table).idxmin().to_dict(), {"shop": "north", "far": "north", "north": "north"})
+            for by in ("library", "sweeps"):
+                lengths = hierarchy.matrix(np.array(depots), np.array(customers), by, missing=np.inf)
+                self.assertEqual(lengths.tolist(), [[13, 9, np.inf], [5, 7, 0]])
+                self.assertEqual([depots[row] for row in lengths.argmin(axis=0)], ["north"] * 3)
+            self.assertEqual(hierarchy.matrix(depots, customers, missing=np.inf).loc["south", "north"], np.inf)
+            self.assertEqual(hierarchy.matrix(iter(depots), ["shop"]).index.tolist(), depots)
+
+    def test_the_recipe_of_the_page(self):
+        """The example of docs/PYTHON.md prints what it says."""
+        text = (ROOT / "docs/PYTHON.md").read_text(encoding="utf-8").partition("## The nearest depot")[2]
+        code = text.partition("```python\n")[2].partition("```")[0]
+        ended = self.run_program([sys.executable, "-P", "-c", code], environment={"PYTHONPATH": str(PYTHON)})
+        self.assertEqual(ended.stdout.splitlines(), re.findall(r"# (\{.*\})", code))
+        self.assertEqual(ended.stdout.count("\n"), 2)
 
     def test_columns_of_pandas_whole_numbers(self):
         frame = pd.DataFrame({"from": [0, 1], "to": [1, 0], "weight": [3, 4]}, dtype="Int64")
@@ -352,6 +407,7 @@ class DomethymeTests(ToolCase):
         with self.assertRaisesRegex(domethyme.FileError, "has the keys of another file than .*firm.rch"):
             domethyme.Keys.saved(path)
         domethyme.Hierarchy(path, keys=["b", "a"]).close()
+        self.assertEqual([domethyme.keys.key_of(text) for text in ("7", "-7", "0", "007", "-0", "7a", "")], [7, -7, 0, "007", "-0", "7a", None])
         for missing in ("nowhere", "firm.rch.keys"):
             with self.assertRaisesRegex(domethyme.FileError, "No such file"):
                 domethyme.Keys.saved(self.folder / missing)

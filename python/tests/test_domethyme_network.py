@@ -94,5 +94,8 @@ class NetworkTests(ToolCase):
             self.write(name, text)
             with self.subTest(says=says), self.assertRaisesRegex(domethyme.NetworkError, says):
                 domethyme.Network(self.folder / "a").nearest(0, 0)
-        with self.assertRaisesRegex(domethyme.NetworkError, "b.nodes.csv: No such file"):
-            domethyme.Network(self.folder / "b").nearest(0, 0)
+        with self.assertRaisesRegex(domethyme.NetworkError, "b.net: No such file"):
+            domethyme.Network(self.folder / "b")
+        for name in ("v.gr", "v.net", "v.nodes.csv", "v.arcs.csv"):
+            with self.assertRaisesRegex(domethyme.NetworkError, f"{name}: .*name the network by the beginning of its files' names"):
+                domethyme.Network(self.folder / name)

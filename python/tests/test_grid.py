@@ -132,6 +132,31 @@ class NearestTests(ToolCase):
                 self.assertLess(found.metres, 1)
                 self.assertAlmostEqual(found.fraction, share, delta=0.001)
 
+    def test_many_entries_of_few_things(self):
+        """More are asked for than lie in a circle whose cells have very many entries: the search ends, and finds those beyond."""
+        rows, arcs = ["lon,lat"], ["from,to,weight,WKT"]
+        for number in range(1000):  # (roads beside one another, each of ten steps in other cells)
+            line = [(9 + number / 60_000, 47 + step * 0.003) for step in range(11)]
+            rows += [f"{lon},{lat}" for lon, lat in (line[0], line[-1])]
+            arcs.append(f'{len(rows) - 2},{len(rows) - 1},5,"LINESTRING ({", ".join(f"{lon} {lat}" for lon, lat in line)})"')
+        for number in range(100):
+            rows += [f"{9.4 + number / 100_000},47.2", f"{9.4 + number / 100_000},47.201"]
+            arcs.append(f"{len(rows) - 2},{len(rows) - 1},5,")
+        self.write("n.csv", "\n".join(rows))
+        self.write("a.csv", "\n".join(arcs))
+        self.run_tool("to_network", "n.csv", "a.csv", "net")
+        roads, place = Roads(str(self.folder / "net")), (9.0051, 47.0151)
+        edges = roads.arrays.edge_grid
+        self.assertGreater(len(edges.things), grid.CROWD + 1000)
+        steps = []
+        for count in (1, 999, 1001, 1050, 1100):
+            found = roads.nearest(place, count, lambda: steps.append(count))
+            self.assertEqual((len(found), len({spot.edge for spot in found})), (count, count))
+            self.assertEqual([spot.metres for spot in found], sorted(spot.metres for spot in found))
+        self.assertLess(len(steps), 200)
+        with self.assertRaises(ZeroDivisionError):
+            roads.nearest(place, 1050, lambda: 1 / 0)
+
     def test_cells_hold_their_places(self):
         """Each cell is at least as wide as its band is high, and a place on the seam is beside its neighbour."""
         counts = grid.columns_of_bands(0.0025)

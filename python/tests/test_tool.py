@@ -155,9 +155,9 @@ class Tables(SharedCase):
         self.assertEqual(rows, [(3, {"b": "1", "c": "x,\ny", "a": "2"}), (5, {"b": "3", "c": "é", "a": "4"})])
 
     def test_faults_tell_the_row(self):
-        self.assert_table_fault(", row 1: has no column a", b"")
+        self.assert_table_fault(": is empty", b"")
         self.assert_table_fault(", row 1: has no column b; its columns are a, c", b"a,c\n")
-        told = ", row 1: has no column a; its columns are a;b: fields have to be parted by commas"
+        told = ", row 1: has no columns a, b; its columns are a;b: fields have to be separated by commas"
         self.assert_table_fault(told, b"a;b\n")
         self.assert_table_fault(", row 1: has no column b; its columns are a,  b: there is a blank beside b", b"a, b\n")
         self.assert_table_fault(", row 1: has two columns a", b"a,b,a\n")
@@ -189,7 +189,7 @@ class Networks(SharedCase):
 
     def test_words_that_name_no_network(self):
         for word, says in [
-            ("li.co.gz", "li.co.gz: is compressed: gunzip it, and name li.co"),
+            ("li.net", "li.net: name the network by the beginning of its files' names, li"),
             ("li.gr", "li.gr: is a graph: name the network by the beginning of its files' names, li, or a file of "
              "coordinates, li.co"),
             ("li.rch", "li.rch: is a hierarchy: name the network by the beginning of its files' names"),
@@ -197,7 +197,7 @@ class Networks(SharedCase):
             ("li.arcs.csv", "li.arcs.csv: name the network by the beginning of its files' names, li"),
         ]:
             self.assert_fault(says, tables.nodes_file, word)
-        self.assertEqual([tables.nodes_file(word) for word in ("li", "li.co")], ["li.nodes.csv", "li.co"])
+        self.assertEqual([tables.nodes_file(word) for word in ("li", "li.co", "li.co.gz")], ["li.nodes.csv", "li.co", "li.co.gz"])
 
     def test_nodes_there_and_back(self):
         nodes = tables.Nodes([5, None, -7], [-180.0, 0.1234567, 180.0], [-90.0, 0.0, 90.0], ["", "from", "no"])

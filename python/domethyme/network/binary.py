@@ -7,6 +7,7 @@ numbers of rows in one list of texts, which is an array of bytes and the offsets
 the direction that sorts first, with arcs along it and against.
 """
 import functools
+import itertools
 import os
 import re
 import stat
@@ -24,14 +25,19 @@ from ..texts import HEAVIEST
 from .grid import Grid, ranges
 from .levels import KINDS
 from .mapped import Column, Kind, MappedFile
-from .tables import ENDS, Arc, Files, Point, attribution_of, points_of, read_node_table, rows_of_arcs
+from .tables import (
+    ARC_COLUMNS, ENDS, NODE_COLUMNS, Arc, Files, Point, attribution_of, has_columns, need_nodes, points_of, read_node_table,
+    rows_of_arcs,
+)
 from .threads import by_parts
 
-VERSION = 2
+# Of the file, without and with the keys of nodes.
+VERSION, WITH_KEYS = 2, 3
 UNITS = index.UNITS
 NO_OSM = -(1 << 63)
 TEXTS = ("highway", "name", "ref", "junction", "destination", "structure")
 UNITS_OF_WEIGHTS = ("weight", "duration", "distance")
+SECONDS_AT_A_TIME = 1 << 16
 NUMBER = r"-?[0-9]+(?:\.[0-9]+)?"
 LINE = re.compile(rf"LINESTRING \(({NUMBER} {NUMBER}(?:, {NUMBER} {NUMBER})+)\)")
 
@@ -50,6 +56,7 @@ class Arrays(NamedTuple):
     edge_begin, points       the points of edge e are points[edge_begin[e]:edge_begin[e + 1]], of shape (.., 2), lon and lat
     text_begin, text_bytes   text t is text_bytes[text_begin[t]:text_begin[t + 1]] in UTF-8; the first is what the data asks to
                              be said, "" for nothing
+    node_texts               the numbers of the texts by which a user knows the nodes, their keys; of shape (0,) where they have none
     """
 
     version: NDArray[np.int64]
@@ -72,6 +79,7 @@ class Arrays(NamedTuple):
     points: NDArray[np.int32]
     text_begin: NDArray[np.int64]
     text_bytes: NDArray[np.uint8]
+    node_texts: NDArray[np.int32] = np.empty(0, np.int32)
 
 
 class Builder:
@@ -79,6 +87,7 @@ class Builder:
 
     def __init__(self, attribution: str = "") -> None:
         self._nodes: list[tuple[int, float, float, int]] = []
+        self._keys: list[str] = []
         self._arcs: list[tuple[int, int, int, float, float, int]] = []
         self._texts: dict[str, int] = {}
         self._attribution = attribution
@@ -87,8 +96,11 @@ class Builder:
         self._row_of_arc: list[int] = []
         self._lines: list[str] = []
 
-    def add_node(self, osm: int | None, lon: float, lat: float, ends: str) -> None:
+    def add_node(self, osm: int | None, lon: float, lat: float, ends: str, key: str | None = None) -> None:
+        """Adds a node; all have a key, or none has."""
         self._nodes.append((NO_OSM if osm is None else osm, lon, lat, ENDS.index(ends)))
+        if key is not None:
+            self._keys.append(key)
 
     def add_arc(self, arc: Arc, path: StrPath | None = None, row: int | None = None) -> None:
         """Adds an arc, of this row of a file. Raises NetworkError where its WKT is no line."""
@@ -109,7 +121,7 @@ class Builder:
         starts, stops, weights, seconds, metres, ways = zip(*self._arcs) if self._arcs else ((),) * 6
         arc_osm = whole(ways, "osm")
         edges = edges_of(self._lines, arc_osm)
-        texts = [self._attribution.encode(), *(text.encode("utf-8", "replace") for text in self._texts)]
+        texts, keys = encoded(self._attribution, self._texts, self._keys)
         rows = np.array(self._rows, dtype=np.int32).reshape(-1, len(TEXTS))
         rows, row = index.rows_of_texts(rows, np.array(self._row_of_arc, dtype=np.int64))
         found = Arrays(
@@ -117,11 +129,18 @@ class Builder:
             np.array(ends, dtype=np.uint8), whole(starts, "from").astype(np.int32), whole(stops, "to").astype(np.int32),
             whole(weights, "weight"), np.array(seconds, dtype=np.float64), np.array(metres, dtype=np.float64), arc_osm,
             row, *edges[:2], rows, *edges[2:],
-            np.cumsum([0, *map(len, texts)], dtype=np.int64), np.frombuffer(b"".join(texts), dtype=np.uint8),
+            np.cumsum([0, *map(len, texts)], dtype=np.int64), np.frombuffer(b"".join(texts), dtype=np.uint8), keys,
         )
         if problem := wrong(found):
             raise ValueError(problem)
         return found
+
+
+def encoded(attribution: str, texts: Iterable[str], keys: Sequence[str]) -> tuple[list[bytes], NDArray[np.int32]]:
+    """The list of texts of a network in UTF-8: what the data asks to be said, the others and the keys of nodes; and the numbers of the
+    keys."""
+    found = [text.encode("utf-8", "replace") for text in (attribution, *texts, *keys)]
+    return found, np.arange(len(found) - len(keys), len(found), dtype=np.int32)
 
 
 def whole(values: Iterable[int], name: str) -> NDArray[np.int64]:
@@ -171,6 +190,8 @@ def wrong(arrays: Arrays) -> str | None:
     shapes: dict[str, tuple[int, ...]] = {name: (nodes,) for name in ("node_osm", "node_lon", "node_lat", "node_ends")}
     shapes.update((name, (arcs,)) for name in Arrays._fields if name.startswith("arc_"))
     shapes.update(version=(1,), sizes=(2,), row_texts=(len(arrays.row_texts), index.ROW), points=(len(arrays.points), 2))
+    if len(arrays.node_texts):
+        shapes["node_texts"] = (nodes,)
     for name, shape in shapes.items():
         if getattr(arrays, name).shape != shape:
             return f"{name} has another size"
@@ -189,7 +210,7 @@ def limits_of(nodes: int, edges: int, rows: int, texts: int) -> dict[str, tuple[
     return {
         "node_lon": (-180 * UNITS, 180 * UNITS), "node_lat": (-90 * UNITS, 90 * UNITS), "node_ends": (0, len(ENDS) - 1),
         "arc_from": (1, nodes), "arc_to": (1, nodes), "arc_weight": (0, HEAVIEST), "arc_edge": (0, edges - 1),
-        "arc_row": (0, rows - 1), "row_texts": (0, texts - 1), "arc_seconds": (0, 1e12), "arc_metres": (0, 1e12),
+        "arc_row": (0, rows - 1), "row_texts": (0, texts - 1), "node_texts": (0, texts - 1), "arc_seconds": (0, 1e12), "arc_metres": (0, 1e12),
         "points": (-180 * UNITS, 180 * UNITS),
     }
 
@@ -211,6 +232,7 @@ FORM = {
     "edge_keys": Kind("<i8"), "edge_cells": Kind("<i8"), "edge_things": Kind("<i4"),
     "step_begin": Kind("<i8"), "step_codes": Kind("<u4"), "step_points": Kind("<i4"), "step_edges": Kind("<i4"),
 }
+FORMS = {VERSION: FORM, WITH_KEYS: FORM | {"node_texts": Kind("<i4")}}
 
 
 def write(file: IO[bytes], arrays: Arrays) -> None:
@@ -218,7 +240,8 @@ def write(file: IO[bytes], arrays: Arrays) -> None:
     arrays that don't fit together."""
     if problem := wrong(arrays):
         raise ValueError(problem)
-    mapped.write(file, FORM, VERSION, written(arrays))
+    version = WITH_KEYS if len(arrays.node_texts) else VERSION
+    mapped.write(file, FORMS[version], version, written(arrays))
 
 
 def written(arrays: Arrays) -> Iterator[tuple[str, NDArray[Any]]]:
@@ -242,6 +265,8 @@ def written(arrays: Arrays) -> Iterator[tuple[str, NDArray[Any]]]:
     yield from zip(("node_keys", "node_cells", "node_things"), node_grid[2:])
     yield from zip(("edge_keys", "edge_cells", "edge_things"), edge_grid[2:])
     yield from zip(("step_begin", "step_codes", "step_points", "step_edges"), levels[:4])
+    if len(arrays.node_texts):
+        yield "node_texts", arrays.node_texts
 
 
 def unit_of(arrays: Arrays) -> str:
@@ -250,7 +275,7 @@ def unit_of(arrays: Arrays) -> str:
         def is_near(part: slice) -> bool:
             return bool((np.abs(arrays.arc_weight[part] - factor * values[part]) <= 1.01).all())
 
-        if all(by_parts(is_near, len(values))):
+        if values.any() and all(by_parts(is_near, len(values))):
             return name
     return "weight"
 
@@ -303,7 +328,7 @@ class Mapped:
 
     def __init__(self, file: IO[bytes], path: str) -> None:
         self.path = path
-        self.file = MappedFile(file, path, FORM, VERSION, REMEDY)
+        self.file = MappedFile(file, path, FORMS, REMEDY)
         found = self.file.columns
         self.node_osm, self.node_lon, self.node_lat, self.node_ends = (found[f"node_{each}"] for each in ("osm", "lon", "lat", "ends"))
         self.arc_from, self.arc_to, self.arc_weight = found["arc_from"], found["arc_to"], found["arc_weight"]
@@ -314,6 +339,7 @@ class Mapped:
         self.edge_begin, self.points = found["edge_begin"], found["points"]
         self.text_begin, self.text_bytes = found["text_begin"], found["text_bytes"]
         self.texts = Texts(self.text_begin, self.text_bytes)
+        self.node_texts: Any = found.get("node_texts", np.empty(0, np.int32))
         self.out_begin, self.out_arcs, self.degrees = found["out_begin"], found["out_arcs"], found["degrees"]
         self.edge_first, self.edge_arcs = found["edge_first"], found["edge_arcs"]
         self.step_begin, self.step_codes = found["step_begin"], found["step_codes"]
@@ -335,7 +361,7 @@ class Mapped:
         """Raises NetworkError where arrays that belong together differ in their sizes."""
         found = {name: len(column) for name, column in self.file.columns.items()}
         nodes, arcs, edges = found["node_osm"], found["arc_from"], found["edge_begin"] - 1
-        wanted = {name: nodes for name in FORM if name.startswith("node_") and name not in ("node_keys", "node_cells")}
+        wanted = {name: nodes for name in found if name.startswith("node_") and name not in ("node_keys", "node_cells")}
         wanted |= {name: arcs for name in FORM if name.startswith("arc_")}
         wanted |= {
             "about": len(ABOUT), "out_begin": nodes + 1, "out_arcs": arcs, "edge_first": edges + 1, "edge_arcs": arcs,
@@ -363,15 +389,35 @@ class Mapped:
             "node_cells": "node_things", "edge_cells": "edge_things", "step_begin": "step_codes",
         }
         limits |= {name: (0, size[other]) for name, other in offsets.items()}
-        for name, (low, high) in limits.items():
-            found[name].low, found[name].high = low, high
+        for name in limits.keys() & found.keys():
+            found[name].low, found[name].high = limits[name]
         for name in offsets:
             found[name].rise = 2 if name == "edge_begin" else 0
 
-    @property
+    @functools.cached_property
     def unit(self) -> str:
         """What weights are, as `unit_of` has it."""
-        return UNITS_OF_WEIGHTS[self.about["unit"]]
+        unit = UNITS_OF_WEIGHTS[self.about["unit"]]
+        return "weight" if unit == "duration" and not self.has_seconds else unit
+
+    @functools.cached_property
+    def has_seconds(self) -> bool:
+        """Whether any arc takes time: those of DIMACS files, and of tables with weights alone, take 0 seconds, which isn't known."""
+        parts = range(0, len(self.arc_seconds), SECONDS_AT_A_TIME)
+        return any(bool(self.arc_seconds[begin : begin + SECONDS_AT_A_TIME].any()) for begin in parts)
+
+    @property
+    def has_keys(self) -> bool:
+        """Whether nodes have keys, by which their user knows them."""
+        return len(self.node_texts) > 0
+
+    def key(self, node: int) -> str | None:
+        """The key of a node, counted from 1; None where nodes have none."""
+        return self.texts[int(self.node_texts[node - 1])] if self.has_keys else None
+
+    def keys(self) -> list[str]:
+        """The keys of all nodes, none where they have none."""
+        return [self.texts[number] for number in self.node_texts[:].tolist()]
 
     def lightest(self, starts: NDArray[np.int64], ends: NDArray[np.int64]) -> NDArray[np.int64]:
         """The lightest arc from each node to another, counted from 1; -1 where there is none."""
@@ -425,27 +471,38 @@ def in_memory(arrays: Arrays, path: str) -> Mapped:
 
 
 def is_current(prefix: str) -> bool:
-    """Whether there is a file NETWORK.net that goes before the tables: no older than they are, and of their sizes. Where there are no
-    tables it does. Raises NetworkError as `read` does, and where there is an archive of an earlier version alone."""
+    """Whether there is a file NETWORK.net that goes before the tables beside it; else these are read. Tables count that the tools wrote, or
+    of which `to_network` made the file: where they are no newer than it, and of the size that it has for them, it goes before them.
+
+    Raises NetworkError as `read` does; where there is an archive of an earlier version alone; and where a user's own table has
+    changed since the file was made of it.
+    """
     files = Files(prefix)
-    tables = [files.nodes, files.arcs]
     if not os.path.exists(files.binary):
         if os.path.exists(files.old):
             made = f"`to_network {files.nodes} {files.arcs} {prefix}` makes {files.binary} of the tables"
             raise NetworkError(f"is an archive of an earlier version, which isn't read: {made}, or convert the map anew", files.old)
         return False
-    found = [os.stat(table) for table in tables if os.path.exists(table)]
-    if not found:
+    tables = {files.nodes: NODE_COLUMNS, files.arcs: ARC_COLUMNS}
+    if not any(map(os.path.exists, tables)):
         return True
-    if len(found) < len(tables) or any(each.st_mtime_ns > os.stat(files.binary).st_mtime_ns for each in found):
-        return False
-    return bool([each.st_size for each in found] == read(files.binary).sizes.tolist())
+    sizes, made_at = read(files.binary).sizes.tolist(), os.stat(files.binary).st_mtime_ns
+    are_readable = all(has_columns(table, columns) for table, columns in tables.items())
+    changed = [
+        table for table, size in zip(tables, sizes)
+        if os.path.exists(table) and (size or are_readable)
+        and (os.stat(table).st_mtime_ns > made_at or os.stat(table).st_size != size)
+    ]
+    if changed and not are_readable:
+        raise NetworkError(f"has changed since {files.binary} was made of it: run `to_network` again", changed[0])
+    return not changed
 
 
 def arrays_of(prefix: str) -> Mapped:
     """The network of these files: by NETWORK.net where that is current, else by its tables. Raises NetworkError."""
     if is_current(prefix):
         return read(Files(prefix).binary)
+    need_nodes(prefix)
     arrays = of_tables(prefix)
     try:
         return in_memory(arrays, prefix)
@@ -457,8 +514,8 @@ def of_tables(prefix: str) -> Arrays:
     """The network of NETWORK.nodes.csv and NETWORK.arcs.csv, and of the comment of NETWORK.gr."""
     files, builder = Files(prefix), Builder(attribution_of(prefix))
     nodes = read_node_table(files.nodes)
-    for node in zip(*nodes):
-        builder.add_node(*node)
+    for node, key in zip(zip(*nodes[:4]), nodes.keys or itertools.repeat(None)):
+        builder.add_node(*node, key)
     for row, arc in rows_of_arcs(files.arcs, len(nodes.osm)):
         builder.add_arc(arc, files.arcs, row)
     try:

@@ -92,29 +92,40 @@ class Grid(NamedTuple):
         """The metres within which things are looked for first: a quarter of a band."""
         return self.height * EARTH_RADIUS * math.pi / 720
 
-    def nearest(self, place: tuple[float, float], count: int, metres: Metres) -> list[tuple[float, int]]:
+    def nearest(
+        self, place: tuple[float, float], count: int, metres: Metres, step: Callable[[], object] = lambda: None
+    ) -> list[tuple[float, int]]:
         """The metres to the `count` nearest things of those that `metres` gives less than infinity, and their numbers: the nearest
-        first, and of equally near ones the lesser number. There are fewer only where there are no more."""
-        known, reach, crowded = 0.0, self.first_reach, math.inf
+        first, and of equally near ones the lesser number. There are fewer only where there are no more. `step` is called for each
+        circle that is looked at, and for each part of the things in it; what it raises ends the search.
+
+        A circle with more things than CROWD, and more than twice as many as the last one, is narrowed, down to a metre beyond what is
+        known. So each circle is wider than the last, and few are looked at however many things there are.
+        """
+        known, reach, most = 0.0, self.first_reach, CROWD
         found: list[tuple[float, int]] = []
         while True:
+            step()
             slices = self._slices_of(place, reach)
-            if len(found) < count and sum(end - begin for begin, end in slices) > CROWD and reach - known > 1.0:
-                # so many at once that a lesser circle is tried first
-                crowded, reach = reach, (known + reach) / 2
-                continue
-            found = self._among(slices, count, metres)
+            wide = reach
+            while len(found) < count and size_of(slices) > most and reach - known > 1.0:
+                reach = (known + reach) / 2
+                slices = self._slices_of(place, reach)
+            most = max(CROWD, 2 * size_of(slices))
+            found = self._among(slices, count, metres, step)
             is_full = len(found) == count
             if is_full and found[-1][0] <= reach or reach >= HALF_WAY_ROUND:
                 return found
             known = reach
-            wider = found[-1][0] if is_full else 4 * reach if crowded == math.inf else (reach + crowded) / 2
-            reach = min(wider, HALF_WAY_ROUND)
+            reach = min(found[-1][0] if is_full else max(wide, 4 * reach), HALF_WAY_ROUND)
 
-    def _among(self, slices: list[tuple[int, int]], count: int, metres: Metres) -> list[tuple[float, int]]:
+    def _among(
+        self, slices: list[tuple[int, int]], count: int, metres: Metres, step: Callable[[], object]
+    ) -> list[tuple[float, int]]:
         """The nearest of the things in slices."""
         found: list[tuple[float, int]] = []
         for part in self._parts(slices):
+            step()
             things = np.array(sorted(set(part.tolist())))
             away = metres(things)
             order = np.lexsort((things, away))[:count] if count > 1 else [int(away.argmin())]
@@ -140,7 +151,7 @@ class Grid(NamedTuple):
         found: list[tuple[int, int, int]] = []
         for number, place in enumerate(places):
             slices = self._slices_of(place, reach)
-            if sum(end - begin for begin, end in slices) <= CROWD:
+            if size_of(slices) <= CROWD:
                 found += [(number, begin, end) for begin, end in slices]
         which, begins, ends = np.array(found, dtype=np.int64).reshape(-1, 3).T
         pairs, rows = ranges(begins, ends - begins)
@@ -213,6 +224,11 @@ class Grid(NamedTuple):
             left = left[is_left]
         nodes[left], away[left] = -1, np.inf
         return left
+
+
+def size_of(slices: list[tuple[int, int]]) -> int:
+    """How many things slices have."""
+    return sum(end - begin for begin, end in slices)
 
 
 def offset(metres: MetresOfPairs, begin: int) -> MetresOfPairs:

@@ -9,7 +9,8 @@ Opening looks at the head, the tail and the sizes, whatever the arrays hold: it 
 verified when it is first read in a process, against its checksum and the least and greatest value that its array may have. So no
 byte of a damaged block comes to a caller, and no size in the file takes memory. CRC-32 finds each change of up to 32 bits in a
 row for sure, and others but for one in four milliards; it isn't made against forgery. A file is replaced by a rename: one that is
-written in place is found by its times, where a block is verified and where `unchanged` is called.
+written in place is found by its times, where a block is verified and where `unchanged` is called. If it is the same file by its
+size and its checksum, as behind `touch` or a backup, all blocks are verified anew as they are read.
 """
 import mmap
 import os
@@ -83,8 +84,9 @@ class MappedFile:
     """A file of arrays that is mapped. `columns` are by the names of its form, and `sum` changes with what is in them. Raises
     NetworkError for one that can't be read, has another form, or is damaged in its head or tail."""
 
-    def __init__(self, file: IO[bytes], path: str, form: Form, version: int, remedy: str) -> None:
-        self.path, self.remedy, self._form, self._version = path, remedy, form, version
+    def __init__(self, file: IO[bytes], path: str, forms: Mapping[int, Form], remedy: str) -> None:
+        """`forms` are those of the versions that are read."""
+        self.path, self.remedy, self._forms = path, remedy, forms
         # a descriptor of its own, by which `unchanged` looks at the file that is mapped, whatever has its name
         self._file = os.dup(file.fileno())
         weakref.finalize(self, os.close, self._file)
@@ -108,9 +110,23 @@ class MappedFile:
                 column.verify()
 
     def unchanged(self) -> None:
-        """Raises NetworkError where the file was written to after it was opened."""
-        if self._now() != self._state:
+        """Raises NetworkError where another file was written into this one after it was opened. Where its times alone differ, blocks
+        are verified anew."""
+        now = self._now()
+        if now == self._state:
+            return
+        if now[0] != self._state[0] or self._sum_now() != self.sum:
             raise NetworkError("was written to while it was in use; new files have to take their place by a rename", self.path)
+        for column in self.columns.values():
+            column.forget()
+        self._state = now
+
+    def _sum_now(self) -> int:
+        """The checksum of the head and the tail, as they are now."""
+        head = self._bytes[: HEAD.itemsize].copy().view(HEAD)
+        tail, said = int(head[0]["tail"]), int(head[0]["sum"])
+        head["sum"] = 0
+        return said if zlib.crc32(self._bytes[tail:].data, zlib.crc32(head.tobytes())) == said else -1
 
     def damaged(self, problem: str) -> NetworkError:
         return NetworkError(f"is damaged: {problem}; {self.remedy}", self.path)
@@ -121,14 +137,15 @@ class MappedFile:
         found, size = head[0], len(self._bytes)
         if found["magic"] != MAGIC:
             raise NetworkError(f"isn't a network's file; {self.remedy}", self.path)
-        if found["version"] != self._version:
-            raise NetworkError(f"has version {found['version']} and not {self._version}; {self.remedy}", self.path)
+        if found["version"] not in self._forms:
+            known = " or ".join(map(str, self._forms))
+            raise NetworkError(f"has version {found['version']} and not {known}; {self.remedy}", self.path)
+        self._form = self._forms[int(found["version"])]
         count, tail = len(self._form), int(found["tail"])
         if found["size"] != size or found["arrays"] != count or not HEAD.itemsize <= tail <= size - 8 * count:
             raise self.damaged("its size isn't the one that it was written with")
         self.sum = int(found["sum"])
-        head["sum"] = 0
-        if zlib.crc32(self._bytes[tail:].data, zlib.crc32(head.tobytes())) != self.sum:
+        if self._sum_now() != self.sum:
             raise self.damaged("its head or tail has another checksum")
         return tail
 
@@ -181,6 +198,10 @@ class Column:
 
     def __array__(self, dtype: Any = None) -> NDArray[Any]:
         return np.asarray(self[:], dtype)
+
+    def forget(self) -> None:
+        """Has all blocks verified anew."""
+        self._good[:], self._is_whole = False, not len(self._sums)
 
     def verify(self) -> None:
         """Verifies all blocks that aren't yet."""

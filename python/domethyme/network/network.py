@@ -2,23 +2,29 @@
 import functools
 import itertools
 import os
-from collections.abc import Iterator
+from collections.abc import Iterator, Sequence
 from typing import Any, overload
 
 import numpy as np
 from numpy.typing import ArrayLike, NDArray
 
+from .. import belonging
 from ..errors import NetworkError
+from ..extras import need
 from ..hierarchy import Route, Rows
-from ..keys import Keys
+from ..keys import Keys, key_of
+from ..links import Links
 from ..program import StrPath
 from ..routes import Routes
 from ..texts import plain
-from . import binary, index
+from . import binary, index, own
 from .binary import NO_OSM, UNITS
 from .grid import Grid
 from .sphere import Floats as Floats, metres, on_sphere
-from .tables import ALL_ARC_COLUMNS, ENDS, Files, Point, Side, arcs_in, arrays_at, geometry_of, nodes_file, read_nodes
+from .tables import (
+    ALL_ARC_COLUMNS, ARC_COLUMNS, ENDS, KEY, NODE_COLUMNS, Files, Point, Side, arcs_file, arcs_in, arrays_at, geometry_of,
+    has_columns, is_coordinates, need_nodes, read_nodes,
+)
 
 
 class Network:
@@ -28,7 +34,9 @@ class Network:
     """
 
     def __init__(self, prefix: StrPath) -> None:
+        """Raises NetworkError where there are no such files."""
         self.prefix, self._files = os.fspath(prefix), Files(prefix)
+        need_nodes(prefix)
 
     def __repr__(self) -> str:
         return f"<Network {self.prefix}>"
@@ -46,32 +54,42 @@ class Network:
         """The latitudes of the nodes in degrees, of shape (nodes,)."""
         return np.asarray(self._places.lat[:] / UNITS)
 
-    def keys(self, column: str = "osm") -> Keys:
-        """The Keys by a column of NETWORK.nodes.csv: `osm` are the ids of OpenStreetMap, and points between have none. Without the
-        table there are those ids alone."""
-        if column == "osm" and not os.path.exists(self._files.nodes):
-            osm = [None if each == NO_OSM else each for each in self._arrays.node_osm[:].tolist()]
-            return Keys.of_rows(osm, [ENDS[each] for each in self._arrays.node_ends[:].tolist()])
-        return Keys.read(self._files.nodes, column)
+    def keys(self, column: str | None = None) -> Keys:
+        """The Keys of the nodes: those of the table that `to_network` made the network of, and of a map, or with `osm` as the column, the
+        ids of OpenStreetMap, of which points between have none. Else those in another column of NETWORK.nodes.csv. Raises
+        NetworkError, also where nodes have no keys at all."""
+        if column is not None and column not in ("osm", KEY):
+            return Keys.read(self._files.nodes, column)
+        if column != "osm" and (keys := self._places.keys()):
+            return Keys([key_of(key) for key in keys])
+        osm = [None if each == NO_OSM else each for each in self._places.osm[:].tolist()]
+        if all(each is None for each in osm):
+            raise NetworkError("its nodes have no keys: they are in the column node, or osm, of the table of nodes", self.prefix)
+        return Keys.of_rows(osm, [ENDS[each] for each in self._places.ends[:].tolist()])
 
     def nodes_frame(self) -> Any:
-        """A DataFrame of pandas with the columns osm, lon, lat and ends, whose index are the nodes from 0; with others of
-        NETWORK.nodes.csv where that is there."""
+        """A DataFrame of pandas with the columns osm, lon, lat and ends, and key where nodes have keys, whose index are the nodes from
+        0; with others of NETWORK.nodes.csv where the tools wrote that."""
+        need("pandas")
         import pandas
 
-        if os.path.exists(self._files.nodes):
+        if has_columns(self._files.nodes, NODE_COLUMNS):
             frame = pandas.read_csv(self._files.nodes, dtype={"osm": "Int64"})
             return frame.drop(columns="node").rename_axis("node")
         osm = pandas.array(self._arrays.node_osm[:], dtype="Int64")
         osm[self._arrays.node_osm[:] == NO_OSM] = pandas.NA
         ends = np.array(ENDS, dtype=object)[self._arrays.node_ends[:]]
-        return pandas.DataFrame({"osm": osm, "lon": self.lon, "lat": self.lat, "ends": ends}).rename_axis("node")
+        columns = {"osm": osm, "lon": self.lon, "lat": self.lat, "ends": ends}
+        if keys := self._arrays.keys():
+            columns[KEY] = np.array([key_of(key) for key in keys], dtype=object)
+        return pandas.DataFrame(columns).rename_axis("node")
 
     def arcs_frame(self) -> Any:
         """A DataFrame of pandas with the columns of NETWORK.arcs.csv, whose `from` and `to` count from 0."""
+        need("pandas")
         import pandas
 
-        if os.path.exists(self._files.arcs):
+        if has_columns(self._files.arcs, ARC_COLUMNS) and has_columns(self._files.nodes, NODE_COLUMNS):
             frame = pandas.read_csv(self._files.arcs, keep_default_na=False)
             texts = [name for name in frame.columns if frame[name].dtype == object]
             frame = frame.assign(**{name: frame[name].map(plain) for name in texts})
@@ -102,7 +120,7 @@ class Network:
     def geojson(self, routes: "Route | Routes") -> dict[str, Any]:
         """The routes along the real road, as a FeatureCollection with a Feature for each, longitude first.
 
-        The properties are from, to (nodes or keys), length, arcs, seconds and metres; where there is no way there is no
+        The properties are from, to (nodes or keys), length, arcs, seconds, None where the network has none, and metres; where there is no way there is no
         geometry, and all but the pair are None. From a node to the next a route takes the lightest arc. Raises NetworkError
         where the network lacks an arc, or where weights don't sum to a length: then it is another network's.
         """
@@ -127,7 +145,8 @@ class Network:
                 sums = f"its arcs' weights in {self.prefix} sum to {weight}"
                 raise NetworkError(f"a route has the length {length}, and {sums}")
             ways = [sum(values[arcs].tolist()) if arcs else 0.0 for values in (arrays.arc_seconds, arrays.arc_metres)]
-            properties.update(length=length, arcs=len(arcs), seconds=round(ways[0], 3), metres=round(ways[1], 2))
+            seconds = round(ways[0], 3) if arrays.has_seconds else None
+            properties.update(length=length, arcs=len(arcs), seconds=seconds, metres=round(ways[1], 2))
             geometry = geometry_of(self.line(numbers))
         return {"type": "Feature", "properties": properties, "geometry": geometry}
 
@@ -142,9 +161,17 @@ class Network:
             raise NetworkError(f"has no arc from node {start} to node {end}, counted from 0", self._files.arcs)
         return arcs
 
+    def compare(self, file: int, name: str, whole: bool = False) -> None:
+        """Raises WrongHierarchy where the open file of a hierarchy is that of another network (belonging.compare). Of nodes without
+        arcs, a table alone or a DIMACS .co file, the number is compared."""
+        if os.path.exists(arcs_file(self.prefix)) or os.path.exists(self._files.binary):
+            belonging.compare(file, name, self._arrays, whole)
+        else:
+            belonging.need_nodes(name, Links.of(file, name).nodes, self.prefix, len(self._places.lon))
+
     @functools.cached_property
     def _arrays(self) -> binary.Mapped:
-        return binary.arrays_of(self.prefix)
+        return own.network_of(self.prefix)
 
     @functools.cached_property
     def _places(self) -> "NodePlaces":
@@ -158,13 +185,25 @@ class NodePlaces:
     grid                  the nodes' grid
     """
 
-    def __init__(self, osm: Any, lon: Any, lat: Any, ends: Any, grid: Grid, path: StrPath) -> None:
+    def __init__(
+        self, osm: Any, lon: Any, lat: Any, ends: Any, grid: Grid, path: StrPath, of: binary.Mapped | Sequence[str] = ()
+    ) -> None:
+        """`of` is the network's file, or where the nodes are of a table or of a DIMACS file alone the keys that they have."""
         self.osm, self.lon, self.lat, self.ends, self._grid, self._path = osm, lon, lat, ends, grid, path
+        self._of = of
 
     @classmethod
     def of(cls, arrays: binary.Mapped) -> "NodePlaces":
         """Those of a mapped file."""
-        return cls(arrays.node_osm, arrays.node_lon, arrays.node_lat, arrays.node_ends, arrays.node_grid, arrays.path)
+        return cls(arrays.node_osm, arrays.node_lon, arrays.node_lat, arrays.node_ends, arrays.node_grid, arrays.path, arrays)
+
+    def origin(self, name: str) -> belonging.Origin:
+        """What pairs of these nodes say of their network, whose name is given."""
+        return belonging.Origin(name, len(self.lon), len(self._of.arc_from) if isinstance(self._of, binary.Mapped) else None)
+
+    def keys(self) -> Sequence[str]:
+        """The keys of the nodes, none where they have none."""
+        return self._of.keys() if isinstance(self._of, binary.Mapped) else self._of
 
     def at(self, lon: Floats, lat: Floats, side: Side) -> tuple[NDArray[np.int64], Floats]:
         """The nearest node to each place in degrees, from 0, of those where routes may begin (`from`) or end (`to`), and the metres
@@ -195,15 +234,15 @@ class NodePlaces:
 
 def places_of_nodes(word: StrPath) -> NodePlaces:
     """The nodes of a network, of its file or of its table alone, or of a DIMACS .co file."""
-    path = nodes_file(word)
-    arrays = None if path.endswith(".co") else arrays_at(os.fspath(word))
+    path = need_nodes(word)
+    arrays = None if is_coordinates(word) else arrays_at(os.fspath(word))
     if arrays is not None:
         return NodePlaces.of(arrays)
     nodes = read_nodes(path)
     lon, lat = binary.units(nodes.lon, 180), binary.units(nodes.lat, 90)
     ends = np.array([ENDS.index(each) for each in nodes.ends], dtype=np.uint8)
     osm = np.array([NO_OSM if each is None else each for each in nodes.osm], dtype=np.int64)
-    return NodePlaces(osm, lon, lat, ends, index.node_grid(lon, lat), path)
+    return NodePlaces(osm, lon, lat, ends, index.node_grid(lon, lat), path, nodes.keys)
 
 
 def each_of(routes: "Route | Routes") -> Iterator[tuple[tuple[Any, Any], int | None, list[int], bool]]:

@@ -1,22 +1,26 @@
 """Networks that come of tables of nodes and arcs, or of files of the DIMACS challenge. Needs numpy.
 
     NODES   a CSV table with the columns lon and lat, in degrees, a row for each node. It may have `node`, the node's name in the table
-            of arcs (any text; without it the numbers of the rows, from 1), and osm and ends, as NETWORK.nodes.csv. Or a file X.co.
+            of arcs (any text; without it the numbers of the rows, from 1), key, its name in answers (without it that in `node`), and
+            osm and ends, as NETWORK.nodes.csv. Or a file X.co.
     ARCS    a CSV table with the columns from and to, the nodes' names, a row for each arc, and some of
 
+            oneway    with this column a row is a road: 1 or yes is one arc, -1 one arc from `to` to `from`, and 0, no or nothing both
             weight    a whole number, which routes have the least sum of; without it it is the milliseconds or centimetres of
                       the other columns
-            metres    without it the length of the line
+            metres    or km; without them the length of the line
             seconds   without it those of the metres at kmh kilometres an hour, and without that column 0
             WKT       the line, `LINESTRING (LON LAT, LON LAT, ..)`; without it the straight one from node to node
             osm, highway, name, ref, junction, destination, structure     as NETWORK.arcs.csv
 
             An empty field is as if the column weren't there. Or a file X.gr; its arcs are straight, and take 0 seconds.
+
+Columns may have other letters, and common names (columns.py).
 """
 import array
 import os
 import warnings
-from collections.abc import Iterator
+from collections.abc import Iterator, Sequence
 from typing import Any, NamedTuple
 
 import numpy as np
@@ -25,32 +29,46 @@ from numpy.typing import NDArray
 from ..errors import NetworkError
 from ..program import StrPath
 from ..texts import HEAVIEST, MOST_LINES, MOST_NODES, number, read_graph, reading, shown, table, whole_number
-from .binary import NO_OSM, TEXTS, UNITS, VERSION, Arrays, Mapped, arrays_of, in_memory, units, wrong
+from .binary import NO_OSM, TEXTS, UNITS, VERSION, Arrays, Mapped, arrays_of, encoded, in_memory, units, wrong
+from .columns import OF_ARCS, OF_NODES, Say, take_columns
 from .index import rows_of_texts
 from .sphere import metres, on_sphere
-from .tables import ENDS, Files, points_of, read_coordinates
+from .tables import ENDS, graph_of, is_coordinates, points_of, read_coordinates
 
 Ints = NDArray[np.int64]
 BLOCK = 1 << 24
 FARTHEST_END = 1000.0
 LEAST_ID, GREATEST_ID = -(1 << 63) + 1, (1 << 63) - 1
+# What says in which directions a road is open: along its row, and back.
+ONE_WAY = {"1": (True, False), "yes": (True, False), "true": (True, False), "-1": (False, True), "reverse": (False, True)}
+TWO_WAYS = ("0", "no", "false", "")
+BOTH, ALONG = (True, True), (True, False)
+# What is doubted: arcs that are so much shorter than the straight line, to a metre, and faster than so many km/h.
+SHORTER, FASTEST = 0.99, 400.0
 
 
 class Nodes(NamedTuple):
-    """Where nodes are, in units, and their rows in the table by their names; None where the names are numbers from 1."""
+    """Where nodes are, in units, and their rows in the table by their names; None where the names are numbers from 1. `keys` are their
+    names in answers, none where these are numbers from 1; `path` is the file, and `columns` those that it has."""
 
     osm: Ints
     places: NDArray[np.int32]
     ends: NDArray[np.uint8]
     rows: dict[str, int] | None
+    keys: Sequence[str] = ()
+    path: StrPath = ""
+    columns: Sequence[str] = ()
 
     def number(self, name: str, column: str, path: StrPath, row: int) -> int:
         """The number of a node by its name, from 1."""
         if self.rows is None:
+            if self.columns and not name.lstrip("+-").isdecimal():
+                why = f"{self.path} has no column node, so its nodes are numbered by rows; its columns are {', '.join(self.columns)}"
+                raise NetworkError(f"{column} {shown(name)} is no number, and {why}", path, row)
             return whole_number(name, column, path, row, 1, len(self.osm))
         found = self.rows.get(name)
         if found is None:
-            raise NetworkError(f"{column} {shown(name)} is no node of the other table", path, row)
+            raise NetworkError(f"{column} {shown(name)} isn't in {self.path}", path, row)
         return found
 
 
@@ -70,15 +88,22 @@ class Arcs(NamedTuple):
     points: NDArray[np.int32]
 
 
-def read_nodes(path: StrPath) -> Nodes:
-    """The nodes of a table, or of a .co file. Raises NetworkError."""
-    if str(path).endswith(".co"):
+def nothing(_line: str) -> None:
+    """Says nothing of a table."""
+
+
+def read_nodes(path: StrPath, say: Say = nothing) -> Nodes:
+    """The nodes of a table, or of a .co file; `say` gets a line for what may be meant otherwise. Raises NetworkError."""
+    if is_coordinates(path):
         places = coordinates(path)
         return Nodes(np.full(len(places), NO_OSM), places, np.zeros(len(places), np.uint8), None)
     osm, ends, degrees = array.array("q"), array.array("B"), array.array("d")
     rows: dict[str, int] = {}
-    with table(path, ("lon", "lat")) as lines:
-        is_named = "node" in lines.columns
+    keys: dict[str, int] = {}
+    with table(path, ()) as lines:
+        take_columns(lines, OF_NODES, ("lon", "lat"), say)
+        is_named, columns = "node" in lines.columns, lines.columns
+        named = [(name, into) for name, into in (("node", rows), ("key", keys)) if name in columns]
         for row, fields in lines:
             for column, most in (("lon", 180), ("lat", 90)):
                 degrees.append(number(fields[column], column, path, row, -most, most))
@@ -86,52 +111,94 @@ def read_nodes(path: StrPath) -> Nodes:
             if (end := fields.get("ends", "")) not in ENDS:
                 raise NetworkError(f"ends {shown(end)} is none of from, to, no", path, row)
             ends.append(ENDS.index(end))
-            if is_named and rows.setdefault(fields["node"], len(osm)) != len(osm):
-                raise NetworkError(f"node {shown(fields['node'])} comes twice", path, row)
+            for name, into in named:
+                if into.setdefault(fields[name], len(osm)) != len(osm):
+                    raise NetworkError(f"{name} {shown(fields[name])} comes twice", path, row)
     if not len(osm) or len(osm) > MOST_NODES:
         raise NetworkError(f"has {len(osm)} nodes, and a network has from 1 to {MOST_NODES}", path)
     lon, lat = np.array(degrees).reshape(-1, 2).T
     places = np.column_stack((units(lon, 180), units(lat, 90)))
-    return Nodes(np.array(osm, dtype=np.int64), places, np.array(ends, dtype=np.uint8), rows if is_named else None)
+    told = keys or rows
+    shown_keys = () if all(name == str(row) for name, row in told.items()) else list(told)
+    return Nodes(
+        np.array(osm, dtype=np.int64), places, np.array(ends, dtype=np.uint8), rows if is_named else None, shown_keys, path, columns
+    )
 
 
-def read_arcs(path: StrPath, nodes: Nodes, weight: str = "time") -> Arcs:
-    """The arcs of a table, or of a .gr file. Those without a weight have milliseconds (`time`) or centimetres (`length`). Raises
-    NetworkError."""
-    if str(path).endswith(".gr"):
+def read_arcs(path: StrPath, nodes: Nodes, weight: str = "time", say: Say = nothing) -> Arcs:
+    """The arcs of a table, or of a .gr file. Those without a weight have milliseconds (`time`) or centimetres (`length`). `say` gets a
+    line for what may be meant otherwise. Raises NetworkError."""
+    if os.fspath(path).endswith((".gr", ".gr.gz")):
         return straight(*graph(path, len(nodes.osm)), nodes)
-    numbers = array.array("q")  # (of an arc four: from, to, way, row of texts)
-    figures = array.array("d")  # (weight, seconds, metres, where NaN is none)
+    numbers = array.array("q")  # (of an arc five: from, to, way, row of texts, row of the table)
+    figures = array.array("d")  # (weight, seconds, metres, km/h, where NaN is none)
     lines = Lines(nodes)
     known: dict[tuple[str, ...], int] = {}
-    with table(path, ("from", "to")) as rows:
+    with table(path, ()) as rows:
+        take_columns(rows, OF_ARCS, ("from", "to"), say)
         for row, fields in rows:
             start, end = (nodes.number(fields[side], side, path, row) for side in ("from", "to"))
             texts = tuple(fields.get(name, "") for name in TEXTS)
             osm = whole_number(fields["osm"], "osm", path, row, LEAST_ID, GREATEST_ID) if fields.get("osm") else 0
-            numbers.extend((start, end, osm, known.setdefault(texts, len(known))))
-            figures.extend(figures_of(fields, weight, path, row))
-            lines.add(start, end, fields.get("WKT", ""), path, row)
-    starts, ends, osm_ids, of_texts = np.array(numbers, dtype=np.int64).reshape(-1, 4).T.copy()
+            more = osm, known.setdefault(texts, len(known)), row
+            line, values = lines.of(start, end, fields.get("wkt", ""), path, row), figures_of(fields, weight, path, row)
+            is_along, is_back = directions_of(fields, path, row)
+            for ends, points in [((start, end), line)] * is_along + [((end, start), line[::-1])] * is_back:
+                numbers.extend((*ends, *more))
+                figures.extend(values)
+                lines.add(points)
+    starts, stops, osm_ids, of_texts, of_rows = np.array(numbers, dtype=np.int64).reshape(-1, 5).T.copy()
     if not len(starts) or len(starts) > MOST_LINES:
         raise NetworkError(f"has {len(starts)} arcs, and a network has from 1 to {MOST_LINES}", path)
     weights, seconds, ways, speeds = np.array(figures).reshape(-1, 4).T.copy()
-    begins, points = lines.done()
-    ways = np.where(np.isnan(ways), np.round(lengths_of(begins, points), 2), ways)
+    begins, points_of_lines = lines.done()
+    doubt_lengths(ways, nodes.places[starts - 1], nodes.places[stops - 1], path, say)
+    ways = np.where(np.isnan(ways), np.round(lengths_of(begins, points_of_lines), 2), ways)
     seconds = np.where(np.isnan(seconds), np.nan_to_num(np.round(ways * 3.6 / speeds, 3)), seconds)
     own = np.maximum(1, np.round(1000 * seconds if weight == "time" else 100 * ways))
     whole = np.where(np.isnan(weights), own, weights)
     if whole.max() > HEAVIEST:
-        raise NetworkError(f"arc {int(whole.argmax()) + 1} would weigh more than {HEAVIEST}", path)
-    return Arcs(starts, ends, whole.astype(np.int64), seconds, ways, osm_ids, of_texts, list(known), begins, points)
+        raise NetworkError(f"would weigh more than {HEAVIEST}", path, int(of_rows[whole.argmax()]))
+    doubt_seconds(weights, seconds, ways, weight, path, say)
+    return Arcs(starts, stops, whole.astype(np.int64), seconds, ways, osm_ids, of_texts, list(known), begins, points_of_lines)
+
+
+def directions_of(fields: dict[str, str], path: StrPath, row: int) -> tuple[bool, bool]:
+    """Whether a row has an arc from its first node to its second, and one back."""
+    if "oneway" not in fields:
+        return ALONG
+    text = fields["oneway"].strip().lower()
+    if text not in ONE_WAY and text not in TWO_WAYS:
+        raise NetworkError(f"oneway {shown(text)} is none of 1, yes, -1, 0, no", path, row)
+    return ONE_WAY.get(text, BOTH)
+
+
+def doubt_lengths(ways: NDArray[np.float64], begins: NDArray[np.int32], ends: NDArray[np.int32], path: StrPath, say: Say) -> None:
+    """Says how many of the metres that are given are less than the straight line."""
+    given = np.flatnonzero(~np.isnan(ways))
+    both = (places[given].T / UNITS for places in (begins, ends))
+    straight_ways = metres(*(on_sphere(lon, lat) for lon, lat in both))
+    if count := int(np.count_nonzero(ways[given] < SHORTER * straight_ways - 1)):
+        say(f"{path}: metres of {count} arcs are less than the straight line: are they km?")
+
+
+def doubt_seconds(
+    weights: NDArray[np.float64], seconds: NDArray[np.float64], ways: NDArray[np.float64], weight: str, path: StrPath, say: Say
+) -> None:
+    """Says how many arcs are faster than FASTEST, and how many weigh 1 since they take no time."""
+    if count := int(np.count_nonzero((seconds > 0) & (ways * 3.6 > FASTEST * seconds))):
+        say(f"{path}: {count} arcs are faster than {FASTEST:g} km/h: are the units those of --help?")
+    if count := int(np.count_nonzero((seconds == 0) & np.isnan(weights))) if weight == "time" else 0:
+        say(f"{path}: {count} arcs take 0 seconds, and weigh 1")
 
 
 def figures_of(fields: dict[str, str], weight: str, path: StrPath, row: int) -> tuple[float, float, float, float]:
     """The weight, seconds, metres and km/h of an arc; NaN where there are none."""
     own = float(whole_number(fields["weight"], "weight", path, row)) if fields.get("weight") else np.nan
-    seconds, ways, speed = (
-        number(fields[name], name, path, row, 0, 1e12) if fields.get(name) else np.nan for name in ("seconds", "metres", "kmh")
+    seconds, ways, long_ways, speed = (
+        number(fields[name], name, path, row, 0, 1e12) if fields.get(name) else np.nan for name in ("seconds", "metres", "km", "kmh")
     )
+    ways = 1000 * long_ways if np.isnan(ways) else ways
     if speed == 0:
         raise NetworkError("kmh is 0", path, row)
     if np.isnan(own) and weight == "time" and np.isnan(seconds) and np.isnan(speed):
@@ -146,20 +213,23 @@ class Lines:
         self._places = nodes.places
         self._begins, self._points = array.array("q", [0]), array.array("i")
 
-    def add(self, start: int, end: int, wkt: str, path: StrPath, row: int) -> None:
-        """Adds the line of an arc between nodes from 1; "" is the straight one. Raises NetworkError where it doesn't lead from the one
+    def of(self, start: int, end: int, wkt: str, path: StrPath, row: int) -> NDArray[np.int32]:
+        """The line of a road between nodes from 1; "" is the straight one. Raises NetworkError where it doesn't lead from the one
         to the other."""
         ends = self._places[[start - 1, end - 1]]
-        if wkt:
-            places = np.array(points_of(wkt, path, row))
-            if not (np.isfinite(places).all() and (np.abs(places) <= (180, 90)).all()):
-                raise NetworkError(f"WKT {shown(wkt)} has what are no degrees", path, row)
-            away = metres(on_sphere(*places[[0, -1]].T), on_sphere(*(ends / UNITS).T))
-            if away.max() > FARTHEST_END:
-                raise NetworkError(f"its line ends {away.max():,.0f} m from its node: from and to in each other's place?", path, row)
-            line = np.round(places * UNITS).astype(np.int32)
-        else:
-            line = ends
+        if not wkt:
+            return ends
+        places = np.array(points_of(wkt, path, row))
+        if not (np.isfinite(places).all() and (np.abs(places) <= (180, 90)).all()):
+            raise NetworkError(f"WKT {shown(wkt)} has what are no degrees", path, row)
+        away = metres(on_sphere(*places[[0, -1]].T), on_sphere(*(ends / UNITS).T))
+        if away.max() > FARTHEST_END:
+            raise NetworkError(f"its line ends {away.max():,.0f} m from its node: from and to in each other's place?", path, row)
+        line: NDArray[np.int32] = np.round(places * UNITS).astype(np.int32)
+        return line
+
+    def add(self, line: NDArray[np.int32]) -> None:
+        """Adds the line of an arc."""
         self._points.frombytes(np.ascontiguousarray(line, dtype=np.int32).tobytes())
         self._begins.append(len(self._points) // 2)
 
@@ -199,13 +269,13 @@ def arrays_by(nodes: Nodes, arcs: Arcs, attribution: str = "", sizes: tuple[int,
     rows = arcs.begins[first][which] + np.where(backward[which], counts[which] - 1 - place, place)
     names: dict[str, int] = {}
     texts = np.array([[names.setdefault(text, len(names) + 1) for text in row] for row in arcs.texts], dtype=np.int32)
-    encoded = [text.encode("utf-8", "replace") for text in (attribution, *names)]
+    listed, keys = encoded(attribution, names, nodes.keys)
     row_texts, row = rows_of_texts(texts, arcs.row)
     found = Arrays(
         np.array([VERSION]), np.array(sizes), nodes.osm, nodes.places[:, 0].copy(), nodes.places[:, 1].copy(), nodes.ends,
         arcs.starts.astype(np.int32), arcs.ends.astype(np.int32), arcs.weights, arcs.seconds, arcs.metres, arcs.osm,
         row, edge, is_along, row_texts, np.append(0, np.cumsum(counts)), arcs.points[rows],
-        np.cumsum([0, *map(len, encoded)], dtype=np.int64), np.frombuffer(b"".join(encoded), dtype=np.uint8),
+        np.cumsum([0, *map(len, listed)], dtype=np.int64), np.frombuffer(b"".join(listed), dtype=np.uint8), keys,
     )
     if problem := wrong(found):
         raise ValueError(problem)
@@ -246,10 +316,10 @@ def edges_of(arcs: Arcs) -> tuple[NDArray[np.int32], NDArray[np.bool_], Ints, ND
 
 def network_of(word: StrPath) -> Mapped:
     """The network that a tool's word NETWORK names: its files, or X.gr and X.co where it is X.co. Raises NetworkError."""
-    if not os.fspath(word).endswith(".co"):
+    if not is_coordinates(word):
         return arrays_of(os.fspath(word))
     nodes = read_nodes(word)
-    arcs = read_arcs(Files(os.fspath(word).removesuffix(".co")).graph, nodes)
+    arcs = read_arcs(graph_of(word), nodes)
     try:
         return in_memory(arrays_by(nodes, arcs), os.fspath(word))
     except ValueError as error:

@@ -15,7 +15,9 @@ A network is files with one beginning of their names, NETWORK:
 Beside each table lie NAME.csvt and NAME.prj, by which GDAL and QGIS know the kinds of its columns and that it has degrees of
 WGS 84; no tool here reads them. The columns ends, ref, junction, destination and structure may be missing, and are empty then.
 
-    Files(prefix)                `.graph`, `.nodes`, `.arcs`, `.binary`: the paths; `.forms`: those for GDAL and their texts
+    Files(prefix)                `.path`, `.graph`, `.nodes`, `.arcs`, `.binary`: the paths; `.forms`: those for GDAL and their texts
+    is_coordinates(word), graph_of(word), paths_of(word)    a DIMACS file X.co; the graph of a network; all its files
+    is_written_by_tools(table, columns)             whether a table begins as those that the tools write
     read_nodes(path)             Nodes(osm, lon, lat, ends): lists, node n at n - 1; of a .nodes.csv or a DIMACS .co file
     nodes_file(word)             the path that a tool's word NETWORK means to read_nodes: NETWORK.nodes.csv, or a .co file
     write_nodes(file, nodes)     the rows of .nodes.csv
@@ -30,9 +32,11 @@ WGS 84; no tool here reads them. The columns ends, ref, junction, destination an
     metres_between(lon, lat, lon, lat)              along the great circle, on a sphere of EARTH_RADIUS metres
 """
 import csv
+import errno
 import itertools
 import math
 import os
+import re
 from collections.abc import Iterable, Iterator, Sequence
 from typing import IO, TYPE_CHECKING, Any, Literal, NamedTuple
 
@@ -51,6 +55,8 @@ ATTRIBUTION_COMMENT = "c attribution: "
 NODE_COLUMNS = ("node", "osm", "lon", "lat")
 ARC_COLUMNS = ("from", "to", "weight", "seconds", "metres", "osm", "highway", "name", "WKT")
 ALL_NODE_COLUMNS = (*NODE_COLUMNS, "ends")
+# The column of nodes that have keys, where NETWORK.nodes.csv numbers them.
+KEY = "key"
 ALL_ARC_COLUMNS = (*ARC_COLUMNS[:-1], "ref", "junction", "destination", "structure", "WKT")
 # For GDAL: the kinds of the columns, and the system of coordinates.
 NODE_KINDS = ("Integer", "Integer64", "CoordX", "CoordY", "String")
@@ -60,11 +66,11 @@ WGS_84 = (
     'UNIT["degree",0.0174532925199433],AUTHORITY["EPSG","4326"]]'
 )
 WRONG_ENDINGS = {
-    ".co.gz": "is compressed: gunzip it, and name {0}.co",
     ".gr": "is a graph: name the network by the beginning of its files' names, {0}, or a file of coordinates, {0}.co",
     ".rch": "is a hierarchy: name the network by the beginning of its files' names",
     ".nodes.csv": "name the network by the beginning of its files' names, {0}",
     ".arcs.csv": "name the network by the beginning of its files' names, {0}",
+    ".net": "name the network by the beginning of its files' names, {0}",
 }
 ENDS = ("", "from", "to", "no")
 CHUNK = 1 << 14
@@ -76,23 +82,66 @@ class Files:
     """The paths of a network's files."""
 
     def __init__(self, prefix: StrPath) -> None:
-        name = os.fspath(prefix)
+        self.path = name = os.fspath(prefix)
         self.graph, self.nodes, self.arcs = f"{name}.gr", f"{name}.nodes.csv", f"{name}.arcs.csv"
         self.binary, self.old = f"{name}.net", f"{name}.npz"
-        self.forms = {
-            f"{name}.{table}.{ending}": text
-            for table, kinds in (("nodes", NODE_KINDS), ("arcs", ARC_KINDS))
+        self.forms = self.forms_of()
+
+    def forms_of(self, has_keys: bool = False) -> dict[str, str]:
+        """The paths of the files for GDAL and their texts, of tables whose nodes have keys or not."""
+        of_nodes = (*NODE_KINDS, "String") if has_keys else NODE_KINDS
+        return {
+            f"{self.path}.{table}.{ending}": text
+            for table, kinds in (("nodes", of_nodes), ("arcs", ARC_KINDS))
             for ending, text in (("csvt", ",".join(f'"{kind}"' for kind in kinds)), ("prj", WGS_84))
         }
 
 
+def is_coordinates(word: StrPath) -> bool:
+    """Whether a tool's word NETWORK, or NODES, is a file of coordinates of the DIMACS challenge, compressed or not."""
+    return os.fspath(word).endswith((".co", ".co.gz"))
+
+
+def graph_of(word: StrPath) -> str:
+    """The path of the graph of a tool's word NETWORK: NETWORK.gr, and of a file X.co X.gr, or X.gr.gz where that alone is there."""
+    name = os.fspath(word)
+    graph = Files(re.sub(r"\.co(\.gz)?$", "", name)).graph
+    return f"{graph}.gz" if is_coordinates(word) and not os.path.exists(graph) and os.path.exists(f"{graph}.gz") else graph
+
+
+def paths_of(word: StrPath) -> list[str]:
+    """The paths of all files that a tool's word NETWORK may stand for."""
+    files = Files(word)
+    return [os.fspath(word), graph_of(word), files.nodes, files.arcs, files.binary]
+
+
+def has_columns(path: StrPath, columns: Sequence[str]) -> bool:
+    """Whether a table has these columns, as those have that the tools read in place of NETWORK.net."""
+    try:
+        with open(path, "rb") as file:
+            return set(columns) <= set(file.readline(1 << 16).decode("utf-8-sig", "replace").strip().split(","))
+    except OSError:
+        return False
+
+
+def is_written_by_tools(path: StrPath, columns: Sequence[str]) -> bool:
+    """Whether a table begins with the columns that the tools write, and maybe the keys of nodes, so it isn't a user's own."""
+    try:
+        with open(path, "rb") as file:
+            return file.readline(1 << 16).decode("utf-8", "replace").strip() in (",".join(columns), ",".join([*columns, KEY]))
+    except OSError:
+        return False
+
+
 class Nodes(NamedTuple):
-    """Node n has its values at n - 1: the id in OpenStreetMap or None, degrees, and which ends of routes it has (ENDS)."""
+    """Node n has its values at n - 1: the id in OpenStreetMap or None, degrees, which ends of routes it has (ENDS), and its key
+    where nodes have keys."""
 
     osm: list[int | None]
     lon: list[float]
     lat: list[float]
     ends: list[str]
+    keys: Sequence[str] = ()
 
 
 class Arc(NamedTuple):
@@ -123,13 +172,21 @@ def refuse_wrong_endings(word: StrPath) -> None:
 def nodes_file(word: StrPath) -> str:
     """The path of the nodes that a tool's word NETWORK names: a DIMACS .co file, or else the network's .nodes.csv."""
     refuse_wrong_endings(word)
-    return os.fspath(word) if str(word).endswith(".co") else Files(word).nodes
+    return os.fspath(word) if is_coordinates(word) else Files(word).nodes
+
+
+def need_nodes(word: StrPath) -> str:
+    """The path of the nodes that `nodes_file` names. Raises NetworkError where neither it nor NETWORK.net is there, which it names."""
+    path = nodes_file(word)
+    if not is_coordinates(word) and not any(map(os.path.exists, (path, Files(word).binary, Files(word).old))):
+        raise NetworkError(os.strerror(errno.ENOENT), Files(word).binary)
+    return path
 
 
 def read_nodes(path: StrPath) -> Nodes:
     """The nodes of a .nodes.csv file, by the binary form beside it where that is current, or of a DIMACS .co file by its
     ending."""
-    if str(path).endswith(".co"):
+    if is_coordinates(path):
         return read_coordinates(path)
     arrays = arrays_at(os.fspath(path).removesuffix(".nodes.csv")) if str(path).endswith(".nodes.csv") else None
     return read_node_table(path) if arrays is None else nodes_of(arrays)
@@ -150,7 +207,7 @@ def nodes_of(arrays: "binary.Mapped") -> Nodes:
 
     osm = [None if number == NO_OSM else number for number in arrays.node_osm[:].tolist()]
     lon, lat = (arrays.node_lon[:] / UNITS).tolist(), (arrays.node_lat[:] / UNITS).tolist()
-    return Nodes(osm, lon, lat, [ENDS[place] for place in arrays.node_ends[:].tolist()])
+    return Nodes(osm, lon, lat, [ENDS[place] for place in arrays.node_ends[:].tolist()], arrays.keys() or ())
 
 
 def arcs_in(arrays: "binary.Mapped") -> Iterator[Arc]:
@@ -168,6 +225,7 @@ def arcs_in(arrays: "binary.Mapped") -> Iterator[Arc]:
 
 
 def read_node_table(path: StrPath) -> Nodes:
+    keys: list[str] = []
     nodes = Nodes([], [], [], [])
     with table(path, NODE_COLUMNS) as rows:
         for row, fields in rows:
@@ -181,7 +239,9 @@ def read_node_table(path: StrPath) -> Nodes:
             nodes.ends.append(fields.get("ends", ""))
             if nodes.ends[-1] not in ENDS:
                 raise NetworkError(f"ends {shown(nodes.ends[-1])} is none of from, to, no", path, row)
-    return nodes
+            if KEY in fields:
+                keys.append(fields[KEY])
+    return nodes._replace(keys=keys or ())
 
 
 def read_coordinates(path: StrPath) -> Nodes:
@@ -212,9 +272,10 @@ def read_coordinates(path: StrPath) -> Nodes:
 def write_nodes(file: IO[str], nodes: Nodes) -> None:
     """Writes a .nodes.csv file: degrees to the seventh place, as OpenStreetMap has them."""
     rows = csv.writer(file, lineterminator="\n")
-    rows.writerow(ALL_NODE_COLUMNS)
-    for node, (osm, lon, lat, ends) in enumerate(zip(*nodes), 1):
-        rows.writerow((node, "" if osm is None else osm, f"{lon:.7f}", f"{lat:.7f}", ends))
+    rows.writerow((*ALL_NODE_COLUMNS, KEY) if nodes.keys else ALL_NODE_COLUMNS)
+    keys = ((safe(key),) for key in nodes.keys) if nodes.keys else itertools.repeat(())
+    for node, ((osm, lon, lat, ends), key) in enumerate(zip(zip(*nodes[:4]), keys), 1):
+        rows.writerow((node, "" if osm is None else osm, f"{lon:.7f}", f"{lat:.7f}", ends, *key))
 
 
 def read_arcs(path: StrPath) -> Iterator[Arc]:
@@ -243,12 +304,12 @@ def rows_of_arcs(path: StrPath, nodes: int = MOST_NODES) -> Iterator[tuple[int, 
 def arcs_of(word: StrPath) -> Iterator[Arc]:
     """The arcs of a tool's word NETWORK: those of its table, or for a DIMACS file X.co those of the graph X.gr as straight
     lines, without a way, a name and seconds."""
-    if not os.fspath(word).endswith(".co"):
+    if not is_coordinates(word):
         path = arcs_file(word)
         arrays = arrays_at(os.fspath(word))
         yield from read_arcs(path) if arrays is None else arcs_in(arrays)
         return
-    nodes, graph = read_nodes(word), read_graph(Files(os.fspath(word).removesuffix(".co")).graph)
+    nodes, graph = read_nodes(word), read_graph(graph_of(word))
     if len(nodes.lon) != graph.nodes:
         raise NetworkError(f"has {len(nodes.lon)} nodes, and the graph beside it has {graph.nodes}", word)
     places = list(zip(nodes.lon, nodes.lat))
@@ -260,8 +321,7 @@ def arcs_of(word: StrPath) -> Iterator[Arc]:
 def arcs_file(word: StrPath) -> str:
     """The file that the arcs of a tool's word NETWORK are read from."""
     refuse_wrong_endings(word)
-    is_dimacs = os.fspath(word).endswith(".co")
-    return Files(os.fspath(word).removesuffix(".co")).graph if is_dimacs else Files(word).arcs
+    return graph_of(word) if is_coordinates(word) else Files(word).arcs
 
 
 def write_arcs(file: IO[str], arcs: Iterable[Arc]) -> None:
@@ -331,16 +391,12 @@ def parted_wkt(line: Sequence[Point]) -> str:
 
 def attribution_of(network: StrPath) -> str:
     """What the comment at the beginning of the network's graph asks to be said; "" where it asks for nothing."""
-    try:
-        with open(Files(os.fspath(network).removesuffix(".co")).graph, encoding="utf-8", errors="replace") as file:
-            for line in file:
-                if not line.startswith("c"):
-                    break
-                if line.startswith(ATTRIBUTION_COMMENT):
-                    return line[len(ATTRIBUTION_COMMENT) :].strip()
-    except FileNotFoundError:
-        pass
-    return ""
+    graph = graph_of(network)
+    if not os.path.exists(graph):
+        return ""
+    with reading(graph) as file:
+        comments = itertools.takewhile(lambda line: line.startswith("c"), (line.decode("utf-8", "replace") for line in file))
+        return next((line[len(ATTRIBUTION_COMMENT) :].strip() for line in comments if line.startswith(ATTRIBUTION_COMMENT)), "")
 
 
 def metres_between(lon_1: float, lat_1: float, lon_2: float, lat_2: float) -> float:
