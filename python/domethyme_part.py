@@ -3,10 +3,11 @@
 A worker is a thread of `route_many`, or a thread of a Dask worker on another machine, to which `route_many --dask` sends
 this file. So the module needs nothing but Python's own library, and what it takes and gives are plain values.
 
-    task(program, hierarchy, drafts)   what all parts of a run have in common, a dict:
+    task(program, hierarchy, drafts, pairs)   what all parts of a run have in common, a dict:
         program, hierarchy             the paths of both files
         digests                        {path: sha256} of both, as the machine that began the run has them
         drafts                         the folder of this run for files that aren't whole yet
+        pairs                          the name of the query file, for messages
     trouble_here(task)                 why this machine can't take part in the run, as one line, or None
     answer(task, text, size, answers)  answers a part: (status, line, bytes), as it says there
     stop_all()                         ends the programs that run in this process, and lets none begin
@@ -30,10 +31,10 @@ ATTEMPTS = 3
 PATIENCE = 120
 
 
-def task(program: str, hierarchy: str, drafts: str) -> Task:
+def task(program: str, hierarchy: str, drafts: str, pairs: str) -> Task:
     """The task of a run, with the digests of its files as they are on this machine; an OSError where one can't be read."""
     digests = {path: digest(path) for path in (program, hierarchy)}
-    return {"program": program, "hierarchy": hierarchy, "digests": digests, "drafts": drafts}
+    return {"program": program, "hierarchy": hierarchy, "digests": digests, "drafts": drafts, "pairs": pairs}
 
 
 def digest(path: str) -> str:
@@ -109,7 +110,7 @@ def answer(task: Task, text: str, size: int, answers: str) -> Result:
     """Answers the part whose pairs are the file `text`, of `size` bytes, into the file `answers`. Gives
 
     (0, None, BYTES)       done: the file of answers is there, whole, of that size
-    (3 to 8, LINE, 0)      the program refused with this status and line
+    (3 to 8, LINES, 0)     the program refused with this status and line, and explained it in more
     (1, LINE, 0)           something else failed
 
     and but for the first leaves what is at `answers`. A program that is killed is begun again, ATTEMPTS times in all.
@@ -150,13 +151,13 @@ def draft_in(folder: str) -> Iterator[str]:
 
 
 def run_program(task: Task, text: str, draft: str) -> tuple[int, str]:
-    """Runs the program, its output into a new file: the status, negative for a signal, and what it said."""
-    words = [task["program"], "route", task["hierarchy"], text]
+    """Runs the program, its output into a new file: the status, negative for a signal, and what it said, a line or more."""
+    words = [task["program"], "route", task["hierarchy"], text, "--explain"]
     with open(draft, "xb") as output:
         with child_of(words, stdin=subprocess.DEVNULL, stdout=output, stderr=subprocess.PIPE) as child:
             said = child.communicate()[1].decode("utf-8", "replace")
         os.fsync(output.fileno())
-    return child.returncode, " ".join(said.split())
+    return child.returncode, "\n".join(line.rstrip() for line in said.replace(text, task["pairs"]).splitlines())
 
 
 def finish(task: Task, draft: str, answers: str) -> Result:
@@ -175,7 +176,7 @@ def refusal(program: str, status: int, said: str) -> Result:
         return 1, f"{program} was ended by signal {-status}", 0
     if 3 <= status <= 8:
         return status, said, 0
-    return 1, f"{program} ended with status {status}: {said}", 0
+    return 1, f"{program} ended with status {status}: {' '.join(said.split())}", 0
 
 
 # The programs that run in this process

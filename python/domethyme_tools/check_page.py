@@ -118,7 +118,7 @@ def make(name: str, map_file: StrPath, trips: str, folder: pathlib.Path, *option
         table.write_text(COLUMNS + trips)
         call(*tool("osm_to_gr"), map_file, network, *options)
         call(*tool("nearest"), network, table, "-o", f"{network}.pairs")
-        answers = call(find_program(), "answer", f"{network}.gr", f"{network}.pairs")
+        answers = call(find_program(), "answer", "--explain", f"{network}.gr", f"{network}.pairs")
         call(*tool("to_geojson"), network, "-", "--trips", table, "-o", routes, given=answers)
         for ending in ("html", "svg"):
             call(*tool("draw"), network, routes, folder / f"{name}.{ending}", "--label", "trip")

@@ -190,7 +190,7 @@ class SplitGraph:
         self.count = len(nodes.osm)
         self.begin: dict[Place, list[int]] = {}
         self.end: dict[Place, list[int]] = {}
-        for node, (osm, lon, lat, ends) in enumerate(zip(*nodes)):
+        for node, (osm, lon, lat, ends) in enumerate(zip(*nodes[:4])):
             if ends in ("", "from"):
                 self.begin.setdefault((osm, lon, lat), []).append(node)
             if ends in ("", "to"):

@@ -8,10 +8,13 @@ are in any order, and other columns are the user's own. With --matrix it has a r
 and lat, and the pairs lead from each place to each, itself included: K places make K * K pairs, first those from the
 first place, in the table's order. With --matrix TRIPS may be a `.co` file too. `-` is standard input.
 
-PAIRS is a query file: `p aux sp p2p K`, and a line `q S T` for each trip, in order.
+PAIRS is a query file: a comment with the network's name and size, `p aux sp p2p K`, and a line `q S T` for each trip, in order.
+
+--hierarchy HIERARCHY compares a hierarchy with the network, and refuses one of another network: run `routecli prepare` again after each
+osm_to_gr or to_network. route_many compares the size in the comment.
 
 --snapped FILE gets a CSV row for each pair, in order: the columns of its row of TRIPS, and from_node, from_metres,
-to_node, to_metres, which are the nodes and how far they are. With --matrix the columns of both places are there, with
+to_node, to_metres, which are the nodes and how far they are; and from_key and to_key where nodes have keys. With --matrix the columns of both places are there, with
 from_ and to_ before their names. FILE is whole before PAIRS begins, so `to_geojson --trips FILE` may read it further
 down the same pipe.
 
@@ -38,10 +41,10 @@ import numpy
 
 from domethyme.files import writing
 from domethyme.network.network import places_of_nodes
-from domethyme.network.tables import ENDS, Point, Side, read_nodes
+from domethyme.network.tables import ENDS, KEY, Point, Side, is_coordinates, paths_of, read_nodes
 from domethyme.texts import MOST_LINES, number, safe, shown, table, write_pairs
 
-from .tool import Fault, words
+from .tool import Fault, add_hierarchy, need_hierarchy, refuse_overwriting, words
 
 SIDES: tuple[Side, Side] = ("from", "to")
 ENDS_OF_TRIP = ("from_", "to_")
@@ -70,13 +73,17 @@ def read_words() -> argparse.Namespace:
     parser.add_argument("--matrix", action="store_true", help="from each place to each")
     parser.add_argument("--snapped", metavar="FILE", help="write the table of trips with their nodes too")
     parser.add_argument("--on-roads", action="store_true", help="write lines for routecli serve, with places on roads")
+    add_hierarchy(parser)
     options = parser.parse_args()
     if options.on_roads and (options.matrix or options.skip_far or options.snapped):
         parser.error("--on-roads goes with neither --matrix, --skip-far nor --snapped")
-    if options.trips.endswith(".co") and not options.matrix:
+    if is_coordinates(options.trips) and not options.matrix:
         parser.error("a .co file has places and no trips: --matrix is needed")
     if options.snapped == options.output:
         parser.error("PAIRS and --snapped are one file")
+    inputs = [options.trips, options.hierarchy, *paths_of(options.network)]
+    refuse_overwriting(parser, [options.output, options.snapped], inputs)
+    refuse_overwriting(parser, [options.output], [options.snapped])
     return options
 
 
@@ -218,28 +225,35 @@ def pairs_of(snapped: Snapped, nearest: Places, is_matrix: bool) -> Collection[t
     return list(zip(starts.tolist(), met(starts, ends, nearest.begins_of(ends)).tolist()))
 
 
-def snapped_columns(trips: Trips, is_matrix: bool) -> list[str]:
+def snapped_columns(trips: Trips, is_matrix: bool, has_keys: bool) -> list[str]:
     """The names of the columns of --snapped, which are all different."""
     users = trips.columns
     if is_matrix:
         users = [beginning + column for beginning in ENDS_OF_TRIP for column in trips.columns]
     columns = users + [beginning + column for beginning in ENDS_OF_TRIP for column in ("node", "metres")]
+    columns += [f"{beginning}{KEY}" for beginning in ENDS_OF_TRIP] if has_keys else []
     for name in users:
         if columns.count(name) > 1:
             raise Fault(f"--snapped would have two columns {name}: rename one", trips.path, 1)
     return columns
 
 
-def snapped_rows(snapped: Snapped, pairs: Iterable[tuple[int, int]], is_matrix: bool) -> Iterator[list[Any]]:
-    """The rows of --snapped, one for each pair."""
+def snapped_rows(
+    snapped: Snapped, pairs: Iterable[tuple[int, int]], is_matrix: bool, keys: Sequence[str]
+) -> Iterator[list[Any]]:
+    """The rows of --snapped, one for each pair; `keys` are those of all nodes, none where they have none."""
+    def told(start: int, end: int) -> list[str]:
+        return [safe(keys[node - 1]) for node in (start, end)] if keys else []
+
     fields, ways = snapped.fields, [[f"{metres:.1f}" for metres in snapped.metres[side].tolist()] for side in SIDES]
     if is_matrix:
         rows = itertools.product(range(len(fields)), repeat=2)
         for (source, target), (start, end) in zip(rows, pairs):
-            yield [*safe_fields(fields[source]), *safe_fields(fields[target]), start, ways[0][source], end, ways[1][target]]
+            both = [*safe_fields(fields[source]), *safe_fields(fields[target])]
+            yield [*both, start, ways[0][source], end, ways[1][target], *told(start, end)]
     else:
         for own, (start, end), there, back in zip(fields, pairs, *ways):
-            yield [*safe_fields(own), start, there, end, back]
+            yield [*safe_fields(own), start, there, end, back, *told(start, end)]
 
 
 def safe_fields(fields: list[Any]) -> list[Any]:
@@ -266,20 +280,22 @@ def write_requests(options: argparse.Namespace) -> None:
 
 def main() -> None:
     options = read_words()
+    need_hierarchy(options)
     if options.on_roads:
         write_requests(options)
         return
     nearest = Places(options.network)
-    if options.trips.endswith(".co"):
+    if is_coordinates(options.trips):
         trips = places_of_coordinates(options.trips)
     else:
         trips = read_trips(options.trips, ONE_PLACE if options.matrix else ENDS_OF_TRIP)
-    columns = snapped_columns(trips, options.matrix) if options.snapped else []
+    keys = nearest.nodes.keys() if options.snapped else ()
+    columns = snapped_columns(trips, options.matrix, len(keys) > 0) if options.snapped else []
     snapped = snap(trips, nearest, options.within, options.skip_far)
     pairs = pairs_of(snapped, nearest, options.matrix)
     if len(pairs) > MOST_LINES:
         raise Fault(f"has {len(snapped.fields)} places, which make more than {MOST_LINES} pairs", options.trips)
     if options.snapped:
-        write_snapped(options.snapped, columns, snapped_rows(snapped, pairs, options.matrix))
+        write_snapped(options.snapped, columns, snapped_rows(snapped, pairs, options.matrix, keys))
     with writing(options.output) as file:
-        write_pairs(file, pairs)
+        write_pairs(file, pairs, [nearest.nodes.origin(options.network).comment])

@@ -11,7 +11,7 @@ from typing import Any, NamedTuple
 
 from domethyme.errors import DomethymeError
 from domethyme.lines import answer_to, is_reply_to, ready_of
-from domethyme.network.tables import Point, refuse_wrong_endings
+from domethyme.network.tables import Point, is_coordinates, refuse_wrong_endings
 from domethyme.program import StrPath
 from domethyme.texts import reading
 
@@ -44,7 +44,7 @@ class RoadRoute(NamedTuple):
 def roads_of(network: StrPath) -> Roads:
     """The network's roads. Those of a DIMACS file have no lines."""
     refuse_wrong_endings(network)
-    if str(network).endswith(".co"):
+    if is_coordinates(network):
         raise Fault("has no roads but nodes: --on-roads is for networks of osm_to_gr", network)
     return Roads(str(network))
 

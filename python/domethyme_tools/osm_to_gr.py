@@ -14,7 +14,8 @@ With --tables there are these too, for other programs:
                   ref, `structure` tunnel or bridge, WKT its line, longitude first
   OUT.nodes.csvt, OUT.nodes.prj, OUT.arcs.csvt, OUT.arcs.prj    the types and the projection of these tables, for GDAL and QGIS
 
-Without it tables of an earlier run are removed, since they are of another network.
+Without it tables of an earlier run are removed, since they are of another network. Tables that weren't written by the tools, or
+that were edited since, are never overwritten or removed.
 
 A weight is milliseconds by the profile's speeds, or centimetres with --weight length. It is rounded, and raised to 1
 where it would be 0. Nodes are the ends, junctions and barriers of roads, and points between that keep each arc within
@@ -49,6 +50,7 @@ from typing import IO, Any, NamedTuple, cast
 import numpy as np
 from numpy.typing import NDArray
 
+from domethyme.belonging import older_hierarchy
 from domethyme.files import whole_files
 from domethyme.network import binary
 from domethyme.network.tables import ENDS, OSM_ATTRIBUTION, Arc, Files, Nodes, write_arcs, write_nodes, wkt_of
@@ -57,13 +59,14 @@ from domethyme.texts import MOST_LINES, MOST_NODES, reading
 
 from . import turns
 from .map_arrays import Folder, Places, Ways, cut, folder_beside, read_places, read_ways, step
+from .old_tables import tables_there
 from .road_network import (
     WEIGHTS, RoadNetwork, Roads, RowsOf, arrays_of, keep_largest, metres_of_roads, network_of, split,
 )
 from .rules import (
     Profile, Tags, barrier_keys, conditional_keys, doubts, judged, parts_a_way, read_profile, structure_of, way_keys,
 )
-from .tool import Fault, words
+from .tool import Fault, refuse_overwriting, words
 
 Report = turns.Report
 
@@ -309,6 +312,9 @@ def read_words() -> argparse.Namespace:
         out = options.out
         fault = f"{out} is a folder" if out else "it is empty"
         parser.error(f"OUT is the beginning of the names of files, as {os.path.join(out, 'map')}, and {fault}")
+    names = Files(options.out)
+    outputs = [names.graph, names.binary, *([names.nodes, names.arcs, *names.forms] if options.tables else [])]
+    refuse_overwriting(parser, outputs, [options.map, options.profile])
     return options
 
 
@@ -317,6 +323,7 @@ def main() -> None:
     profile = read_profile(options.profile)
     names = Files(options.out)
     for_tables = [names.nodes, names.arcs, *names.forms]
+    old_tables = tables_there(names, options.tables)
     report: Report = collections.Counter()
     with reading(options.map):
         if not os.path.isfile(options.map):
@@ -333,11 +340,14 @@ def main() -> None:
                 write_network(files[:2], files[2:4], arrays, folder, attribution)
         for file, text in zip(files[4:], names.forms.values()):
             print(text, file=file)
-    if not options.tables:
-        for path in filter(os.path.isfile, for_tables):
+    if not options.tables and old_tables:
+        for path in old_tables:
             os.unlink(path)
+        print(f"osm_to_gr: removed {', '.join(old_tables)}, which were of the network before", file=sys.stderr)
     for what, count in report.items():
         if count:
             print(f"osm_to_gr: {what}: {count}", file=sys.stderr)
     size = f"{len(arrays.node_osm)} nodes, {len(arrays.arc_from)} arcs, {kilometres:.1f} km of road"
     print(f"osm_to_gr: {options.out}: {size}", file=sys.stderr)
+    if (older := older_hierarchy(options.out)) is not None:
+        print(f"osm_to_gr: {older}", file=sys.stderr)

@@ -31,6 +31,7 @@ import uuid
 from collections.abc import Callable, Iterable, Iterator
 from typing import IO, Any
 
+from domethyme.belonging import Origin
 from domethyme.files import remove_if_there, writing
 from domethyme.texts import MOST_LINES, reading
 
@@ -48,10 +49,11 @@ NAMES = re.compile(r"plan\.json(\..+\.new)?|whole\.pairs|\d{6,}\.(pairs|answers|
 class Survey(typing.NamedTuple):
     """What a look at a query file finds: its digest, and how many pairs it has; None where it is refused for certain,
     since its lines are of other kinds, in another order or of another number than it announces. The program then reports
-    the fault. What the lines of pairs hold is left to the program in any case."""
+    the fault. What the lines of pairs hold is left to the program in any case. `origin` is the network that it names."""
 
     sha256: str
     pairs: int | None
+    origin: Origin | None
 
 
 def spool(path: str, to: str) -> Survey:
@@ -62,7 +64,7 @@ def spool(path: str, to: str) -> Survey:
             digest.update(line)
             copy.write(line)
             kinds.take(line)
-    return Survey(digest.hexdigest(), kinds.pairs())
+    return Survey(digest.hexdigest(), kinds.pairs(), kinds.origin)
 
 
 class KindsOfLines:
@@ -71,6 +73,7 @@ class KindsOfLines:
     def __init__(self) -> None:
         self.announced: int | None = None
         self.found, self.is_sound = 0, True
+        self.origin: Origin | None = None
 
     def take(self, line: bytes) -> None:
         """Counts the next line."""
@@ -79,7 +82,9 @@ class KindsOfLines:
             self.is_sound = self.is_sound and self.announced is not None
             return
         fields = fields_of(line)
-        if fields and not fields[0].startswith(b"c"):
+        if fields[:2] == [b"c", b"network"]:
+            self.origin = self.origin or Origin.of(line)
+        elif fields and not fields[0].startswith(b"c"):
             is_first = self.announced is None
             self.announced = number_announced(fields)
             self.is_sound = self.is_sound and is_first and self.announced is not None

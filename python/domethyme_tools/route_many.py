@@ -6,6 +6,9 @@ The query file (`-` is standard input) is cut into parts, and each part is answe
 many at a time as there are workers. The parts and their answers are kept in the folder OUT.parts until OUT is written:
 after an interrupt or a failed run the same call resumes with what is done. OUT is whole, or as it was before.
 
+Pairs that `nearest` has written say how large their network is: a hierarchy with another number of nodes is refused. --network
+NETWORK compares the hierarchy with the network itself.
+
 Status 0 says that OUT is written (with --cut also that the parts are), 1 bad input or a failed run, 2 arguments that are
 refused, and 130 an interrupt; if the program refuses the input, its line and its status, 3 to 8, are those of one process.
 """
@@ -27,10 +30,12 @@ import tqdm
 
 import domethyme_part
 from domethyme.files import named_faults, writing
+from domethyme.network.tables import paths_of
+from domethyme.opening import looked_at, opened
 from domethyme.program import find_program
 
 from . import parts
-from .tool import Fault, packages, warn, words
+from .tool import Fault, add_hierarchy, need_hierarchy, packages, spoken, warn, words
 
 BAD_INPUT = (3, 4, 5)
 LOOK_AGAIN_SECONDS = 2
@@ -49,6 +54,7 @@ def read_words() -> argparse.Namespace:
     parser.add_argument("--part", type=count, default=10_000, metavar="PAIRS", help="pairs in a part (10000)")
     parser.add_argument("--program", metavar="FILE", help="routecli, where it isn't on PATH, in ROUTECLI or built here")
     parser.add_argument("--anew", action="store_true", help="drop what an earlier call has left for OUT")
+    add_hierarchy(parser, "--network", "the network of the pairs")
     return parser.parse_args()
 
 
@@ -62,6 +68,8 @@ def count(text: str) -> int:
 def main() -> None:
     options = read_words()
     check_out(options)
+    if options.network is not None:
+        need_hierarchy(options)
     try:
         # (a write to OUT itself names OUT)
         with named_faults(parts.Folder(options.out).path):
@@ -77,7 +85,7 @@ def run_all(options: argparse.Namespace) -> None:
     program = find_program(options.program)
     hierarchy = os.path.join(os.getcwd(), options.hierarchy)
     with parts.opened(options.out, options.anew) as folder:
-        task = domethyme_part.task(program, hierarchy, folder.drafts)
+        task = domethyme_part.task(program, hierarchy, folder.drafts, spoken(options.pairs))
         with workers_of(options, task) as workers:
             plan, is_new = planned(options, task, folder, workers)
             if options.cut and is_new:
@@ -96,7 +104,7 @@ def check_out(options: argparse.Namespace) -> None:
     out = options.out
     if out == "-" or not os.path.basename(out) or os.path.exists(out) and not os.path.isfile(out):
         raise Fault(f"OUT has to be a file, and {out!r} is none", status=2)
-    for path in (options.hierarchy, options.pairs):
+    for path in (options.hierarchy, options.pairs, *(() if options.network is None else paths_of(options.network))):
         if os.path.exists(out) and os.path.exists(path) and os.path.samefile(out, path):
             raise Fault(f"OUT and {path} are one file", status=2)
     if os.path.exists(out) and not os.access(out, os.W_OK):
@@ -112,6 +120,9 @@ def planned(
     """The plan of the parts, and whether it is new: where an earlier call has kept none, the pairs are cut."""
     spooled = os.path.join(folder.drafts, "whole.pairs")
     survey = parts.spool(options.pairs, spooled)
+    if survey.origin is not None:
+        with opened(options.hierarchy) as file:
+            survey.origin.need(options.hierarchy, looked_at(file.fileno(), options.hierarchy)[0], options.pairs)
     digests = task["digests"]
     plan = parts.Plan(digests[task["hierarchy"]], digests[task["program"]], survey.sha256, options.part, [])
     kept = folder.kept_plan()

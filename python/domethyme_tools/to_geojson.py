@@ -1,7 +1,7 @@
 """Turns the answers of `routecli route` into routes along the real road, as GeoJSON or CSV.
 
 NETWORK is the beginning of the names of the network's files, of which NETWORK.net is read, or without it the tables; or a
-DIMACS file X.co, whose graph is X.gr: then routes are straight from node to node, and take 0 seconds.
+DIMACS file X.co, whose graph is X.gr: then routes are straight from node to node, and have no seconds.
 ANSWERS is what `routecli route` or `routecli answer` printed (`-` is standard input).
 
 ROUTES has a feature for each answer, in order. Its geometry is the line of the road from the first node to the last,
@@ -10,18 +10,20 @@ itself, and where there is no route there is no geometry.
 Its properties are
 
     from_node, to_node   the pair
+    from_key, to_key     the keys of both nodes, where the network's nodes have keys
     length               the answer's, in the unit of the graph's weights
     arcs                 how many arcs the route has
-    seconds, metres      how long the way takes, and how long it is
+    seconds, metres      how long the way takes, null where the network has no seconds, and how long it is
     steps                the streets in order, each with name, metres and seconds; pieces of one street that follow one
                          another are one step, and a street without a name has the name ""
 
 Where there is no route, all but the pair are null. From a node to the next a route takes the lightest arc, and the weights
-of its arcs have to sum to the answer's length: an answer of another network is refused.
+of its arcs have to sum to the answer's length: an answer of another network is refused. --hierarchy HIERARCHY also compares the
+hierarchy that answered with the network.
 
 --trips FILE is a CSV file with a row for each answer, in order, as `nearest` was given it, or as it wrote it by
---snapped. Its columns are properties too, ahead of the others, as text. Where it has the columns from_node and to_node
-they have to be those of the answers. It is opened once the first answer has come, so a tool further up the same pipe may
+--snapped. Its columns are properties too, ahead of the others, as text. Where it has the columns from_node and to_node,
+or from_key and to_key, they have to be those of the answers. It is opened once the first answer has come, so a tool further up the same pipe may
 write it.
 
 --on-roads takes replies of `routecli serve` to the lines of `nearest --on-roads`, and needs the same TRIPS. Routes then lead
@@ -50,14 +52,14 @@ from domethyme.files import writing
 from domethyme.lines import NO_WAY, Answer
 from domethyme.network.binary import TEXTS, UNITS
 from domethyme.network.own import network_of
-from domethyme.network.tables import Point, attribution_of, geometry_of, parted_wkt
+from domethyme.network.tables import Point, attribution_of, geometry_of, parted_wkt, paths_of
 from domethyme.texts import Table, number, read_answers, safe, shown, table
 
 from .geometry import joined
-from .tool import Fault, words
+from .tool import Fault, add_hierarchy, need_hierarchy, refuse_overwriting, words
 
 NO_TRIP: tuple[int | None, dict[str, str] | None] = None, None
-PAIR = ("from_node", "to_node")
+PAIR, KEYS = ("from_node", "to_node"), ("from_key", "to_key")
 FIGURES = ("length", "arcs", "seconds", "metres")
 STEPS = "steps"
 LINE = "WKT"
@@ -74,7 +76,10 @@ def read_words() -> argparse.Namespace:
     parser.add_argument("--as", dest="form", choices=FORMS, default="collection", help="default: collection")
     parser.add_argument("--no-steps", action="store_true", help="leave out the steps")
     parser.add_argument("--on-roads", action="store_true", help="ANSWERS are replies to lines of nearest --on-roads")
+    add_hierarchy(parser)
     options = parser.parse_args()
+    inputs = [options.answers, options.trips, options.hierarchy, *paths_of(options.network)]
+    refuse_overwriting(parser, [options.output], inputs)
     if options.on_roads and (options.trips is None or options.form == "csv"):
         parser.error("--on-roads needs --trips, and isn't there for --as csv")
     return options
@@ -83,18 +88,20 @@ def read_words() -> argparse.Namespace:
 class Driving(typing.NamedTuple):
     """What is said of an arc."""
 
-    seconds: float
+    seconds: float | None
     metres: float
     name: str
 
 
 class Driven(typing.NamedTuple):
-    """An answer on the road: the user's fields, the arcs, and the places along them, None where there is no route."""
+    """An answer on the road: the user's fields, the arcs, the places along them, None where there is no route, and the keys of its
+    ends where nodes have keys."""
 
     fields: dict[str, str]
     answer: Answer
     arcs: list[Driving]
     line: list[Point] | None
+    keys: dict[str, str | None]
 
 
 class Roads:
@@ -124,9 +131,15 @@ class Roads:
         """What is said of arcs."""
         if not arcs:
             return []
-        seconds, metres = (values[arcs].tolist() for values in (self.arrays.arc_seconds, self.arrays.arc_metres))
+        metres = self.arrays.arc_metres[arcs].tolist()
+        seconds = self.arrays.arc_seconds[arcs].tolist() if self.arrays.has_seconds else [None] * len(arcs)
         names = [self.arrays.texts[text] for text in self.arrays.arc_texts[arcs, NAME].tolist()]
         return list(map(Driving, seconds, metres, names))
+
+    def keys_of(self, answer: Answer) -> dict[str, str | None]:
+        """The keys of both ends, by the names of their properties; none where nodes have none."""
+        ends = answer.source, answer.target
+        return {name: self.arrays.key(node) for name, node in zip(KEYS, ends)} if self.arrays.has_keys else {}
 
     def line_along(self, node: int, arcs: list[int]) -> list[Point]:
         """The places along arcs that follow one another from a node, two or more."""
@@ -172,18 +185,22 @@ def routes_of(answers: Iterable[tuple[int, Answer]], answers_path: str, trips: T
             raise Fault(f"is an answer more than {trips.path} has rows", answers_path, row)
         arcs = roads.arcs_along(answer, answers_path, row)
         line = None if answer.length == NO_WAY else roads.line_along(answer.source, arcs)
-        yield Driven(own_fields(trip, answer, trips, trip_row), answer, roads.driven(arcs), line)
+        keys = roads.keys_of(answer)
+        yield Driven(own_fields(trip, answer, keys, trips, trip_row), answer, roads.driven(arcs), line, keys)
     if trips.columns:
         for more, _ in rows:
             raise Fault("is a row more than there are answers", trips.path, more)
 
 
-def own_fields(trip: dict[str, str], answer: Answer, trips: Trips, row: int | None) -> dict[str, str]:
-    """The fields of a trip but those of the pair, which have to be the answer's."""
-    for name, node in zip(PAIR, answer):
-        if trip.get(name, str(node)) != str(node):
-            raise Fault(f"has {name} {shown(trip[name])} where the answer has {node}", trips.path, row)
-    return {name: text for name, text in trip.items() if name not in PAIR}
+def own_fields(
+    trip: dict[str, str], answer: Answer, keys: dict[str, str | None], trips: Trips, row: int | None
+) -> dict[str, str]:
+    """The fields of a trip but those of the pair and its keys, which have to be the answer's."""
+    ours = dict(zip(PAIR, answer)) | keys
+    for name, value in ours.items():
+        if trip.get(name, str(value)) != str(value):
+            raise Fault(f"has {name} {shown(trip[name])} where the answer has {value}", trips.path, row)
+    return {name: text for name, text in trip.items() if name not in ours}
 
 
 def figures_of(route: Driven) -> dict[str, Any]:
@@ -191,12 +208,13 @@ def figures_of(route: Driven) -> dict[str, Any]:
     figures: list[float | None] = [None] * len(FIGURES)
     if route.line is not None:
         figures = [route.answer.length, len(route.arcs), *time_and_way(route.arcs)]
-    return dict(zip(PAIR + FIGURES, (route.answer.source, route.answer.target, *figures)))
+    return dict(zip(PAIR, route.answer)) | route.keys | dict(zip(FIGURES, figures))
 
 
-def time_and_way(arcs: list[Driving]) -> tuple[float, float]:
-    """Seconds to the thousandth and metres to the hundredth, as the table of arcs has them."""
-    return round(sum(arc.seconds for arc in arcs), 3), round(sum(arc.metres for arc in arcs), 2)
+def time_and_way(arcs: list[Driving]) -> tuple[float | None, float]:
+    """Seconds to the thousandth, None where the network has none, and metres to the hundredth, as the table of arcs has them."""
+    seconds = [arc.seconds for arc in arcs if arc.seconds is not None]
+    return round(sum(seconds), 3) if len(seconds) == len(arcs) else None, round(sum(arc.metres for arc in arcs), 2)
 
 
 def steps_of(route: Driven) -> list[dict[str, Any]] | None:
@@ -232,13 +250,14 @@ def write_collection(file: IO[str], features: Iterable[str], attribution: str) -
     file.write("\n]}\n")
 
 
-def write_table(file: IO[str], routes: Iterable[Driven], columns: Iterable[str]) -> None:
+def write_table(file: IO[str], routes: Iterable[Driven], columns: Iterable[str], has_keys: bool) -> None:
     """Writes the routes as CSV, the user's columns first."""
-    rows = csv.writer(file, lineterminator="\n")
-    rows.writerow([*(safe(name) for name in columns if name not in PAIR), *PAIR, *FIGURES, LINE])
+    rows, ours = csv.writer(file, lineterminator="\n"), (*PAIR, *(KEYS if has_keys else ()))
+    rows.writerow([*(safe(name) for name in columns if name not in ours), *ours, *FIGURES, LINE])
     for route in routes:
         line = None if route.line is None else parted_wkt(route.line)
-        rows.writerow([*map(safe, route.fields.values()), *figures_of(route).values(), line])
+        figures = (safe(value) if isinstance(value, str) else value for value in figures_of(route).values())
+        rows.writerow([*map(safe, route.fields.values()), *figures, line])
 
 
 def features_on_roads(options: argparse.Namespace) -> Iterator[str]:
@@ -272,6 +291,7 @@ def write_on_roads(options: argparse.Namespace) -> None:
 
 def main() -> None:
     options = read_words()
+    need_hierarchy(options)
     if options.on_roads:
         write_on_roads(options)
         return
@@ -284,7 +304,7 @@ def main() -> None:
         routes = routes_of(itertools.chain(first, answers), options.answers, trips, roads)
         features = (feature_of(route, not options.no_steps) for route in routes)
         if options.form == "csv":
-            write_table(file, routes, trips.columns)
+            write_table(file, routes, trips.columns, roads.arrays.has_keys)
         elif options.form == "collection":
             write_collection(file, features, attribution_of(options.network))
         else:

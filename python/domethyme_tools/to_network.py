@@ -6,20 +6,26 @@ show, and ends, as in NETWORK.nodes.csv of osm_to_gr, may be there too. Or it is
 
 ARCS is a CSV table with a row for each arc and the columns from and to. Other columns may be there or not:
 
+  oneway    with this column a row is a road: 1 or yes is one arc, -1 one arc from `to` to `from`; 0, no or nothing both
   weight    a whole number from 0 to 4294967295: routes have the least sum. Without it it is the milliseconds of seconds, or
             with --weight length the centimetres of metres, at least 1
-  metres    without it the length of the line
+  metres    or km; without both the length of the line
   seconds   without it those of the metres at kmh kilometres an hour, and without kmh 0
   WKT       the line, LINESTRING (LON LAT, LON LAT, ..); without it the straight one
   name, highway, ref, junction, destination, structure, osm    as in NETWORK.arcs.csv of osm_to_gr
 
-An empty field is as if its column weren't there. Or ARCS is a file X.gr of the DIMACS challenge: its arcs are straight, and
+An empty field is as if its column weren't there. Columns may be in other letters, and have common names: id for node; lng,
+longitude or x for lon; latitude or y for lat; source and target, or from_id and to_id, for from and to. Columns that aren't used
+are named on standard error. The names of nodes come back in answers, as from_key and to_key; a column key has other ones for
+that. All files may be compressed by gzip. Or ARCS is a file X.gr of the DIMACS challenge: its arcs are straight, and
 take 0 seconds.
 
 What is written, both or none:
 
   OUT.gr    the graph, for `routecli prepare`, a row of NODES for each node and a row of ARCS for each arc
   OUT.net   the network, for nearest, to_geojson, draw and domethyme-serve
+
+A table that the tools didn't write is never overwritten.
 
 With --tables there are OUT.nodes.csv and OUT.arcs.csv too, as osm_to_gr writes them. So the tables of osm_to_gr may be NODES
 and ARCS, after they were edited, or where OUT.net is damaged.
@@ -35,11 +41,15 @@ from typing import IO, Any
 
 import numpy
 
+from domethyme.belonging import older_hierarchy
 from domethyme.files import whole_files
 from domethyme.network import binary, own
-from domethyme.network.tables import ATTRIBUTION_COMMENT, Files, arcs_in, attribution_of, nodes_of, write_arcs, write_nodes
+from domethyme.network.tables import (
+    ARC_COLUMNS, ATTRIBUTION_COMMENT, NODE_COLUMNS, Files, arcs_in, attribution_of, has_columns, nodes_of, write_arcs, write_nodes,
+)
 
-from .tool import Fault, warn, words
+from .old_tables import tables_there
+from .tool import Fault, refuse_overwriting, warn, words
 
 ROWS = 1 << 16
 
@@ -55,7 +65,14 @@ def read_words() -> argparse.Namespace:
     options = parser.parse_args()
     if not os.path.basename(options.out) or os.path.isdir(options.out):
         parser.error("OUT is the beginning of the names of files, as out/firm, and no folder")
+    refuse_overwriting(parser, outputs_of(options), [options.nodes, options.arcs])
     return options
+
+
+def outputs_of(options: argparse.Namespace) -> list[str]:
+    """The paths of the files that are written."""
+    paths = Files(options.out)
+    return [paths.graph, *([paths.nodes, paths.arcs, *paths.forms] if options.tables else []), paths.binary]
 
 
 def write_graph(file: IO[bytes], arrays: binary.Arrays, attribution: str) -> None:
@@ -70,13 +87,14 @@ def write_graph(file: IO[bytes], arrays: binary.Arrays, attribution: str) -> Non
 
 
 def sizes_of(paths: Files, options: argparse.Namespace) -> tuple[int, int]:
-    """The sizes of tables that are beside OUT.net already, which have to be NODES and ARCS; 0 where there are none."""
+    """The sizes of NODES and ARCS where they are beside OUT.net, so that tools see when they are edited; 0 for others. Tables of
+    another network that the tools have written there are refused, since they would be read in place of OUT.net."""
     sizes = []
-    for own_table, given in ((paths.nodes, options.nodes), (paths.arcs, options.arcs)):
-        is_there = os.path.exists(own_table)
-        if is_there and not (os.path.exists(given) and os.path.samefile(own_table, given)):
-            raise Fault(f"is there, and isn't {given}: remove it, or give --tables to write it anew", own_table)
-        sizes.append(os.stat(own_table).st_size if is_there else 0)
+    for table, given, columns in ((paths.nodes, options.nodes, NODE_COLUMNS), (paths.arcs, options.arcs, ARC_COLUMNS)):
+        is_given = os.path.exists(table) and os.path.exists(given) and os.path.samefile(table, given)
+        if not is_given and has_columns(table, columns):
+            raise Fault(f"is there, and isn't {given}: remove it, or give --tables to write it anew", table)
+        sizes.append(os.stat(table).st_size if is_given else 0)
     return sizes[0], sizes[1]
 
 
@@ -92,8 +110,8 @@ def write_tables(files: list[IO[Any]], arrays: binary.Arrays) -> tuple[int, int]
 
 def read_arrays(options: argparse.Namespace, attribution: str) -> binary.Arrays:
     """The network of the tables."""
-    nodes = own.read_nodes(options.nodes)
-    arcs = own.read_arcs(options.arcs, nodes, options.weight)
+    nodes = own.read_nodes(options.nodes, warn)
+    arcs = own.read_arcs(options.arcs, nodes, options.weight, warn)
     try:
         return own.arrays_by(nodes, arcs, attribution)
     except ValueError as error:
@@ -104,13 +122,14 @@ def main() -> None:
     options = read_words()
     paths = Files(options.out)
     attribution = attribution_of(options.out) if options.attribution is None else " ".join(options.attribution.split())
-    tables = [paths.nodes, paths.arcs, *paths.forms] if options.tables else []
+    if options.tables:
+        tables_there(paths, True)
     sizes = (0, 0) if options.tables else sizes_of(paths, options)
     arrays = read_arrays(options, attribution)
-    with whole_files(paths.graph, *tables, paths.binary) as files:
+    with whole_files(*outputs_of(options)) as files:
         if options.tables:
             sizes = write_tables(files[1:3], arrays)
-            for file, text in zip(files[3:-1], paths.forms.values(), strict=True):
+            for file, text in zip(files[3:-1], paths.forms_of(len(arrays.node_texts) > 0).values(), strict=True):
                 print(text, file=file)
         write_graph(buffer_of(files[0]), arrays, attribution)
         try:
@@ -119,6 +138,8 @@ def main() -> None:
             raise Fault(str(error), options.arcs) from error
     kilometres = arrays.arc_metres[numpy.unique(arrays.arc_edge, return_index=True)[1]].sum() / 1000
     warn(f"{options.out}: {len(arrays.node_osm)} nodes, {len(arrays.arc_from)} arcs, {kilometres:.1f} km of road")
+    if (older := older_hierarchy(options.out)) is not None:
+        warn(older)
 
 
 def buffer_of(file: IO[str]) -> IO[bytes]:

@@ -7,6 +7,8 @@
     warn(text)                   a line on standard error, with the tool's name
     words(doc, *examples)        an argparse parser whose `--help` begins with the docstring as it is and ends with examples
     packages()                   `with packages(): import numpy` ends with one line and status 1 if one is missing
+    add_hierarchy(parser)        the option --hierarchy, and need_hierarchy(options) compares it with NETWORK
+    refuse_overwriting(parser, outputs, inputs)     status 2 where an output is an input
     tool(name)                   the words that begin another tool
 """
 import argparse
@@ -14,11 +16,13 @@ import contextlib
 import os
 import pathlib
 import signal
+import stat
 import sys
-from collections.abc import Callable, Iterator
+from collections.abc import Callable, Iterable, Iterator
 from types import FrameType
 from typing import NoReturn
 
+from domethyme import belonging
 from domethyme.errors import DomethymeError, FileError
 
 
@@ -94,6 +98,37 @@ def words(doc: str | None, *examples: str) -> argparse.ArgumentParser:
     `%(prog)s` is the name that it was called by."""
     epilog = "\n  ".join(["examples:", *examples]) if examples else None
     return argparse.ArgumentParser(description=doc, epilog=epilog, formatter_class=argparse.RawDescriptionHelpFormatter)
+
+
+def add_hierarchy(parser: argparse.ArgumentParser, option: str = "--hierarchy", what: str = "its hierarchy") -> None:
+    """Adds the option by which a hierarchy and a network are compared."""
+    parser.add_argument(option, metavar=option[2:].upper(), help=f"{what}, which is compared: another one is refused")
+    parser.add_argument("--compare-all", action="store_true", help="compare all links, also of more than ten million")
+
+
+def need_hierarchy(options: argparse.Namespace) -> None:
+    """Raises WrongHierarchy where --hierarchy names one of another network than NETWORK."""
+    if options.hierarchy is not None:
+        belonging.compare_files(options.hierarchy, options.network, options.compare_all)
+
+
+def refuse_overwriting(parser: argparse.ArgumentParser, outputs: Iterable[str | None], inputs: Iterable[str | None]) -> None:
+    """Ends with status 2 where an output is a file that is read too, by whatever name, or by standard input."""
+    given = {path: file for path in inputs if path is not None and (file := file_at(path)) is not None}
+    for output in outputs:
+        found = None if output in (None, "-") else file_at(str(output))
+        for path, file in given.items():
+            if found is not None and os.path.samestat(found, file):
+                parser.error(f"{output} and {spoken(path)} are one file: it would be overwritten")
+
+
+def file_at(path: str) -> os.stat_result | None:
+    """The regular file at a path, or that is standard input; None for anything else."""
+    try:
+        found = os.fstat(0) if path == "-" else os.stat(path)
+    except (OSError, ValueError):
+        return None
+    return found if stat.S_ISREG(found.st_mode) else None
 
 
 def tool(name: str) -> list[str]:

@@ -55,6 +55,11 @@ class DrawCase(ToolCase):
         self.write("net.nodes.csv", NODES)
         self.write("net.arcs.csv", ARCS)
 
+    def widen(self):
+        """Has a road lead on in the north, so that the network has room for routes from corner to corner."""
+        self.write("net.nodes.csv", f"{NODES}6,,0.012,0.02\n")
+        self.write("net.arcs.csv", f'{ARCS}5,6,1,1,889.56,104,residential,Far Road,"LINESTRING (0.004 0.02, 0.012 0.02)"\n')
+
     def routes(self, *features):
         """The path of a collection of features."""
         return self.write("routes.json", json.dumps({"type": "FeatureCollection", "features": features}))
@@ -145,6 +150,7 @@ class Picture(DrawCase):
         picture = self.picture_of(*[NO_WAY] * 40, words=[])
         texts = [told(text) for text in picture.findall("./g[@transform]/text")]
         self.assertEqual((len(texts), texts[-2]), (50, "and 16 more"))
+        self.widen()
         # Below the map, where a route would be hidden, there is room for 40 rows.
         for count, last in [(20, "route 20"), (60, "and 21 more")]:
             picture = self.picture_of(*[route("", ACROSS)] * count, words=[])
@@ -152,6 +158,7 @@ class Picture(DrawCase):
             self.assertEqual((len(texts), texts[-2]), (2 * min(count, 40), last))
 
     def test_the_legend_hides_no_route_and_is_in_the_picture(self):
+        self.widen()
         for label in ("a", "a label that is rather long for any of them", LABEL):
             for width in (200, 300, 500, 1000):
                 for line in (ACROSS, [[0, 0], [0.004, 0]], [[0, 0], [0, 0.004], [0.004, 0.004], [0.004, 0]]):
@@ -198,7 +205,7 @@ class Picture(DrawCase):
         self.run_tool("to_geojson", "d.co", "answers", "-o", "routes")
         told_of = json.loads((self.folder / "routes").read_text())["features"][0]
         self.assertEqual(told_of["geometry"]["coordinates"], [[0, 0], [0.001, 0], [0.002, 0.001]])
-        self.assertEqual((told_of["properties"]["metres"], told_of["properties"]["seconds"]), (268.45, 0))
+        self.assertEqual((told_of["properties"]["metres"], told_of["properties"]["seconds"]), (268.45, None))
         self.run_tool("draw", "d.co", "routes", "out.svg")
         picture = xml.fromstring((self.folder / "out.svg").read_text().replace(' xmlns="http://www.w3.org/2000/svg"', ""))
         self.assertEqual(roads_in(picture), {"1.2": 2})
@@ -222,6 +229,17 @@ class Picture(DrawCase):
         self.write("net.gr", "c attribution: \u00a9 A & B\np sp 5 0\n")
         picture = self.picture_of(EAST, words=["--attribution", "<tiles>"])
         self.assertEqual(told(picture.findall("text")[-1]), "\u00a9 A & B, <tiles>")
+
+    def test_attribution_of_the_routes(self):
+        """It is shown beside the network's, and once where both are the same."""
+        collection = {"type": "FeatureCollection", "attribution": "© Others", "features": [EAST]}
+        self.write("net.gr", "c attribution: © Firm\np sp 5 4\n")
+        for said in ("© Others", "© Firm"):
+            routes = self.write("routes.json", json.dumps({**collection, "attribution": said}))
+            for name in ("out.svg", "out.html"):
+                self.run_tool("draw", "net", routes, name)
+                text = (self.folder / name).read_text(encoding="utf-8")
+                self.assertEqual([text.count(word) for word in ("Firm", "Others")], [1, int(said == "© Others")])
 
     def test_what_xml_cannot_hold(self):
         picture = self.picture_of(route("a\x00b\ud800", [[0, 0], [0.002, 0]]))
@@ -369,6 +387,18 @@ class BadInput(DrawCase):
             text = json.dumps({"type": "FeatureCollection", "features": [EAST, bad]})
             self.assert_routes_refused(text, f": feature 2 {says}")
 
+    def test_routes_of_another_network(self):
+        """One that lies elsewhere is refused, whichever it is; one that is beside a road isn't."""
+        for line in ([[9.5, 47.1], [9.6, 47.2]], [[0, 0], [0.3, 0]], [[-0.1, 0.01], [0, 0.01]]):
+            routes = self.routes(EAST, route("far", line))
+            says = "feature 2 leads by .*, and the roads of net are from 0.0000,0.0000 to 0.0040,0.0200: is it of another network"
+            with self.subTest(line=line):
+                before = self.contents()
+                ended = self.run_tool("draw", "net", routes, "out.svg", status=1)
+                self.assertRegex(ended.stderr, says)
+                self.assertEqual(self.contents(), before)
+        self.run_tool("draw", "net", self.routes(route("beside", [[0.0045, -0.0003], [0.004, 0]])), "out.svg")
+
     def test_label(self):
         self.assert_routes_refused(json.dumps(EAST), ": feature 1 has no property name", "--label", "name")
 
@@ -378,7 +408,7 @@ class BadInput(DrawCase):
 
     def test_network(self):
         routes = self.routes(EAST)
-        self.assert_refused("draw", "nowhere", routes, "out.svg", says="nowhere.nodes.csv: No such file")
+        self.assert_refused("draw", "nowhere", routes, "out.svg", says="nowhere.net: No such file")
         self.write("net.arcs.csv", ARCS.replace("LINESTRING (0.002 0, 0.004 0)", "POINT (0 0)"))
         self.assert_refused("draw", "net", routes, "out.svg", says="net.arcs.csv, row 4: WKT 'POINT (0 0)' is no line")
         self.write("net.arcs.csv", ARCS.splitlines()[0])

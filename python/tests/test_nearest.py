@@ -25,7 +25,8 @@ from_lon,from_lat,to_lon,to_lat
 0.0006,0,0.002,0.0004
 """
 # 0.0004 degrees are 44.478 m.
-PAIRS = "p aux sp p2p 2\nq 1 4\nq 2 3\n"
+OF_STREET = "c network street: 4 nodes\n"
+PAIRS = OF_STREET + "p aux sp p2p 2\nq 1 4\nq 2 3\n"
 
 
 class NearestCase(ToolCase):
@@ -48,11 +49,11 @@ class Pairs(NearestCase):
         self.assertEqual(self.pairs_of(TRIPS), PAIRS)
 
     def test_no_trips(self):
-        self.assertEqual(self.pairs_of("from_lon,from_lat,to_lon,to_lat\n"), "p aux sp p2p 0\n")
+        self.assertEqual(self.pairs_of("from_lon,from_lat,to_lon,to_lat\n"), OF_STREET + "p aux sp p2p 0\n")
 
     def test_columns_go_by_name(self):
         trips = "\ufeffto_lat,name,to_lon,from_lat,from_lon\r\n0.0006,\"a, \"\"b\"\"\",0.002,0,0.0004\r\n"
-        self.assertEqual(self.pairs_of(trips), "p aux sp p2p 1\nq 1 4\n")
+        self.assertEqual(self.pairs_of(trips), OF_STREET + "p aux sp p2p 1\nq 1 4\n")
 
     def test_standard_input_and_a_file(self):
         self.run_tool("nearest", "street", "-", "-o", "pairs", given=TRIPS)
@@ -60,19 +61,19 @@ class Pairs(NearestCase):
 
     def test_coordinates_as_network(self):
         self.write("street.co", STREET_CO)
-        self.assertEqual(self.pairs_of(TRIPS, network="street.co"), PAIRS)
+        self.assertEqual(self.pairs_of(TRIPS, network="street.co"), PAIRS.replace("street", "street.co"))
 
     def test_distance_is_on_the_sphere(self):
         # At 60 degrees north 0.0015 degrees of longitude are half as long as at the equator, 83.4 m.
         self.write("north.nodes.csv", "node,osm,lon,lat\n1,,0,60.001\n2,,0.0015,60\n3,,179.9995,0\n4,,179,0\n")
         trips = "from_lon,from_lat,to_lon,to_lat\n0,60,-179.9995,0\n"
-        self.assertEqual(self.pairs_of(trips, "--snapped", "s", network="north"), "p aux sp p2p 1\nq 2 3\n")
+        self.assertEqual(self.pairs_of(trips, "--snapped", "s", network="north"), "c network north: 4 nodes\np aux sp p2p 1\nq 2 3\n")
         self.assertEqual((self.folder / "s").read_text().splitlines()[1], "0,60,-179.9995,0,2,83.4,3,111.2")
 
 
 class Matrix(NearestCase):
     PLACES = "name,lat,lon\nbaker,0,0.0004\nmill,0.0006,0.002\n"
-    ALL = "p aux sp p2p 4\nq 1 1\nq 1 4\nq 4 1\nq 4 4\n"
+    ALL = OF_STREET + "p aux sp p2p 4\nq 1 1\nq 1 4\nq 4 1\nq 4 4\n"
 
     def test_each_to_each(self):
         self.assertEqual(self.pairs_of(self.PLACES, "--matrix"), self.ALL)
@@ -128,7 +129,7 @@ class Snapped(NearestCase):
 
     def test_column_of_its_own(self):
         trips = "from_lon,from_lat,to_lon,to_lat,to_node\n0,0,0,0,9\n"
-        self.assertEqual(self.pairs_of(trips), "p aux sp p2p 1\nq 1 1\n")
+        self.assertEqual(self.pairs_of(trips), OF_STREET + "p aux sp p2p 1\nq 1 1\n")
         says = "trips.csv, row 1: --snapped would have two columns to_node"
         self.assert_refused("nearest", "street", "trips.csv", "--snapped", "s", says=says)
 
@@ -141,7 +142,7 @@ class TooFar(NearestCase):
 
     def test_within(self):
         trips = "from_lon,from_lat,to_lon,to_lat\n0.002,0.0015,0,0\n"
-        self.assertEqual(self.pairs_of(trips, "--within", "55.6"), "p aux sp p2p 1\nq 4 1\n")
+        self.assertEqual(self.pairs_of(trips, "--within", "55.6"), OF_STREET + "p aux sp p2p 1\nq 4 1\n")
         self.assert_far("0.002,0.0015", "row 4: from_lon 0.002, from_lat 0.0015 is 56 m", "--within", "55.59")
 
     def test_first_row_counts(self):
@@ -158,7 +159,7 @@ class TooFar(NearestCase):
         trips = "from_lon,from_lat,to_lon,to_lat,trip\n0,0,1,0,far\n0.002,0,0,0,near\n1,0,0,0,far\n0,0,0,0,there\n"
         self.write("trips.csv", trips)
         ended = self.run_tool("nearest", "street", "trips.csv", "--skip-far", "--snapped", "snapped.csv")
-        self.assertEqual(ended.stdout, "p aux sp p2p 2\nq 3 1\nq 1 1\n")
+        self.assertEqual(ended.stdout, OF_STREET + "p aux sp p2p 2\nq 3 1\nq 1 1\n")
         self.assertEqual(ended.stderr, "nearest: left out 2 of 4 rows, which are too far from each node\n")
         self.assertEqual(
             (self.folder / "snapped.csv").read_text().splitlines()[1:],
@@ -177,14 +178,14 @@ class BadInput(NearestCase):
         for text, says in [
             ("from_lon,from_lat,to_lon\n", "trips.csv, row 1: has no column to_lat"),
             (TRIPS + "0,0,0\n", "trips.csv, row 4: has 3 fields"),
-            ("", "trips.csv, row 1: has no column"),
+            ("", "trips.csv: is empty"),
         ]:
             self.assert_refused("nearest", "street", self.write("trips.csv", text), "-o", "pairs", says=says)
 
     def test_no_file(self):
         self.assert_refused("nearest", "street", "none.csv", says="none.csv: No such file")
         trips = self.write("trips.csv", TRIPS)
-        self.assert_refused("nearest", "nowhere", trips, says="nowhere.nodes.csv: No such file")
+        self.assert_refused("nearest", "nowhere", trips, says="nowhere.net: No such file")
 
     def test_network_without_nodes(self):
         self.write("empty.nodes.csv", "node,osm,lon,lat\n")

@@ -8,7 +8,7 @@ import xml.etree.ElementTree as xml
 import osmium
 from tool_case import PYTHON, VILLAGE, ToolCase
 
-from domethyme.network.tables import attribution_of, lightest, read_arcs, read_nodes
+from domethyme.network.tables import ALL_ARC_COLUMNS, attribution_of, lightest, read_arcs, read_nodes
 from domethyme.texts import read_answers, read_graph, write_pairs
 from domethyme import find_program
 
@@ -113,7 +113,7 @@ class NetworkCase(ToolCase):
 
     def labels(self, out="village"):
         """The name of each node by its number: its id in the map, or its place in the drawing."""
-        places = enumerate(zip(*self.nodes(out)), 1)
+        places = enumerate(zip(*self.nodes(out)[:4]), 1)
         return {node: osm or f"({lon * 1000:.3f}, {lat * 1000:.3f})" for node, (osm, lon, lat, _) in places}
 
     def drawn(self, out="village"):
@@ -153,7 +153,7 @@ class Village(NetworkCase):
         self.convert()
         nodes = self.nodes()
         places = {int(node.get("id")): (float(node.get("lon")), float(node.get("lat"))) for node in map_of("node")}
-        for osm, lon, lat, _ in zip(*nodes):
+        for osm, lon, lat, _ in zip(*nodes[:4]):
             if osm is not None:
                 self.assertEqual((lon, lat), places[osm])
         self.assertEqual(nodes.osm.count(None), 3)
@@ -218,8 +218,8 @@ class Village(NetworkCase):
         self.assertEqual(self.graph().nodes, 35)
 
     def test_old_files_are_replaced(self):
-        for ending in ("gr", "nodes.csv", "arcs.csv"):
-            self.write(f"village.{ending}", "old")
+        for ending, text in (("gr", "old"), ("nodes.csv", "node,osm,lon,lat,ends,key\n"), ("arcs.csv", f"{','.join(ALL_ARC_COLUMNS)}\n")):
+            self.write(f"village.{ending}", text)
         self.convert()
         self.assertEqual(self.drawn(), arcs_by_time(DRAWING))
         self.assertEqual(len(self.contents()), 8)

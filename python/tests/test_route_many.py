@@ -336,14 +336,17 @@ class PartsFolderTests(RouteManyCase):
 
 
 class RefusalTests(RouteManyCase):
-    """Bad input: the program's own line and status, and nothing is left."""
+    """Bad input: the program's own line, with its explanation, and status, and nothing is left."""
 
     def assert_program_refuses(self, line, *words, status=5):
-        """Wants the line on standard error, the status, and the folder, with an older `out`, as it was."""
+        """Wants the line on standard error, explained, the status, and the folder, with an older `out`, as it was."""
         self.write("out", "of an earlier run\n")
         before = self.contents()
         ended = self.many("--jobs", 3, *words, status=status)
-        self.assertEqual(ended.stderr, f"{line}\n")
+        first, *more = ended.stderr.splitlines()
+        self.assertEqual(first, line)
+        self.assertTrue(all(each.startswith("  ") for each in more), more)
+        self.assertNotIn("out.parts", ended.stderr)
         self.assertEqual(self.contents(), before)
         self.assertEqual(sorted(os.listdir(self.folder)), sorted({*self.before, "out"}))
 
@@ -405,7 +408,7 @@ class RefusalTests(RouteManyCase):
         self.until(lambda: not is_running(failed))
         self.release("000002.pairs")
         self.assert_ends(run, 5)
-        self.assertEqual(self.said(), "routecli: queries: NodeRange line 121\n")
+        self.assertEqual(self.said().splitlines()[:2], ["routecli: queries: NodeRange line 121", "  pairs:121: q 301 1"])
         self.assert_untouched()
 
     def test_hierarchy(self):
@@ -595,7 +598,8 @@ class CutTests(RouteManyCase):
     def test_a_wrong_count_is_refused_at_the_cut(self):
         self.write("pairs", "p aux sp p2p 3\nq 1 2\n")
         ended = self.many("--cut", status=5)
-        self.assertEqual(ended.stderr, "routecli: queries: ArcCount line 2\n")
+        self.assertEqual(ended.stderr.splitlines()[0], "routecli: queries: ArcCount line 2")
+        self.assertIn("  pairs", ended.stderr)
         self.assert_untouched()
 
 
@@ -702,7 +706,7 @@ class DaskTests(RouteManyCase):
         lines[320], lines[170] = "q 301 1", "q one 1"
         self.write("pairs", "\n".join(lines))
         ended = self.many("--dask", "scheduler.json", status=5)
-        self.assertEqual(WAITS.sub("", ended.stderr), "routecli: queries: NotANumber line 171\n")
+        self.assertEqual(WAITS.sub("", ended.stderr).splitlines()[:2], ["routecli: queries: NotANumber line 171", "  pairs:171: q one 1"])
         self.assertFalse((self.folder / "out.parts").exists())
         self.assertFalse((self.folder / "out").exists())
 

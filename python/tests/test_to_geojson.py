@@ -194,7 +194,7 @@ class BadInput(RoutesCase):
         self.assert_refused("to_geojson", "net", "back", "-o", "routes", says=says)
         self.write("net.arcs.csv", ARCS.replace("1,2,100", "1,2,light"))
         self.assert_refused("to_geojson", "net", "answers", says="net.arcs.csv, row 2: weight 'light'")
-        self.assert_refused("to_geojson", "nowhere", "answers", says="nowhere.nodes.csv: No such file")
+        self.assert_refused("to_geojson", "nowhere", "answers", says="nowhere.net: No such file")
 
     def test_old_file_stays(self):
         self.write("routes", "as it was\n")

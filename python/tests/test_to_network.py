@@ -1,6 +1,7 @@
 """Tests of networks of one's own: from tables and DIMACS files to the graph, the network and answers. A thousandth of a degree is
 111.195 m along the equator."""
 import json
+import os
 
 import numpy as np
 from service_case import ServiceCase
@@ -93,12 +94,12 @@ class TableTests(ToolCase):
             ("lon,lat,ends\n0,0,both\n", None, "nodes.csv, row 2: ends 'both' is none of from, to, no"),
             ("lon,lat,osm\n0,0,a\n", None, "nodes.csv, row 2: osm 'a' is no whole number"),
             (None, "from,to\n", "arcs.csv: has 0 arcs"),
-            (None, "from,to,weight\ndepot,office,1\n", "arcs.csv, row 2: to 'office' is no node of the other table"),
+            (None, "from,to,weight\ndepot,office,1\n", "arcs.csv, row 2: to 'office' isn't in nodes.csv"),
             (None, "from,to,weight\ndepot,shop,1.5\n", "arcs.csv, row 2: weight '1.5' is no whole number"),
             (None, "from,to,weight\ndepot,shop,4294967296\n", "arcs.csv, row 2: weight 4294967296 isn't from 0 to 4294967295"),
             (None, "from,to,metres\ndepot,shop,10\n", "arcs.csv, row 2: has none of weight, seconds and kmh"),
             (None, "from,to,kmh\ndepot,shop,0\n", "arcs.csv, row 2: kmh is 0"),
-            (None, "from,to,seconds\ndepot,shop,1e9\n", "arcs.csv: arc 1 would weigh more than 4294967295"),
+            (None, "from,to,seconds\ndepot,shop,1e9\n", "arcs.csv, row 2: would weigh more than 4294967295"),
             (None, 'from,to,weight,WKT\ndepot,shop,1,"LINESTRING (0.5 0, 0.001 0)"\n', "arcs.csv, row 2: its line ends 55,598 m from its node"),
             (None, 'from,to,weight,WKT\ndepot,shop,1,"LINESTRING (0 0, 0 inf)"\n', "arcs.csv, row 2: WKT 'LINESTRING (0 0, 0 inf)' has what"),
             (None, "from,to,weight,WKT\ndepot,shop,1,POINT (0 0)\n", "arcs.csv, row 2: WKT 'POINT (0 0)' is no line"),
@@ -221,4 +222,54 @@ class WholeTests(ServiceCase):
         status, found = self.ask("/map/roads/15/16384/16383")
         self.assertEqual((status, found["code"]), (500, "InternalError"))
         self.assertEqual(self.ask("/health")[0], 200)
-        self.assertTrue(any("was written to while it was in use" in line for line in self.said), self.said)
+        self.wait_for(lambda: any("v.net: is damaged: step_codes has another checksum" in line for line in self.said))
+        self.assertFalse(any("Traceback" in line for line in self.said), self.said)
+
+    def test_a_file_whose_times_change(self):
+        """A backup, or `touch`: answers are as they were."""
+        self.serve("--network", self.folder / "v")
+        paths = ("/nearest/v1/car/0.0003,0.00001", "/route/v1/car/0,0;0.008,0?steps=true", "/map/roads/15/16384/16383")
+        before = [self.ask(path) for path in paths]
+        os.utime(self.folder / "v.net")
+        self.assertEqual([self.ask(path) for path in paths], before)
+        self.assertEqual(before[0][0], 200)
+
+    def test_a_network_without_seconds(self):
+        """Durations are null in routes, and aren't in tables, which have weights; keys of nodes come back."""
+        self.write("nodes.csv", NODES)
+        self.write("arcs.csv", "from,to,weight\ndepot,shop,250\nshop,depot,250\nshop,farm,300\n")
+        self.run_tool("to_network", "nodes.csv", "arcs.csv", "net")
+        domethyme.prepare(self.folder / "net.gr", self.folder / "v.rch", workers=1).close()
+        self.serve("--network", self.folder / "net")
+        places = "0,0;0.001,0.002"
+        status, found = self.ask(f"/route/v1/car/{places}?steps=true&annotations=true")
+        route = found["routes"][0]
+        self.assertEqual((status, route["weight_name"], route["weight"], route["duration"], route["distance"]), (200, "weight", 550, None, 333.59))
+        self.assertEqual([step["duration"] for step in route["legs"][0]["steps"]], [None] * len(route["legs"][0]["steps"]))
+        noted = route["legs"][0]["annotation"]
+        self.assertEqual((noted["duration"], noted["speed"], noted["weight"]), ([None, None], [None, None], [250, 300]))
+        for query in ("", "?annotations=duration,distance"):
+            status, found = self.ask(f"/table/v1/car/{places}{query}")
+            self.assertEqual((status, found["code"]), (400, "NotImplemented"))
+            self.assertIn("this network has no seconds, so no durations: ask annotations=weight or distance", found["message"])
+        status, found = self.ask(f"/table/v1/car/{places}?annotations=weight,distance&skip_waypoints=true")
+        self.assertEqual((status, found["weights"], found["distances"][0]), (200, [[0, 550], [None, 0]], [0, 333.59]))
+        many = ";".join([places] * 10)
+        self.assertEqual(self.ask(f"/table/v1/car/{many}?annotations=weight")[1]["weights"][0][:2], [0, 550])
+        self.assertEqual(self.ask(f"/table/v1/car/{places}?annotations=weight&fallback_speed=10")[1]["weights"], [[0, 550], [None, 0]])
+
+        wanted = {"from": 1, "to": 3, "length": 550, "from_key": "depot", "to_key": "farm"}
+        for query in ("from=1&to=3", "from_key=depot&to_key=farm", "from=1&to_key=farm"):
+            self.assertEqual(self.ask(f"/nodes/length?{query}"), (200, wanted))
+        self.assertEqual(self.ask("/nodes/route?from_key=shop&to_key=depot")[1]["nodes"], [2, 1])
+        for query, says in (("from_key=x&to=3", "from_key is the key of no node"), ("from=1&from_key=depot&to=3", "are both given"), ("to=3", "from is missing")):
+            self.assertIn(says, self.ask(f"/nodes/length?{query}")[1]["message"])
+        status, text = self.ask("/nodes/lengths", "POST", '{"from_key": "depot", "to_key": "farm"}\n{"from": 1, "to": 3}\n')
+        self.assertEqual([json.loads(line) for line in text.splitlines()], [wanted, wanted])
+
+    def test_weights_and_seconds(self):
+        """A table of weights beside durations, of a map by time."""
+        self.serve("--network", self.folder / "v")
+        found = self.ask("/table/v1/car/0,0;0.008,0?annotations=duration,weight")[1]
+        self.assertEqual(found["weights"], found["durations"])
+        self.assertIsNotNone(found["durations"][0][1])

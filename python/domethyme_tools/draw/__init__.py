@@ -5,7 +5,8 @@ NETWORK.gr for what the data asks to be said wherever it is shown. ROUTES is wha
 standard input). OUT is a picture (SVG) where its name ends in .svg, and a page (HTML) where it ends in .html.
 
 Both show the roads in grey, around the routes or with --whole all of them; each route in a colour, from a ring to a
-dot, with arrows where there are no more than 20; a legend with kilometres and minutes; a scale; and the attribution.
+dot, with arrows where there are no more than 20; a legend with kilometres and minutes; a scale; and the attribution of
+the network and of ROUTES. Routes that begin or end outside of the network's roads are refused: they are another network's.
 Where routes overlap, earlier ones are drawn wider, so up to four remain visible. Colours repeat after eight routes.
 
 In the picture a browser shows a route's streets where the pointer rests on it. Routes that the legend has no room for are
@@ -22,10 +23,10 @@ feature; 2 for arguments that are refused.
 import argparse
 
 from domethyme.files import writing
-from domethyme.network.tables import attribution_of
+from domethyme.network.tables import attribution_of, paths_of
 
 from ..geometry import Box, View
-from ..tool import spoken, warn, words
+from ..tool import refuse_overwriting, spoken, warn, words
 from .page import page_of
 from .picture import picture_of
 from .roads import scene_of
@@ -57,6 +58,7 @@ def read_words() -> argparse.Namespace:
         parser.error("--tiles are for a page")
     if options.tiles is not None and not all(part in options.tiles for part in ("{z}", "{x}", "{y}")):
         parser.error("the URL of --tiles needs {z}, {x} and {y}")
+    refuse_overwriting(parser, [options.output], [options.routes, *paths_of(options.network)])
     return options
 
 
@@ -75,12 +77,13 @@ def width_of(box: Box) -> int:
 
 def main() -> None:
     options = read_words()
-    routes = read_routes(options.routes, options.label)
+    routes, said = read_routes(options.routes, options.label)
     if not routes:
         warn(f"{spoken(options.routes)} has no route: the roads alone are drawn")
     is_picture = options.output.endswith(PICTURE)
-    box, roads = scene_of(options.network, routes, options.whole, is_picture)
-    attribution = ", ".join(filter(None, [attribution_of(options.network), options.attribution]))
+    box, roads = scene_of(options.network, routes, options.whole, is_picture, options.routes)
+    of_all = [attribution_of(options.network), *said, options.attribution]
+    attribution = ", ".join(dict.fromkeys(filter(None, of_all)))
     if is_picture:
         text = picture_of(routes, roads, View(box, options.width or width_of(box)), attribution)
     else:

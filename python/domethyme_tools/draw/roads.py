@@ -35,6 +35,8 @@ TUNNEL = "tunnel"
 DASHES = "5 4"
 # Edges that are read together, and the share of the world from which on a box has all of them.
 PART, WIDE = 1 << 14, 0.25
+# The degrees within which a route lies beside the roads: those of a picture begin and end on them.
+BESIDE = 0.001
 
 
 def kind_of(highway: str) -> int:
@@ -43,10 +45,9 @@ def kind_of(highway: str) -> int:
     return next((number for number, kind in enumerate(KINDS) if plain in kind.highways), 0)
 
 
-def read_roads(network: str, box: Box | None) -> Lines:
+def read_roads(arrays: Mapped, box: Box | None) -> Lines:
     """For each of KINDS the lines of its roads, and then for each those of its tunnels; a road of two directions comes
     once, and with a box only those that meet it."""
-    arrays = network_of(network)
     roads: list[list[list[Point]]] = [[] for _ in (*KINDS, *KINDS)]
     seen = set()
     near = (arrays.about["west"] + arrays.about["east"]) / 2 / UNITS if box is None else place_at(box.middle)[0]
@@ -102,17 +103,31 @@ def all_places(roads: Lines) -> list[Point]:
     return list(itertools.chain.from_iterable(itertools.chain.from_iterable(roads)))
 
 
-def scene_of(network: str, routes: list[Drawn], is_whole: bool, is_picture: bool) -> tuple[Box, Lines]:
-    """The box to show and its roads."""
+def scene_of(network: str, routes: list[Drawn], is_whole: bool, is_picture: bool, path: str) -> tuple[Box, Lines]:
+    """The box to show and its roads. Raises a Fault where the routes, which come from the file at the path, are another network's."""
+    arrays = network_of(network)
+    need_inside(arrays, routes, network, path)
     around = None if is_whole else box_around(routes)
     if around is not None:
         box = shape_for(is_picture, around)
-        return box, read_roads(network, box)
-    roads = read_roads(network, None)
+        return box, read_roads(arrays, box)
+    roads = read_roads(arrays, None)
     places = all_places(roads)
     if not places:
         raise Fault("has no arcs", arcs_file(network))
     return shape_for(is_picture, roomy_box(places)), roads
+
+
+def need_inside(arrays: Mapped, routes: list[Drawn], network: str, path: str) -> None:
+    """A Fault where a route isn't in the box of the network's roads."""
+    west, south, east, north = (arrays.about[side] / UNITS for side in ("west", "south", "east", "north"))
+    for number, route in enumerate(routes, 1):
+        for lon, lat in route.line or ():
+            is_beside = (lon - west + BESIDE) % 360 <= east - west + 2 * BESIDE
+            if not (is_beside and south - BESIDE <= lat <= north + BESIDE):
+                box = f"{west:.4f},{south:.4f} to {east:.4f},{north:.4f}"
+                where = f"leads by {wrapped_lon(lon):.4f},{lat:.4f}, and the roads of {network} are from {box}"
+                raise Fault(f"feature {number} {where}: is it of another network?", path)
 
 
 def shape_for(is_picture: bool, box: Box) -> Box:

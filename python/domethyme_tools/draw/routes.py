@@ -33,8 +33,8 @@ class Drawn(typing.NamedTuple):
     pieces: list[tuple[float, list[Point]]]
 
 
-def read_routes(path: str, label: str | None) -> list[Drawn]:
-    """The routes of a file of GeoJSON."""
+def read_routes(path: str, label: str | None) -> tuple[list[Drawn], list[str]]:
+    """The routes of a file of GeoJSON, and what its collections ask to be said."""
     with reading(path) as stream:
         try:
             text = stream.read().decode("utf-8-sig")
@@ -42,9 +42,10 @@ def read_routes(path: str, label: str | None) -> list[Drawn]:
             raise Fault("isn't UTF-8", path) from error
     if not text.strip():
         raise Fault("is empty: a step that was to write it has failed", path)
-    coloured = enumerate(zip(features_in(text, path), itertools.cycle(COLOURS)), 1)
+    said: list[str] = []
+    coloured = enumerate(zip(features_in(text, path, said), itertools.cycle(COLOURS)), 1)
     routes = [route_of(feature, Place(path, number), label, colour) for number, (feature, colour) in coloured]
-    return with_pieces(beside_one_another(routes))
+    return with_pieces(beside_one_another(routes)), said
 
 
 def beside_one_another(routes: list[Drawn]) -> list[Drawn]:
@@ -67,8 +68,8 @@ def with_pieces(routes: list[Drawn]) -> list[Drawn]:
     ]
 
 
-def features_in(text: str, path: str) -> Iterator[Any]:
-    """The features of a text that has collections and features, one after the other."""
+def features_in(text: str, path: str, said: list[str]) -> Iterator[Any]:
+    """The features of a text that has collections and features, one after the other. The attributions of collections go to `said`."""
     decoder, place = json.JSONDecoder(), 0
     while (start := end_of_blanks(text, place)) < len(text):
         row = text.count("\n", 0, start) + 1
@@ -79,6 +80,8 @@ def features_in(text: str, path: str) -> Iterator[Any]:
         except (RecursionError, ValueError) as error:
             raise Fault(f"isn't GeoJSON: {error}", path, row) from error
         yield from features_of(document, path, row)
+        if isinstance(document.get("attribution"), str):
+            said.append(" ".join(document["attribution"].split()))
 
 
 def end_of_blanks(text: str, place: int) -> int:
@@ -117,7 +120,8 @@ def route_of(feature: Any, place: Place, label: str | None, colour: str) -> Draw
     line = line_of(feature.get("geometry"), place)
     if line is None:
         return Drawn(name, NO_WAY, [], None, [], colour, [])
-    metres, seconds = (amount(properties, name, place) for name in ("metres", "seconds"))
+    metres = amount(properties, "metres", place)
+    seconds = 0.0 if properties.get("seconds", 0.0) is None else amount(properties, "seconds", place)
     figures = kilometres(metres) if metres and not seconds else f"{kilometres(metres)}, {minutes(seconds)}"
     steps, line = steps_of(properties, place), unwrapped(line, line[0][0])
     line = line if len(line) > 1 else line * 2
