@@ -27,7 +27,7 @@ def nearest_towards(roads: Roads, place: Point, count: int, towards: Towards, wi
     looked_at = FEW
     while True:
         budget.step()
-        spots = roads.nearest(place, looked_at)
+        spots = roads.nearest(place, looked_at, budget.step)
         found = [turned for spot in spots if (turned := turned_spot(roads, spot, towards)) is not None]
         if len(found) >= count or len(spots) < looked_at or looked_at >= MOST or spots[-1].metres > within:
             return found[:count]

@@ -39,6 +39,7 @@ def parser() -> argparse.ArgumentParser:
     add("hierarchy", metavar="HIERARCHY", help="the file of a hierarchy")
     add("--checked", metavar="GRAPH", help="the graph for which the hierarchy has to be right, proved at each start")
     add("--network", metavar="NETWORK", help="the beginning of its network's file names: places on roads, OSRM's API")
+    add("--compare-all", action="store_true", help="compare all links with the network, also of more than ten million")
     add("--within", metavar="METRES", type=number(0, 10_000_000), default=1000, help="metres from a place to a road (1000)")
     add("--host", metavar="ADDRESS", default="127.0.0.1", help="the address to listen at (127.0.0.1)")
     add("--port", metavar="PORT", type=number(0, 65535), default=5000, help="the port, 0 for any that is free (5000)")
@@ -88,7 +89,7 @@ def run(words: argparse.Namespace) -> int:
     if words.workers is not None:
         log.warning("--workers has no effect any more: --fronts says how many processes answer")
     program = None if words.checked is None else find_program(words.program)
-    files = Files(words.hierarchy, words.network, words.tables == "fast", words.checked, program)
+    files = Files(words.hierarchy, words.network, words.tables == "fast", words.checked, program, words.compare_all)
     connections = most_connections(words.connections)
     client = words.client_connections or max(1, words.connections // 2)
     bounds = Bounds(connections, min(client, connections), words.head_seconds)

@@ -105,11 +105,12 @@ class Course:
 
 
 def figures_of(roads: Roads, weight: int, seconds: float, metres: float) -> Figures:
-    """A weight in the unit that answers have, seconds and metres; those that weights are follow from them."""
+    """A weight in the unit that answers have, seconds, None where the network has none, and metres; those that weights are follow
+    from them."""
     unit = UNITS_OF_ANSWERS.get(roads.unit, 1)
     return {
         "weight": weight / unit,
-        "duration": round(weight / unit if roads.unit == "duration" else seconds, 3),
+        "duration": round(weight / unit if roads.unit == "duration" else seconds, 3) if roads.has_seconds else None,
         "distance": round(weight / unit if roads.unit == "distance" else metres, 2),
     }
 
@@ -168,24 +169,27 @@ def shaped(lines: Sequence[Line], shape: str) -> list[Geometry]:
     return list(encoded(lines, 6 if shape == "polyline6" else 5))
 
 
-def annotation(course: Course, names: list[str]) -> dict[str, list[float]]:
+def annotation(course: Course, names: list[str]) -> dict[str, list[float | None]]:
     """For each step of the leg's line the metres, seconds, weight and speed, an arc's shared out by metres; and for each point of
-    it the id of OpenStreetMap of its node, 0 where that isn't known, as between junctions."""
-    found: dict[str, list[float]] = {name: [] for name in names}
+    it the id of OpenStreetMap of its node, 0 where that isn't known, as between junctions. Without seconds there are no durations and
+    speeds: they are None."""
+    found: dict[str, list[float | None]] = {name: [] for name in names}
     figured = [name for name in names if name != "nodes"]
     for place, steps in steps_of_arcs(course):
         whole, figures = sum(steps), course.figures(place, place + 1)
-        speed = figures["distance"] / figures["duration"] if figures["duration"] else 0.0
+        duration = figures["duration"]
         for way in steps:
             share = way / whole
             values = {
-                "weight": figures["weight"] * share, "duration": figures["duration"] * share,
-                "distance": figures["distance"] * share, "datasources": 0, "speed": speed,
+                "weight": figures["weight"] * share, "distance": figures["distance"] * share, "datasources": 0.0,
+                "duration": None if duration is None else duration * share,
+                "speed": None if duration is None else figures["distance"] / duration if duration else 0.0,
             }
             for name in figured:
-                found[name].append(round(values[name], 3))
+                value = values[name]
+                found[name].append(None if value is None else round(value, 3))
     if "nodes" in found:
-        found["nodes"] = nodes_of(course)
+        found["nodes"] = [*nodes_of(course)]
     return found
 
 

@@ -7,8 +7,8 @@ from typing import Any, NamedTuple
 from .errors import Refused
 from .page import FILES
 from .parameters import (
-    Above, Absent, Alternatives, Annotations, Bearings, Chosen, Context, Flag, Node, Number, Parameter, Radiuses, Straight, Unused,
-    Values, Word, values_of
+    Above, Absent, Alternatives, Annotations, Bearings, Chosen, Context, Flag, Key, Node, Number, Parameter, Radiuses, Straight,
+    Unused, Values, Word, values_of
 )
 
 NOT_SAID = "snapping=any and flatbuffers aren't there"
@@ -20,10 +20,11 @@ OVERVIEW = Word("overview", "simplified", "full", "false")
 GEOMETRIES = Word("geometries", "polyline", "polyline6", "geojson")
 STEPS = Flag("steps", False)
 ANNOTATIONS = Annotations("annotations", ("duration", "weight", "distance", "datasources", "speed", "nodes"), "false")
-FIGURES = Annotations("annotations", ("duration", "distance"), "duration", is_plain=True)
+FIGURES = Annotations("annotations", ("duration", "distance", "weight"), "duration", is_plain=True)
 NUMBER = Number("number", 1, 100)
 SOURCES, DESTINATIONS = Chosen("sources"), Chosen("destinations")
 FROM, TO = Node("from"), Node("to")
+FROM_KEY, TO_KEY = Key("from_key"), Key("to_key")
 
 # Of all of OSRM's services.
 COMMON: tuple[Parameter[Any], ...] = (
@@ -63,11 +64,11 @@ ENDPOINTS = (
     osrm("route", "/route/v1/PROFILE/PLACES", "a route by two places or more, to 500, a leg for each two",
          Alternatives("alternatives"), Straight("continue_straight"), Absent("waypoints"), ANNOTATIONS, OVERVIEW, GEOMETRIES, STEPS),
     osrm("nearest", "/nearest/v1/PROFILE/PLACE", "the nearest points of roads", NUMBER),
-    osrm("table", "/table/v1/PROFILE/PLACES", "durations and distances, by up to 2,000 places",
+    osrm("table", "/table/v1/PROFILE/PLACES", "durations, distances and weights, by up to 2,000 places",
          FALLBACK_SPEED, FALLBACK_COORDINATE, SCALE_FACTOR, FIGURES, SOURCES, DESTINATIONS),
     *(osrm(service, "", "") for service in ("match", "trip", "tile")),
-    Endpoint("/nodes/route", "/nodes/route", "a route between nodes by their numbers, from 1", (FROM, TO)),
-    Endpoint("/nodes/length", "/nodes/length", "its length alone; null if there is no path", (FROM, TO)),
+    Endpoint("/nodes/route", "/nodes/route", "a route between nodes by their numbers, from 1", (FROM, TO, FROM_KEY, TO_KEY)),
+    Endpoint("/nodes/length", "/nodes/length", "its length alone; null if there is no path", (FROM, TO, FROM_KEY, TO_KEY)),
     Endpoint("/nodes/routes", "/nodes/routes", "a route for each line of the body, as a line of JSON", (),
              "this path has no parameters", "POST"),
     Endpoint("/nodes/lengths", "/nodes/lengths", "a length for each line of the body, as a line of JSON", (),

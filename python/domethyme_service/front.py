@@ -48,7 +48,7 @@ class Front:
         setting, snapshot, loop = self.setting, self.snapshot, asyncio.get_running_loop()
         loop.add_signal_handler(signal.SIGTERM, self.end.set)
         loop.add_reader(self.parent, self._orphaned)
-        questions = Questions(snapshot.router, snapshot.links, self.row)
+        questions = Questions(snapshot.router, snapshot.links, self.row, snapshot.keys)
         service = Service(Generation(questions, snapshot.roads, snapshot.sweeps), setting.board, self.row, setting.ways)
         self.server = Server(service.handle, setting.bounds)
         service.connections = lambda: len(self.server.connections)

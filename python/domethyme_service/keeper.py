@@ -18,7 +18,7 @@ from domethyme import DomethymeError
 from .errors import Unable
 from .front import SECONDS_TO_DRAIN, Setting, run_front
 from .metrics import Row
-from .snapshot import Files, Snapshot, opened
+from .snapshot import Files, Snapshot, end_with_parent, opened
 
 LOOK = 0.05
 # Seconds without a beat of a front after which it is killed, and those that one look may add: where all of the machine stood
@@ -176,6 +176,7 @@ def in_child(work: Callable[[], int]) -> NoReturn:
         for name in (signal.SIGHUP, signal.SIGINT):
             signal.signal(name, signal.SIG_IGN)
         signal.signal(signal.SIGTERM, signal.SIG_DFL)
+        end_with_parent(signal.SIGTERM)
         status = work()
     except BaseException:
         traceback.print_exc()

@@ -74,10 +74,11 @@ def most_connections(wanted: int) -> int:
 
 
 def notify(text: str) -> None:
-    """Tells systemd, where it asks for that: `READY=1`, or `WATCHDOG=1` from time to time."""
+    """Tells systemd, where it asks for that: `READY=1`, or `WATCHDOG=1` from time to time. It doesn't wait where nobody reads that."""
     name = os.environ.get("NOTIFY_SOCKET", "")
     if name[:1] in ("/", "@"):
         with contextlib.suppress(OSError), socket.socket(socket.AF_UNIX, socket.SOCK_DGRAM) as stream:
+            stream.setblocking(False)
             stream.sendto(text.encode(), "\0" + name[1:] if name[0] == "@" else name)
 
 

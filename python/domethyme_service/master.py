@@ -73,7 +73,7 @@ class Master:
         self.coming: Held | None = None
         self.current: Held | None = None
         self.old: list[Held] = []
-        self._wants_reload = self._is_ending = self._has_listened = False
+        self._wants_reload = self._has_asked = self._is_ending = self._has_listened = False
         self._ended_at = self._not_before = self._says_at = 0.0
         self._late: list[tuple[float, socket.socket]] = []
         self._news: list[tuple[Held | None, str]] = []
@@ -87,6 +87,7 @@ class Master:
             self._look()
             self._tell_news()
             self._say_that_all_is_well()
+            self._say_what_is_under_way()
             if self._is_ending:
                 self._end()
             elif self.coming is None and (self._wants_reload or self.current is None) and time.monotonic() >= self._not_before:
@@ -100,9 +101,15 @@ class Master:
             notify("WATCHDOG=1")
             self._says_at = now + PAUSE
 
+    def _say_what_is_under_way(self) -> None:
+        """Logs that a signal has come to read the files again."""
+        if self._has_asked:
+            self._has_asked = False
+            log.info("reload: the files are read again%s", "" if self.coming is None else " once the reload under way has ended")
+
     def _take(self, number: int, _frame: FrameType | None) -> None:
         if number == signal.SIGHUP:
-            self._wants_reload = True
+            self._wants_reload = self._has_asked = True
         else:
             self._is_ending = True
 

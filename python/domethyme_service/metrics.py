@@ -22,6 +22,19 @@ COUNTERS = (
     "work_stopped_total",
 )
 SINGLES = (*GAUGES, *COUNTERS)
+HELP = {
+    "requests_total": "Requests that were answered, by endpoint and status.",
+    "request_seconds": "Seconds until a request was answered, by endpoint.",
+    "connections": "Open connections.",
+    "fronts": "Processes that accept connections.",
+    "nodes": "Nodes of the hierarchy.",
+    "questions_total": "Queries to the hierarchy.",
+    "front_restarts_total": "Processes that were replaced since they had ended.",
+    "front_silences_total": "Processes that were killed since they were silent.",
+    "reloads_total": "Reloads of the files.",
+    "reloads_refused_total": "Reloads that were refused.",
+    "work_stopped_total": "Long work that was stopped, since its client had gone or its time was over.",
+}
 REQUESTS_AT = len(SINGLES)
 TIMES_AT = REQUESTS_AT + len(NAMES) * len(STATUSES)
 # Of each endpoint the counts of its times, and their sum.
@@ -90,8 +103,14 @@ class Board:
         return "\n".join([*requests_of(sums), *times_of(sums), *singles(gauges, "gauge"), *singles(counters, "counter"), ""])
 
 
+def head_of(name: str, kind: str) -> Iterator[str]:
+    """What a name means, and its kind."""
+    yield f"# HELP domethyme_{name} {HELP[name]}"
+    yield f"# TYPE domethyme_{name} {kind}"
+
+
 def requests_of(sums: list[float]) -> Iterator[str]:
-    yield "# TYPE domethyme_requests_total counter"
+    yield from head_of("requests_total", "counter")
     for place, count in enumerate(sums[REQUESTS_AT:TIMES_AT]):
         if count:
             name, status = NAMES[place // len(STATUSES)], STATUSES[place % len(STATUSES)]
@@ -99,7 +118,7 @@ def requests_of(sums: list[float]) -> Iterator[str]:
 
 
 def times_of(sums: list[float]) -> Iterator[str]:
-    yield "# TYPE domethyme_request_seconds histogram"
+    yield from head_of("request_seconds", "histogram")
     for place, name in enumerate(NAMES):
         begin, label, total = TIMES_AT + place * TIMES, f'endpoint="{name}"', 0.0
         if not any(sums[begin : begin + TIMES]):
@@ -114,5 +133,5 @@ def times_of(sums: list[float]) -> Iterator[str]:
 def singles(values: dict[str, float], kind: str) -> Iterator[str]:
     """The lines of values without labels."""
     for name, value in values.items():
-        yield f"# TYPE domethyme_{name} {kind}"
+        yield from head_of(name, kind)
         yield f"domethyme_{name} {value:.15g}"

@@ -10,23 +10,37 @@ from collections.abc import AsyncGenerator, Iterator, Sequence
 from domethyme.lines import NO_WAY, Answer
 
 from .errors import Refused, invalid_query, invalid_value
-from .parameters import node_of
-from .questions import Pair, Questions
+from .parameters import Parameter, Values, node_of
+from .questions import NodeKeys, Pair, Questions
 
 LONGEST_LINE = 256
 # Lines of a block, and the bytes of a body that are split at once. 256 faulty lines take some 3 ms.
 ROWS, PIECE = 256, 1 << 14
+# So many lines with a fault are reported: the next one ends the answer.
+MOST_FAULTS = 1000
 
 
 def route_between(questions: Questions, source: int, target: int) -> bytes:
     """The route of a pair of nodes as JSON: `length`, `arcs` and `nodes` are null where there is no way. Raises Refused."""
-    return route_told((source, target), questions.route(source, target))
+    return questions.keys.put(route_told((source, target), questions.route(source, target)), (source, target))
 
 
 def length_between(questions: Questions, source: int, target: int) -> bytes:
     """The length alone. Raises Refused."""
     length = questions.length(source, target)
-    return length_told((source, target), NO_WAY if length is None else length)
+    return questions.keys.put(length_told((source, target), NO_WAY if length is None else length), (source, target))
+
+
+def node_asked(questions: Questions, values: Values, number: Parameter[int | None], key: Parameter[str | None]) -> int:
+    """The node that one of two parameters names. Raises Refused."""
+    node, name = values[number], values[key]
+    if node is not None and name is not None:
+        raise invalid_query(f"{number.name} and {key.name} are both given")
+    if name is not None:
+        return questions.keys.node(name, key.name)
+    if node is None:
+        raise invalid_query(f"{number.name} is missing")
+    return node
 
 
 def route_told(pair: Pair, route: Answer | None) -> bytes:
@@ -43,17 +57,25 @@ def length_told(pair: Pair, length: int) -> bytes:
 
 
 async def batch(questions: Questions, has_routes: bool, body: bytes) -> AsyncGenerator[bytes, None]:
-    """The answer to lines `{"from": S, "to": T}`, in order, a piece for each block; a fault is reported in its line. Raises
-    Refused where a question can't be answered."""
-    first = 1
+    """The answer to lines `{"from": S, "to": T}`, in order, a piece for each block; a fault is reported in its line, and too many end
+    the answer. Raises Refused where a question can't be answered."""
+    first, faults = 1, 0
     for lines in blocks_of(body):
-        rows = rows_of(lines, questions.nodes)
+        rows = rows_of(lines, questions.nodes, questions.keys)
+        places = [place for place, ends in enumerate(rows) if isinstance(ends, Refused)]
+        faults += len(places)
+        if is_over := faults > MOST_FAULTS:
+            last = places[MOST_FAULTS - faults]
+            rows = [*rows[:last], Refused(400, "TooBig", f"more than {MOST_FAULTS} lines have an error: this line and all behind it aren't answered")]
         pairs = [ends for ends in rows if not isinstance(ends, Refused)]
         told = map(route_told, pairs, await questions.routes(pairs)) if has_routes else map(
             length_told, pairs, await questions.lengths(pairs)
         )
+        told = map(questions.keys.put, told, pairs)
         yield b"".join(line_of(ends, told, row) for row, ends in enumerate(rows, first))
         first += len(lines)
+        if is_over:
+            return
         await asyncio.sleep(0)
 
 
@@ -70,11 +92,11 @@ def blocks_of(body: bytes) -> Iterator[list[bytes]]:
         begin = end
 
 
-def rows_of(lines: list[bytes], nodes: int) -> Sequence[Pair | Refused]:
+def rows_of(lines: list[bytes], nodes: int, keys: NodeKeys) -> Sequence[Pair | Refused]:
     """For each line its pair, or what is wrong with it."""
     if (pairs := pairs_of(lines, nodes)) is not None:
         return pairs
-    return [pair_of(line, nodes) for line in lines]
+    return [pair_of(line, nodes, keys) for line in lines]
 
 
 def pairs_of(lines: list[bytes], nodes: int) -> list[Pair] | None:
@@ -95,12 +117,14 @@ def pairs_of(lines: list[bytes], nodes: int) -> list[Pair] | None:
     return pairs if is_good and all(1 <= one <= nodes and 1 <= two <= nodes for one, two in pairs) else None
 
 
-def pair_of(line: bytes, nodes: int) -> Pair | Refused:
+def pair_of(line: bytes, nodes: int, keys: NodeKeys) -> Pair | Refused:
     """The pair of a line, or what is wrong with it."""
     try:
         if len(line) > LONGEST_LINE:
             raise invalid_value(f"a line has at most {LONGEST_LINE} bytes")
-        fields = json.loads(line)
+        fields = json.loads(line, object_pairs_hook=object_of)
+        if isinstance(fields, dict) and set(fields) == {"from_key", "to_key"}:
+            return keys.node(fields["from_key"], "from_key"), keys.node(fields["to_key"], "to_key")
         if not isinstance(fields, dict) or set(fields) != {"from", "to"}:
             raise invalid_query('a line is {"from": NODE, "to": NODE}')
         return node_of(fields["from"], "from", nodes), node_of(fields["to"], "to", nodes)
@@ -108,6 +132,14 @@ def pair_of(line: bytes, nodes: int) -> Pair | Refused:
         return invalid_query("the line isn't JSON in UTF-8")
     except Refused as refused:
         return refused
+
+
+def object_of(members: list[tuple[str, object]]) -> dict[str, object]:
+    """An object of JSON. Raises Refused where a name is there twice."""
+    found = dict(members)
+    if len(found) < len(members):
+        raise invalid_query("a name is there twice")
+    return found
 
 
 def line_of(ends: Pair | Refused, told: Iterator[bytes], row: int) -> bytes:

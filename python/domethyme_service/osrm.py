@@ -77,7 +77,7 @@ def found_spots(roads: Roads, request: Request, number: int, count: int, budget:
     """The nearest points of roads to a place, as near as they have to be."""
     place, within, towards = request.places[number], request.values[RADIUSES][number], request.values[BEARINGS][number]
     if towards is None:
-        spots = roads.nearest(place, count)
+        spots = roads.nearest(place, count, budget.step)
     else:
         spots = nearest_towards(roads, place, count, Towards(*towards), within, budget)
     return [spot for spot in spots if spot.metres <= within]
@@ -174,11 +174,11 @@ def route_told(roads: Roads, request: Request, spots: list[Spot], legs: list[Leg
     for each in budget.over(zip(spots, spots[1:], legs, courses)):
         leg_told = leg_as_told(roads, request, *each)
         texts.append(text_of(leg_told))
-        told.append((leg_told["weight"], leg_told["duration"], leg_told["distance"]))
+        told.append((leg_told["weight"], leg_told["duration"] or 0.0, leg_told["distance"]))
     weight, duration, distance = (round(sum(values), 3) for values in zip(*told))
     whole = {
-        "legs": list_of(texts), "weight_name": text_of(roads.unit),
-        "weight": text_of(weight), "duration": text_of(duration), "distance": text_of(distance),
+        "legs": list_of(texts), "weight_name": text_of(roads.unit), "weight": text_of(weight),
+        "duration": text_of(duration if roads.has_seconds else None), "distance": text_of(distance),
     }
     if request.values[OVERVIEW] != "false":
         whole["geometry"] = overview(request, spots, courses, budget)
@@ -217,11 +217,11 @@ def overview(request: Request, spots: list[Spot], courses: "list[Course | None]"
 
 
 async def table(means: Means, request: Request) -> str:
-    """A table of durations, of distances, or both; null where there is no way."""
+    """A table of durations, of distances, of weights, or some of these; null where there is no way."""
     sources, destinations = request.values[SOURCES], request.values[DESTINATIONS]
     if len(sources) * len(destinations) > means.cells:
         raise Refused(400, "TooBig", f"a table may have {means.cells} cells (--table-cells), and this one would have more")
-    wanted = Wanted.by(request.values, means.roads.unit, request.places)
+    wanted = Wanted.by(request.values, means.roads, request.places)
     is_swept = wanted.refuse_if_too_many(len(sources) * len(destinations), means.sweeps is not None)
     spots = await spots_of(means, request)
     starts, stops = [spots[place] for place in sources], [spots[place] for place in destinations]

@@ -1,5 +1,6 @@
 """The answers of OSRM's API, version 1, as they are in JSON. Coordinates are [longitude, latitude] in degrees, weights are in the
-unit of `weight_name` (seconds or metres), durations in seconds, distances in metres, bearings in degrees from north, clockwise."""
+unit of `weight_name` (seconds or metres), durations in seconds, distances in metres, bearings in degrees from north, clockwise. A
+duration is null where the network has no seconds."""
 from typing import Literal, NotRequired, TypedDict, Union
 
 Coordinates = list[float]
@@ -9,7 +10,7 @@ class Figures(TypedDict):
     """Of a route, a leg, a step or a cell."""
 
     weight: float
-    duration: float
+    duration: float | None
     distance: float
 
 
@@ -72,7 +73,7 @@ class RouteLeg(Figures):
 
     summary: str
     steps: list[Step]
-    annotation: NotRequired[dict[str, list[float]]]
+    annotation: NotRequired[dict[str, list[float | None]]]
 
 
 class WholeRoute(Figures):
@@ -100,6 +101,7 @@ class TableAnswer(TypedDict):
     code: Literal["Ok"]
     durations: NotRequired[list[list[float | None]]]
     distances: NotRequired[list[list[float | None]]]
+    weights: NotRequired[list[list[float | None]]]
     sources: NotRequired[list[Waypoint]]
     destinations: NotRequired[list[Waypoint]]
 

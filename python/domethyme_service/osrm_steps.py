@@ -11,7 +11,7 @@ from numpy.typing import NDArray
 from domethyme.network.binary import TEXTS
 from domethyme.network.tables import Point
 
-from .courses import Course
+from .courses import Course, figures_of
 from .lines import Line
 from .osrm_answer import Coordinates, Figures, Geometry, Maneuver, Step
 from .roads import Roads
@@ -124,7 +124,7 @@ def put_roundabouts(is_new: NDArray[np.bool_], is_round: NDArray[np.bool_]) -> N
 
 def steps_of_leg(roads: Roads, course: Course | None, start: Point, end: Point, shape: Shape) -> list[Step]:
     """The steps from a point to another."""
-    nothing: Figures = {"weight": 0.0, "duration": 0.0, "distance": 0.0}
+    nothing = figures_of(roads, 0, 0.0, 0.0)
     guide = None if course is None else Guide(course)
     lines = [[list(start)] * 2] if guide is None else guide.lines()
     *shapes, at_end = shape([*lines, [list(end)] * 2])

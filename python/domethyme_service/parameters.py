@@ -164,9 +164,9 @@ class Annotations(Parameter[list[str]]):
         if text in ("true", "false") and not self.is_plain:
             return list(self.known) if text == "true" else []
         words = text.split(",")
-        if not set(words) <= set(self.known):
-            both = "duration, distance, or both"
-            raise invalid_value(f"{self.name} are " + (both if self.is_plain else f"true, false, or some of {', '.join(self.known)}"))
+        if not set(words) <= set(self.known) or len(set(words)) < len(words):
+            some = f"some of {', '.join(self.known)}, each once"
+            raise invalid_value(f"{self.name} are " + (some if self.is_plain else f"true, false, or {some}"))
         return words
 
 
@@ -222,13 +222,22 @@ class Chosen(Parameter[list[int]]):
         return [int(word) for word in words]
 
 
-class Node(Parameter[int]):
-    """A node, which has to be there."""
+class Node(Parameter[int | None]):
+    """A node, None without the parameter."""
 
     taken = "a node, from 1 to the number of nodes"
 
-    def read(self, text: str | None, context: Context) -> int:
-        return node_of(text, self.name, context.nodes)
+    def read(self, text: str | None, context: Context) -> int | None:
+        return None if text is None else node_of(text, self.name, context.nodes)
+
+
+class Key(Parameter[str | None]):
+    """The key of a node, None without the parameter."""
+
+    taken = "the key of a node, where the network has keys"
+
+    def read(self, text: str | None, context: Context) -> str | None:
+        return text
 
 
 def node_of(text: object, name: str, nodes: int) -> int:

@@ -4,6 +4,7 @@ questions have one seat, and a front takes 48 bytes a node for it beside what al
 1, as in files.
 """
 import asyncio
+import json
 from collections.abc import Sequence
 
 import numpy as np
@@ -12,7 +13,7 @@ from domethyme import DomethymeError
 from domethyme.lines import Answer
 from domethyme.router import Router
 
-from .errors import Refused
+from .errors import Refused, invalid_value
 from .metrics import Row
 
 # Lengths, or routes, that are asked for without a look at others: a few milliseconds.
@@ -22,13 +23,35 @@ Pair = tuple[int, int]
 Sides = dict[int, tuple[int, int]]
 
 
+class NodeKeys:
+    """The keys by which the user of a network knows its nodes, none where they have none."""
+
+    def __init__(self, keys: Sequence[str] = ()) -> None:
+        self._nodes = {key: node for node, key in enumerate(keys, 1)}
+        self._texts = [json.dumps(key, ensure_ascii=False).encode("utf-8", "replace") for key in keys]
+
+    def node(self, key: object, name: str) -> int:
+        """The node of a key. Raises Refused where there is none, with the name of the parameter."""
+        found = self._nodes.get(key) if isinstance(key, str) else None
+        if found is None:
+            raise invalid_value(f"{name} is the key of no node" if self._nodes else f"there is no {name}: the nodes have no keys")
+        return found
+
+    def put(self, told: bytes, pair: Pair) -> bytes:
+        """An answer about a pair, an object of JSON, with both keys, where nodes have keys."""
+        if not self._texts:
+            return told
+        return b'%b,"from_key":%b,"to_key":%b}' % (told[:-1], *(self._texts[node - 1] for node in pair))
+
+
 class Questions:
-    """Asks a router for a front, whose row counts the questions. `nodes` and `links` are those of the hierarchy.
+    """Asks a router for a front, whose row counts the questions. `nodes` and `links` are those of the hierarchy, and `keys` those of the
+    network.
 
     All methods raise Refused where memory runs out, or the file is of no graph."""
 
-    def __init__(self, router: Router, links: int, row: Row) -> None:
-        self.router, self.nodes, self.links, self._row = router, router.nodes, links, row
+    def __init__(self, router: Router, links: int, row: Row, keys: NodeKeys = NodeKeys()) -> None:
+        self.router, self.nodes, self.links, self._row, self.keys = router, router.nodes, links, row, keys
 
     def length(self, source: int, target: int) -> int | None:
         """The least length, None where there is no way."""

@@ -9,7 +9,7 @@ The network's file is mapped: of it a process has what it uses, in pages that al
 import bisect
 import functools
 import itertools
-from collections.abc import Iterator, Sequence
+from collections.abc import Callable, Iterator, Sequence
 from typing import NamedTuple
 
 import numpy as np
@@ -89,7 +89,8 @@ class Roads:
     """The files of a network, NETWORK.net, or NETWORK.nodes.csv and NETWORK.arcs.csv. Nodes are numbered from 1. Raises
     NetworkError, and where the file is damaged, in all that reads it.
 
-    unit  what weights are, `duration` (milliseconds), `distance` (centimetres), or `weight` for anything else
+    unit         what weights are, `duration` (milliseconds), `distance` (centimetres), or `weight` for anything else
+    has_seconds  whether arcs take time; else durations aren't known
     """
 
     def __init__(self, prefix: str) -> None:
@@ -97,8 +98,9 @@ class Roads:
         self.arrays: Mapped = arrays_of(prefix)
         self.nodes, self.count = len(self.arrays.node_osm), len(self.arrays.arc_from)
         if not self.count:
-            raise NetworkError(f"{prefix}: has no arcs")
+            raise NetworkError("has no arcs", self.arrays.path)
         self.texts, self.unit, self.degree = self.arrays.texts, self.arrays.unit, self.arrays.degrees
+        self.has_seconds = self.arrays.has_seconds
         self.edge = functools.lru_cache(KEPT)(self._edge)
         self.tiles, self._places = Tiles(self.arrays), NodePlaces.of(self.arrays)
 
@@ -160,8 +162,9 @@ class Roads:
         }
         return Edge(points, metres_along(points), found)
 
-    def nearest(self, place: Point, count: int = 1) -> list[Spot]:
-        """The nearest points of the `count` nearest edges, the nearest first, and of equally near ones the first of the file."""
+    def nearest(self, place: Point, count: int = 1, step: Callable[[], object] = lambda: None) -> list[Spot]:
+        """The nearest points of the `count` nearest edges, the nearest first, and of equally near ones the first of the file. `step` is
+        called between parts of the work; what it raises ends it."""
         self.arrays.file.unchanged()
         here = np.array(place)
 
@@ -169,7 +172,7 @@ class Roads:
             parts = [self._metres(here, part) for part in parted(edges, self.arrays.edge_begin)]
             return parts[0] if len(parts) == 1 else np.concatenate(parts)
 
-        near = self.arrays.edge_grid.nearest(place, min(count, self.edges), metres)
+        near = self.arrays.edge_grid.nearest(place, min(count, self.edges), metres, step)
         return [self._point(here, edge) for _, edge in near]
 
     def nearest_of_each(self, places: Sequence[Point]) -> Iterator[Spot]:

@@ -10,10 +10,12 @@ from typing import NamedTuple
 
 from aiohttp import HttpVersion10, HttpVersion11, web
 
+from domethyme import DomethymeError
+
 from . import connection, nodes, osrm
 from .asking import Allowed, refuse_type
 from .connection import Connection
-from .endpoints import FROM, OSRM, TO, Endpoint, endpoint_of
+from .endpoints import FROM, FROM_KEY, OSRM, TO, TO_KEY, Endpoint, endpoint_of
 from .errors import Refused, invalid_query
 from .metrics import Board, Row
 from .osrm_request import request_of
@@ -32,7 +34,7 @@ MOST_FIELDS = 50
 JSON = "application/json; charset=utf-8"
 LINES = "application/x-ndjson; charset=utf-8"
 METRICS = "text/plain; version=0.0.4; charset=utf-8"
-access_log = logging.getLogger("domethyme_service.access")
+access_log, log = logging.getLogger("domethyme_service.access"), logging.getLogger("domethyme_service")
 
 
 class Ways(NamedTuple):
@@ -94,6 +96,9 @@ class Service:
                 answer = await self._answer(endpoint, asked, request) if preflight is None else preflight
             except Refused as refused:
                 answer = self._refusal(refused)
+            except DomethymeError as error:
+                log.error("%s", error.message)
+                answer = self._refusal(Refused(500, "InternalError", "a file of the service can't be read: its log says why"))
             except TimeoutError:
                 answer = self._refusal(Refused(504, "Timeout", f"the answer took more than {connection.SECONDS:g} s"))
             status = answer.status
@@ -154,7 +159,8 @@ class Service:
         questions = call.generation.questions
         values = call.values(Context(nodes=questions.nodes))
         told = nodes.route_between if call.endpoint.name == "/nodes/route" else nodes.length_between
-        return self._whole(200, told(questions, values[FROM], values[TO]), JSON)
+        ends = (nodes.node_asked(questions, values, *each) for each in ((FROM, FROM_KEY), (TO, TO_KEY)))
+        return self._whole(200, told(questions, *ends), JSON)
 
     async def batch(self, call: Call) -> web.StreamResponse:
         """Reads the body whole, and then streams the answer: a client may write all before it reads. Batches whose bodies are on

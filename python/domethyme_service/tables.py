@@ -14,7 +14,7 @@ from domethyme.sweeps import NO_WAY, Numbers, Seeds, Sweeps
 
 from .courses import UNITS_OF_ANSWERS, figures_of, leg_figures
 from .endpoints import DESTINATIONS, FALLBACK_COORDINATE, FALLBACK_SPEED, FIGURES, SCALE_FACTOR, SOURCES
-from .errors import Refused
+from .errors import Refused, not_implemented
 from .legs import along_one_arc, is_at, leg_between, weight_between
 from .osrm_answer import Figures
 from .parameters import Values
@@ -30,7 +30,7 @@ Row = list[float | None]
 
 class Wanted(NamedTuple):
     """What a table has: the names of its figures, what weights are, the places as they were asked for by row and by column, and
-    what becomes of durations."""
+    what becomes of durations, and of cells without a way."""
 
     names: list[str]
     unit: str
@@ -41,22 +41,24 @@ class Wanted(NamedTuple):
     is_snapped: bool
 
     @classmethod
-    def by(cls, values: Values, unit: str, places: Sequence[Point]) -> "Wanted":
-        """What the values of the parameters say."""
+    def by(cls, values: Values, roads: Roads, places: Sequence[Point]) -> "Wanted":
+        """What the values of the parameters say. Raises Refused for durations where the network has none."""
+        if "duration" in values[FIGURES] and not roads.has_seconds:
+            raise not_implemented("this network has no seconds, so no durations: ask annotations=weight or distance")
         sources, destinations = ([places[number] for number in values[side]] for side in (SOURCES, DESTINATIONS))
         is_snapped = values[FALLBACK_COORDINATE] == "snapped"
-        return cls(values[FIGURES], unit, sources, destinations, values[SCALE_FACTOR], values[FALLBACK_SPEED], is_snapped)
+        return cls(values[FIGURES], roads.unit, sources, destinations, values[SCALE_FACTOR], values[FALLBACK_SPEED], is_snapped)
 
     @property
     def is_of_weights(self) -> bool:
         """Whether no figure but the weight is wanted."""
-        return set(self.names) == {self.unit}
+        return set(self.names) <= {self.unit, "weight"}
 
     def refuse_if_too_many(self, cells: int, has_sweeps: bool) -> bool:
         """Whether the table is computed by sweeps. Raises Refused where too many questions would be asked."""
         is_swept = has_sweeps and self.is_of_weights and cells > FEW_CELLS
         if not is_swept and cells > MOST_ASKED:
-            why = f"of annotations={self.unit} alone" if has_sweeps else "under --tables fast"
+            why = f"of annotations={self.unit} or weight alone" if has_sweeps else "under --tables fast"
             raise Refused(400, "TooBig", f"a table may have {MOST_ASKED} cells, unless it is {why}")
         return is_swept
 
@@ -68,8 +70,8 @@ def table_by_sweeps(
     exits, entries = seeds([spot.exits for spot in starts]), seeds([spot.entries for spot in ends])
     weights = sweeps.between(exits, entries, budget.step)
     lower_where_near(weights, roads, starts, ends, budget)
-    rows = (row_of(weights[row], UNITS_OF_ANSWERS[wanted.unit]) for row in budget.over(range(len(starts))))
-    return told(wanted, starts, ends, ((row, row) for row in rows))
+    rows = (row_of(weights[row], UNITS_OF_ANSWERS.get(wanted.unit, 1)) for row in budget.over(range(len(starts))))
+    return told(wanted, starts, ends, (dict.fromkeys(wanted.names, row) for row in rows))
 
 
 def seeds(sides: Sequence[dict[int, tuple[int, int]]]) -> Seeds:
@@ -107,39 +109,38 @@ def row_of(weights: Numbers, unit: int) -> Row:
     return row
 
 
-def told(wanted: Wanted, starts: Sequence[Spot], ends: Sequence[Spot], rows: Iterator[tuple[Row, Row]]) -> dict[str, str]:
-    """The members of the answer, by rows of durations and of distances."""
-    durations, distances = [], []
+def told(wanted: Wanted, starts: Sequence[Spot], ends: Sequence[Spot], rows: Iterator[dict[str, Row]]) -> dict[str, str]:
+    """The members of the answer, by rows of the figures that are wanted."""
+    texts: dict[str, list[str]] = {name: [] for name in wanted.names}
     guessed: list[list[int]] = []
-    for number, (seconds, metres) in enumerate(rows):
-        if wanted.fallback is not None and (None in seconds or None in metres):
-            seconds, metres = list(seconds), list(metres)
-            guessed += fallen_back(wanted, starts, ends, number, seconds, metres, wanted.fallback)
-        if wanted.scale is not None:
-            seconds = [None if value is None else round(value * wanted.scale, 3) for value in seconds]
-        durations.append(text_of(seconds))
-        distances.append(text_of(metres))
-    found = {}
-    if "duration" in wanted.names:
-        found["durations"] = list_of(durations)
-    if "distance" in wanted.names:
-        found["distances"] = list_of(distances)
+    for number, figures in enumerate(rows):
+        if wanted.fallback is not None and any(None in row for row in figures.values()):
+            figures = {name: list(row) for name, row in figures.items()}
+            guessed += fallen_back(wanted, starts, ends, number, figures, wanted.fallback)
+        if wanted.scale is not None and "duration" in figures:
+            figures = figures | {"duration": [None if value is None else round(value * wanted.scale, 3) for value in figures["duration"]]}
+        for name in wanted.names:
+            texts[name].append(text_of(figures[name]))
+    found = {f"{name}s": list_of(texts[name]) for name in ("duration", "distance", "weight") if name in texts}
     if wanted.fallback is not None:
         found["fallback_speed_cells"] = text_of(guessed)
     return found
 
 
 def fallen_back(
-    wanted: Wanted, starts: Sequence[Spot], ends: Sequence[Spot], number: int, seconds: Row, metres: Row, speed: float
+    wanted: Wanted, starts: Sequence[Spot], ends: Sequence[Spot], number: int, figures: dict[str, Row], speed: float
 ) -> list[list[int]]:
-    """Puts the way of a bird at this speed, in metres a second, into the cells without a way; returns which they are."""
+    """Puts the way of a bird at this speed, in metres a second, into the cells without a way; returns which they are. A weight that is
+    neither time nor distance stays unknown."""
     found = []
-    for column in range(len(seconds)):
-        if seconds[column] is None or metres[column] is None:
+    for column in range(len(ends)):
+        if any(row[column] is None for row in figures.values()):
             start, end = starts[number], ends[column]
             snapped, asked = ((start.lon, start.lat), (end.lon, end.lat)), (wanted.sources[number], wanted.destinations[column])
             way = metres_apart(*(snapped if wanted.is_snapped else asked))
-            seconds[column], metres[column] = round(way / speed, 3), round(way, 2)
+            guesses: dict[str, float | None] = {"duration": round(way / speed, 3), "distance": round(way, 2)}
+            for name, row in figures.items():
+                row[column] = guesses.get(wanted.unit if name == "weight" else name)
             found.append([number, column])
     return found
 
@@ -162,15 +163,19 @@ async def table_by_cells(
 
 async def row_by_cells(
     questions: Questions, roads: Roads, wanted: Wanted, start: Spot, ends: Sequence[Spot]
-) -> tuple[Row, Row]:
-    """The durations and distances of a row; others are answered after some cells. Where weights are all that is wanted, routes
-    aren't looked at."""
+) -> dict[str, Row]:
+    """The figures of a row; others are answered after some cells. Where weights are all that is wanted, routes aren't looked at."""
     found: list[Figures | None] = []
     for number, end in enumerate(ends, 1):
         found.append(cell(questions, roads, start, end, wanted.is_of_weights))
         if number % ROUTES == 0 or number == len(ends):
             await asyncio.sleep(0)
-    return [each and each["duration"] for each in found], [each and each["distance"] for each in found]
+    return {name: [None if each is None else value_of(each, name) for each in found] for name in wanted.names}
+
+
+def value_of(figures: Figures, name: str) -> float | None:
+    """One of the figures, by its name."""
+    return figures["duration"] if name == "duration" else figures["distance"] if name == "distance" else figures["weight"]
 
 
 def cell(questions: Questions, roads: Roads, start: Spot, end: Spot, only_weights: bool) -> Figures | None:

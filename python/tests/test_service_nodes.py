@@ -4,6 +4,7 @@ import contextlib
 import http.client
 import json
 import os
+import re
 import signal
 import socket
 import threading
@@ -14,12 +15,13 @@ from tool_case import TOOLS
 
 from domethyme.lines import Answer
 from domethyme_service import nodes
+from domethyme_service.questions import NodeKeys
 
 
 class QuickQuestions:
     """They are answered at once."""
 
-    nodes = 8
+    nodes, keys = 8, NodeKeys()
 
     async def routes(self, pairs):
         return [Answer(1, 2, 5, (1, 2)) for _ in pairs]
@@ -110,11 +112,24 @@ class NodesTests(ServiceCase):
     def test_faults_in_lines_of_a_batch(self):
         self.serve()
         lines = ['{"from": 1, "to": 1}', "", "[1, 2]", '{"from": 1}', '{"from": true, "to": 1}', '{"from": 1.5, "to": 1}',
-                 '{"from": 1, "to": 1, "x": "' + "x" * 300 + '"}', "[" * 200, '{"from": "1", "to": 1}']
+                 '{"from": 1, "to": 1, "x": "' + "x" * 300 + '"}', "[" * 200, '{"from": "1", "to": 1}',
+                 '{"from": 1, "from": 2, "to": 3}', '{"from_key": "a", "to_key": "b"}']
         status, text = self.ask("/nodes/lengths", "POST", "\n".join(lines))
         found = [json.loads(line) for line in text.splitlines()]
-        self.assertEqual((status, [each.get("line") for each in found]), (200, [None, 2, 3, 4, 5, 6, 7, 8, None]))
+        self.assertEqual((status, [each.get("line") for each in found]), (200, [None, 2, 3, 4, 5, 6, 7, 8, None, 10, 11]))
+        self.assertEqual(found[9]["message"], "a name is there twice")
         self.assertEqual(self.ask("/nodes/lengths", "POST", ""), (200, ""))
+
+    def test_too_many_faults_in_a_batch(self):
+        """The answer ends with the first that is too much, after what was good before it."""
+        self.serve()
+        lines = ["x"] * 300 + ['{"from": 1, "to": 2}'] + ["x"] * 4000
+        status, text = self.ask("/nodes/lengths", "POST", "\n".join(lines))
+        found = [json.loads(line) for line in text.splitlines()]
+        self.assertEqual((status, len(found), found[300]["from"], found[-1]["line"], found[-1]["code"]), (200, 1002, 1, 1002, "TooBig"))
+        self.assertIn("more than 1000 lines have an error: this line and all behind it aren't answered", found[-1]["message"])
+        good = ["x"] * 1000 + ['{"from": 1, "to": 2}'] * 50
+        self.assertEqual(self.ask("/nodes/lengths", "POST", "\n".join(good))[1].count("\n"), 1050)
 
     def test_lines_that_look_good_together(self):
         """Lines that are faulty one by one, and would be pairs where they are read as one text."""
@@ -169,6 +184,10 @@ class NodesTests(ServiceCase):
         self.assertEqual(self.value("questions_total"), 1)
         self.assertEqual(self.headers["Content-Type"], "text/plain; version=0.0.4; charset=utf-8")
         time.sleep(0.2)
+        text = self.ask("/metrics")[1]
+        names = set(re.findall(r"(?m)^# TYPE (\S+) ", text))
+        self.assertEqual(set(re.findall(r"(?m)^# HELP (\S+) \S", text)), names)
+        self.assertGreater(len(names), 10)
         lines = [json.loads(line) for line in self.said if line.startswith("{")]
         self.assertEqual(lines[1]["endpoint"], "/nodes/length")
         self.assertEqual(set(lines[1]), {"time", "method", "endpoint", "status", "milliseconds"})

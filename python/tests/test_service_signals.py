@@ -6,14 +6,24 @@ import json
 import os
 import pathlib
 import signal
+import socket
 import threading
 import time
+import unittest.mock
 
 from service_case import ServiceCase, children_of, fronts_of
 
 import domethyme
 
 PATH = "/nodes/length?from=1&to=2"
+
+
+def is_running(number):
+    """Whether a process is there, and hasn't ended."""
+    try:
+        return pathlib.Path(f"/proc/{number}/stat").read_text().rpartition(")")[2].split()[0] != "Z"
+    except OSError:
+        return False
 
 
 class Client(threading.Thread):
@@ -81,7 +91,7 @@ class SignalTests(ServiceCase):
     def test_a_file_that_is_refused_leaves_the_old_one(self):
         process = self.serve("--network", self.folder / "v")
         old = self.ask(PATH)
-        for text, says in ((b"none", "v.rch: is no file that `routecli prepare` wrote"), (None, "isn't of the hierarchy's graph")):
+        for text, says in ((b"none", "v.rch: is no file that `routecli prepare` wrote"), (None, "is the hierarchy of another network than")):
             path = self.folder / "v.rch"
             path.unlink()
             path.write_bytes(text) if text else self.prepare(2)
@@ -103,6 +113,41 @@ class SignalTests(ServiceCase):
         words = ["domethyme-serve", self.folder / "v.rch", "--port", "0", "--checked", right]
         ended = self.run_tool(*words, status=1)
         self.assertIn("v.rch: not shown: bound", ended.stderr)
+
+    def test_a_signal_while_a_reload_is_under_way(self):
+        """The log says that it waits; a check that runs ends with the service, however that ends."""
+        fast, checking = self.folder / "fast", self.folder / "checking"
+        slow = self.write("slow", f'#!/bin/sh\n[ -e {fast} ] && exec {domethyme.find_program()} "$@"\necho $$ >{checking}\nexec sleep 600\n')
+        slow.chmod(0o755)
+        for number in (signal.SIGTERM, signal.SIGKILL):
+            fast.touch()
+            process = self.serve("--checked", self.folder / "v.gr", "--program", slow)
+            fast.unlink()
+            checking.unlink(missing_ok=True)
+            process.send_signal(signal.SIGHUP)
+            self.wait_for(lambda: checking.exists() and checking.read_text().strip())
+            self.wait_for(lambda: any("reload: the files are read again\n" in line for line in self.said))
+            process.send_signal(signal.SIGHUP)
+            self.wait_for(lambda: any("are read again once the reload under way has ended" in line for line in self.said))
+            check = int(checking.read_text())
+            self.assertTrue(is_running(check))
+            process.send_signal(number)
+            self.wait_for(lambda: not is_running(check))
+
+    def test_nobody_reads_what_systemd_is_told(self):
+        """The service begins and ends where the socket for that is full."""
+        with socket.socket(socket.AF_UNIX, socket.SOCK_DGRAM) as full:
+            full.bind(str(self.folder / "notify"))
+            with socket.socket(socket.AF_UNIX, socket.SOCK_DGRAM) as filler:
+                filler.setblocking(False)
+                with contextlib.suppress(BlockingIOError):
+                    while True:
+                        filler.sendto(b"x", str(self.folder / "notify"))
+            with unittest.mock.patch.dict(os.environ, NOTIFY_SOCKET=str(self.folder / "notify")):
+                process = self.serve()
+            self.assertEqual(self.ask("/health")[0], 200)
+            process.send_signal(signal.SIGTERM)
+            self.assertEqual(process.wait(20), 0)
 
     def test_the_end(self):
         process = self.serve()

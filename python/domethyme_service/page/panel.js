@@ -1,6 +1,6 @@
 // The panel: the way and time of the route, and its steps by street.
 
-import { far, long, roleOf, told } from "./words.js";
+import { far, roleOf, takes, told } from "./words.js";
 
 const SVG = "http://www.w3.org/2000/svg";
 const TURNS = { straight: 0, "slight right": 35, right: 90, "sharp right": 140, "slight left": -35, left: -90, "sharp left": -140 };
@@ -16,7 +16,7 @@ export class Panel {
 
   set(found, count) {
     const route = found.routes[0], way = document.createElement("b");
-    way.textContent = long(route.duration);
+    way.textContent = takes(route);
     this.total.replaceChildren(way, far(route.distance));
     this.steps.replaceChildren(...route.legs.flatMap((leg, number) => leg.steps.map((step) => {
       const isEnd = step.maneuver.type === "arrive";

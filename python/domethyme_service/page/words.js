@@ -9,6 +9,12 @@ export function long(seconds) {
   return minutes < 60 ? `${minutes} min` : `${Math.floor(minutes / 60)} h ${minutes % 60} min`;
 }
 
+// How long a route takes; its weight where the network has no seconds, unless that is its length.
+export function takes({ duration, weight, weight_name }) {
+  if (duration !== null) return long(duration);
+  return weight_name === "distance" ? "" : `weight ${weight}`;
+}
+
 export const letter = (number, count) => number === 0 ? "A" : number === count - 1 ? "B" : String(number);
 
 // The class of a place, and how it is called.
