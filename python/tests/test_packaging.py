@@ -141,25 +141,27 @@ class CompletionTests(ToolCase):
 class CopyrightTests(ToolCase):
     """The libraries that a crate's copyright names beside crates.txt, and beside the toolchain's kit where it is on this machine."""
 
-    FILE, CRATE, MORE_THAN = "copyright", "routecli", 5
+    FILE, CRATE, LEAST = "copyright", "routecli", 6
 
     def setUp(self):
         super().setUp()
         self.text = (PACKAGING / self.FILE).read_text(encoding="utf-8")
         parts = self.text.partition("\n\n")[0].split("\n .\n")
-        lists = [set(re.findall(r"^  (\w+): ", part, re.M)) for part in parts]
-        self.direct, *indirect, self.own = (names for names in lists if names)
-        self.indirect = set().union(*indirect)
+        # (the toolchain's own come last; before them are ports that the crate uses, if it uses any, and what these use)
+        *ports, self.own = filter(None, (set(re.findall(r"^  (\w+): ", part, re.M)) for part in parts))
+        self.direct = ports[0] if ports else set()
+        self.indirect = set().union(*ports[1:])
         lines = (line.partition(":") for line in (ROOT / "crates.txt").read_text(encoding="utf-8").splitlines())
         uses = {words.split()[0]: names.split() for words, colon, names in lines if colon}
         todo = [self.CRATE]
         for name in todo:
             todo += [each for each in uses.get(name, []) if each not in todo]
-        self.used = {name for name in todo if name not in uses}
+        # (std is always there, and crates.txt doesn't list it)
+        self.used = {"std"} | {name for name in todo if name not in uses}
 
     def test_libraries_are_those_of_crates_txt(self):
         self.assertEqual(self.direct | (self.own & self.used), self.used)
-        self.assertGreater(len(self.direct), self.MORE_THAN)
+        self.assertGreaterEqual(len(self.direct), self.LEAST)
 
     def test_libraries_are_those_of_the_kit(self):
         kit = kit_folder()
@@ -191,7 +193,7 @@ class CopyrightTests(ToolCase):
 class LibraryCopyrightTests(CopyrightTests):
     """The same of the library."""
 
-    FILE, CRATE, MORE_THAN = "library/copyright", "domethyme_c", 0
+    FILE, CRATE, LEAST = "library/copyright", "domethyme_c", 0
 
 
 def kit_folder() -> pathlib.Path | None:
