@@ -25,8 +25,9 @@ PART = (
 )
 # Modules of what the toolchain makes of the code: its types, constants, and the variants and fields of a type.
 OF_CODE = re.compile(r"\.specs\.(declared|contracts)\.")
+PLAIN_OF_STD = set("ℕ Bool true false List Option Some None Result Ok Err Unit ⊤ ⊥".split())
 CLAUSE = re.compile(r"\b(requires|ensures)(?: (\w+))?\s*$")
-CODE_TEXT = re.compile(r"\"(?:\\.|[^\"\\])*\"|'(?:\\[^'\n]+|[^'\\\n])'|//[^\n]*")
+CODE_TEXT = re.compile(r"\"(?:\\[\s\S]|[^\"\\])*\"|'(?:\\.[^'\n]*|[^'\\\n])'|//[^\n]*")
 SPEC_TEXT = re.compile(r"\"(?:\\.|[^\"\\])*\"|(?:(?<=\s)|^)--[^\n]*", re.MULTILINE)
 
 
@@ -39,6 +40,11 @@ class Key(typing.NamedTuple):
     @property
     def crate(self) -> str:
         return self.file.split("/")[0]
+
+    @property
+    def is_spec(self) -> bool:
+        """Whether it is of specs/, and no type or trait of the code."""
+        return self.file.endswith(".antt")
 
 
 class Scope:
@@ -114,6 +120,11 @@ class Function:
     @property
     def title(self) -> str:
         return "::".join(filter(None, [self.crate, self.owner, self.name]))
+
+    @property
+    def root(self) -> str:
+        """By what it is reached: its type or trait, or its own name."""
+        return self.owner or self.name
 
     def told(self) -> list[str]:
         """Its block, its signature and its clauses, a line each."""
@@ -195,7 +206,7 @@ def closing(bare: str, opened: int) -> int:
         depth += 1 if found[0] == "{" else -1
         if depth == 0:
             return found.end()
-    raise ValueError("a brace isn't closed")
+    raise ValueError(f"a brace isn't closed: {bare[opened:opened + 80]!r}")
 
 
 class Part(typing.NamedTuple):
@@ -234,7 +245,7 @@ def part_at(bare: str, place: int, kind: str, begin: int) -> Part:
                 return Part(kind, begin, place, head or found.start(), clauses)
         elif sign == ";" and depth == 0:
             return Part(kind, begin, place, head or found.start(), clauses)
-    raise ValueError("a part doesn't end")
+    raise ValueError(f"a part doesn't end: {bare[begin:begin + 80]!r}")
 
 
 class Code:
@@ -349,7 +360,7 @@ class Code:
 
 
 class Sources:
-    """All that the crates of a repository define, but those of tests."""
+    """All that the crates of a repository define. Those of tests promise nothing."""
 
     def __init__(self, root: pathlib.Path) -> None:
         self.specs: dict[str, Specs] = {}
@@ -361,8 +372,6 @@ class Sources:
         crates = root / "crates"
         for path in sorted(crates.glob("*/s*/**/*")):
             file = str(path.relative_to(crates))
-            if file.startswith("test_"):
-                continue
             if path.suffix == ".antt" and file.split("/")[1] == "specs":
                 made = Specs(file, path.read_text(encoding="utf-8"))
                 self.specs[made.scope.own] = made
@@ -382,7 +391,7 @@ class Sources:
     def public_functions(self) -> list[Function]:
         """Those that other crates can call, or C: a crate's root passes them on, or their types and traits."""
         found = [each for each in self.functions() if each.is_open]
-        return [each for each in found if "extern " in each.signature or self.is_passed_on(each.crate, each.owner or each.name)]
+        return [each for each in found if "extern " in each.signature or self.is_passed_on(each.crate, each.root)]
 
     def titles(self, each: Function) -> list[str]:
         """A function's title, and those by other names of its type."""
@@ -397,7 +406,9 @@ class Sources:
         return [(f"{crate}::{name}", made) for crate, name, made in found if self.is_passed_on(crate, name)]
 
     def is_passed_on(self, crate: str, name: str) -> bool:
-        """Whether a crate's root has a name for other crates."""
+        """Whether a crate's root has a name for other crates, and isn't one of tests."""
+        if crate.startswith("test_"):
+            return False
         roots = [self.code[file] for file in (f"{crate}/src/lib.rt", f"{crate}/src/main.rt") if file in self.code]
         return any(name in root.passed_on or name in root.found or name in root.own_functions() for root in roots)
 
@@ -478,6 +489,14 @@ class Sources:
                 found.update(filter(None, [self.meaning(scope, name)]))
         return found
 
+    def of_std(self, each: Definition) -> set[str]:
+        """What a definition of specs/ names of std: functions and relations by their words, and no type of std or sign."""
+        text = "\n".join(each.lines)
+        words = {match[2] for match in WORD.finditer(re.sub(r"\"(?:\\.|[^\"\\])*\"", "", text)) if not match[1]}
+        named = words - self.bound(text, each.scope, [*each.patterns, *fields_of(each)])
+        found = (each.scope.names[word] for word in named if word in each.scope.names)
+        return {name for module, name in found if module.startswith("Rattle.std.") and name not in PLAIN_OF_STD}
+
     def bound(self, text: str, scope: Scope, patterns: collections.abc.Iterable[str]) -> set[str]:
         """The names that a statement binds itself. A name in a pattern is bound unless it is a constructor."""
         found = set[str]()
@@ -515,14 +534,18 @@ class Sources:
         found = (self.type(code, name) for name in set(re.findall(r"\b[A-Z]\w*", text)))
         return {each.key for each in found if each}
 
+    def under_clauses(self, each: Function) -> set[Key]:
+        """The definitions that a function's clauses name."""
+        arguments = re.findall(r"\b(\w+):", each.signature)
+        return self.references(" ; ".join(text for _, _, text in each.clauses), each.scope, arguments)
+
     def under_function(self, each: Function) -> set[Key]:
         """The definitions that a function's clauses name, and the types of its signature."""
-        arguments = re.findall(r"\b(\w+):", each.signature)
         clauses = " ; ".join(text for _, _, text in each.clauses)
         words = set(re.findall(r"\b[A-Z]\w*", f"{clauses} {each.owner} {each.block} {each.signature}"))
         code = self.code[each.file]
         types = self.named_types(code, " ".join(words - set(each.scope.names))) | self.named_types(code, each.signature)
-        return types | self.references(clauses, each.scope, arguments)
+        return types | self.under_clauses(each)
 
     def closed(self, keys: collections.abc.Iterable[Key]) -> set[Key]:
         """These definitions and all that they rest on."""
