@@ -120,4 +120,5 @@ def main() -> None:
     print(f"{count} commands of the {kind}")
 
 
-main()
+if __name__ == "__main__":
+    main()
