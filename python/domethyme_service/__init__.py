@@ -17,13 +17,9 @@
     osrm_request  what a request of OSRM's API asks
     osrm_answer   the parts of its answers as typed dictionaries
     texts       answers as JSON, made of parts
-    courses     the points and figures of a leg, arc by arc
+    osrm_geometry  the lines of its answers, and annotations
     osrm_steps  the steps of a route, in OSRM's words
-    lines       polylines, and simpler lines
-    legs        the least way between two places on roads
-    bearings    the nearest point of a road that leads in a wanted direction
     tables      tables of durations and distances, by the links of the hierarchy's file or by questions
-    roads       a network's roads: the piece of road nearest to a place
     tiles       the roads for the page's map
     page        the page at `/`: its files, and what it asks
     snapshot    the files of a generation, opened and compared

@@ -49,7 +49,7 @@ class Front:
         loop.add_signal_handler(signal.SIGTERM, self.end.set)
         loop.add_reader(self.parent, self._orphaned)
         questions = Questions(snapshot.router, snapshot.links, self.row, snapshot.keys)
-        service = Service(Generation(questions, snapshot.roads, snapshot.sweeps), setting.board, self.row, setting.ways)
+        service = Service(Generation(questions, snapshot.roads, snapshot.tiles, snapshot.sweeps), setting.board, self.row, setting.ways)
         self.server = Server(service.handle, setting.bounds)
         service.connections = lambda: len(self.server.connections)
         acceptor = Acceptor(setting.listening, self.server, self._leaves_to_others)

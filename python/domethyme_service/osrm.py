@@ -8,21 +8,22 @@ import itertools
 from collections.abc import Iterator, Sequence
 from typing import NamedTuple
 
+from domethyme.network.bearings import Towards, nearest_towards
+from domethyme.network.leg_geometry import Course, course_of, leg_figures
+from domethyme.network.legs import Leg, leg_between
+from domethyme.network.snapping import Roads, Spot
 from domethyme.network.tables import Point
 from domethyme.sweeps import Sweeps
 
-from .bearings import Towards, nearest_towards
-from .courses import Course, annotation, course_of, joined, leg_figures, lines_of, shaped, simpler
 from .endpoints import (
     ANNOTATIONS, BEARINGS, DESTINATIONS, GENERATE_HINTS, GEOMETRIES, NUMBER, OVERVIEW, RADIUSES, SKIP_WAYPOINTS, SOURCES, STEPS
 )
 from .errors import Refused
-from .legs import Leg, leg_between
 from .osrm_answer import RouteLeg, Waypoint
+from .osrm_geometry import annotation, joined, lines_of, shaped, simpler
 from .osrm_request import Request
 from .osrm_steps import steps_of_leg
 from .questions import Questions
-from .roads import Roads, Spot
 from .tables import Wanted, table_by_cells, table_by_sweeps
 from .texts import list_of, object_of, text_of
 from .work import Budget, Desk
@@ -79,7 +80,7 @@ def found_spots(roads: Roads, request: Request, number: int, count: int, budget:
     if towards is None:
         spots = roads.nearest(place, count, budget.step)
     else:
-        spots = nearest_towards(roads, place, count, Towards(*towards), within, budget)
+        spots = nearest_towards(roads, place, count, Towards(*towards), within)
     return [spot for spot in spots if spot.metres <= within]
 
 
@@ -116,21 +117,21 @@ def is_plain(request: Request) -> bool:
 
 def is_near(roads: Roads, places: Sequence[Point]) -> bool:
     """Whether all places are in the box of the roads, or near it."""
-    west, south, east, north = roads.tiles.about["box"]
+    west, south, east, north = roads.box
     return all(west - NEAR <= lon <= east + NEAR and south - NEAR <= lat <= north + NEAR for lon, lat in places)
 
 
 def no_segment(roads: Roads, request: Request, number: int) -> Refused:
     """A place without a road: which, how far, and where the roads are."""
     (lon, lat), within = request.places[number], request.values[RADIUSES][number]
-    west, south, east, north = box = roads.tiles.about["box"]
+    west, south, east, north = roads.box
     is_turned = is_near(roads, [(lat, lon)]) and not is_near(roads, [(lon, lat)])
     hint = "; is it LAT,LON?" if is_turned else ""
     within_what = " of that bearing" if request.values[BEARINGS][number] else ""
     return Refused(
         400, "NoSegment",
         f"there is no road{within_what} within {within:g} m of place {number}, {lon:g},{lat:g} (LON,LAT{hint}). "
-        f"The roads are from {box[0]:.4f},{box[1]:.4f} to {east:.4f},{north:.4f}. No segment for coordinate {number}",
+        f"The roads are from {west:.4f},{south:.4f} to {east:.4f},{north:.4f}. No segment for coordinate {number}",
     )
 
 
@@ -169,7 +170,10 @@ async def legs_of(means: Means, spots: Sequence[Spot]) -> list[Leg]:
 
 def route_told(roads: Roads, request: Request, spots: list[Spot], legs: list[Leg], budget: Budget) -> str:
     """The answer by its legs."""
-    courses = [course_of(roads, leg, budget) for leg in legs]
+    courses = []
+    for leg in legs:
+        courses.append(course := course_of(roads, leg))
+        budget.spend(0 if course is None else len(course.points))
     told, texts = [], []
     for each in budget.over(zip(spots, spots[1:], legs, courses)):
         leg_told = leg_as_told(roads, request, *each)

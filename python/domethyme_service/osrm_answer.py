@@ -3,15 +3,9 @@ unit of `weight_name` (seconds or metres), durations in seconds, distances in me
 duration is null where the network has no seconds."""
 from typing import Literal, NotRequired, TypedDict, Union
 
+from domethyme.network.leg_geometry import Figures
+
 Coordinates = list[float]
-
-
-class Figures(TypedDict):
-    """Of a route, a leg, a step or a cell."""
-
-    weight: float
-    duration: float | None
-    distance: float
 
 
 class LineString(TypedDict):

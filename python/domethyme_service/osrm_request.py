@@ -5,11 +5,11 @@ import urllib.parse
 from collections.abc import Mapping
 from typing import NamedTuple
 
+from domethyme.network.polyline import decoded
 from domethyme.network.tables import Point
 
 from .endpoints import BY_NAME
 from .errors import Refused, invalid_query, invalid_value
-from .lines import decoded
 from .parameters import Context, Values
 
 NUMBER = re.compile(r"[-+]?(?:[0-9]{1,3}(?:\.[0-9]{0,20})?|\.[0-9]{1,20})(?:[eE][-+]?[0-9]{1,2})?")

@@ -9,12 +9,12 @@ import numpy as np
 from numpy.typing import NDArray
 
 from domethyme.network.binary import TEXTS
+from domethyme.network.leg_geometry import Course, Figures, figures_of
+from domethyme.network.polyline import Line
+from domethyme.network.snapping import Roads
 from domethyme.network.tables import Point
 
-from .courses import Course, figures_of
-from .lines import Line
-from .osrm_answer import Coordinates, Figures, Geometry, Maneuver, Step
-from .roads import Roads
+from .osrm_answer import Coordinates, Geometry, Maneuver, Step
 
 TURN = 45
 # The degrees from which on a turn has the next one of the words for turns to the left, and to the right.

@@ -4,8 +4,7 @@ import json
 import pathlib
 
 from .errors import Refused, invalid_value
-from .roads import Roads
-from .tiles import DEEPEST
+from .tiles import DEEPEST, Tiles
 from .work import Desk
 
 FOLDER = pathlib.Path(__file__).resolve().parent / "page"
@@ -34,17 +33,17 @@ def page_files() -> dict[str, tuple[str, bytes]]:
 FILES = page_files()
 
 
-def about(roads: Roads) -> bytes:
+def about(tiles: Tiles) -> bytes:
     """What the page asks first, as JSON."""
-    return json.dumps({**roads.tiles.about, "unit": roads.unit}, ensure_ascii=False).encode("utf-8", "replace")
+    return json.dumps({**tiles.about, "unit": tiles.arrays.unit}, ensure_ascii=False).encode("utf-8", "replace")
 
 
-async def tile(roads: Roads, desk: Desk, path: str) -> bytes:
+async def tile(tiles: Tiles, desk: Desk, path: str) -> bytes:
     """The roads of the tile `/map/roads/ZOOM/X/Y`, as JSON. Raises Refused."""
     zoom, x, y = map(int, path.split("/")[3:])
     if zoom > DEEPEST or max(x, y) >= 1 << zoom:
         raise invalid_value(f"a tile is ZOOM/X/Y, with a zoom from 0 to {DEEPEST}")
-    return await desk.do(lambda _: roads.tiles.tile(zoom, x, y))
+    return await desk.do(lambda _: tiles.tile(zoom, x, y))
 
 
 def without_network() -> Refused:

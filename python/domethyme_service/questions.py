@@ -11,6 +11,7 @@ import numpy as np
 
 from domethyme import DomethymeError
 from domethyme.lines import Answer
+from domethyme.network.legs import Sides
 from domethyme.router import Router
 
 from .errors import Refused, invalid_value
@@ -19,8 +20,6 @@ from .metrics import Row
 # Lengths, or routes, that are asked for without a look at others: a few milliseconds.
 LENGTHS, ROUTES = 64, 16
 Pair = tuple[int, int]
-# Where a way begins or ends: nodes, and the weight and arc that lead there.
-Sides = dict[int, tuple[int, int]]
 
 
 class NodeKeys:

@@ -11,6 +11,7 @@ from typing import NamedTuple
 from aiohttp import HttpVersion10, HttpVersion11, web
 
 from domethyme import DomethymeError
+from domethyme.network.snapping import Roads
 
 from . import connection, nodes, osrm
 from .asking import Allowed, refuse_type
@@ -21,9 +22,9 @@ from .metrics import Board, Row
 from .osrm_request import request_of
 from .page import ALWAYS_ANEW, FILES, FOR_A_DAY, HEADERS, about, tile, without_network
 from .parameters import Context, Values
-from .roads import Roads
 from .snapshot import Generation
 from .texts import text_of
+from .tiles import Tiles
 from .work import Desk
 
 MOST_BODY = 4 << 20
@@ -139,18 +140,18 @@ class Service:
         return self._whole(200, text, kind, HEADERS)
 
     async def map_about(self, call: Call) -> web.StreamResponse:
-        roads = roads_of(call.generation)
+        tiles = tiles_of(call.generation)
         call.values()
-        return self._whole(200, about(roads), JSON, ALWAYS_ANEW)
+        return self._whole(200, about(tiles), JSON, ALWAYS_ANEW)
 
     async def map_roads(self, call: Call) -> web.StreamResponse:
-        roads = roads_of(call.generation)
+        tiles = tiles_of(call.generation)
         call.values()
-        return self._whole(200, await tile(roads, self.desk, call.asked.path), JSON, FOR_A_DAY)
+        return self._whole(200, await tile(tiles, self.desk, call.asked.path), JSON, FOR_A_DAY)
 
     async def osrm(self, call: Call) -> web.StreamResponse:
         """An answer of OSRM's API."""
-        wanted, (questions, _, sweeps) = request_of(call.asked.path, call.asked.query, self.ways.within), call.generation
+        wanted, (questions, _, _, sweeps) = request_of(call.asked.path, call.asked.query, self.ways.within), call.generation
         means = osrm.Means(questions, roads_of(call.generation), sweeps, self.desk, self.ways.cells)
         return self._whole(200, await osrm.answer(means, wanted), JSON)
 
@@ -276,6 +277,13 @@ def roads_of(generation: Generation) -> Roads:
     if generation.roads is None:
         raise without_network()
     return generation.roads
+
+
+def tiles_of(generation: Generation) -> Tiles:
+    """The tiles of a generation. Raises Refused where the service has no network."""
+    if generation.tiles is None:
+        raise without_network()
+    return generation.tiles
 
 
 class Body:

@@ -9,6 +9,7 @@ import numpy as np
 
 from domethyme import belonging
 from domethyme.checking import run_check
+from domethyme.network.snapping import Roads
 from domethyme.opening import looked_at, read_at
 from domethyme.opening import opened as file_of
 from domethyme.router import Router
@@ -17,7 +18,7 @@ from domethyme.sweeps import Sweeps
 from .errors import Unable
 from .metrics import Row
 from .questions import NodeKeys, Questions
-from .roads import Roads
+from .tiles import Tiles
 
 SAMPLES = 50
 # The operation of prctl for the signal at the parent's end (PR_SET_PDEATHSIG in sys/prctl.h).
@@ -46,6 +47,7 @@ class Snapshot(NamedTuple):
     router: Router
     links: int
     roads: Roads | None
+    tiles: Tiles | None
     sweeps: Sweeps | None
     keys: NodeKeys
 
@@ -55,6 +57,7 @@ class Generation(NamedTuple):
 
     questions: Questions
     roads: Roads | None
+    tiles: Tiles | None
     sweeps: Sweeps | None
 
 
@@ -75,7 +78,8 @@ def opened(files: Files) -> Snapshot:
             raise Unable(f"{files.hierarchy}: has changed while it was read")
     if roads is not None and sweeps is not None:
         compare(Questions(router, links, Row()), files, roads, sweeps)
-    return Snapshot(router, links, roads, sweeps, NodeKeys(() if roads is None else roads.arrays.keys()))
+    tiles = None if roads is None else Tiles(roads.arrays)
+    return Snapshot(router, links, roads, tiles, sweeps, NodeKeys(() if roads is None else roads.arrays.keys()))
 
 
 def end_with_parent(number: int = signal.SIGKILL) -> None:
@@ -93,7 +97,7 @@ def roads_of(network: str) -> Roads:
     """The network, verified as far as that is quick. Raises NetworkError."""
     roads = Roads(network)
     roads.arrays.file.verify(VERIFIED)
-    roads.tiles.about, roads.rounds  # (they are made here once, for all fronts)
+    roads.box, roads.rounds  # (they are made here once, for all fronts)
     return roads
 
 

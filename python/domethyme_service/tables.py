@@ -9,17 +9,16 @@ from typing import NamedTuple
 
 import numpy as np
 
+from domethyme.network.leg_geometry import UNITS_OF_ANSWERS, Figures, figures_of, leg_figures
+from domethyme.network.legs import along_one_arc, is_at, leg_between, weight_between
+from domethyme.network.snapping import Roads, Spot
 from domethyme.network.tables import EARTH_RADIUS, Point
 from domethyme.sweeps import NO_WAY, Numbers, Seeds, Sweeps
 
-from .courses import UNITS_OF_ANSWERS, figures_of, leg_figures
 from .endpoints import DESTINATIONS, FALLBACK_COORDINATE, FALLBACK_SPEED, FIGURES, SCALE_FACTOR, SOURCES
 from .errors import Refused, not_implemented
-from .legs import along_one_arc, is_at, leg_between, weight_between
-from .osrm_answer import Figures
 from .parameters import Values
 from .questions import ROUTES, Questions
-from .roads import Roads, Spot
 from .texts import list_of, text_of
 from .work import Budget, Desk
 

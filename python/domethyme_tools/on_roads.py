@@ -3,7 +3,7 @@
     request_lines(network, places, within, path)     a line `b S1 C1 .. : T1 D1 ..` of `routecli serve` for each trip
     routes_on_roads(network, replies, path, places)  a RoadRoute for each trip, by the replies to those lines, in order
 
-Trips are (row, (lon, lat), (lon, lat)). The work is that of the package domethyme_service.
+Trips are (row, (lon, lat), (lon, lat)).
 """
 import itertools
 from collections.abc import Iterable, Iterator
@@ -18,10 +18,9 @@ from domethyme.texts import reading
 from .tool import Fault, packages
 
 with packages():
-    from domethyme_service.courses import course_of, leg_figures
-    from domethyme_service.errors import Refused
-    from domethyme_service.legs import STAYS, is_at, leg_of
-    from domethyme_service.roads import Roads, Spot
+    from domethyme.network.leg_geometry import course_of, leg_figures
+    from domethyme.network.legs import STAYS, is_at, leg_of
+    from domethyme.network.snapping import Roads, Spot
 
 Trip = tuple[int | None, Point, Point]
 # How many starts, and ends, a request has at most.
@@ -110,7 +109,7 @@ def route_of(roads: Roads, trip: Trip, reply: bytes, path: str, replies: str, ro
     try:
         route = answer_to(request, reply)
         leg = STAYS if is_at(start, end) else leg_of(roads, start, end, route)
-    except (Refused, DomethymeError, ValueError) as error:
+    except (DomethymeError, ValueError) as error:
         raise Fault(f"{error}: is it of another network?", replies, row) from error
     if leg is None:
         return RoadRoute(trip[0], None, None, None, None, None, None)

@@ -14,7 +14,8 @@ from tool_case import PYTHON, ROOT, VILLAGE, ToolCase
 import domethyme
 from domethyme.network import binary, mapped
 from domethyme.network.tables import arcs_of, lightest, read_arcs, read_node_table, read_nodes
-from domethyme_service.roads import Roads
+from domethyme.network.snapping import Roads
+from domethyme_service.tiles import Tiles
 
 # Two nodes, a road both ways and one that is straight on.
 NODES = "node,osm,lon,lat,ends\n1,7,0,0,\n2,,0.001,0,\n3,9,0.001,0.001,\n"
@@ -51,7 +52,7 @@ def answers(prefix):
     """All that is in a network's file, and some of what is answered by it."""
     roads = Roads(prefix)
     columns = [column[:].tolist() for column in roads.arrays.file.columns.values()]
-    return str((columns, roads.nearest((0.0004, 0.0001), 2), roads.lightest((1, 2, 1)), roads.unit, roads.tiles.about))
+    return str((columns, roads.nearest((0.0004, 0.0001), 2), roads.lightest((1, 2, 1)), roads.unit, Tiles(roads.arrays).about))
 
 
 class SameTests(BinaryCase):
@@ -290,13 +291,14 @@ class MemoryTests(ToolCase):
         program = f"""
 import re, sys
 sys.path.insert(0, {str(PYTHON)!r})
-from domethyme_service.roads import Roads
+from domethyme.network.snapping import Roads
+from domethyme_service.tiles import Tiles
 own = lambda: int(re.search(r"RssAnon:\\s+(\\d+)", open("/proc/self/status").read())[1])
 before = own()
 roads = Roads({str(self.folder / "large")!r})
 for place in range(200):
     roads.nearest((9 + place / 3000, 47 + place / 4000), 3)
-roads.tiles.tile(10, 537, 358)
+Tiles(roads.arrays).tile(10, 537, 358)
 print(own() - before)
 """
         ended = subprocess.run([sys.executable, "-P", "-c", program], capture_output=True, text=True)

@@ -10,7 +10,8 @@ from tool_case import ToolCase
 from domethyme.network import binary, grid, own
 from domethyme.network.network import NodePlaces
 from domethyme.network.tables import metres_between, parted
-from domethyme_service.roads import Roads
+from domethyme.network.snapping import Roads
+from domethyme_service.tiles import Tiles
 
 MIDDLES = [(9.0, 47.0), (180.0, 0.0), (-179.9995, 65.0), (20.0, 90.0), (-60.0, -90.0), (179.9, -89.99)]
 DEGREE = 111_195.08
@@ -194,11 +195,12 @@ class MeridianTests(ToolCase):
 
     def test_tiles(self):
         """The road is drawn at the sides of the world, as long as it is, and nowhere between; the box is narrow."""
-        self.assertEqual(self.roads.tiles.about["box"], [179.998, 0, 180.1, 0])
-        drawn = {(x, y) for x in range(32) for y in range(32) if self.roads.tiles.tile(5, x, y) != b'{"roads":[]}'}
+        tiles = Tiles(self.roads.arrays)
+        self.assertEqual(tiles.about["box"], [179.998, 0, 180.1, 0])
+        drawn = {(x, y) for x in range(32) for y in range(32) if tiles.tile(5, x, y) != b'{"roads":[]}'}
         self.assertTrue(drawn and all(x in (0, 31) for x, _ in drawn), drawn)
         # a tile of zoom 15 is 1223 m wide: 444.78 m are 372 of its 1024 parts
-        lines = [line for x in (0, 32767) for road in json.loads(self.roads.tiles.tile(15, x, 16384))["roads"] for line in road["lines"]]
+        lines = [line for x in (0, 32767) for road in json.loads(tiles.tile(15, x, 16384))["roads"] for line in road["lines"]]
         self.assertEqual(len(lines), 1)
         x, y, east, south = lines[0]
         self.assertEqual((y, abs(east), south), (0, 372, 0))
@@ -208,7 +210,7 @@ class MeridianTests(ToolCase):
         self.write("n.csv", "lon,lat\n179.99,-0.001\n-179.999,-0.001\n")
         self.write("a.csv", "from,to,weight\n1,2,3\n")
         self.run_tool("to_network", "n.csv", "a.csv", "other")
-        roads = json.loads(Roads(str(self.folder / "other")).tiles.tile(15, 32767, 16384))["roads"]
+        roads = json.loads(Tiles(Roads(str(self.folder / "other")).arrays).tile(15, 32767, 16384))["roads"]
         self.assertEqual(roads[0]["lines"], [[1117, 93, -1025, 0]])
 
     def test_lines_are_parted(self):

@@ -23,9 +23,10 @@ from tool_case import ROOT
 import domethyme
 from domethyme.network.binary import UNITS, arrays_of
 from domethyme.network.mapped import HEAD
+from domethyme.network.polyline import encoded
 from domethyme_service import asking, endpoints, osrm_request, parameters
 from domethyme_service.errors import Refused
-from domethyme_service.lines import encoded, simplified
+from domethyme_service.osrm_geometry import simplified
 from domethyme_service.work import MOST_WAITING, Budget, Desk, Stopped
 
 PATH = "/nodes/length?from=1&to=2"

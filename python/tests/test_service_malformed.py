@@ -10,8 +10,8 @@ from typing import NamedTuple
 
 from service_case import SECONDS, Answer, ServiceCase, read_answer
 
+from domethyme.network.polyline import encoded
 from domethyme_service import endpoints
-from domethyme_service.lines import encoded
 from domethyme_service.osrm_request import SERVICES
 from domethyme_service.parameters import Flag, Word
 

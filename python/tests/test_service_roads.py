@@ -4,7 +4,7 @@ import random
 from test_grid import MIDDLES, place_beside
 from tool_case import ToolCase
 
-from domethyme_service.roads import Roads
+from domethyme.network.snapping import Roads
 
 
 class TogetherTests(ToolCase):

@@ -9,5 +9,10 @@
     grid        an index of the earth by cells, and the search for the nearest things
     levels      what maps show, by kind of road
     sphere      lengths, lines and nearest points on a sphere
+    snapping    the piece of road nearest to a place
+    bearings    the same of roads that lead in a wanted direction
+    legs        the least way between two places on roads
+    leg_geometry  the points and figures of a leg, arc by arc
+    polyline    lines as texts
     threads     long arrays, part by part, by several threads
 """

@@ -30,6 +30,7 @@ WGS 84; no tool here reads them. The columns ends, ref, junction, destination an
     attribution_of(network)      what the data asks to be said wherever it is shown, "" for nothing: the comment of the
                                  graph that `osm_to_gr --attribution` wrote. OSM_ATTRIBUTION is that of OpenStreetMap.
     metres_between(lon, lat, lon, lat)              along the great circle, on a sphere of EARTH_RADIUS metres
+    bearing(point, point)                           the direction from a point to a near one
 """
 import csv
 import errno
@@ -405,3 +406,9 @@ def metres_between(lon_1: float, lat_1: float, lon_2: float, lat_2: float) -> fl
     half_lat, half_lon = (phi_2 - phi_1) / 2, math.radians(lon_2 - lon_1) / 2
     square = math.sin(half_lat) ** 2 + math.cos(phi_1) * math.cos(phi_2) * math.sin(half_lon) ** 2
     return 2 * EARTH_RADIUS * math.asin(math.sqrt(min(1.0, square)))
+
+
+def bearing(begin: Point, end: Point) -> int:
+    """The direction from a point to a near one, in degrees from north, clockwise."""
+    east = math.remainder(end[0] - begin[0], 360) * math.cos(math.radians(begin[1]))
+    return round(math.degrees(math.atan2(east, end[1] - begin[1]))) % 360

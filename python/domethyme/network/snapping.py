@@ -15,16 +15,14 @@ from typing import NamedTuple
 import numpy as np
 from numpy.typing import NDArray
 
-from domethyme import NetworkError
-from domethyme.network.binary import NO_OSM, TEXTS, UNITS, Mapped, arrays_of
-from domethyme.network.grid import Ints, ranges
-from domethyme.network.network import NodePlaces
-from domethyme.network.mapped import Column
-from domethyme.network.sphere import Floats, between, nearest_on
-from domethyme.network.tables import ENDS, Point, metres_between
-from domethyme.network.threads import firsts
-
-from .tiles import Tiles
+from ..errors import NetworkError
+from .binary import NO_OSM, TEXTS, UNITS, Mapped, arrays_of
+from .grid import Ints, ranges
+from .mapped import Column
+from .network import NodePlaces
+from .sphere import Floats, between, nearest_on
+from .tables import ENDS, Point, metres_between
+from .threads import firsts
 
 AT_END = 0.005
 NONE = -1
@@ -102,12 +100,18 @@ class Roads:
         self.texts, self.unit, self.degree = self.arrays.texts, self.arrays.unit, self.arrays.degrees
         self.has_seconds = self.arrays.has_seconds
         self.edge = functools.lru_cache(KEPT)(self._edge)
-        self.tiles, self._places = Tiles(self.arrays), NodePlaces.of(self.arrays)
+        self._places = NodePlaces.of(self.arrays)
 
     @property
     def edges(self) -> int:
         """How many edges there are."""
         return len(self.arrays.edge_begin) - 1
+
+    @functools.cached_property
+    def box(self) -> tuple[float, float, float, float]:
+        """The box of the roads in degrees: west, south, east, of which the last may lie beyond 180, and north."""
+        west, south, east, north = (self.arrays.about[side] / UNITS for side in ("west", "south", "east", "north"))
+        return west, south, east, north
 
     def copies(self, node: int) -> tuple[int, ...]:
         """All nodes that turn restrictions made of the junction of one."""

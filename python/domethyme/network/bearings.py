@@ -1,11 +1,8 @@
 """The nearest point of a road that leads in a wanted direction, as OSRM's `bearings` ask for."""
 from typing import NamedTuple
 
-from domethyme.network.tables import Point
-
-from .lines import bearing
-from .roads import Arc, Roads, Spot, keep_least
-from .work import Budget
+from .snapping import Arc, Roads, Spot, keep_least
+from .tables import Point, bearing
 
 # Of so many edges the directions are looked at, a few at first.
 FEW, MOST = 8, 4096
@@ -21,13 +18,12 @@ class Towards(NamedTuple):
         return abs((direction - self.bearing + 180) % 360 - 180) <= self.reach
 
 
-def nearest_towards(roads: Roads, place: Point, count: int, towards: Towards, within: float, budget: Budget) -> list[Spot]:
+def nearest_towards(roads: Roads, place: Point, count: int, towards: Towards, within: float) -> list[Spot]:
     """The `count` nearest points of roads that lead that way there, no further off than `within` metres. Routes begin there, and
     end there, in that direction alone."""
     looked_at = FEW
     while True:
-        budget.step()
-        spots = roads.nearest(place, looked_at, budget.step)
+        spots = roads.nearest(place, looked_at)
         found = [turned for spot in spots if (turned := turned_spot(roads, spot, towards)) is not None]
         if len(found) >= count or len(spots) < looked_at or looked_at >= MOST or spots[-1].metres > within:
             return found[:count]

@@ -1,14 +1,11 @@
-"""Lines of places: polylines as texts, and simpler lines."""
+"""Lines of places as polylines (the encoded polyline algorithm format), and back."""
 import itertools
-import math
 from collections.abc import Iterable, Sequence
 
 import numpy as np
 
-from domethyme.network.network import Floats
-from domethyme.network.tables import Point
-
-from .work import Budget
+from .network import Floats
+from .tables import Point
 
 # Points (lon, lat), as lists.
 Line = list[list[float]]
@@ -60,44 +57,3 @@ def decoded(text: str, digits: int) -> list[Point]:
         raise ValueError("no polyline")
     lats, lons = itertools.accumulate(numbers[::2]), itertools.accumulate(numbers[1::2])
     return [(lon / 10**digits, lat / 10**digits) for lat, lon in zip(lats, lons)]
-
-
-def simplified(points: Floats, far: float, budget: Budget) -> Floats:
-    """The line of points, of shape (count, 2), with fewer of them, none of the others further off than `far` (Douglas, Peucker
-    1973), in degrees of latitude."""
-    flat: list[complex] = (points[:, 0] * math.cos(math.radians(points[0, 1])) + 1j * points[:, 1]).tolist()
-    is_kept = np.zeros(len(points), dtype=bool)
-    is_kept[[0, -1]] = True
-    open_ = [(0, len(points) - 1)]
-    while open_:
-        low, high = open_.pop()
-        if high - low < 2:
-            continue
-        budget.look_at(high - low)
-        place = furthest(flat, low, high, far)
-        if place > low:
-            is_kept[place] = True
-            open_ += [(low, place), (place, high)]
-    found: Floats = points[is_kept]
-    return found
-
-
-def furthest(flat: list[complex], low: int, high: int, far: float) -> int:
-    """Which point between two others is furthest from the line between them; `low` where none is further off than `far`. Most lines
-    are short, for which arrays take several times as long."""
-    begin, way = flat[low], flat[high] - flat[low]
-    towards = way.conjugate() / (abs(way) ** 2 or 1.0)
-    most, best = far, low
-    for place in range(low + 1, high):
-        aside = flat[place] - begin
-        share = (aside * towards).real
-        away = abs(aside if share <= 0.0 else aside - way if share >= 1.0 else aside - share * way)
-        if away > most:
-            most, best = away, place
-    return best
-
-
-def bearing(begin: Point, end: Point) -> int:
-    """The direction from a point to a near one, in degrees from north, clockwise."""
-    east = math.remainder(end[0] - begin[0], 360) * math.cos(math.radians(begin[1]))
-    return round(math.degrees(math.atan2(east, end[1] - begin[1]))) % 360

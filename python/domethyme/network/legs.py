@@ -4,13 +4,21 @@ The graph is cut at both points. A least way there stays on an arc from the one 
 edge by the end of an arc and comes to the second's by the start of one, with a least route of the graph between, which is what
 is asked for. So the least of all these is least in the graph that is cut.
 """
-from typing import NamedTuple
+from typing import NamedTuple, Protocol
 
-from domethyme.lines import Answer
+from ..errors import NetworkError
+from ..lines import Answer
+from .snapping import NONE, Roads, Spot
 
-from .errors import Refused
-from .questions import Questions
-from .roads import NONE, Roads, Spot
+# Where a way begins or ends: nodes, and the weight and arc that lead there.
+Sides = dict[int, tuple[int, int]]
+
+
+class Questions(Protocol):
+    """What is asked for the ways between nodes, which are numbered from 1."""
+
+    def between(self, exits: Sides, entries: Sides, with_nodes: bool = True) -> Answer | None:
+        """The least way from one of several nodes to one of several, with the weights that lead there, or its length alone."""
 
 
 class Leg(NamedTuple):
@@ -28,12 +36,12 @@ STAYS = Leg(0, [], [], 0.0, 1.0)
 
 
 def leg_between(questions: Questions, roads: Roads, start: Spot, end: Spot) -> Leg | None:
-    """The leg between two points; None where there is no way. Raises Refused."""
+    """The leg between two points; None where there is no way. Raises NetworkError."""
     return STAYS if is_at(start, end) else leg_of(roads, start, end, questions.between(start.exits, end.entries))
 
 
 def weight_between(questions: Questions, roads: Roads, start: Spot, end: Spot) -> int | None:
-    """The weight of the leg, without its parts; None where there is no way. Raises Refused."""
+    """The weight of the leg, without its parts; None where there is no way."""
     if is_at(start, end):
         return 0
     straight, route = along_one_arc(roads, start, end), questions.between(start.exits, end.entries, with_nodes=False)
@@ -68,11 +76,11 @@ def along_one_arc(roads: Roads, start: Spot, end: Spot) -> Leg | None:
 
 
 def driven(roads: Roads, start: Spot, end: Spot, route: Answer) -> Leg:
-    """The leg of a route between the points' nodes. Raises Refused where the network isn't that of the hierarchy."""
+    """The leg of a route between the points' nodes. Raises NetworkError where the network isn't that of the hierarchy."""
     first, last = start.exits[route.source], end.entries[route.target]
     arcs = roads.lightest(route.nodes)
     if NONE in arcs:
-        raise Refused(500, "InternalError", "the network lacks an arc of the hierarchy's graph")
+        raise NetworkError("lacks an arc of the hierarchy's graph", roads.arrays.path)
     weights: list[int] = roads.arrays.arc_weight[arcs].tolist() if arcs else []
     begin, stop = 0.0, 1.0
     if first[1] != NONE:
@@ -82,5 +90,5 @@ def driven(roads: Roads, start: Spot, end: Spot, route: Answer) -> Leg:
         arcs, weights = [*arcs, last[1]], [*weights, last[0]]
         stop = roads.along(roads.edge(end.edge).arcs[last[1]], end.fraction)
     if sum(weights) != route.length:
-        raise Refused(500, "InternalError", "the network's weights aren't those of the hierarchy's graph")
+        raise NetworkError("has other weights than the hierarchy's graph", roads.arrays.path)
     return Leg(route.length, arcs, weights, begin, stop)

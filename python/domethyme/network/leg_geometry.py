@@ -2,22 +2,17 @@
 end. All is in arrays, since a leg may have thousands of arcs."""
 import functools
 import itertools
-import math
-from collections.abc import Iterable, Sequence
+from typing import TypedDict
 
 import numpy as np
 from numpy.typing import NDArray
 
-from domethyme.network.binary import UNITS
-from domethyme.network.index import wrapped
-from domethyme.network.network import Floats
-from domethyme.network.tables import Point
-
+from .binary import UNITS
+from .index import wrapped
 from .legs import Leg
-from .lines import Line, array_of, bearing, encoded, simplified
-from .osrm_answer import Figures, Geometry
-from .roads import Roads, steps_of
-from .work import Budget
+from .network import Floats
+from .snapping import Roads
+from .tables import bearing
 
 SHOWN = 1_000_000
 
@@ -25,6 +20,14 @@ SHOWN = 1_000_000
 UNITS_OF_ANSWERS = {"duration": 1000, "distance": 100}
 
 Ints = NDArray[np.int64]
+
+
+class Figures(TypedDict):
+    """Of a route or a part of one: its weight in the unit of answers, seconds, None where the network has none, and metres."""
+
+    weight: float
+    duration: float | None
+    distance: float
 
 
 class Course:
@@ -115,14 +118,9 @@ def figures_of(roads: Roads, weight: int, seconds: float, metres: float) -> Figu
     }
 
 
-def course_of(roads: Roads, leg: Leg, budget: Budget | None = None) -> Course | None:
-    """The course of a leg; None where it stays at a node. Its points are spent of a budget."""
-    if not leg.arcs:
-        return None
-    course = Course(roads, leg)
-    if budget is not None:
-        budget.spend(len(course.points))
-    return course
+def course_of(roads: Roads, leg: Leg) -> Course | None:
+    """The course of a leg; None where it stays at a node."""
+    return Course(roads, leg) if leg.arcs else None
 
 
 def leg_figures(roads: Roads, leg: Leg) -> Figures:
@@ -139,79 +137,3 @@ def parts_of(roads: Roads, leg: Leg, arcs: Ints) -> tuple[Floats, Floats]:
     shares[-1] = leg.end
     shares[0] -= leg.begin
     return roads.arrays.arc_seconds[arcs] * shares, roads.arrays.arc_metres[arcs] * shares
-
-
-def lines_of(courses: "Sequence[Course | None]", ends: list[Point]) -> list[Line]:
-    """The line along each course, from a place to the next."""
-    inner = ([] if course is None else course.line(0, len(course.arcs)) for course in courses)
-    return [[list(begin), *some, list(end)] for begin, some, end in zip(ends, inner, ends[1:])]
-
-
-def joined(lines: Iterable[Line]) -> Line:
-    """One line of several, without a point that follows itself; two points at least."""
-    line = [point for point, _ in itertools.groupby(itertools.chain.from_iterable(lines))]
-    return line if len(line) > 1 else line * 2
-
-
-def simpler(lines: Sequence[Line], budget: Budget) -> list[Line]:
-    """The lines with fewer points, none of the others further off than a thousandth of the extent of all."""
-    arrays = [array_of(line) for line in budget.over(lines)]
-    shrink = np.array([math.cos(math.radians(arrays[0][0, 1])), 1.0])
-    low, high = (side([side(array, axis=0) for array in arrays], axis=0) for side in (np.min, np.max))
-    far = float(((high - low) * shrink).max()) / 1000
-    return [simplified(array, far, budget).tolist() for array in arrays]
-
-
-def shaped(lines: Sequence[Line], shape: str) -> list[Geometry]:
-    """Lines as polylines, or as GeoJSON."""
-    if shape == "geojson":
-        return [{"type": "LineString", "coordinates": line} for line in lines]
-    return list(encoded(lines, 6 if shape == "polyline6" else 5))
-
-
-def annotation(course: Course, names: list[str]) -> dict[str, list[float | None]]:
-    """For each step of the leg's line the metres, seconds, weight and speed, an arc's shared out by metres; and for each point of
-    it the id of OpenStreetMap of its node, 0 where that isn't known, as between junctions. Without seconds there are no durations and
-    speeds: they are None."""
-    found: dict[str, list[float | None]] = {name: [] for name in names}
-    figured = [name for name in names if name != "nodes"]
-    for place, steps in steps_of_arcs(course):
-        whole, figures = sum(steps), course.figures(place, place + 1)
-        duration = figures["duration"]
-        for way in steps:
-            share = way / whole
-            values = {
-                "weight": figures["weight"] * share, "distance": figures["distance"] * share, "datasources": 0.0,
-                "duration": None if duration is None else duration * share,
-                "speed": None if duration is None else figures["distance"] / duration if duration else 0.0,
-            }
-            for name in figured:
-                value = values[name]
-                found[name].append(None if value is None else round(value, 3))
-    if "nodes" in found:
-        found["nodes"] = [*nodes_of(course)]
-    return found
-
-
-def nodes_of(course: Course) -> list[float]:
-    """The id of each point, one more than there are steps."""
-    roads, arrays = course.roads, course.roads.arrays
-    counts = [len(steps) for _, steps in steps_of_arcs(course)]
-    starts, last = arrays.arc_from[course.arcs].tolist(), int(arrays.arc_to[course.arcs[-1]])
-    found = [id_ for node, count in zip(starts, counts) for id_ in [roads.osm(node), *[0] * (count - 1)]]
-    found.append(roads.osm(last))
-    if course.leg.begin > 0.0:
-        found[0] = 0
-    if course.leg.end < 1.0:
-        found[-1] = 0
-    return list(found)
-
-
-def steps_of_arcs(course: Course) -> list[tuple[int, list[float]]]:
-    """Each arc with the metres of its steps; where they have no length they are equal."""
-    found = []
-    for place, (low, high) in enumerate(itertools.pairwise(course.begins.tolist())):
-        line = [(lon / UNITS, lat / UNITS) for lon, lat in course.points[low:high].tolist()]
-        ways = steps_of(line)
-        found.append((place, ways if sum(ways) else [1.0] * len(ways)))
-    return found
