@@ -1,7 +1,10 @@
 """Tests of a hierarchy in this process: threads, forks, its end, files that are refused, and what can't be found."""
 import collections
 import concurrent.futures
+import contextlib
+import ctypes
 import os
+import resource
 import signal
 import subprocess
 import sys
@@ -10,6 +13,7 @@ import time
 import unittest.mock
 
 import numpy as np
+from kit.hierarchy_file import NONE, spelled
 from tool_case import PYTHON, ToolCase
 
 import domethyme
@@ -18,6 +22,20 @@ from domethyme.router import Router
 
 # A ring of 60 nodes, each of which leads to the next by 1.
 RING = ([*range(60)], [*range(1, 60), 0], [1] * 60)
+
+
+@contextlib.contextmanager
+def memory_for(more):
+    """In which this process gets so many bytes more, and none that it has freed."""
+    ctypes.CDLL(None).malloc_trim(0)
+    with open("/proc/self/statm") as sizes:
+        now = int(sizes.read().split()[0]) * resource.getpagesize()
+    soft, hard = resource.getrlimit(resource.RLIMIT_AS)
+    resource.setrlimit(resource.RLIMIT_AS, (now + more, hard))
+    try:
+        yield
+    finally:
+        resource.setrlimit(resource.RLIMIT_AS, (soft, hard))
 
 
 class RouterTests(ToolCase):
@@ -144,6 +162,25 @@ class RouterTests(ToolCase):
             with unittest.mock.patch.object(domethyme.router, "PATIENCE", 0.05), self.assertRaises(domethyme.OutOfMemory):
                 router.length(0, 7)
             self.assertEqual(seat.length(0, 8), 8)
+
+    def test_a_question_that_is_refused_memory(self):
+        """A search that comes to 500,000 nodes raises OutOfMemory where there are 2 MB, and answers once there is more."""
+        last = 499_999
+        links = [(0, node, 2, 1, NONE) for node in range(1, last)] + [(0, last, 1, 1, NONE)]
+        (self.folder / "fan.rch").write_bytes(spelled(range(last + 1), links, 2 * last))
+        hierarchy = domethyme.Hierarchy(self.folder / "fan.rch")
+        self.addCleanup(hierarchy.close)
+        self.assertIsNone(hierarchy.length(1, 2))
+        for ask in (
+            lambda: hierarchy.length(0, last),
+            lambda: hierarchy.route(0, last).length,
+            lambda: hierarchy.between({0: 0}, {last: 0}).length,
+            lambda: int(hierarchy.lengths([[0, last]])[0]),
+            lambda: int(hierarchy.matrix([0], [last])[0, 0]),
+        ):
+            with memory_for(2 << 20), self.assertRaises(domethyme.OutOfMemory):
+                ask()
+            self.assertEqual(ask(), 1)
 
     def test_the_end(self):
         with self.ring() as hierarchy:
