@@ -1,7 +1,10 @@
-/* Prints the routes of pairs as `routecli route` does, and sees on the way that all calls agree.
+/* Prints the routes of pairs as `routecli route` does, and sees on the way that all calls agree, and that a second handle takes
+ * little memory.
  *
  *     answers HIER PAIRS */
 #include "support.h"
+
+#include <malloc.h>
 
 /* The length alone, the route by two calls, and the same between one start and one end. */
 static void answer(domethyme *handle, domethyme_pair pair)
@@ -74,6 +77,24 @@ static void compare(domethyme *handle, const domethyme_pair *pairs, size_t count
         }
 }
 
+static size_t allocated(void)
+{
+    struct mallinfo2 info = mallinfo2();
+    return info.uordblks + info.hblkhd;
+}
+
+/* A second handle takes 48 bytes a node, and no hierarchy of its own. */
+static void take_little(domethyme *handle)
+{
+    domethyme other = DOMETHYME_CLOSED;
+    uint32_t nodes = 0;
+    WANT(domethyme_nodes(handle, &nodes) == DOMETHYME_OK);
+    size_t before = allocated();
+    WANT(domethyme_beside(handle, &other) == DOMETHYME_OK);
+    WANT(allocated() - before <= 48 * (size_t)nodes + 4096);
+    domethyme_close(&other);
+}
+
 int main(int count, char **words)
 {
     WANT(count == 3);
@@ -86,6 +107,7 @@ int main(int count, char **words)
     for (size_t place = 0; place < asked; ++place)
         answer(&handle, pairs[place]);
     compare(&handle, pairs, asked);
+    take_little(&handle);
     free(pairs);
     domethyme_close(&handle);
     return 0;

@@ -4,22 +4,43 @@
  *     codes HIER */
 #include "support.h"
 
+/* What a call may write, and whether it is as it was. */
+typedef struct results {
+    uint64_t length;
+    uint32_t number, nodes[3];
+    domethyme_route_info route;
+    domethyme_between_info between;
+} results;
+
+static results before(void)
+{
+    results untouched;
+    memset(&untouched, 42, sizeof untouched);
+    return untouched;
+}
+
+static int is_untouched(const results *found)
+{
+    results untouched = before();
+    return memcmp(found, &untouched, sizeof untouched) == 0;
+}
+
+/* Each call with a closed handle writes nothing. */
 static void closed(domethyme *handle)
 {
-    uint32_t number = 42, node = 0;
-    uint64_t length = 42;
+    uint32_t node = 0;
     domethyme_pair pair = {0, 1};
     domethyme_seed seed = {0, 0, 0};
-    domethyme_route_info route = {42, 42};
-    domethyme_between_info between = {42, 42, 42, 42};
     domethyme other = DOMETHYME_CLOSED;
-    WANT(domethyme_nodes(handle, &number) == DOMETHYME_NO_HANDLE && number == 42);
-    WANT(domethyme_version(handle, &number) == DOMETHYME_NO_HANDLE && number == 42);
-    WANT(domethyme_length(handle, 0, 1, &length) == DOMETHYME_NO_HANDLE && length == 42);
-    WANT(domethyme_route(handle, 0, 1, &route, &node, 1) == DOMETHYME_NO_HANDLE && route.length == 42 && node == 0);
-    WANT(domethyme_between(handle, &seed, 1, &seed, 1, &between, &node, 1) == DOMETHYME_NO_HANDLE && between.end == 42);
-    WANT(domethyme_lengths(handle, &pair, 1, &length, 1) == DOMETHYME_NO_HANDLE && length == 42);
-    WANT(domethyme_table(handle, &node, 1, &node, 1, &length, 1) == DOMETHYME_NO_HANDLE && length == 42);
+    results found = before();
+    WANT(domethyme_nodes(handle, &found.number) == DOMETHYME_NO_HANDLE && is_untouched(&found));
+    WANT(domethyme_version(handle, &found.number) == DOMETHYME_NO_HANDLE && is_untouched(&found));
+    WANT(domethyme_length(handle, 0, 1, &found.length) == DOMETHYME_NO_HANDLE && is_untouched(&found));
+    WANT(domethyme_route(handle, 0, 1, &found.route, found.nodes, 3) == DOMETHYME_NO_HANDLE && is_untouched(&found));
+    WANT(domethyme_between(handle, &seed, 1, &seed, 1, &found.between, found.nodes, 3) == DOMETHYME_NO_HANDLE);
+    WANT(is_untouched(&found));
+    WANT(domethyme_lengths(handle, &pair, 1, &found.length, 1) == DOMETHYME_NO_HANDLE && is_untouched(&found));
+    WANT(domethyme_table(handle, &node, 1, &node, 1, &found.length, 1) == DOMETHYME_NO_HANDLE && is_untouched(&found));
     WANT(domethyme_beside(handle, &other) == DOMETHYME_NO_HANDLE && other.router == NULL);
     domethyme_close(handle);
 }
@@ -69,6 +90,23 @@ static void several(domethyme *handle)
     WANT(found.length == (UINT64_C(1) << 57) + 705);
 }
 
+/* The nearest of 100 depots, and the last of the ends: from 1 with 20 * 1 to 2 with 100 * 1, 20 + 400 + 100. */
+static void depots(domethyme *handle)
+{
+    domethyme_seed starts[100], ends[100];
+    for (uint32_t place = 0; place < 100; ++place) {
+        starts[place].length = place == 98 ? 20 : 10000 - place;
+        starts[place].node = place == 98 ? 1 : 0;
+        ends[place].length = place == 99 ? 100 : 5000;
+        ends[place].node = 2;
+        starts[place].arcs = ends[place].arcs = 0;
+    }
+    domethyme_between_info found = {0, 0, 0, 0};
+    uint32_t nodes[3] = {9, 9, 9};
+    WANT(domethyme_between(handle, starts, 100, ends, 100, &found, nodes, 3) == DOMETHYME_OK);
+    WANT(found.length == 520 && found.start == 98 && found.end == 99 && found.nodes == 2 && nodes[0] == 1 && nodes[1] == 2);
+}
+
 static void many(domethyme *handle)
 {
     domethyme_pair pairs[] = {{0, 2}, {2, 0}, {1, 1}, {3, 0}};
@@ -89,20 +127,57 @@ static void many(domethyme *handle)
     WANT(memcmp(lengths, wanted, sizeof wanted) == 0);
 }
 
+/* A code and its text. */
+typedef struct meaning {
+    uint32_t code;
+    const char *text;
+} meaning;
+
+static const meaning MEANINGS[] = {
+    {DOMETHYME_OK, "ok"},
+    {DOMETHYME_NO_PATH, "no path leads from the source to the target"},
+    {DOMETHYME_NO_HANDLE, "the handle is closed"},
+    {DOMETHYME_NODE_RANGE, "a node isn't below the number of nodes"},
+    {DOMETHYME_NO_ROOM, "an array is too short for the answer"},
+    {DOMETHYME_OUT_OF_MEMORY, "out of memory"},
+    {DOMETHYME_TOO_LONG, "the route would repeat a node: the file isn't right for any graph"},
+    {DOMETHYME_SEED_COST, "a start or an end has a length above 2^57, or more than 2^25 arcs"},
+    {DOMETHYME_READ, "the file couldn't be read"},
+    {DOMETHYME_BAD_MAGIC, "the bytes are no hierarchy file"},
+    {DOMETHYME_TRUNCATED, "the bytes end too early"},
+    {DOMETHYME_TOO_BIG, "more than 2^25 nodes, or more links than pairs of nodes"},
+    {DOMETHYME_BOUND_TOO_BIG, "the bound is above what a walk can cost"},
+    {DOMETHYME_RANK_RANGE, "a rank isn't below the number of nodes"},
+    {DOMETHYME_RANK_TWICE, "two nodes have one rank"},
+    {DOMETHYME_LINK_ENDS, "a link's ends aren't two nodes"},
+    {DOMETHYME_LINK_ORDER, "a link doesn't come after the one before it"},
+    {DOMETHYME_LINK_WEIGHT, "a link's weight or number of arcs can't be"},
+    {DOMETHYME_MIDDLE_RANGE, "a middle isn't a node"},
+    {DOMETHYME_MIDDLE_RANK, "a middle's rank isn't below those of both ends"},
+    {DOMETHYME_HALF_MISSING, "a half of a link with a middle is no link"},
+    {DOMETHYME_HALF_SUM, "the halves of a link don't sum to it"},
+    {DOMETHYME_TRAILING, "bytes follow the last link"},
+};
+
+static const char *meaning_of(uint32_t code)
+{
+    for (size_t place = 0; place < sizeof MEANINGS / sizeof MEANINGS[0]; ++place)
+        if (MEANINGS[place].code == code)
+            return MEANINGS[place].text;
+    return "a code that no call returns";
+}
+
 static void texts(void)
 {
     char text[DOMETHYME_TEXT];
     for (uint32_t code = 0; code < 60; ++code) {
+        const char *wanted = meaning_of(code);
+        size_t count = strlen(wanted) + 1;
         memset(text, 42, sizeof text);
-        size_t bytes = domethyme_text(code, text, sizeof text);
-        WANT(bytes <= DOMETHYME_TEXT && strlen(text) + 1 == bytes && bytes > 2);
-        char first = text[0];
-        text[0] = 0;
-        WANT(domethyme_text(code, text, bytes - 1) == bytes && text[0] == 0);
-        WANT(domethyme_text(code, text, bytes) == bytes && text[0] == first);
+        WANT(domethyme_text(code, text, count - 1) == count && text[0] == 42);
+        WANT(domethyme_text(code, text, count) == count && strcmp(text, wanted) == 0);
+        WANT(domethyme_text(code, text, sizeof text) == count && strcmp(text, wanted) == 0);
     }
-    domethyme_text(DOMETHYME_OUT_OF_MEMORY, text, sizeof text);
-    WANT(strcmp(text, "out of memory") == 0);
 }
 
 int main(int count, char **words)
@@ -114,6 +189,7 @@ int main(int count, char **words)
     WANT(domethyme_open(&handle, hierarchy.bytes, hierarchy.count) == DOMETHYME_OK);
     single(&handle);
     several(&handle);
+    depots(&handle);
     many(&handle);
     /* A second handle lives on behind the first; a handle that is opened again closes what it had. */
     WANT(domethyme_beside(&handle, &other) == DOMETHYME_OK);
