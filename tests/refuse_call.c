@@ -1,5 +1,5 @@
-// Refuses or slows down the calls of the system that whole_files.py names in the environment variable REFUSED. It is
-// loaded before the C library.
+// Refuses or slows down the calls of the system that whole_files.py and opened name in the environment variable REFUSED. It
+// is loaded before the C library.
 #define _GNU_SOURCE
 #include <dlfcn.h>
 #include <errno.h>
@@ -78,6 +78,13 @@ int chown(const char *path, uid_t user, gid_t group) {
 static int opened(const char *name, const char *path, int flags, mode_t mode) {
   if ((flags & O_EXCL) != 0 && is_refused("open new")) {
     errno = ENOSPC;
+    return -1;
+  }
+  const char *base = strrchr(path, '/');
+  char call[64];
+  snprintf(call, sizeof call, "open %s", base ? base + 1 : path);
+  if (is_refused(call)) {
+    errno = ENOMEM;
     return -1;
   }
   return ((int (*)(const char *, int, ...))dlsym(RTLD_NEXT, name))(path, flags, mode);

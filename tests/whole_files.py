@@ -10,8 +10,10 @@ is a line, and the last line counts them; the exit status is 1 where one has fai
 
 It needs the proved program, which is crates/routecli/out/routecli (README.md says how to build it) or the path in the
 environment variable ROUTECLI, and gcc, for refuse_call.c, which refuses single calls of the system. As root, the folders and
-files that may not be written are tried as another user.
+files that may not be written are tried as another user. A file of another owner is tried by root alone, and two file systems
+where this user may mount them, by unshare; elsewhere these cases say that they are left out.
 """
+import contextlib
 import os
 import pathlib
 import resource
@@ -19,7 +21,6 @@ import shutil
 import signal
 import stat
 import subprocess
-import sys
 import tempfile
 import threading
 import time
@@ -27,9 +28,7 @@ import time
 from kit.counted import chosen, end, parser
 from kit.hierarchy_file import HEAD_BYTES, LINK_BYTES, NONE, links_in, spelled
 from kit.networks import made
-from kit.program import PROGRAM, need_program
-
-HERE = pathlib.Path(__file__).resolve().parent
+from kit.program import PROGRAM, need_program, refuse_library
 
 PREPARE = ["prepare", "--workers", "1"]
 # So many bytes are offered to a file at once, at most.
@@ -174,6 +173,18 @@ def permissions_are_kept(bench, mode):
     expect(stat.S_IMODE(bench.out.stat().st_mode) == int(mode, 8), "other permissions")
 
 
+@case()
+def the_owner_is_kept(bench):
+    if os.getuid():
+        return "left out: this user can't give a file away"
+    os.chown(bench.put(), NOBODY, NOBODY)
+    bench.out.chmod(0o600)
+    bench.prepare().ends(0)
+    bench.holds_new()
+    found = bench.out.stat()
+    expect((found.st_uid, found.st_gid, stat.S_IMODE(found.st_mode)) == (NOBODY, NOBODY, 0o600), f"it is now {found}")
+
+
 @case("there", "not there yet")
 def a_link_leads_to_the_file(bench, file):
     (bench.folder / "below").mkdir()
@@ -186,6 +197,17 @@ def a_link_leads_to_the_file(bench, file):
     expect(os.listdir(target.parent) == ["y.rch"], "more than the file in its folder")
     bench.holds_new()
     bench.left.add("below")
+
+
+@case(2, 39)
+def a_link_leads_to_a_link(bench, count):
+    target = bench.put("v7.rch")
+    for number in range(count):
+        (bench.folder / f"link-{number}").symlink_to(f"link-{number + 1}" if number + 1 < count else target.name)
+        bench.left.add(f"link-{number}")
+    bench.prepare(out="link-0").ends(0)
+    expect(all((bench.folder / f"link-{number}").is_symlink() for number in range(count)), "a link is gone")
+    bench.holds_new(target)
 
 
 @case()
@@ -207,7 +229,7 @@ def names(bench, name):
 
 @case()
 def files_that_others_left_are_not_taken(bench):
-    others = [bench.put(f"routecli-new-{number}", b"other") for number in range(12)]
+    others = [bench.put(f"routecli-new-{number}", b"other") for number in range(17)]
     bench.prepare().ends(0)
     bench.holds_new()
     expect(all(file.read_bytes() == b"other" for file in others), "another's file was taken")
@@ -258,6 +280,32 @@ def one_file_for_both(bench, name):
 def one_file_by_standard_input(bench):
     with open(bench.graph, "rb") as source:
         bench.prepare("/dev/stdin", "x.gr", stdin=source).ends(2, ONE_FILE)
+
+
+# Two file systems of one kind, whose first files have one number. What it writes is told and copied, since both go with the
+# namespace of the commands.
+TWO_SYSTEMS = """
+mkdir one two && mount -t tmpfs none one && mount -t tmpfs none two || exit 99
+cp x.gr one/ && printf old >two/x.rch
+stat -c %i one/x.gr two/x.rch
+"$@" one/x.gr two/x.rch || exit
+cp two/x.rch x.rch
+"""
+
+
+@case()
+def one_number_on_two_file_systems(bench):
+    words = ["unshare", "--mount", *(["--user", "--map-root-user"] if os.getuid() else [])]
+    run = Run(words[0], [*words[1:], "sh", "-c", TWO_SYSTEMS, "sh", bench.shared.program, *PREPARE], bench.folder)
+    for folder in ("one", "two"):
+        with contextlib.suppress(FileNotFoundError):
+            (bench.folder / folder).rmdir()
+    numbers = run.out.split()
+    if run.status not in (0, 2) or len(numbers) != 2 or numbers[0] != numbers[1]:
+        return f"left out: no two file systems with one number can be mounted: {run.err.decode().strip()}"
+    run.ends(0)
+    bench.holds_new()
+    return None
 
 
 # What is written straight
@@ -508,16 +556,6 @@ def borne(bench, call):
     call = call.replace("one write more", f"write {bench.shared.writes + 1}")
     bench.prepare(env=bench.shared.environment(call)).ends(0)
     bench.holds_new()
-
-
-def refuse_library(top):
-    """The library that refuses calls."""
-    compiler = next(filter(None, map(shutil.which, ["cc", "gcc", "g++"])), None)
-    if compiler is None:
-        sys.exit("tests/whole_files.py: refuse_call.c can't be compiled, which needs gcc")
-    library = top / "refuse.so"
-    subprocess.run([compiler, "-x", "c", "-shared", "-fPIC", "-O1", "-o", library, HERE / "refuse_call.c", "-ldl"], check=True)
-    return str(library)
 
 
 def main():

@@ -1,6 +1,7 @@
 """Where the program is, how the C++ programs of bench/ are compiled, and what a run takes."""
 import os
 import pathlib
+import shutil
 import subprocess
 import sys
 import time
@@ -37,6 +38,17 @@ def need_compiled(folder: Path, name: str) -> pathlib.Path:
     if target is None:
         sys.exit(f"bench/{name}.cpp can't be compiled, which needs g++")
     return target
+
+
+def refuse_library(folder: Path) -> str:
+    """The library that refuses calls of the system (tests/refuse_call.c), compiled into the folder."""
+    compiler = next(filter(None, map(shutil.which, ["cc", "gcc", "g++"])), None)
+    if compiler is None:
+        sys.exit("tests/refuse_call.c can't be compiled, which needs gcc")
+    library = pathlib.Path(folder) / "refuse.so"
+    source = ROOT / "tests/refuse_call.c"
+    subprocess.run([compiler, "-x", "c", "-shared", "-fPIC", "-O1", "-o", library, source, "-ldl"], check=True)
+    return str(library)
 
 
 class Taken(typing.NamedTuple):
