@@ -8,6 +8,7 @@
     index       what the file has besides: arcs by nodes and edges, and what lies near a place
     grid        an index of the earth by cells, and the search for the nearest things
     levels      what maps show, by kind of road
+    reach       which roads are reached within limits
     sphere      lengths, lines and nearest points on a sphere
     snapping    the piece of road nearest to a place
     bearings    the same of roads that lead in a wanted direction

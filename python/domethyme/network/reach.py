@@ -1,0 +1,351 @@
+"""Which roads are reached from places within limits, or lead to places, by the least lengths of the nodes. Needs numpy.
+
+A node is reached within a limit if its length is at most the limit. An arc is reached from its start to the point at which
+the limit is used up, where its weight is shared out along its line by metres; towards places, from its end backwards. So a
+road is reached from its first point, from its last point, and from the places on it, each as far as its arcs allow.
+
+Limits are in the unit of weights and rise. A level is the number, from 0, of the first limit within which something is
+reached; what isn't reached within any has the number of limits as its level.
+"""
+from collections.abc import Iterator, Sequence
+from typing import NamedTuple, Protocol
+
+import numpy as np
+from numpy.typing import NDArray
+
+from .binary import UNITS, Mapped
+from .grid import Grid, Ints, ranges
+from .index import wrapped
+from .own import FARTHEST_END
+from .sphere import Floats, metres, on_sphere
+from .tables import EARTH_RADIUS, Point, parted
+
+METRES_OF_DEGREE = EARTH_RADIUS * np.pi / 180
+# Edges that are worked on together.
+EDGES = 1 << 17
+# Roads are shown to so many decimals of a degree, 11 cm.
+DECIMALS = 6
+
+Levels = NDArray[np.uint8]
+
+
+class PlaceOnRoad(Protocol):
+    """A point of a road: its edge, and the share of the edge's metres before the point. At 0 and 1 it is a node."""
+
+    @property
+    def edge(self) -> int: ...
+    @property
+    def fraction(self) -> float: ...
+
+
+class Plane(NamedTuple):
+    """Metres to the east of a meridian and to the north of the equator, by the length of a degree at one latitude.
+
+    origin   the meridian, in units of a degree
+    east     the metres of a degree of longitude
+    """
+
+    origin: int
+    east: float
+
+    def of(self, points: NDArray[np.int32]) -> Floats:
+        """The points in units, of shape (points, 2), in the plane. The 180th meridian is no border there."""
+        away = wrapped(points[:, 0].astype(np.int64) - self.origin)
+        return np.column_stack((away * (self.east / UNITS), points[:, 1] * (METRES_OF_DEGREE / UNITS)))
+
+    def degrees(self, points: Floats) -> Floats:
+        """Points of the plane in degrees. The longitudes go beyond 180 to the east or west where the plane does."""
+        found: Floats = points / (self.east, METRES_OF_DEGREE)
+        found[:, 0] += self.origin / UNITS
+        return found
+
+
+class Box(NamedTuple):
+    """A rectangle of a plane."""
+
+    west: float
+    south: float
+    east: float
+    north: float
+
+    @classmethod
+    def around(cls, points: Floats) -> "Box":
+        """The smallest one with all of the points."""
+        return cls(*points.min(axis=0).tolist(), *points.max(axis=0).tolist())
+
+    def grown(self, metres: float) -> "Box":
+        return Box(self.west - metres, self.south - metres, self.east + metres, self.north + metres)
+
+    def aligned(self, step: float) -> "Box":
+        """The smallest one around it whose sides are multiples of a step."""
+        low, high = np.floor(np.array(self[:2]) / step), np.ceil(np.array(self[2:]) / step)
+        return Box(*(low * step).tolist(), *(high * step).tolist())
+
+    def with_(self, other: "Box | None") -> "Box":
+        """The smallest one with both."""
+        if other is None:
+            return self
+        west, south, east, north = other
+        return Box(min(self.west, west), min(self.south, south), max(self.east, east), max(self.north, north))
+
+    @property
+    def sides(self) -> tuple[float, float]:
+        """Width and height."""
+        return self.east - self.west, self.north - self.south
+
+    def has(self, points: Floats) -> NDArray[np.bool_]:
+        found: NDArray[np.bool_] = ((self[:2] <= points) & (points <= self[2:])).all(axis=1)
+        return found
+
+
+class Vertices(NamedTuple):
+    """The points of edges, one edge after the other: the row of the edge among those that were given, the point in the plane,
+    the share of the edge's metres before it, and whether it is the edge's last point."""
+
+    rows: Ints
+    points: Floats
+    shares: Floats
+    is_last: NDArray[np.bool_]
+
+    def at(self, rows: Ints, shares: Floats) -> Floats:
+        """The points at shares of edges, each on the straight line between two vertices."""
+        key = 2.0 * self.rows + self.shares
+        step = np.searchsorted(key, 2.0 * rows + shares, side="right") - 1
+        step -= self.is_last[step]
+        long = self.shares[step + 1] - self.shares[step]
+        part = np.where(long > 0, (shares - self.shares[step]) / np.where(long > 0, long, 1.0), 0.0)
+        found: Floats = self.points[step] + (self.points[step + 1] - self.points[step]) * part[:, None]
+        return found
+
+
+class Shares(NamedTuple):
+    """How far edges are reached, of shape (limits, edges): the share from the first point, and from the last; -1 if not even
+    that point is. `parts` are those at places: the row of the edge, and for each limit the shares between which it is reached."""
+
+    first: Floats
+    last: Floats
+    parts: list[tuple[int, Floats, Floats]]
+
+    def levels(self, rows: Ints, shares: Floats) -> Levels:
+        """The levels of points at shares of edges."""
+        count = len(self.first)
+        found = np.full(len(rows), count, np.uint8)
+        for limit in range(count):
+            is_reached = (shares <= self.first[limit, rows]) | (shares >= 1 - self.last[limit, rows])
+            for row, lows, highs in self.parts:
+                is_reached |= (rows == row) & (lows[limit] <= shares) & (shares <= highs[limit])
+            found -= is_reached
+        return found
+
+    def intervals(self, limit: int) -> tuple[Ints, Floats, Floats]:
+        """What is reached within a limit: rows, which rise, and the shares between which they are; those of a row are apart."""
+        ways = self.first[limit], self.last[limit]
+        one, other = (np.flatnonzero(way > 0) for way in ways)
+        of_parts = [(row, float(lows[limit]), float(highs[limit])) for row, lows, highs in self.parts]
+        more = np.array([part for part in of_parts if part[1] < part[2]], dtype=float).reshape(-1, 3)
+        rows = np.concatenate((one, other, more[:, 0].astype(np.int64)))
+        lows = np.concatenate((np.zeros(len(one)), 1 - ways[1][other], more[:, 1]))
+        return joined(rows, lows, np.concatenate((ways[0][one], np.ones(len(other)), more[:, 2])))
+
+
+def joined(rows: Ints, lows: Floats, highs: Floats) -> tuple[Ints, Floats, Floats]:
+    """Intervals of rows in order, those that touch one another as one."""
+    order = np.lexsort((lows, rows))
+    rows, lows, highs = rows[order], lows[order], highs[order]
+    far = np.maximum.accumulate(2.0 * rows + highs)
+    firsts = np.flatnonzero(np.append(True, 2.0 * rows[1:] + lows[1:] > far[:-1])[: len(rows)])
+    return rows[firsts], lows[firsts], np.maximum.reduceat(highs, firsts) if len(firsts) else highs
+
+
+class Reach:
+    """What is reached of a network's roads within limits.
+
+    limits    the limits, in the unit of weights
+    plane     that in which boxes and points are, about the middle of what is reached
+    edges     the edges with all that is reached, and others near by, which rise
+    boxes     for each limit the box of all that is reached within it, None where that is nothing
+    """
+
+    def __init__(
+        self, network: Mapped, lengths: Ints, limits: Sequence[int], places: Sequence[PlaceOnRoad] = (), towards: bool = False,
+    ) -> None:
+        """Raises ValueError for arguments that don't fit, and NetworkError if the network's file is damaged.
+
+        lengths   the least length of each node from the nearest start, of shape (nodes,); below 0 for none, or for one beyond
+                  the greatest limit. A place on a road starts at the nodes that it leads to, each with the weight between added
+        limits    whole numbers from 0, each greater than the one before
+        places    the starts that lie on roads between nodes; what is reached of these roads from there is added
+        towards   whether lengths are those to the starts instead, and what leads there is to be found
+        """
+        self.network, self.limits, self.towards = network, list(limits), towards
+        self._lengths = np.asarray(lengths)
+        if self._lengths.shape != network.node_lon.shape or self._lengths.dtype.kind != "i":
+            raise ValueError(f"lengths have to be whole numbers with a sign, one for each of {len(network.node_lon)} nodes")
+        if not self.limits or self.limits[0] < 0 or any(low >= high for low, high in zip(self.limits, self.limits[1:])):
+            raise ValueError("limits have to be numbers from 0, each greater than the one before")
+        self._parts = [part for place in places if 0 < place.fraction < 1 for part in self._parts_at(place)]
+        self._reached = np.flatnonzero((self._lengths >= 0) & (self._lengths <= self.limits[-1]))
+        self.plane, self.edges = Plane(0, METRES_OF_DEGREE), np.empty(0, np.int64)
+        self.boxes: list[Box | None] = [None] * len(self.limits)
+        points = self._points()
+        if len(points):
+            self._set_plane(points)
+            self.edges = self.edges_near(Box.around(self.plane.of(points)).grown(FARTHEST_END))
+            self._set_boxes()
+
+    def _points(self) -> NDArray[np.int32]:
+        """The reached nodes, and the points of edges on which places lie."""
+        network = self.network
+        nodes = np.column_stack((network.node_lon[self._reached], network.node_lat[self._reached]))
+        bounds = [network.edge_begin[edge : edge + 2].tolist() for edge, _, _ in self._parts]
+        return np.concatenate([nodes, *(network.points[begin:end] for begin, end in bounds)])
+
+    def _set_plane(self, points: NDArray[np.int32]) -> None:
+        """Lays the plane about the middle of points, which may lie on both sides of the 180th meridian."""
+        first = int(points[0, 0])
+        away = wrapped(points[:, 0].astype(np.int64) - first)
+        middle = int(wrapped(np.array([first + (int(away.min()) + int(away.max())) // 2]))[0])
+        lat = (int(points[:, 1].min()) + int(points[:, 1].max())) / 2 / UNITS
+        self.plane = Plane(middle, METRES_OF_DEGREE * max(float(np.cos(np.radians(lat))), 0.01))
+
+    def _set_boxes(self) -> None:
+        for edges in self.chunks(self.edges):
+            vertices, shares = self.vertices(edges), self.shares(edges)
+            levels = shares.levels(vertices.rows, vertices.shares)
+            for limit in range(len(self.limits)):
+                rows, lows, highs = shares.intervals(limit)
+                ends = vertices.at(np.tile(rows, 2), np.concatenate((lows, highs)))
+                self._grow_box(limit, np.concatenate((vertices.points[levels <= limit], ends)))
+        nodes, levels = self._reached, self.node_levels(self._reached)
+        points = self.plane.of(np.column_stack((self.network.node_lon[nodes], self.network.node_lat[nodes])))
+        for limit in range(len(self.limits)):
+            self._grow_box(limit, points[levels <= limit])
+
+    def _grow_box(self, limit: int, points: Floats) -> None:
+        if len(points):
+            self.boxes[limit] = Box.around(points).with_(self.boxes[limit])
+
+    @staticmethod
+    def chunks(edges: Ints) -> Iterator[Ints]:
+        """The edges, EDGES at a time."""
+        return (edges[low : low + EDGES] for low in range(0, len(edges), EDGES))
+
+    def edges_near(self, box: Box) -> Ints:
+        """The edges in a box, and others."""
+        return self._near(self.network.edge_grid, len(self.network.edge_begin) - 1, box)
+
+    def nodes_in(self, box: Box) -> tuple[Ints, Floats]:
+        """The nodes in a box, from 0, and their points in the plane."""
+        nodes = self._near(self.network.node_grid, len(self.network.node_lon), box)
+        points = self.plane.of(np.column_stack((self.network.node_lon[nodes], self.network.node_lat[nodes])))
+        is_inside = box.has(points)
+        return nodes[is_inside], points[is_inside]
+
+    def _near(self, grid: Grid, count: int, box: Box) -> Ints:
+        """The things of a grid with so many that lie in the circle around a box."""
+        middle = self.plane.degrees(np.array([[(box.west + box.east) / 2, (box.south + box.north) / 2]]))
+        lon, lat = (middle[:, 0] + 180) % 360 - 180, np.clip(middle[:, 1], -90, 90)
+        corners = self.plane.degrees(np.array([(x, y) for x in (box.west, box.east) for y in (box.south, box.north)]))
+        far = metres(on_sphere(corners[:, 0], np.clip(corners[:, 1], -90, 90)), on_sphere(lon, lat))
+        _, begins, ends = grid.slices(lon, lat, far.max(keepdims=True) + 1.0)
+        is_near = np.zeros(count, dtype=bool)
+        for begin, end in zip(begins.tolist(), ends.tolist()):
+            is_near[grid.things[begin:end]] = True
+        return np.flatnonzero(is_near)
+
+    def node_levels(self, nodes: Ints) -> Levels:
+        """The levels of nodes. Copies of a node, which turn restrictions make, have the least level of all copies."""
+        lengths = self._lengths[nodes]
+        found = np.searchsorted(self.limits, lengths).astype(np.uint8)
+        found[lengths < 0] = len(self.limits)
+        network = self.network
+        several = np.flatnonzero(network.node_ends[nodes])
+        if len(several):
+            some = nodes[several]
+            keys = np.column_stack((network.node_lon[some], network.node_lat[some], network.node_osm[some]))
+            _, junction = np.unique(keys, axis=0, return_inverse=True)
+            least = np.full(junction.max() + 1, len(self.limits), np.uint8)
+            np.minimum.at(least, junction, found[several])
+            found[several] = least[junction]
+        return found
+
+    def shares(self, edges: Ints) -> Shares:
+        """How far edges, which rise, are reached."""
+        network = self.network
+        begins = network.edge_first[edges]
+        counts = network.edge_first[edges + 1] - begins
+        _, places = ranges(begins, counts)
+        arcs = network.edge_arcs[places]
+        lengths = self._lengths[(network.arc_to if self.towards else network.arc_from)[arcs] - 1]
+        weights, is_first = network.arc_weight[arcs], network.arc_along[arcs] != self.towards
+        groups = (counts.cumsum() - counts)[counts > 0]
+        found = np.full((2, len(self.limits), len(edges)), -1.0)
+        for row, limit in enumerate(self.limits):
+            left = limit - lengths
+            share = np.where((lengths < 0) | (left < 0), -1.0, np.where(left < weights, left / np.maximum(weights, 1), 1.0))
+            for side, is_there in enumerate((is_first, ~is_first)):
+                if len(groups):
+                    found[side, row, counts > 0] = np.maximum.reduceat(np.where(is_there, share, -1.0), groups)
+        row_of = {edge: int(np.searchsorted(edges, edge)) for edge, _, _ in self._parts}
+        is_here = {edge: row < len(edges) and edges[row] == edge for edge, row in row_of.items()}
+        parts = [(row_of[edge], lows, highs) for edge, lows, highs in self._parts if is_here[edge]]
+        return Shares(found[0], found[1], parts)
+
+    def _parts_at(self, place: PlaceOnRoad) -> Iterator[tuple[int, Floats, Floats]]:
+        """For each arc at a place: its edge, and for each limit the shares of the edge between which that arc reaches."""
+        network, limits = self.network, np.array(self.limits, dtype=float)
+        begin, end = network.edge_first[place.edge : place.edge + 2].tolist()
+        for arc in network.edge_arcs[begin:end].tolist():
+            is_along, weight = bool(network.arc_along[arc]), int(network.arc_weight[arc])
+            share = place.fraction if is_along else 1 - place.fraction
+            before = round(share * weight)  # (as both parts of the arc weigh)
+            if self.towards:
+                far = np.clip((before - limits) / weight if weight else np.zeros(len(limits)), 0, share)
+            else:
+                far = np.clip((before + limits) / weight if weight else np.ones(len(limits)), share, 1)
+            here, there = np.full(len(limits), place.fraction), far if is_along else 1 - far
+            yield place.edge, np.minimum(here, there), np.maximum(here, there)
+
+    def vertices(self, edges: Ints) -> Vertices:
+        """The points of edges."""
+        begins = self.network.edge_begin[edges]
+        rows, places = ranges(begins, self.network.edge_begin[edges + 1] - begins)
+        points = self.network.points[places]
+        is_last = np.append(rows[1:] != rows[:-1], True)[: len(rows)]
+        sphere = on_sphere(points[:, 0] / UNITS, points[:, 1] / UNITS)
+        steps = metres(sphere[:-1], sphere[1:])
+        steps[is_last[:-1]] = 0.0
+        along = np.append(0.0, np.cumsum(steps))[: len(rows)]
+        first, last = (np.flatnonzero(each) for each in (np.append(True, is_last[:-1])[: len(rows)], is_last))
+        along -= along[first][rows]
+        whole = along[last][rows]
+        shares = np.where(whole > 0, along / np.where(whole > 0, whole, 1.0), is_last)
+        return Vertices(rows, self.plane.of(points), shares, is_last)
+
+    def roads(self, limit: int) -> list[list[Point]]:
+        """The lines of all roads that are reached within a limit, which is given by its number, as far as they are reached, with
+        DECIMALS. None crosses the 180th meridian."""
+        return [line for edges in self.chunks(self.edges) for line in self._lines(edges, limit)]
+
+    def _lines(self, edges: Ints, limit: int) -> Iterator[list[Point]]:
+        rows, lows, highs = self.shares(edges).intervals(limit)
+        if not len(rows):
+            return
+        chosen = np.unique(rows)
+        vertices, rows = self.vertices(edges[chosen]), np.searchsorted(chosen, rows)
+        counts = np.bincount(vertices.rows)
+        which, places = ranges((counts.cumsum() - counts)[rows], counts[rows])
+        is_inner = (lows[which] < vertices.shares[places]) & (vertices.shares[places] < highs[which])
+        which, places = which[is_inner], places[is_inner]
+        lines, every = np.arange(len(rows)), np.concatenate((lows, vertices.shares[places], highs))
+        points = np.concatenate((vertices.at(rows, lows), vertices.points[places], vertices.at(rows, highs)))
+        line = np.concatenate((lines, which, lines))
+        order = np.lexsort((every, line))
+        shown = self.plane.degrees(points[order]).round(DECIMALS)
+        is_new = np.append(True, (np.diff(line[order]) > 0) | (np.diff(shown, axis=0) != 0).any(axis=1))
+        shown, line = shown[is_new], line[order][is_new]
+        shown[:, 0] = ((shown[:, 0] + 180) % 360 - 180).round(DECIMALS)
+        for each in np.split(shown, np.flatnonzero(np.diff(line)) + 1):
+            if len(each) > 1:
+                for part in parted([(lon, lat) for lon, lat in each.tolist()]):
+                    yield [(lon, round(lat, DECIMALS)) for lon, lat in part]
