@@ -9,6 +9,9 @@
     grid        an index of the earth by cells, and the search for the nearest things
     levels      what maps show, by kind of road
     reach       which roads are reached within limits
+    contours    polygons around what is reached; needs scipy, contourpy and shapely too, as both that follow
+    contour_shapes    polygons with fewer parts or points
+    isochrones  contours as GeoJSON
     sphere      lengths, lines and nearest points on a sphere
     snapping    the piece of road nearest to a place
     bearings    the same of roads that lead in a wanted direction

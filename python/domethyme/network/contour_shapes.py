@@ -1,0 +1,162 @@
+"""Contours with fewer parts or points, and as GeoJSON needs them. Needs numpy and shapely.
+
+A contour is a list of polygons. Contours are given the least first; each lies within the next one, before and afterwards.
+"""
+import itertools
+from collections.abc import Iterator, Sequence
+from typing import Any, NamedTuple
+
+import numpy as np
+from shapely.affinity import translate
+from shapely.geometry import MultiLineString, MultiPolygon, Polygon, box
+from shapely.geometry.polygon import orient
+from shapely.ops import unary_union
+from shapely.prepared import prep
+
+from .reach import DECIMALS, METRES_OF_DEGREE
+from .tables import Point
+
+Ring = tuple[Point, ...]
+# How often a tolerance is halved, until contours are valid and lie within one another.
+HALVINGS = 8
+
+
+def denoised(contours: Sequence[list[Polygon]], share: float) -> list[list[Polygon]]:
+    """Contours without the parts and holes whose area is less than a share, from 0 to 1, of the area of the contour's largest part.
+    Holes count as area of parts. A part that has one of a lesser contour in it stays. Raises ValueError for another share."""
+    if not 0 <= share <= 1:
+        raise ValueError(f"denoise has to be from 0 to 1, and is {share}")
+    found: list[list[Polygon]] = []
+    for polygons in contours:
+        least = share * max((Polygon(each.exterior).area for each in polygons), default=0.0)
+        inner = [each.representative_point() for each in found[-1]] if found else []
+        kept = [
+            Polygon(each.exterior, [hole for hole in each.interiors if Polygon(hole).area >= least])
+            for each in polygons
+            if Polygon(each.exterior).area >= least or any(map(prep(each).contains, inner))
+        ]
+        # (a part that stays may lie in a hole that doesn't)
+        found.append(parts_of(unary_union(kept)) if len(kept) > 1 else kept)
+    return found
+
+
+def generalized(contours: Sequence[list[Polygon]], metres: float) -> list[list[Polygon]]:
+    """Contours with some of their points, so that no other one is further away from its line than this many metres.
+
+    Shapely's simplification keeps how the lines lie to one another; a line that contours share is simplified once. A ring that
+    would have no area is left out. If the result isn't valid, or one contour isn't within the next, it is tried with half of
+    the metres, and so on HALVINGS times; then contours stay as they are. Raises ValueError for less than 0 or no number.
+    """
+    if not 0 <= metres < float("inf"):
+        raise ValueError(f"generalize has to be a number of metres from 0, and is {metres}")
+    rings = [[rings_of(each) for each in polygons] for polygons in contours]
+    every = list(itertools.chain.from_iterable(itertools.chain.from_iterable(rings)))
+    if not every or not metres:
+        return [list(polygons) for polygons in contours]
+    lines = Lines(every)
+    for halving in range(HALVINGS):
+        shorter = lines.simplified(metres / 2**halving)
+        found = [[polygon for each in polygons for polygon in rebuilt(each, shorter)] for polygons in rings]
+        if are_nested(found):
+            return found
+    return [list(polygons) for polygons in contours]
+
+
+def rings_of(polygon: Polygon) -> list[Ring]:
+    """The rings of a polygon without their last points, the outer one first."""
+    return [tuple(ring.coords)[:-1] for ring in (polygon.exterior, *polygon.interiors)]
+
+
+class Piece(NamedTuple):
+    """A line of Lines, and whether a ring has it backward."""
+
+    number: int
+    is_backward: bool
+
+
+class Lines:
+    """The lines of which rings consist, between the points where rings part or meet."""
+
+    def __init__(self, rings: Sequence[Ring]) -> None:
+        beside: dict[Point, set[Point]] = {}
+        for ring in rings:
+            for before, here, behind in zip((ring[-1], *ring[:-1]), ring, (*ring[1:], ring[0])):
+                beside.setdefault(here, set()).update((before, behind))
+        self._forks = {point for point, others in beside.items() if len(others) > 2}
+        self._numbers: dict[Ring, int] = {}
+        self._pieces = {ring: [self._piece(line) for line in self._cut(ring)] for ring in rings}
+
+    def _cut(self, ring: Ring) -> Iterator[Ring]:
+        """The lines of a ring. A ring without a fork is one, which begins at its least point."""
+        at = [place for place, point in enumerate(ring) if point in self._forks] or [ring.index(min(ring))]
+        for begin, end in zip(at, (*at[1:], at[0] + len(ring))):
+            yield (*ring[begin : end + 1], *ring[: max(0, end + 1 - len(ring))])
+
+    def _piece(self, line: Ring) -> Piece:
+        backward = line[::-1]
+        key = min(line, backward)
+        return Piece(self._numbers.setdefault(key, len(self._numbers)), key != line)
+
+    def simplified(self, metres: float) -> dict[Ring, Ring]:
+        """The rings with fewer points, by the rings as they were; closed."""
+        lats = [line[0][1] for line in self._numbers]
+        scale = np.array([METRES_OF_DEGREE * np.cos(np.radians((min(lats) + max(lats)) / 2)), METRES_OF_DEGREE])
+        shorter = MultiLineString([np.array(line) * scale for line in self._numbers]).simplify(metres)
+        points = ((np.array(line.coords) / scale).round(DECIMALS) for line in getattr(shorter, "geoms", [shorter]))
+        lines = [[(lon, lat) for lon, lat in line.tolist()] for line in points]
+        return {ring: self._ring(pieces, lines) for ring, pieces in self._pieces.items()}
+
+    @staticmethod
+    def _ring(pieces: Sequence[Piece], lines: Sequence[list[Point]]) -> Ring:
+        found: list[Point] = []
+        for number, is_backward in pieces:
+            found += (lines[number][::-1] if is_backward else lines[number])[bool(found) :]
+        return tuple(found)
+
+
+def rebuilt(rings: Sequence[Ring], shorter: dict[Ring, Ring]) -> list[Polygon]:
+    """The polygon of simplified rings, none if it has no area."""
+    shell, *holes = (shorter[ring] for ring in rings)
+    return [Polygon(shell, [hole for hole in holes if has_area(hole)])] if has_area(shell) else []
+
+
+def has_area(ring: Ring) -> bool:
+    """Whether a closed ring isn't a line there and back."""
+    return len(ring) > 3 and Polygon(ring).area > 0
+
+
+def are_nested(contours: Sequence[list[Polygon]]) -> bool:
+    """Whether contours are valid, and each lies within the next."""
+    shapes = [MultiPolygon(polygons) for polygons in contours]
+    return all(shape.is_valid for shape in shapes) and all(
+        inner.is_empty or outer.covers(inner) for inner, outer in itertools.pairwise(shapes)
+    )
+
+
+# GeoJSON
+
+
+def split(polygons: Sequence[Polygon]) -> list[Polygon]:
+    """Polygons whose longitudes may go beyond 180, in parts none of which crosses the 180th meridian (RFC 7946, 3.1.9), their outer
+    rings counterclockwise and their holes clockwise (3.1.6)."""
+    found: list[Polygon] = []
+    for polygon in polygons:
+        west, _, east, _ = polygon.bounds
+        if -180 <= west and east <= 180:
+            found.append(polygon)
+            continue
+        for turn in (-360.0, 0.0, 360.0):
+            parts = parts_of(polygon.intersection(box(-180 + turn, -90, 180 + turn, 90)))
+            found += [translate(part, -turn) for part in parts]
+    return [orient(rounded(each)) for each in found]
+
+
+def parts_of(shape: Any) -> list[Polygon]:
+    """The polygons of a shape of shapely."""
+    return [part for part in getattr(shape, "geoms", [shape]) if isinstance(part, Polygon) and not part.is_empty]
+
+
+def rounded(polygon: Polygon) -> Polygon:
+    """A polygon with DECIMALS."""
+    shell, *holes = (np.array(ring.coords).round(DECIMALS) for ring in (polygon.exterior, *polygon.interiors))
+    return Polygon(shell, holes)

@@ -1,0 +1,116 @@
+"""What is reached, as GeoJSON: a FeatureCollection with the properties that Mapbox's Isochrone API gives contours. Needs numpy,
+scipy, contourpy and shapely.
+
+    features(reach, asked, "time")   a Feature for each contour
+    limits(unit, minutes=..)         minutes or metres in the unit of a network's weights
+"""
+from collections.abc import Sequence
+from typing import Any, Literal, NamedTuple
+
+from shapely.geometry import Polygon
+
+from .contour_shapes import denoised, generalized, split
+from .contours import contours
+from .reach import Reach
+from .tables import Point
+
+# Of the palette of Okabe and Ito (Color Universal Design, 2008), whose colours differ for the colour-blind.
+COLORS = ("0072B2", "E69F00", "009E73", "CC79A7")
+OPACITY = 0.33
+# By the unit of weights: the metric of contours, and how many weights are a minute or a metre.
+METRICS: dict[str, tuple["Metric", int]] = {"duration": ("time", 60_000), "distance": ("distance", 100)}
+
+Metric = Literal["time", "distance"]
+Shape = Literal["polygons", "lines", "roads"]
+
+
+class Style(NamedTuple):
+    """How contours are given.
+
+    shape        "polygons"; "lines", the polygons' outlines; or "roads", the lines of the roads that are reached
+    generalize   simplified by this many metres (generalized)
+    denoise      without parts and holes that are smaller than this share, from 0 to 1, of the largest part (denoised)
+    colors       six hexadecimal digits for each contour, or nothing for those of COLORS
+    attribution  what the data asks to be said, "" for nothing
+    """
+
+    shape: Shape = "polygons"
+    generalize: float = 0.0
+    denoise: float = 0.0
+    colors: Sequence[str] = ()
+    attribution: str = ""
+
+
+def limits(unit: str, minutes: Sequence[float] = (), metres: Sequence[float] = ()) -> list[int]:
+    """Minutes or metres in the unit of a network's weights (Mapped.unit). Raises ValueError for minutes if weights aren't durations,
+    for metres if they aren't distances, and if neither or both are given."""
+    metric, factor = METRICS.get(unit, (None, 1))
+    if bool(len(minutes)) == bool(len(metres)):
+        raise ValueError("give minutes or metres, one of both")
+    wanted, asked = ("time", minutes) if len(minutes) else ("distance", metres)
+    if metric != wanted:
+        raise ValueError(f"the weights of the network aren't a {wanted}: they are {unit}s")
+    return [round(value * factor) for value in asked]
+
+
+def features(reach: Reach, asked: Sequence[float], metric: Metric, style: Style = Style()) -> dict[str, Any]:
+    """The contours of what is reached, a Feature for each limit, the greatest first, and `attribution` beside them if there is one.
+    A contour lies within those of greater limits. A geometry is a Polygon or MultiPolygon, for lines and roads a LineString or
+    MultiLineString, and None if nothing is reached. Coordinates have six decimals; none crosses the 180th meridian (RFC 7946).
+
+    asked    the limits in minutes or metres, as `contour` has them
+
+    Raises ValueError for numbers that don't fit together.
+    """
+    count = len(reach.limits)
+    colors = style.colors or [COLORS[place % len(COLORS)] for place in range(count)]
+    if len(asked) != count or len(colors) != count:
+        raise ValueError(f"there are {count} limits, and {len(asked)} numbers and {len(colors)} colours for them")
+    shapes = geometries(reach, style)
+    found = [
+        {"type": "Feature", "properties": properties(value, metric, color), "geometry": shape}
+        for value, color, shape in zip(asked, colors, shapes)
+    ]
+    more = {"attribution": style.attribution} if style.attribution else {}
+    return {"type": "FeatureCollection", "features": found[::-1], **more}
+
+
+def properties(value: float, metric: Metric, color: str) -> dict[str, Any]:
+    """Those of a contour, in the names by which geojson.io, Leaflet and others know them."""
+    name = f"#{color}"
+    return {
+        "contour": value, "metric": metric, "color": name, "opacity": OPACITY, "fill": name, "fillColor": name,
+        "fill-opacity": OPACITY, "fillOpacity": OPACITY,
+    }
+
+
+def geometries(reach: Reach, style: Style) -> list[dict[str, Any] | None]:
+    """The geometry of each limit."""
+    if style.shape == "roads":
+        roads = (reach.roads(limit) for limit in range(len(reach.limits)))
+        return [geometry("LineString", [as_lists(line) for line in lines]) for lines in roads]
+    polygons = [contour.polygons for contour in contours(reach)]
+    if style.denoise:
+        polygons = denoised(polygons, style.denoise)
+    if style.generalize:
+        polygons = generalized(polygons, style.generalize)
+    rings = [[closed_rings(part) for part in split(parts)] for parts in polygons]
+    if style.shape == "polygons":
+        return [geometry("Polygon", parts) for parts in rings]
+    return [geometry("LineString", [ring for part in parts for ring in part]) for parts in rings]
+
+
+def closed_rings(polygon: Polygon) -> list[list[list[float]]]:
+    """The rings of a polygon, the outer one first."""
+    return [as_lists(ring.coords) for ring in (polygon.exterior, *polygon.interiors)]
+
+
+def as_lists(points: Sequence[Point]) -> list[list[float]]:
+    return [[lon, lat] for lon, lat in points]
+
+
+def geometry(kind: str, parts: list[Any]) -> dict[str, Any] | None:
+    """A geometry of this kind, or of several; None without a part."""
+    if not parts:
+        return None
+    return {"type": kind, "coordinates": parts[0]} if len(parts) == 1 else {"type": f"Multi{kind}", "coordinates": parts}

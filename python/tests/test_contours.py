@@ -1,0 +1,359 @@
+"""Tests of contours: on which side of the line nodes are, that contours are valid and nested, and how they are given."""
+import itertools
+import json
+import pathlib
+import subprocess
+import sys
+
+import numpy as np
+import pytest
+from reach_case import APART, ISLAND, MILLI, Place, Road, lengths, network, starts_at, town
+from shapely import vectorized
+from shapely.affinity import scale, translate
+from shapely.geometry import LineString, MultiPolygon, Point, Polygon, box as rectangle, shape
+
+from domethyme.network import binary, contour_shapes, isochrones
+from domethyme.network.contours import Field, contours, meshes_of
+from domethyme.network.index import UNITS
+from domethyme.network.isochrones import Style, features
+from domethyme.network.reach import DECIMALS, METRES_OF_DEGREE, Reach
+
+BENCH = pathlib.Path(__file__).resolve().parents[2] / "bench"
+
+
+@pytest.fixture(scope="module")
+def made_town():
+    return town()
+
+
+@pytest.fixture(scope="module")
+def made_roads(tmp_path_factory):
+    """Roads of 20,000 nodes as bench has them: of four kinds, with dead ends and streets of one way."""
+    prefix = tmp_path_factory.mktemp("roads") / "net"
+    subprocess.run([sys.executable, BENCH / "make_roads.py", "20000", "7", prefix], check=True, capture_output=True)
+    return binary.read(f"{prefix}.net")
+
+
+def in_plane(reach, polygons):
+    """Polygons in metres."""
+    moved = translate(MultiPolygon(polygons), -reach.plane.origin / UNITS)
+    return scale(moved, reach.plane.east, METRES_OF_DEGREE, origin=(0, 0))
+
+
+def misplaced(net, found, reach, limit, contour):
+    """By the lengths alone: how many nodes further than a step from the line are reached and outside, how many aren't
+    reached and are inside, and how many nodes are reached and aren't at all."""
+    area, line = in_plane(reach, contour.polygons), in_plane(reach, contour.polygons).boundary
+    points = reach.plane.of(np.column_stack((net.node_lon[:], net.node_lat[:])))
+    is_reached = (found >= 0) & (found <= reach.limits[limit])
+    is_inside = vectorized.contains(area, points[:, 0], points[:, 1])
+    is_wrong = is_reached != is_inside
+    is_wrong[is_wrong] = [line.distance(Point(point)) > contour.step for point in points[is_wrong]]
+    return (
+        np.count_nonzero(is_wrong & is_reached), np.count_nonzero(is_wrong & is_inside),
+        np.count_nonzero(is_reached), np.count_nonzero(~is_reached),
+    )
+
+
+def are_nested(found):
+    shapes = [MultiPolygon(contour.polygons) for contour in found]
+    return all(each.is_valid for each in shapes) and all(outer.covers(inner) for inner, outer in itertools.pairwise(shapes))
+
+
+def check_grids(reach, found):
+    """The step is at most 1/200 of width and height, and no grid has more than 4,000,000 points."""
+    for contour in found:
+        west, south, east, north = in_plane(reach, contour.polygons).bounds
+        assert contour.step <= min(east - west, north - south) / 200
+    assert all(mesh.points <= 4_000_000 for mesh in meshes_of(reach))
+
+
+@pytest.mark.parametrize("start, seconds, towards", [
+    (300, [60, 120, 180], False), (300, [60, 120, 180], True), (20, [45, 200], True), (ISLAND, [30, 150], False),
+    (ISLAND, [150], True), (430, [10, 80], False),
+])
+def test_no_node_of_the_town_is_on_the_wrong_side(made_town, start, seconds, towards):
+    net, names = made_town
+    found = lengths(net, {names[start][0] if start == ISLAND else start: 0}, towards)
+    reach = Reach(net, found, [1000 * each for each in seconds], towards=towards)
+    drawn = contours(reach)
+    for limit, contour in enumerate(drawn):
+        outside, inside, reached, others = misplaced(net, found, reach, limit, contour)
+        assert (outside, inside) == (0, 0) and reached > 0 and others > 0
+    assert are_nested(drawn)
+    check_grids(reach, drawn)
+
+
+@pytest.mark.parametrize("start, minutes, towards", [
+    (9000, [4, 8], False), (9000, [6], True), (100, [2, 9], True), (15000, [0.5, 5], False),
+])
+def test_no_node_of_a_network_is_on_the_wrong_side(made_roads, start, minutes, towards):
+    found = lengths(made_roads, {start: 0}, towards)
+    reach = Reach(made_roads, found, isochrones.limits(made_roads.unit, minutes), towards=towards)
+    drawn = contours(reach)
+    for limit, contour in enumerate(drawn):
+        outside, inside, reached, others = misplaced(made_roads, found, reach, limit, contour)
+        assert (outside, inside) == (0, 0) and reached > 0 and others > 0
+    assert are_nested(drawn)
+    check_grids(reach, drawn)
+
+
+def test_the_test_sees_a_node_on_the_wrong_side(made_town):
+    """With a disc around a node taken away, or added, the count isn't 0."""
+    net, _ = made_town
+    found = lengths(net, {300: 0})
+    reach = Reach(net, found, [120_000])
+    (contour,) = contours(reach)
+    lon, lat = net.node_lon[300] / UNITS, net.node_lat[300] / UNITS
+    disc = scale(Point(lon, lat).buffer(1), 40 / reach.plane.east, 40 / METRES_OF_DEGREE, origin=(lon, lat))
+    less = contour._replace(polygons=contour_shapes.parts_of(MultiPolygon(contour.polygons).difference(disc)))
+    assert misplaced(net, found, reach, 0, less)[0] > 0
+    far = int(np.argmax(found))
+    disc = translate(disc, net.node_lon[far] / UNITS - lon, net.node_lat[far] / UNITS - lat)
+    assert misplaced(net, found, reach, 0, contour._replace(polygons=[*contour.polygons, disc]))[1] > 0
+
+
+def test_island_lake_and_bridge(made_town):
+    """The bridge to the island leads one way. What is joined to nothing is never inside, nor is the water of the lake."""
+    net, names = made_town
+    there = [(net.node_lon[node] / UNITS, net.node_lat[node] / UNITS) for node in (*names[ISLAND], *names[APART])]
+    shore = 300
+    for towards, is_island in ((False, True), (True, False)):
+        (contour,) = contours(Reach(net, lengths(net, {shore: 0}, towards), [3_000_000], towards=towards))
+        area = MultiPolygon(contour.polygons)
+        assert [area.contains(Point(point)) for point in there] == [is_island] * 4 + [False] * 2
+    middle = np.mean(there[:4], axis=0)
+    assert not area.contains(Point(middle[0] - 180 / MILLI / 1000, middle[1]))
+
+
+def test_nodes_in_one_place_that_differ(made_town):
+    """The motorway over the street: many squares of the grid have nodes of both kinds."""
+    net, _ = made_town
+    found = lengths(net, {430: 0})
+    reach = Reach(net, found, [80_000])
+    field = Field(reach, meshes_of(reach)[0])
+    nodes, points = reach.nodes_in(field.mesh.box)
+    columns, rows = field.mesh.squares(points, 1)
+    of_square = {}
+    for square, level in zip(zip(columns.tolist(), rows.tolist()), reach.node_levels(nodes).tolist()):
+        of_square.setdefault(square, set()).add(level)
+    assert sum(len(levels) > 1 for levels in of_square.values()) > 3
+
+
+def test_places_on_roads(made_town):
+    """A place on a road whose ends aren't reached is in its contour."""
+    net, _ = made_town
+    place = Place(250, 0.4)
+    reach = Reach(net, lengths(net, starts_at(net, place)), [2000, 100_000], [place])
+    small, large = contours(reach)
+    x, y = reach.vertices(np.array([250])).at(np.array([0]), np.array([0.4]))[0]
+    assert in_plane(reach, small.polygons).contains(Point(x, y)) and are_nested([small, large])
+    assert reach.boxes[0].sides[0] < 34  # 2 seconds at 30 km/h, both ways
+
+
+def test_limits_that_differ_much(made_roads):
+    """Some grids, one within the other: contours are nested, and of one piece where their boxes meet."""
+    reach = Reach(made_roads, lengths(made_roads, {9000: 0}), isochrones.limits(made_roads.unit, [0.03, 1, 20]))
+    meshes = meshes_of(reach)
+    assert len(meshes) > 2 and [mesh.step for mesh in meshes] == sorted({mesh.step for mesh in meshes})
+    drawn = contours(reach)
+    assert are_nested(drawn) and drawn[0].step < drawn[1].step < drawn[2].step
+    for mesh in meshes[:-1]:
+        sides = LineString(np.array(mesh.shown)[[[0, 1], [2, 1], [2, 3], [0, 3], [0, 1]]])
+        assert in_plane(reach, drawn[2].polygons).boundary.intersection(sides).length < 0.05 * sides.length
+
+
+@pytest.fixture(scope="module")
+def drawn_town(made_town):
+    """What is reached of the town within four limits, and its contours."""
+    reach = Reach(made_town[0], lengths(made_town[0], {430: 0}), [60_000, 90_000, 120_000, 150_000])
+    return reach, [contour.polygons for contour in contours(reach)]
+
+
+@pytest.mark.parametrize("metres", [0.5, 5, 40, 300, 5000])
+def test_generalize(drawn_town, metres):
+    """Of the points some are left, and none of a ring that is left lies further from the line than was asked for."""
+    reach, drawn = drawn_town
+    found = contour_shapes.generalized(drawn, metres)
+    assert contour_shapes.are_nested(found)
+    for before, after in zip(drawn, found):
+        rings, left = ([set(ring) for part in parts for ring in contour_shapes.rings_of(part)] for parts in (before, after))
+        assert sum(map(len, left)) < sum(map(len, rings)) and left
+        line = in_plane(reach, after).boundary
+        for some in left:
+            (ring,) = [ring for ring in rings if some <= ring]
+            assert max(line.distance(flat(reach, point)) for point in ring) <= metres + 0.001
+
+
+def flat(reach, point):
+    """A point in metres."""
+    return Point((point[0] - reach.plane.origin / UNITS) * reach.plane.east, point[1] * METRES_OF_DEGREE)
+
+
+def square(west, south, side, *holes):
+    return Polygon([(west, south), (west + side, south), (west + side, south + side), (west, south + side)], holes)
+
+
+def hole(west, south, side):
+    return list(square(west, south, side).exterior.coords)
+
+
+@pytest.mark.parametrize("share, inner, outer", [
+    (0, [100, 9, 3], [384, 64, 1]), (0.05, [100, 9], [400, 64]), (0.1, [100], [400, 64]), (0.5, [100], [400]),
+    (1, [100], [400]),
+])
+def test_denoise(share, inner, outer):
+    """Parts and holes that are small beside the largest part go. The lesser contour has parts of 100, 9, and 4 with a hole
+    of 1; the greater one has 400 with a hole of 16, in which is a part of 1, and 64."""
+    lesser = [square(1, 1, 10), square(30, 1, 3), square(36, 1, 2, hole(36.5, 1.5, 1))]
+    greater = [square(0, 0, 20, hole(14, 14, 4)), square(15, 15, 1), square(30, 0, 8)]
+    found = contour_shapes.denoised([lesser, greater], share)
+    assert [sorted((part.area for part in parts), reverse=True) for parts in found] == [inner, outer]
+    assert contour_shapes.are_nested(found)
+
+
+@pytest.mark.parametrize("lesser, greater, areas", [
+    ([square(1, 1, 3), square(31, 1, 3)], [square(0, 0, 20), square(30, 0, 5)], [400, 25]),
+    ([square(1, 1, 2), square(7, 7, 1.5)], [square(0, 0, 20, hole(5, 5, 5)), square(6, 6, 3)], [400]),
+    ([square(1, 1, 3)], [square(0, 0, 5), square(30, 0, 20)], [400, 25]),
+])
+def test_a_part_around_one_of_a_lesser_contour_stays(lesser, greater, areas):
+    found = contour_shapes.denoised([lesser, greater], 0.5)
+    assert sorted((part.area for part in found[1]), reverse=True) == areas and contour_shapes.are_nested(found)
+
+
+@pytest.mark.parametrize("change, value", [
+    (contour_shapes.denoised, -0.1), (contour_shapes.denoised, 1.1), (contour_shapes.denoised, float("nan")),
+    (contour_shapes.generalized, -1), (contour_shapes.generalized, float("inf")),
+    (contour_shapes.generalized, float("nan")),
+])
+def test_what_is_no_share_or_length(change, value):
+    with pytest.raises(ValueError):
+        change([[square(0, 0, 1)]], value)
+
+
+# GeoJSON
+
+
+def test_features(made_town):
+    """The properties that Mapbox's contours have, the greatest first; rings as RFC 7946 has them, with six decimals."""
+    net, _ = made_town
+    reach = Reach(net, lengths(net, {300: 0}), isochrones.limits(net.unit, [0.5, 1, 1.5]))
+    found = features(reach, [0.5, 1, 1.5], "time", Style(attribution=net.texts[0]))
+    assert list(found) == ["type", "features", "attribution"] and found["attribution"] == "© the town"
+    assert [each["properties"]["contour"] for each in found["features"]] == [1.5, 1, 0.5]
+    assert found["features"][2]["properties"] == {
+        "contour": 0.5, "metric": "time", "color": "#0072B2", "opacity": 0.33, "fill": "#0072B2", "fillColor": "#0072B2",
+        "fill-opacity": 0.33, "fillOpacity": 0.33,
+    }
+    for each in found["features"]:
+        assert shape(each["geometry"]).is_valid and each["geometry"]["type"] in ("Polygon", "MultiPolygon")
+        for outer, *holes in polygons_of(each["geometry"]):
+            assert is_counterclockwise(outer) and not any(map(is_counterclockwise, holes))
+            for ring in (outer, *holes):
+                assert len(ring) > 3 and ring[0] == ring[-1]
+                assert all(value == round(value, DECIMALS) for point in ring for value in point)
+
+
+def test_colors_and_attribution(made_town):
+    reach = Reach(made_town[0], lengths(made_town[0], {300: 0}), [1000, 2000, 3000])
+    found = features(reach, [1, 2, 3], "time", Style("roads", colors=["ff0000", "00ff00", "0000ff"]))
+    assert [each["properties"]["color"] for each in found["features"]] == ["#0000ff", "#00ff00", "#ff0000"]
+    assert "attribution" not in found
+
+
+def polygons_of(geometry):
+    return [geometry["coordinates"]] if geometry["type"] == "Polygon" else geometry["coordinates"]
+
+
+def is_counterclockwise(ring):
+    return sum(x * other_y - other_x * y for (x, y), (other_x, other_y) in zip(ring, ring[1:])) > 0
+
+
+def test_lines_and_roads(made_town):
+    """Lines are the rings of the polygons. Roads are inside the polygons, but for a step at the line."""
+    net, _ = made_town
+    reach = Reach(net, lengths(net, {300: 0}), [60_000])
+    forms = [features(reach, [1], "time", Style(form))["features"] for form in ("polygons", "lines", "roads")]
+    polygons, lines, roads = (feature["geometry"] for (feature,) in forms)
+    assert shape(lines).equals(shape(polygons).boundary) and lines["type"] in ("LineString", "MultiLineString")
+    near = shape(polygons).buffer(10 / reach.plane.east)
+    assert roads["type"] == "MultiLineString" and near.covers(shape(roads)) and shape(roads).is_valid
+
+
+def test_nothing_is_reached(made_town):
+    net, _ = made_town
+    reach = Reach(net, np.where(np.arange(len(net.node_lon)) == 7, 5000, -1), [1000, 10_000])
+    for form in ("polygons", "lines", "roads"):
+        greater, lesser = features(reach, [1, 10], "time", Style(form, generalize=5, denoise=0.5))["features"]
+        assert lesser["geometry"] is None and greater["geometry"] is not None
+
+
+def test_across_the_180th_meridian():
+    """A cross of roads on the meridian has the contour of one elsewhere, in parts on both sides."""
+    shapes = []
+    for lon in (10.0, 180.0):
+        places = [(lon, 0), (lon + 0.006, 0), (lon - 0.006, 0), (lon, 0.006), (lon, -0.006)]
+        nodes = [(round((x + 180) % 360 - 180, 7), y) for x, y in places]
+        net = network(nodes, [Road(0, end, 6000, 6000) for end in range(1, 5)])
+        reach = Reach(net, lengths(net, {0: 0}), [2500, 5000])
+        shapes.append([shape(each["geometry"]) for each in features(reach, [1, 2], "time")["features"]])
+    for plain, parted in zip(*shapes):
+        west, east = sorted(parted.geoms, key=lambda part: part.bounds)
+        assert parted.is_valid and west.bounds[0] == -180 and east.bounds[2] == 180
+        whole = MultiPolygon([east, translate(west, 360)]).buffer(1e-9)
+        assert translate(plain, 170).symmetric_difference(whole).area < 1e-3 * plain.area
+
+
+@pytest.mark.parametrize("words, expected", [
+    (("duration", [5, 7.5]), [300_000, 450_000]), (("distance", [], [1500, 2]), [150_000, 200]),
+])
+def test_limits(words, expected):
+    assert isochrones.limits(*words) == expected
+
+
+@pytest.mark.parametrize("words, says", [
+    (("duration", [], [5]), "aren't a distance: they are durations"),
+    (("distance", [5]), "aren't a time: they are distances"), (("weight", [5]), "aren't a time: they are weights"),
+    (("duration",), "one of both"), (("duration", [1], [1]), "one of both"),
+])
+def test_limits_that_are_not_known(words, says):
+    with pytest.raises(ValueError, match=says):
+        isochrones.limits(*words)
+
+
+def test_numbers_that_do_not_fit(made_town):
+    reach = Reach(made_town[0], lengths(made_town[0], {0: 0}), [1000, 2000])
+    for asked, style in (([1], Style()), ([1, 2], Style(colors=["ffffff"]))):
+        with pytest.raises(ValueError, match="there are 2 limits"):
+            features(reach, asked, "time", style)
+
+
+CROSS = """\
+{"type": "FeatureCollection", "features": [
+{"type": "Feature", "properties": {"contour": 4, "metric": "time", "color": "#E69F00", "opacity": 0.33, "fill": "#E69F00", \
+"fillColor": "#E69F00", "fill-opacity": 0.33, "fillOpacity": 0.33}, "geometry": {"type": "Polygon", "coordinates": \
+[[[-0.003993, -0.000994], [-0.001003, -0.000997], [-0.000994, -0.003993], [0.001003, -0.003993], [0.001006, -0.001003], \
+[0.003993, -0.000994], [0.003993, 0.001003], [0.001012, 0.001006], [0.001003, 0.003993], [-0.000994, 0.003993], \
+[-0.000997, 0.001012], [-0.003993, 0.001003], [-0.003993, -0.000994]]]}}
+{"type": "Feature", "properties": {"contour": 2, "metric": "time", "color": "#0072B2", "opacity": 0.33, "fill": "#0072B2", \
+"fillColor": "#0072B2", "fill-opacity": 0.33, "fillOpacity": 0.33}, "geometry": {"type": "Polygon", "coordinates": \
+[[[-0.001996, -0.000895], [-0.000898, -0.000904], [-0.000895, -0.001996], [0.000904, -0.001996], [0.000907, -0.000904], \
+[0.001996, -0.000895], [0.001996, 0.000904], [0.000907, 0.000913], [0.000904, 0.001996], [-0.000895, 0.001996], \
+[-0.000904, 0.000907], [-0.001996, 0.000904], [-0.001996, -0.000895]]]}}
+], "attribution": "\\u00a9 the town"}"""
+
+
+def test_a_fixed_town_byte_for_byte():
+    """Four roads from a node to the east, west, north and south. A thousandth of a degree takes a second, so after 2 and 4
+    seconds the arms are 0.002 and 0.004 degrees long. To both sides they are as broad as the allowance: 100 m, which is
+    0.0009 degrees, and an eighth of 0.008 degrees."""
+    nodes = [(0, 0), (-0.01, 0), (0.01, 0), (0, 0.01), (0, -0.01)]
+    net = network(nodes, [Road(0, end, 10_000, 10_000) for end in range(1, 5)])
+    reach = Reach(net, lengths(net, {0: 0}), [2000, 4000])
+    found = features(reach, [2, 4], "time", Style(generalize=10, attribution=net.texts[0]))
+    assert json.dumps(found) == CROSS.replace("}\n{", "}, {").replace("\n", "")
+    for feature, long, broad in zip(found["features"], (0.004, 0.002), (0.001, 100 / MILLI / 1000)):
+        arms = [rectangle(-long, -broad, long, broad), rectangle(-broad, -long, broad, long)]
+        outline = LineString(feature["geometry"]["coordinates"][0])
+        assert outline.hausdorff_distance(arms[0].union(arms[1]).boundary) < 2 / MILLI / 1000
