@@ -11,6 +11,7 @@ from browser import PROGRAM, Browser
 from service_case import ServiceCase
 from tool_case import PYTHON
 
+import domethyme
 from domethyme.network.tables import points_of, read_arcs
 
 PAGE = PYTHON / "domethyme_service/page"
@@ -146,6 +147,25 @@ class BrowserCase(ServiceCase):
 
 
 STRAIGHT = ("Start on High Street", "Arrive at the destination")
+
+
+class WeightTests(BrowserCase):
+    """A network of weights alone, of which nobody knows how long a route takes."""
+
+    def setUp(self):
+        super().setUp()
+        nodes = "node,lon,lat\n" + "".join(f"{number},{number / 1000},0\n" for number in range(5))
+        arcs = "from,to,oneway,weight\n" + "".join(f"{number},{number + 1},0,250\n" for number in range(4))
+        self.run_tool("to_network", self.write("firm.nodes.csv", nodes), self.write("firm.arcs.csv", arcs), "w")
+        domethyme.prepare(self.folder / "w.gr", self.folder / "v.rch", workers=1).close()
+        self.serve("--network", self.folder / "w")
+
+    def test_the_weight_is_shown(self):
+        self.open("#0,0;0.004,0")
+        self.browser.until("document.getElementById('total').textContent !== ''")
+        self.assertEqual(self.text_of("total"), "weight 1000440 m")
+        self.assertNotIn("min", self.text_of("steps"))
+        self.quiet()
 
 
 class PointerTests(BrowserCase):

@@ -91,7 +91,9 @@ class SignalTests(ServiceCase):
     def test_a_file_that_is_refused_leaves_the_old_one(self):
         process = self.serve("--network", self.folder / "v")
         old = self.ask(PATH)
-        for text, says in ((b"none", "v.rch: is no file that `routecli prepare` wrote"), (None, "is the hierarchy of another network than")):
+        # (both files by the names that the user gave)
+        other = f"reload refused: {self.folder}/v.rch: is the hierarchy of another network than {self.folder}/v.net: "
+        for text, says in ((b"none", "v.rch: is no file that `routecli prepare` wrote"), (None, other)):
             path = self.folder / "v.rch"
             path.unlink()
             path.write_bytes(text) if text else self.prepare(2)
@@ -113,6 +115,8 @@ class SignalTests(ServiceCase):
         words = ["domethyme-serve", self.folder / "v.rch", "--port", "0", "--checked", right]
         ended = self.run_tool(*words, status=1)
         self.assertIn("v.rch: not shown: bound", ended.stderr)
+        # (the program reads it by the number under which it is open, which no user knows)
+        self.assertNotIn("/proc/", ended.stderr + "".join(self.said))
 
     def test_a_signal_while_a_reload_is_under_way(self):
         """The log says that it waits; a check that runs ends with the service, however that ends."""
