@@ -1,7 +1,7 @@
 #!/usr/bin/python3
 """Measures the service over HTTP for near pairs of nodes: batches of 10,000 by POST /nodes/lengths, and GET /nodes/route.
 
-    pairs_load.py HIERARCHY [--fronts N] [--clients N] [--seconds S] [--rounds N]
+    pairs_load.py HIERARCHY [--workers N] [--clients N] [--seconds S] [--rounds N]
 
 It needs no network, so the hierarchy may be that of a graph of bench/make_sparse.cpp. Pairs are near where their numbers are at
 most 3,000 apart. Each client has a connection: a new one for each batch, and one for all its GETs. A line has the pairs of a second
@@ -28,7 +28,7 @@ class Service:
     """The service, with its processes."""
 
     def __init__(self, given: argparse.Namespace) -> None:
-        words = [ROOT / "tools/domethyme-serve", given.hierarchy, "--port", "0", "--fronts", given.fronts]
+        words = [ROOT / "tools/domethyme-serve", given.hierarchy, "--port", "0", "--workers", given.workers]
         self.process = subprocess.Popen(list(map(str, words)), stderr=subprocess.PIPE, text=True)
         assert self.process.stderr is not None
         found = None
@@ -109,7 +109,7 @@ def measured(service: Service, load: Load, asking: Callable[[int], int], given: 
 def main() -> None:
     words = argparse.ArgumentParser(description=__doc__, formatter_class=argparse.RawDescriptionHelpFormatter)
     words.add_argument("hierarchy", metavar="HIERARCHY")
-    for name, number in (("fronts", 4), ("clients", 8), ("seconds", 4), ("rounds", 3)):
+    for name, number in (("workers", 4), ("clients", 8), ("seconds", 4), ("rounds", 3)):
         words.add_argument(f"--{name}", type=int, default=number)
     given = words.parse_args()
     service = Service(given)

@@ -1,15 +1,17 @@
 #!/usr/bin/python3
 """Measures the service over HTTP: pairs of nodes, routes with geometry and steps, and tables with single requests beside them.
 
-    service_load.py HIERARCHY NETWORK [--fronts N] [--connections N] [--seconds S] [--rounds N]
+    service_load.py HIERARCHY NETWORK [--direct] [--workers N] [--connections N] [--seconds S] [--rounds N]
 
 NETWORK is the beginning of the names of a network's files, as bench/make_roads.py writes them. Near pairs are those whose numbers
-are at most 3,000 apart, which in such networks are some 90 arcs. It needs Debian's wrk. Each line has the requests in a second,
+are at most 3,000 apart, which in such networks are some 90 arcs. It needs Debian's wrk, and asks through nginx, with the configuration
+that ships and its processor time counted, or with --direct the service's own port. Each line has the requests in a second,
 the median and the 99th percentile in ms, and the processor time of the service and of wrk for each request, since
 other work on the machine makes the former smaller and not the latter. Each is the median of the rounds. Beside tables single
 requests are asked one after the other, each on a connection of its own, after as many without tables.
 """
 import concurrent.futures
+import getpass
 import http.client
 import json
 import os
@@ -17,10 +19,13 @@ import pathlib
 import random
 import re
 import resource
+import shutil
 import signal
+import socket
 import statistics
 import subprocess
 import tempfile
+import threading
 import time
 
 from kit.counted import parser  # (finds domethyme too)
@@ -54,28 +59,50 @@ class Service:
     """The service, with its processes."""
 
     def __init__(self, given):
-        words = [ROOT / "tools/domethyme-serve", given.hierarchy, "--network", given.network, "--port", "0", "--fronts", given.fronts]
+        self.folder, self.nginx = pathlib.Path(tempfile.mkdtemp(prefix="service-load-")), None
+        where = ("--port", "0") if given.direct else ("--bind", f"unix:{self.folder}/serve.sock")
+        words = [ROOT / "tools/domethyme-serve", given.hierarchy, "--network", given.network, *where, "--workers", given.workers]
         begun = time.monotonic()
         self.process = subprocess.Popen(list(map(str, words)), stderr=subprocess.PIPE, text=True)
         for line in self.process.stderr:
-            if found := re.search(r"listens at http://127\.0\.0\.1:(\d+)/", line):
-                self.port = int(found[1])
+            if found := re.search(r"listens at (?:http://127\.0\.0\.1:(\d+)/|unix:)", line):
+                self.port = int(found[1] or 0)
                 break
         self.seconds_to_begin = time.monotonic() - begun
+        threading.Thread(target=self.process.stderr.read, daemon=True).start()
+        if not given.direct:
+            self.start_nginx()
+
+    def start_nginx(self):
+        """nginx by the configuration that ships, at a port of its own."""
+        with socket.create_server(("127.0.0.1", 0)) as stream:
+            self.port = stream.getsockname()[1]
+        text = (ROOT / "packaging/nginx/domethyme.conf").read_text().replace("/run/domethyme", str(self.folder))
+        text = text.replace("/var/log/nginx", str(self.folder)).replace("listen [::]:80;", "").replace("listen 80;", f"listen 127.0.0.1:{self.port};")
+        user = f"user {getpass.getuser()};" if os.geteuid() == 0 else ""
+        folders = "".join(f"{name}_temp_path {self.folder}/{name};" for name in ("client_body", "proxy", "fastcgi", "uwsgi", "scgi"))
+        head = f"{user} daemon off; worker_processes 2; pid {self.folder}/pid; events {{ worker_connections 4096; }}"
+        (self.folder / "nginx.conf").write_text(f"{head} http {{ {folders}\n{text} }}")
+        self.nginx = subprocess.Popen(["nginx", "-c", self.folder / "nginx.conf", "-e", self.folder / "nginx.log"])
+        time.sleep(1)
+
+    def processes(self):
+        """Those of the service, and of nginx."""
+        return [*descendants(self.process.pid), *([] if self.nginx is None else descendants(self.nginx.pid))]
 
     def seconds(self):
         """The processor seconds of its processes."""
-        texts = [pathlib.Path(f"/proc/{number}/stat").read_text() for number in descendants(self.process.pid)]
+        texts = [pathlib.Path(f"/proc/{number}/stat").read_text() for number in self.processes()]
         return sum(int(ticks) for text in texts for ticks in text.rpartition(")")[2].split()[11:13]) / TICK
 
     def memory(self):
         """The megabytes of all its processes, where pages that several have in common are shared out (PSS), how many of them are those of
-        the mapped network, and how many a front has of its own, on average."""
+        the mapped network, and how many a worker has of its own, on average."""
         numbers = descendants(self.process.pid)
         texts = {number: pathlib.Path(f"/proc/{number}/smaps_rollup").read_text() for number in numbers}
         of = lambda name, some: sum(int(re.search(rf"{name}:\s+(\d+)", text)[1]) for text in some) // 1024  # noqa: E731
-        fronts = [text for number, text in texts.items() if descendants(number) == [number]]
-        return of("Pss", texts.values()), of("Pss_File", texts.values()), of("Private_Dirty", fronts) // len(fronts)
+        workers = [text for number, text in texts.items() if descendants(number) == [number]]
+        return of("Pss", texts.values()), of("Pss_File", texts.values()), of("Private_Dirty", workers) // len(workers)
 
     def ask(self, path):
         connection = http.client.HTTPConnection("127.0.0.1", self.port, timeout=60)
@@ -85,8 +112,10 @@ class Service:
         return found
 
     def end(self):
-        self.process.send_signal(signal.SIGTERM)
-        self.process.wait()
+        for process in filter(None, (self.nginx, self.process)):
+            process.send_signal(signal.SIGTERM)
+            process.wait()
+        shutil.rmtree(self.folder)
 
 
 def descendants(number):
@@ -179,7 +208,8 @@ def main():
     words = parser(__doc__)
     words.add_argument("hierarchy", metavar="HIERARCHY")
     words.add_argument("network", metavar="NETWORK")
-    words.add_argument("--fronts", type=int, default=4)
+    words.add_argument("--direct", action="store_true")
+    words.add_argument("--workers", type=int, default=4)
     words.add_argument("--connections", type=int, default=16)
     words.add_argument("--seconds", type=int, default=4)
     words.add_argument("--rounds", type=int, default=3)
@@ -188,7 +218,7 @@ def main():
     service = Service(given)
     try:
         loads = " ".join(pathlib.Path("/proc/loadavg").read_text().split()[:2])
-        print(f"{given.fronts} fronts, {given.connections} connections, {places.count:,} nodes, {os.cpu_count()} processors, load {loads}")
+        print(f"{given.workers} workers, {given.connections} connections, {places.count:,} nodes, {os.cpu_count()} processors, load {loads}")
         print(f"ready after {service.seconds_to_begin:.1f} s")
         for is_near, name in ((True, "near"), (False, "random")):
             pairs = [places.pair(draw, is_near) for _ in range(PATHS)]
@@ -197,7 +227,7 @@ def main():
             paths = [f"/route/v1/car/{places.text(pair, draw)}?{shape}" for pair in pairs]
             load(service, f"{name} routes with geometry and steps", paths, given)
         tables(service, places, draw, given)
-        print("memory: {} MB in all processes, {} MB of it files; a front has {} MB of its own".format(*service.memory()))
+        print("memory: {} MB in all processes, {} MB of it files; a worker has {} MB of its own".format(*service.memory()))
     finally:
         service.end()
 

@@ -83,18 +83,21 @@ def serving() -> Iterator[tuple[subprocess.Popen[str], str]]:
     """A service as the unit starts it, and its address. One that doesn't start is an error."""
     with subprocess.Popen(["sh", "-c", UNIT], stderr=subprocess.PIPE, text=True) as process:
         try:
-            line = next_line(process)
-            found = re.search(r"listens at http://(127\.0\.0\.1:\d+)/", line)
-            if found is None:
-                sys.exit(f"the service printed {line!r}")
+            found = wait_for(process, r"listens at http://(127\.0\.0\.1:\d+)/")
             yield process, found[1]
         finally:
             process.kill()
 
 
-def next_line(process: subprocess.Popen[str]) -> str:
+def wait_for(process: subprocess.Popen[str], pattern: str) -> re.Match[str]:
+    """The first line of a service's log that has a pattern. A log that ends before is an error."""
+    lines = []
     assert process.stderr is not None
-    return process.stderr.readline()
+    for line in process.stderr:
+        lines.append(line)
+        if found := re.search(pattern, line):
+            return found
+    sys.exit(f"the service printed {lines[-5:]}")
 
 
 def service(text: str) -> int:
@@ -102,8 +105,7 @@ def service(text: str) -> int:
     with serving() as (process, address):
         count = session(text.replace("127.0.0.1:5000", address))
         process.send_signal(signal.SIGHUP)
-        if "reloaded" not in (line := next_line(process)):
-            sys.exit(f"at SIGHUP the service printed {line!r}")
+        wait_for(process, "reloaded")
         process.terminate()
         if (status := process.wait(60)) != 0:
             sys.exit(f"at SIGTERM the service ended with status {status}")

@@ -1,110 +1,179 @@
 """The command `domethyme-serve`: a routing service over HTTP.
 
-HIERARCHY is the file that `routecli prepare` wrote. The service answers http://127.0.0.1:PORT/ until it is ended. SIGHUP
-reads the files again, and requests are answered meanwhile; SIGTERM and an interrupt answer those received, and end the service.
+HIERARCHY is the file that `routecli prepare` wrote. The service answers http://127.0.0.1:PORT/ until it is ended. Other
+machines ask it through nginx, by packaging/nginx/domethyme.conf and --bind unix:PATH. SIGHUP reads the files again, and
+requests are answered meanwhile; SIGTERM answers those received, and ends the service.
 
 Exit status: 0; 1 if it can't start, with one line on standard error; 2 for invalid arguments.
 """
 import argparse
+import errno
 import functools
+import ipaddress
 import logging
+import os
+import platform
+import socket
 import sys
+from collections.abc import Sequence
+from typing import Any
 
 from domethyme import DomethymeError, find_program
 
-from .asking import Allowed
-from .connection import Bounds
-from .errors import Unable
-from .front import Setting
-from .listening import listener, most_connections
-from .master import Master, rows_needed
-from .metrics import Board
-from .server import Ways
-from .snapshot import Files
+from . import VERSION
+from .access import ORIGIN, AccessPolicy
+from .dataset import DatasetPaths
+from .errors import StartupError
+from .gunicorn_app import Application, Setup
+from .wsgi import Options
 
 EXAMPLES = """examples:
   %(prog)s net.rch --network net
-  %(prog)s net.rch --network net --checked net.gr --fronts 4 --port 8080
+  %(prog)s net.rch --network net --verify net.gr --workers 8 --bind unix:/run/domethyme/serve.sock
   curl 'http://127.0.0.1:5000/route/v1/car/9.5215,47.1410;9.6090,47.1020?overview=false'"""
+NGINX = "packaging/nginx/domethyme.conf (/usr/share/doc/domethyme/examples/nginx.conf)"
+# Workers of a service: a long request holds one of them.
+MIN_WORKERS = 4
+# What is behind the path of a socket in that of the one for probes.
+PROBE = ".probe"
+BACKLOG = 1024
+# Bytes that the kernel takes of a client: a worker looks at a whole head before it reads it.
+RECEIVE_BUFFER = 1 << 18
+# From this number on systemd hands over sockets.
+FIRST_SOCKET = 3
+GONE = {
+    "--connections": "worker_connections of nginx",
+    "--client-connections": f"limit_conn in {NGINX}",
+    "--head-seconds": f"client_header_timeout in {NGINX}",
+}
 
-log = logging.getLogger("domethyme_service")
+
+class Gone(argparse.Action):
+    """An option that there was, and what there is in its place."""
+
+    def __call__(self, parser: argparse.ArgumentParser, _args: argparse.Namespace, _values: Any, option: str | None = None) -> None:
+        parser.error(f"{option} is no longer an option: use {GONE[option or '']}")
 
 
-def parser() -> argparse.ArgumentParser:
-    """The words of the command."""
-    words = argparse.ArgumentParser(
+def argument_parser() -> argparse.ArgumentParser:
+    """The arguments of the command. Where an option has two names, the second is the one that it had."""
+    parser = argparse.ArgumentParser(
         prog="domethyme-serve", description=__doc__, epilog=EXAMPLES, formatter_class=argparse.RawDescriptionHelpFormatter
     )
-    add = words.add_argument
+    add = parser.add_argument
     add("hierarchy", metavar="HIERARCHY", help="the file of a hierarchy")
-    add("--checked", metavar="GRAPH", help="the graph for which the hierarchy has to be right, proved at each start")
+    add("--verify", "--checked", metavar="GRAPH", help="the graph for which the hierarchy has to be right, proved at each start")
     add("--network", metavar="NETWORK", help="the beginning of its network's file names: places on roads, OSRM's API")
     add("--compare-all", action="store_true", help="compare all links with the network, also of more than ten million")
-    add("--within", metavar="METRES", type=number(0, 10_000_000), default=1000, help="metres from a place to a road (1000)")
-    add("--host", metavar="ADDRESS", default="127.0.0.1", help="the address to listen at (127.0.0.1)")
-    add("--port", metavar="PORT", type=number(0, 65535), default=5000, help="the port, 0 for any that is free (5000)")
-    add("--fronts", metavar="N", type=number(1, 64), default=1, help="processes that answer (1)")
-    add("--workers", type=number(1, 64), help=argparse.SUPPRESS)
+    radius = "metres from a place to a road (1000)"
+    add("--default-radius", "--within", metavar="METRES", type=int_between(0, 10_000_000), default=1000, help=radius)
+    add("--bind", metavar="unix:PATH", help=f"listen at a unix socket, for nginx, and at PATH{PROBE}, for probes")
+    add("--host", metavar="ADDRESS", default="127.0.0.1", help="the address of the loopback to listen at (127.0.0.1)")
+    add("--port", metavar="PORT", type=int_between(0, 65535), default=5000, help="the port, 0 for any that is free (5000)")
+    workers = f"processes that answer, {MIN_WORKERS} or more ({MIN_WORKERS})"
+    add("--workers", "--fronts", metavar="N", type=int_between(1, 64), default=MIN_WORKERS, help=workers)
     add("--tables", choices=("fast", "proved"), default="fast", help="how tables of many cells are made (fast)")
-    add("--table-cells", metavar="N", type=number(1, 4_000_000), default=1_000_000, help="cells of a table (1000000)")
-    add("--program", metavar="FILE", help="routecli, for --checked: by default that of ROUTECLI, on PATH, or built here")
-    add("--connections", metavar="N", type=number(1, 100_000), default=2000, help="how many at once, for each front (2000)")
-    add("--client-connections", metavar="N", type=number(1, 100_000), help="those of one address elsewhere (half)")
-    add("--head-seconds", metavar="S", type=number(1, 3600), default=10, help="in which a head has to come whole (10)")
+    cells = "cells of a table (1000000)"
+    add("--max-table-cells", "--table-cells", metavar="N", type=int_between(1, 4_000_000), default=1_000_000, help=cells)
+    add("--program", metavar="FILE", help="routecli, for --verify: by default that of ROUTECLI, on PATH, or built here")
     host = "a host that requests may be for, * for any; several times"
     add("--allowed-host", metavar="NAME", action="append", default=[], help=host)
-    add("--cors", metavar="ORIGIN", default="none", help="the origin whose pages may ask, * for any (none)")
+    add("--cors", metavar="ORIGIN", type=origin, default="none", help="the origin whose pages may ask, * for any (none)")
     add("--access-log", action="store_true", help="a line of JSON on standard error for each request")
     add("--log-places", action="store_true", help="with the path and the caller's address in it")
-    return words
+    for name in GONE:
+        add(name, action=Gone, nargs=1, help=argparse.SUPPRESS)
+    return parser
 
 
-def number(low: int, high: int) -> "functools.partial[int]":
-    return functools.partial(whole, low, high)
+def int_between(low: int, high: int) -> "functools.partial[int]":
+    return functools.partial(bounded_int, low, high)
 
 
-def whole(low: int, high: int, text: str) -> int:
+def bounded_int(low: int, high: int, text: str) -> int:
     """The whole number of an argument."""
     if not text.isascii() or not text.isdigit() or not low <= int(text[:12]) <= high:
         raise argparse.ArgumentTypeError(f"has to be from {low} to {high}")
     return int(text)
 
 
-def set_logs(access: bool) -> None:
-    """Logs go to standard error: the service's lines with its name, the access log as it is."""
-    shapes = {log: "domethyme-serve: %(message)s", logging.getLogger("domethyme_service.access"): "%(message)s"}
-    for logger, shape in shapes.items():
-        handler = logging.StreamHandler()
-        handler.setFormatter(logging.Formatter(shape))
-        logger.addHandler(handler)
-        logger.propagate = False
-        logger.setLevel(logging.INFO)
-    if not access:
-        logging.getLogger("domethyme_service.access").setLevel(logging.WARNING)
-    logging.getLogger("asyncio").setLevel(logging.CRITICAL)
+def origin(text: str) -> str:
+    """The origin of an argument, as browsers send it."""
+    if text not in ("*", "none") and not ORIGIN.fullmatch(text):
+        raise argparse.ArgumentTypeError("an origin is SCHEME://HOST, such as https://example.org")
+    return text
 
 
-def run(words: argparse.Namespace) -> int:
-    """Runs the service; returns the exit status. Raises Unable or a DomethymeError where it can't begin."""
-    if words.workers is not None:
-        log.warning("--workers has no effect any more: --fronts says how many processes answer")
-    program = None if words.checked is None else find_program(words.program)
-    files = Files(words.hierarchy, words.network, words.tables == "fast", words.checked, program, words.compare_all)
-    connections = most_connections(words.connections)
-    client = words.client_connections or max(1, words.connections // 2)
-    bounds = Bounds(connections, min(client, connections), words.head_seconds)
-    ways = Ways(Allowed.of(words.allowed_host, words.cors), words.log_places, words.within, words.table_cells)
-    with listener(words.host, words.port) as listening:
-        setting = Setting(listening, Board(rows_needed(words.fronts)), words.fronts, bounds, ways)
-        return Master(setting, files).run()
+def configure_logging(access: bool) -> None:
+    """The access log goes to standard error as it is; other lines go where gunicorn's do."""
+    access_log = logging.getLogger("domethyme_service.access")
+    handler = logging.StreamHandler()
+    handler.setFormatter(logging.Formatter("%(message)s"))
+    access_log.addHandler(handler)
+    access_log.propagate = False
+    access_log.setLevel(logging.INFO if access else logging.WARNING)
+    logging.getLogger("domethyme_service").setLevel(logging.INFO)
 
 
-def main() -> None:
-    """The command; ends the process."""
-    words = parser().parse_args()
-    set_logs(words.access_log or words.log_places)
+def sockets(args: argparse.Namespace) -> tuple[list[str], bool]:
+    """Where the service listens, as gunicorn's `bind` has it, none where systemd hands over the sockets; and whether there is one for
+    probes. Raises StartupError for an address that other machines reach."""
+    if os.environ.get("LISTEN_PID") == str(os.getpid()):
+        handed_over = [FIRST_SOCKET + number for number in range(int(os.environ.get("LISTEN_FDS", "1")))]
+        for number in handed_over:
+            with socket.socket(fileno=os.dup(number)) as listening:
+                name = listening.getsockname()
+            if isinstance(name, tuple):
+                check_loopback(name[0])
+        return [], len(handed_over) > 1
+    if args.bind is None:
+        return [f"fd://{bound(args.host, args.port)}"], False
+    kind, _, path = args.bind.partition(":")
+    if kind != "unix" or not path:
+        raise StartupError(f"--bind {args.bind}: other machines ask through nginx, by {NGINX}, and --bind unix:PATH")
+    return [f"unix:{path}", f"unix:{path}{PROBE}"], True
+
+
+def bound(host: str, port: int) -> int:
+    """A socket that listens at an address of the loopback. Raises StartupError."""
     try:
-        sys.exit(run(words))
-    except (Unable, DomethymeError, OSError) as fault:
+        family, kind, _, _, address = socket.getaddrinfo(host, port, type=socket.SOCK_STREAM)[0]
+        check_loopback(str(address[0]))
+        listening = socket.socket(family, kind)
+        listening.setsockopt(socket.SOL_SOCKET, socket.SO_REUSEADDR, 1)
+        listening.setsockopt(socket.SOL_SOCKET, socket.SO_RCVBUF, RECEIVE_BUFFER)
+        listening.bind(address)
+        listening.listen(BACKLOG)
+    except OSError as error:
+        hint = ": another --port, or 0 for any that is free" if error.errno == errno.EADDRINUSE else ""
+        raise StartupError(f"can't listen at {host}, port {port}: {error.strerror}{hint}") from error
+    return listening.detach()
+
+
+def check_loopback(address: str) -> None:
+    """Raises StartupError for an address that other machines may reach."""
+    if not ipaddress.ip_address(address.partition("%")[0]).is_loopback:
+        raise StartupError(f"won't listen at {address}: other machines ask through nginx, by {NGINX}, and --bind unix:PATH")
+
+
+def run(args: argparse.Namespace) -> None:
+    """Runs the service; ends the process. Raises StartupError or a DomethymeError where it can't start."""
+    if args.workers < MIN_WORKERS:
+        print(f"domethyme-serve: --workers {args.workers}: there are {MIN_WORKERS}, since a long request holds one", file=sys.stderr)
+    program = None if args.verify is None else find_program(args.program)
+    paths = DatasetPaths(args.hierarchy, args.network, args.tables == "fast", args.verify, program, args.compare_all)
+    options = Options(AccessPolicy.of(args.allowed_host, args.cors), args.default_radius, args.max_table_cells)
+    bind, has_probe = sockets(args)
+    setup = Setup(paths, options, bind, max(args.workers, MIN_WORKERS), has_probe, args.log_places)
+    Application(setup, {"version": VERSION, "python": platform.python_version()}).run()
+
+
+def main(words: Sequence[str] | None = None) -> None:
+    """The command; ends the process."""
+    args = argument_parser().parse_args(words)
+    configure_logging(args.access_log or args.log_places)
+    try:
+        run(args)
+    except (StartupError, DomethymeError, OSError) as fault:
         print(f"domethyme-serve: {fault}", file=sys.stderr)
         sys.exit(1)

@@ -4,12 +4,12 @@ import re
 from collections.abc import Mapping
 from typing import Any, NamedTuple
 
-from .errors import Refused
-from .page import FILES
+from .errors import RequestError
 from .parameters import (
     Above, Absent, Alternatives, Annotations, Bearings, Chosen, Context, Flag, Key, Node, Number, Parameter, Radiuses, Straight,
     Unused, Values, Word, values_of
 )
+from .static import FILES
 
 NOT_SAID = "snapping=any and flatbuffers aren't there"
 RADIUSES, BEARINGS = Radiuses("radiuses"), Bearings("bearings")
@@ -46,7 +46,7 @@ class Endpoint(NamedTuple):
     method: str = "GET"
 
     def values(self, query: Mapping[str, str], context: Context = Context()) -> Values:
-        """The values of its parameters. Raises Refused."""
+        """The values of its parameters. Raises RequestError."""
         return Values({}) if self.parameters is None else values_of(self.parameters, query, context, self.unknown)
 
 
@@ -73,7 +73,7 @@ ENDPOINTS = (
              "this path has no parameters", "POST"),
     Endpoint("/nodes/lengths", "/nodes/lengths", "a length for each line of the body, as a line of JSON", (),
              "this path has no parameters", "POST"),
-    Endpoint("/health", "/health", "200, or 503 while it ends", None),
+    Endpoint("/health", "/health", "200, and the numbers of nodes and links", None),
     Endpoint("/metrics", "/metrics", "the text format 0.0.4 of Prometheus", None),
 )
 BY_NAME = {endpoint.name: endpoint for endpoint in ENDPOINTS}
@@ -85,8 +85,8 @@ BY_PATH = {
 TILE = re.compile(r"/map/roads/([0-9]{1,2})/([0-9]{1,6})/([0-9]{1,6})")
 
 
-def endpoint_of(path: str) -> Endpoint:
-    """The endpoint of a path. Raises Refused where there is none."""
+def find_endpoint(path: str) -> Endpoint:
+    """The endpoint of a path. Raises RequestError where there is none."""
     if found := BY_PATH.get(path):
         return found
     words = path.split("/", 2)
@@ -94,7 +94,7 @@ def endpoint_of(path: str) -> Endpoint:
         return BY_NAME[f"/{words[1]}"]
     if TILE.fullmatch(path):
         return BY_NAME["/map/roads"]
-    raise Refused(404, "InvalidUrl", "there is no such path")
+    raise RequestError(404, "InvalidUrl", "there is no such path")
 
 
 def table_of_endpoints() -> list[str]:

@@ -1,34 +1,39 @@
-"""What a request is answered where it can't be answered as it asks."""
+"""Errors that become HTTP error responses, and the one of a service that can't start."""
 
 
-class Refused(Exception):
-    """An answer `{"code": .., "message": ..}`.
+class RequestError(Exception):
+    """An answer `{"code": .., "message": ..}`: `status` of HTTP, 400 to 505, and `code`, OSRM's word, as InvalidQuery, or one of this
+    service."""
 
-    status   of HTTP, 400 to 505
-    code     OSRM's word, as InvalidQuery, or one of this service
-    is_last  whether it ends the connection, since it isn't known where the next request begins, or the client is slow
-    """
-
-    def __init__(self, status: int, code: str, message: str, is_last: bool = False) -> None:
+    def __init__(self, status: int, code: str, message: str) -> None:
         super().__init__(message)
         self.status, self.code, self.message = status, code, message
-        self.is_last = is_last or status in (408, 413, 504, 505)
 
 
-class Unable(Exception):
-    """The service can't begin, or not by new files: what is wrong, in a line."""
+class StartupError(Exception):
+    """The service can't start, or not with new files: why, in a line."""
 
 
-def invalid_query(message: str) -> Refused:
+def invalid_query(message: str) -> RequestError:
     """A parameter that isn't known, or the wrong shape of a request."""
-    return Refused(400, "InvalidQuery", message)
+    return RequestError(400, "InvalidQuery", message)
 
 
-def invalid_value(message: str) -> Refused:
+def invalid_value(message: str) -> RequestError:
     """A value that a parameter can't have."""
-    return Refused(400, "InvalidValue", message)
+    return RequestError(400, "InvalidValue", message)
 
 
-def not_implemented(message: str) -> Refused:
-    """A parameter of OSRM that would change the answer, and isn't there."""
-    return Refused(400, "NotImplemented", message)
+def not_implemented(message: str) -> RequestError:
+    """An OSRM parameter that would change the answer, and that this service doesn't support."""
+    return RequestError(400, "NotImplemented", message)
+
+
+def malformed() -> RequestError:
+    """A request that isn't HTTP as RFC 9112 has it."""
+    return RequestError(400, "InvalidUrl", "the request cannot be read")
+
+
+def too_late(seconds: float) -> RequestError:
+    """An answer that took too long."""
+    return RequestError(504, "Timeout", f"the answer took more than {seconds:g} s")

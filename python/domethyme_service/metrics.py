@@ -1,106 +1,131 @@
-"""Counters and times of the whole service, in the text format 0.0.4 of Prometheus. Names of endpoints are labels, and never
-paths.
+"""Metrics of the whole service, in the text format 0.0.4 of Prometheus. Names of endpoints are labels, and never paths.
 
-All processes share one piece of memory, a Board, in which each has a row of its own and no other writes. So whichever front is
-asked sums the rows of all, and what a process has counted is there after its end.
+All processes share one piece of memory, in which each has a row of its own and no other writes. So whichever process is asked sums
+the rows of all, and what a process has counted is there after its end.
 """
 import bisect
 import ctypes
 import mmap
+import os
+import pathlib
 from collections.abc import Iterator
 from typing import overload
 
 from .endpoints import ENDPOINTS
 
-BOUNDS = (0.001, 0.0025, 0.005, 0.01, 0.025, 0.05, 0.1, 0.25, 0.5, 1.0, 2.5, 5.0, 10.0, 30.0)
-STATUSES = (200, 204, 400, 403, 404, 405, 408, 413, 415, 421, 429, 499, 500, 503, 504, 505)
+BUCKETS = (0.001, 0.0025, 0.005, 0.01, 0.025, 0.05, 0.1, 0.25, 0.5, 1.0, 2.5, 5.0, 10.0, 30.0)
+STATUSES = (200, 204, 400, 403, 404, 405, 408, 413, 415, 421, 500, 503, 504, 505)
 NAMES = (*(endpoint.name for endpoint in ENDPOINTS), "other")
-# Names without `domethyme_`. The first is no figure of the page, but changes while the process does its work.
-GAUGES = ("beat", "connections", "fronts")
+# Names without `domethyme_`. The first, a process, is for this module alone.
+GAUGES = ("process", "workers", "last_reload_failed", "last_reload_timestamp_seconds")
 COUNTERS = (
-    "questions_total", "front_restarts_total", "front_silences_total", "reloads_total", "reloads_refused_total",
-    "work_stopped_total",
+    "queries_total", "worker_restarts_total", "worker_timeouts_total", "reloads_total", "reload_failures_total",
+    "requests_cancelled_total", "long_requests_refused_total",
 )
-SINGLES = (*GAUGES, *COUNTERS)
+UNLABELLED = (*GAUGES, *COUNTERS)
 HELP = {
     "requests_total": "Requests that were answered, by endpoint and status.",
     "request_seconds": "Seconds until a request was answered, by endpoint.",
-    "connections": "Open connections.",
-    "fronts": "Processes that accept connections.",
+    "workers": "Processes that accept connections.",
+    "last_reload_failed": "1 if the last reload was refused, else 0.",
+    "last_reload_timestamp_seconds": "When the files were opened that are served, in seconds since 1970.",
     "nodes": "Nodes of the hierarchy.",
-    "questions_total": "Queries to the hierarchy.",
-    "front_restarts_total": "Processes that were replaced since they had ended.",
-    "front_silences_total": "Processes that were killed since they were silent.",
+    "resident_memory_bytes": "Resident memory of the largest process; the processes share most of it.",
+    "queries_total": "Queries to the hierarchy.",
+    "worker_restarts_total": "Workers that were replaced since they had ended.",
+    "worker_timeouts_total": "Workers that were killed since they were silent.",
     "reloads_total": "Reloads of the files.",
-    "reloads_refused_total": "Reloads that were refused.",
-    "work_stopped_total": "Long work that was stopped, since its client had gone or its time was over.",
+    "reload_failures_total": "Reloads that were refused.",
+    "requests_cancelled_total": "Requests that were ended since they took too long.",
+    "long_requests_refused_total": "Long requests that were refused since too many were under way.",
+    "build_info": "1, with the versions as labels.",
 }
-REQUESTS_AT = len(SINGLES)
+# Names of version 1.1, which are printed too for one version.
+OLD_NAMES = {
+    "queries_total": "questions_total", "workers": "fronts", "worker_restarts_total": "front_restarts_total",
+    "worker_timeouts_total": "front_silences_total", "reload_failures_total": "reloads_refused_total",
+    "requests_cancelled_total": "work_stopped_total",
+}
+REQUESTS_AT = len(UNLABELLED)
 TIMES_AT = REQUESTS_AT + len(NAMES) * len(STATUSES)
 # Of each endpoint the counts of its times, and their sum.
-TIMES = len(BOUNDS) + 2
+TIMES = len(BUCKETS) + 2
 WIDTH = TIMES_AT + len(NAMES) * TIMES
 Cells = ctypes.Array[ctypes.c_double]
-MADE_OF = ctypes.c_double * WIDTH
+RowArray = ctypes.c_double * WIDTH
+PAGE_SIZE = os.sysconf("SC_PAGE_SIZE")
 
 
-class Figure:
-    """A figure of a row, which is read and written as an attribute."""
+class Metric:
+    """A value of a row, which is read and written as an attribute."""
 
     def __init__(self, name: str) -> None:
-        self.place = SINGLES.index(name)
+        self.index = UNLABELLED.index(name)
 
     @overload
-    def __get__(self, row: None, owner: type) -> "Figure": ...
+    def __get__(self, row: None, owner: type) -> "Metric": ...
     @overload
     def __get__(self, row: "Row", owner: type) -> float: ...
 
-    def __get__(self, row: "Row | None", owner: type) -> "float | Figure":
-        return self if row is None else row.cells[self.place]
+    def __get__(self, row: "Row | None", owner: type) -> "float | Metric":
+        return self if row is None else row.cells[self.index]
 
     def __set__(self, row: "Row", value: float) -> None:
-        row.cells[self.place] = value
+        row.cells[self.index] = value
 
 
 class Row:
     """What one process has done and has under way."""
 
-    beat, connections, fronts = map(Figure, GAUGES)
-    questions, front_restarts, front_silences, reloads, refused, stopped = map(Figure, COUNTERS)
+    process, workers, last_reload_failed, last_reload_timestamp = map(Metric, GAUGES)
+    queries, worker_restarts, worker_timeouts, reloads, reload_failures, cancelled, long_refused = map(Metric, COUNTERS)
 
     def __init__(self, cells: Cells | None = None) -> None:
         """By default one that no other process sees."""
-        self.cells = MADE_OF() if cells is None else cells
+        self.cells = RowArray() if cells is None else cells
 
     def count(self, endpoint: str, status: int, seconds: float) -> None:
         """Counts one answer."""
         name = NAMES.index(endpoint)
         self.cells[REQUESTS_AT + name * len(STATUSES) + STATUSES.index(status)] += 1
         begin = TIMES_AT + name * TIMES
-        self.cells[begin + bisect.bisect_left(BOUNDS, seconds)] += 1
+        self.cells[begin + bisect.bisect_left(BUCKETS, seconds)] += 1
         self.cells[begin + TIMES - 1] += seconds
 
-    def rest(self) -> None:
-        """Has nothing under way any more."""
-        for place in range(len(GAUGES)):
-            self.cells[place] = 0
+    def reset_gauges(self) -> None:
+        """Resets the gauges of a process that has ended."""
+        for index in range(len(GAUGES)):
+            self.cells[index] = 0
 
 
-class Board:
-    """The rows of all processes. Those that are forked after it was made share it."""
+class SharedMetrics:
+    """The rows of all processes. Those that are forked after it was made share it. `own` is the row of this process."""
 
-    def __init__(self, rows: int) -> None:
-        size = ctypes.sizeof(MADE_OF)
+    def __init__(self, rows: int = 1, versions: dict[str, str] | None = None) -> None:
+        size = ctypes.sizeof(RowArray)
         memory = mmap.mmap(-1, size * rows)
-        self.rows = [Row(MADE_OF.from_buffer(memory, size * number)) for number in range(rows)]
+        self.rows = [Row(RowArray.from_buffer(memory, size * number)) for number in range(rows)]
+        self.own, self.versions = self.rows[0], versions or {}
 
     def text(self, nodes: int) -> str:
-        """The whole page, by the sums of all rows and the number of nodes."""
+        """The whole page, with the sums of all rows and the number of nodes."""
         rows = [row.cells[:] for row in self.rows]
         sums = [sum(column) for column in zip(*filter(any, rows))] or [0.0] * WIDTH
-        gauges = {**dict(zip(GAUGES[1:], sums[1:])), "nodes": float(nodes)}
+        memory = max((resident(int(row[0])) for row in rows if row[0]), default=0)
+        gauges = {**dict(zip(GAUGES[1:], sums[1:])), "nodes": float(nodes), "resident_memory_bytes": float(memory)}
         counters = dict(zip(COUNTERS, sums[len(GAUGES) :]))
-        return "\n".join([*requests_of(sums), *times_of(sums), *singles(gauges, "gauge"), *singles(counters, "counter"), ""])
+        labels = ",".join(f'{name}="{version}"' for name, version in self.versions.items())
+        build = [*head_of("build_info", "gauge"), f"domethyme_build_info{{{labels}}} 1"]
+        unlabelled = [*format_unlabelled(gauges, "gauge"), *format_unlabelled(counters, "counter")]
+        return "\n".join([*format_requests(sums), *format_times(sums), *unlabelled, *build, ""])
+
+
+def resident(process: int) -> int:
+    """The bytes of resident memory of a process; 0 for one that has ended."""
+    try:
+        return int(pathlib.Path(f"/proc/{process}/statm").read_text().split()[1]) * PAGE_SIZE
+    except OSError:
+        return 0
 
 
 def head_of(name: str, kind: str) -> Iterator[str]:
@@ -109,29 +134,33 @@ def head_of(name: str, kind: str) -> Iterator[str]:
     yield f"# TYPE domethyme_{name} {kind}"
 
 
-def requests_of(sums: list[float]) -> Iterator[str]:
+def format_requests(sums: list[float]) -> Iterator[str]:
     yield from head_of("requests_total", "counter")
-    for place, count in enumerate(sums[REQUESTS_AT:TIMES_AT]):
+    for index, count in enumerate(sums[REQUESTS_AT:TIMES_AT]):
         if count:
-            name, status = NAMES[place // len(STATUSES)], STATUSES[place % len(STATUSES)]
+            name, status = NAMES[index // len(STATUSES)], STATUSES[index % len(STATUSES)]
             yield f'domethyme_requests_total{{endpoint="{name}",status="{status}"}} {count:.0f}'
 
 
-def times_of(sums: list[float]) -> Iterator[str]:
+def format_times(sums: list[float]) -> Iterator[str]:
     yield from head_of("request_seconds", "histogram")
-    for place, name in enumerate(NAMES):
-        begin, label, total = TIMES_AT + place * TIMES, f'endpoint="{name}"', 0.0
+    for index, name in enumerate(NAMES):
+        begin, label, total = TIMES_AT + index * TIMES, f'endpoint="{name}"', 0.0
         if not any(sums[begin : begin + TIMES]):
             continue
-        for bound, count in zip((*map(str, BOUNDS), "+Inf"), sums[begin:]):
+        for bound, count in zip((*map(str, BUCKETS), "+Inf"), sums[begin:]):
             total += count
             yield f'domethyme_request_seconds_bucket{{{label},le="{bound}"}} {total:.0f}'
         yield f"domethyme_request_seconds_sum{{{label}}} {sums[begin + TIMES - 1]:.6f}"
         yield f"domethyme_request_seconds_count{{{label}}} {total:.0f}"
 
 
-def singles(values: dict[str, float], kind: str) -> Iterator[str]:
-    """The lines of values without labels."""
+def format_unlabelled(values: dict[str, float], kind: str) -> Iterator[str]:
+    """The lines of values without labels, each also with its old name."""
     for name, value in values.items():
         yield from head_of(name, kind)
         yield f"domethyme_{name} {value:.15g}"
+        if old := OLD_NAMES.get(name):
+            yield f"# HELP domethyme_{old} The same as domethyme_{name}, for one version."
+            yield f"# TYPE domethyme_{old} {kind}"
+            yield f"domethyme_{old} {value:.15g}"

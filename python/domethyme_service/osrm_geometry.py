@@ -12,8 +12,8 @@ from domethyme.network.polyline import Line, array_of, encoded
 from domethyme.network.snapping import steps_of
 from domethyme.network.tables import Point
 
-from .osrm_answer import Geometry
-from .work import Budget
+from .budget import Budget
+from .osrm_types import Geometry
 
 
 def lines_of(courses: "Sequence[Course | None]", ends: list[Point]) -> list[Line]:
@@ -30,7 +30,7 @@ def joined(lines: Iterable[Line]) -> Line:
 
 def simpler(lines: Sequence[Line], budget: Budget) -> list[Line]:
     """The lines with fewer points, none of the others further off than a thousandth of the extent of all."""
-    arrays = [array_of(line) for line in budget.over(lines)]
+    arrays = [array_of(line) for line in lines]
     shrink = np.array([math.cos(math.radians(arrays[0][0, 1])), 1.0])
     low, high = (side([side(array, axis=0) for array in arrays], axis=0) for side in (np.min, np.max))
     far = float(((high - low) * shrink).max()) / 1000

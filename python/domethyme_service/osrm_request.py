@@ -9,7 +9,7 @@ from domethyme.network.polyline import decoded
 from domethyme.network.tables import Point
 
 from .endpoints import BY_NAME
-from .errors import Refused, invalid_query, invalid_value
+from .errors import RequestError, invalid_query, invalid_value
 from .parameters import Context, Values
 
 NUMBER = re.compile(r"[-+]?(?:[0-9]{1,3}(?:\.[0-9]{0,20})?|\.[0-9]{1,20})(?:[eE][-+]?[0-9]{1,2})?")
@@ -28,22 +28,22 @@ class Request(NamedTuple):
     values: Values
 
 
-def request_of(path: str, query: Mapping[str, str], within: float) -> Request:
+def parse_request(path: str, query: Mapping[str, str], within: float) -> Request:
     """The request of a path `/SERVICE/v1/PROFILE/PLACES`, still percent-encoded. `within` are the metres to a road of a place
-    without a radius. Raises Refused."""
+    without a radius. Raises RequestError."""
     words = path.split("/", 4)
     if words[1] not in SERVICES:
-        raise Refused(400, "InvalidService", f"the service {words[1]} isn't there")
+        raise RequestError(400, "InvalidService", f"the service {words[1]} isn't there")
     if words[2] != "v1":
-        raise Refused(400, "InvalidVersion", "the path is /SERVICE/v1/PROFILE/PLACES")
+        raise RequestError(400, "InvalidVersion", "the path is /SERVICE/v1/PROFILE/PLACES")
     if len(words) != 5 or not PROFILE.fullmatch(words[3]):
-        raise Refused(400, "InvalidUrl", "the path is /SERVICE/v1/PROFILE/PLACES")
+        raise RequestError(400, "InvalidUrl", "the path is /SERVICE/v1/PROFILE/PLACES")
     places = places_of(words[4], words[1])
     return Request(words[1], places, BY_NAME[f"/{words[1]}"].values(query, Context(len(places), within)))
 
 
 def places_of(text: str, service: str) -> list[Point]:
-    """The places of `LON,LAT;..`, `polyline(..)` or `polyline6(..)`. Raises Refused."""
+    """The places of `LON,LAT;..`, `polyline(..)` or `polyline6(..)`. Raises RequestError."""
     try:
         plain = urllib.parse.unquote(text, errors="strict").removesuffix(".json")
         if found := LINE.fullmatch(plain):
@@ -58,7 +58,7 @@ def places_of(text: str, service: str) -> list[Point]:
             order = "longitude first, from -180 to 180, then latitude, from -90 to 90"
             raise invalid_value(f"place {number} is {lon:g},{lat:g}: {order}{hint}")
     if service != "nearest" and len(places) > MOST_PLACES[service]:
-        raise Refused(400, "TooBig", f"there may be {MOST_PLACES[service]} places")
+        raise RequestError(400, "TooBig", f"there may be {MOST_PLACES[service]} places")
     if service == "nearest" and len(places) != 1 or service == "route" and len(places) < 2 or not places:
         raise invalid_query("nearest has one place, route two or more, table one or more")
     return places

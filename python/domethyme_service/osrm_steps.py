@@ -14,7 +14,7 @@ from domethyme.network.polyline import Line
 from domethyme.network.snapping import Roads
 from domethyme.network.tables import Point
 
-from .osrm_answer import Coordinates, Geometry, Maneuver, Step
+from .osrm_types import Coordinates, Geometry, Maneuver, Step
 
 TURN = 45
 # The degrees from which on a turn has the next one of the words for turns to the left, and to the right.

@@ -32,7 +32,7 @@ class Parameter(Generic[T]):
         self.name = name
 
     def read(self, text: str | None, context: Context) -> T:
-        """The value of a text, or of no such parameter (None). Raises Refused."""
+        """The value of a text, or of no such parameter (None). Raises RequestError."""
         raise NotImplementedError
 
 
@@ -103,7 +103,7 @@ class Absent(Parameter[None]):
 class Radiuses(Parameter[list[float]]):
     """The greatest metres to a road, for each place."""
 
-    taken = "for each place metres, `unlimited`, or nothing for that of `--within`"
+    taken = "for each place metres, `unlimited`, or nothing for that of `--default-radius`"
 
     def read(self, text: str | None, context: Context) -> list[float]:
         if not text:
@@ -241,7 +241,7 @@ class Key(Parameter[str | None]):
 
 
 def node_of(text: object, name: str, nodes: int) -> int:
-    """The node that a text or a number of JSON names, from 1 to `nodes`. Raises Refused."""
+    """The node that a text or a number of JSON names, from 1 to `nodes`. Raises RequestError."""
     if text is None:
         raise invalid_query(f"{name} is missing")
     digits = str(text) if isinstance(text, (int, str)) and not isinstance(text, bool) else ""
@@ -251,7 +251,7 @@ def node_of(text: object, name: str, nodes: int) -> int:
 
 
 def values_of(parameters: Sequence[Parameter[object]], query: Mapping[str, str], context: Context, unknown: str) -> Values:
-    """The values of all parameters. Raises Refused for a value, and by the message `unknown` for a parameter that isn't known."""
+    """The values of all parameters. Raises RequestError for a value, and by the message `unknown` for a parameter that isn't known."""
     names = {parameter.name for parameter in parameters}
     for name in query:
         if name not in names:

@@ -13,6 +13,8 @@ from domethyme.network.binary import TEXTS, UNITS, Mapped
 from domethyme.network.index import middles_of, wrapped
 from domethyme.network.levels import CODED, KINDS, Ints, plane_of, spread
 
+from .errors import invalid_value
+
 DEEPEST = 16
 GRID = 1024
 NAMED_FROM = 14
@@ -40,6 +42,18 @@ class Tiles:
             "grid": GRID,
             "version": f"{self.arrays.file.sum:08x}",
         }
+
+    @property
+    def start(self) -> bytes:
+        """What the page asks first, with the unit of weights, as JSON."""
+        return json.dumps({**self.about, "unit": self.arrays.unit}, ensure_ascii=False).encode("utf-8", "replace")
+
+    def at(self, path: str) -> bytes:
+        """The tile of a path `/map/roads/ZOOM/X/Y`, as JSON. Raises RequestError."""
+        zoom, x, y = map(int, path.split("/")[3:])
+        if zoom > DEEPEST or max(x, y) >= 1 << zoom:
+            raise invalid_value(f"a tile is ZOOM/X/Y, with a zoom from 0 to {DEEPEST}")
+        return self.tile(zoom, x, y)
 
     def _tile(self, zoom: int, x: int, y: int) -> bytes:
         """The roads of a tile as JSON: for each kind lines, whose figures are those of the first point and then the steps, in parts of

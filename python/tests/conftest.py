@@ -2,7 +2,7 @@
 import pytest
 
 # Tests that mostly wait, or take longest: each begins in a worker of its own, before all others.
-FIRST = ["MinuteTests", "SlowClientTests", "DaskTests"]
+FIRST = ["AttackTests", "ReplacedTests", "DaskTests"]
 
 
 def pytest_collection_modifyitems(items):

@@ -16,7 +16,7 @@ import domethyme
 from domethyme.texts import read_graph
 
 SECONDS = 20
-# KiB that a front may grow by in a round that leaves nothing, and how many rounds there are. Python's allocator and the threads'
+# KiB that a worker may grow by in a round that leaves nothing, and how many rounds there are. Python's allocator and the threads'
 # arenas take some in early rounds, and more on a machine that has much to do: one of the rounds has to leave memory as it was.
 MOST_GROWN, ROUNDS = 2048, 6
 # The type of the body of a batch.
@@ -46,23 +46,25 @@ class ServiceCase(ToolCase):
         self.graph = read_graph(self.folder / "v.gr")
 
     def serve(self, *words, descriptors=()):
-        """Starts the service, and returns its process, the master's, once it listens at `self.port`."""
-        given = [*self.command, self.folder / "v.rch", "--port", "0", "--allowed-host", "x", *words]
+        """Starts the service, and returns its process, the arbiter's, once it listens at `self.port`."""
+        where = () if "--bind" in words else ("--port", "0")
+        given = [*self.command, self.folder / "v.rch", *where, "--allowed-host", "x", *words]
         process = subprocess.Popen(list(map(str, given)), stderr=subprocess.PIPE, text=True, pass_fds=descriptors)
         self.addCleanup(end, process)
         self.said = []
         for line in process.stderr:
             self.said.append(line)
-            if found := re.search(r"listens at http://127\.0\.0\.1:(\d+)/", line):
-                self.port = int(found[1])
+            if found := re.search(r"listens at (?:http://127\.0\.0\.1:(\d+)/|unix:)", line):
+                self.port = int(found[1] or 0)
                 self.reader = threading.Thread(target=lambda: self.said.extend(process.stderr), daemon=True)
                 self.reader.start()
+                self.wait_for(lambda: len(workers_of(process)) >= 4)
                 return process
         self.fail(f"the service didn't start: {self.said}")
 
-    def ask(self, path, method="GET", body=None, headers=None):
+    def ask(self, path, method="GET", body=None, headers=None, seconds=SECONDS):
         """The status and the body of an answer, as JSON where it is JSON."""
-        connection = http.client.HTTPConnection("127.0.0.1", self.port, timeout=SECONDS)
+        connection = http.client.HTTPConnection("127.0.0.1", self.port, timeout=seconds)
         try:
             connection.request(method, path, body, {**(NDJSON if method == "POST" else {}), **(headers or {})})
             answer = connection.getresponse()
@@ -91,12 +93,12 @@ class ServiceCase(ToolCase):
             time.sleep(0.05)
 
     def assert_level(self, process, act):
-        """Acts in rounds, until one in which no front of the service grows. Memory that each round leaves behind fails it."""
+        """Acts in rounds, until one in which no worker grows. Memory that each round leaves behind fails it."""
         sizes = []
         for _ in range(ROUNDS):
             act()
-            sizes.append([resident(number) for number in fronts_of(process)])
-            self.assertTrue(sizes[-1], "there is a front")
+            sizes.append([resident(number) for number in workers_of(process)])
+            self.assertTrue(sizes[-1], "there is a worker")
             if len(sizes) > 1 and all(new <= old + MOST_GROWN for old, new in zip(*sizes[-2:], strict=True)):
                 return
         self.fail(f"memory grows in each round: {sizes} KiB")
@@ -160,9 +162,9 @@ def children_of(number: int) -> list[int]:
     return sorted(found)
 
 
-def fronts_of(process: "subprocess.Popen[str]") -> list[int]:
-    """The fronts of a service: its master has started keepers, and these have started them."""
-    return [front for keeper in children_of(process.pid) for front in children_of(keeper)]
+def workers_of(process: "subprocess.Popen[str]") -> list[int]:
+    """The workers of a service, which its arbiter has forked."""
+    return children_of(process.pid)
 
 
 def resident(number: int) -> int:

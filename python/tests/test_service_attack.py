@@ -1,36 +1,35 @@
-"""Tests of the service under attack: each is an attack that an earlier form of it didn't withstand."""
-import asyncio
+"""Tests of the service under attack: each is an attack that an earlier form of it didn't withstand. Those of many clients at once are in
+test_service_load."""
 import contextlib
 import http.client
 import os
 import pathlib
 import re
-import resource
 import shutil
 import signal
 import socket
-import struct
 import subprocess
+import sys
 import threading
 import time
 import unittest
 import zlib
 
 import numpy as np
-from service_case import NDJSON, ServiceCase, children_of, fronts_of, resident
-from tool_case import ROOT
+from service_case import NDJSON, ServiceCase, read_answer, workers_of
+from tool_case import PYTHON, ROOT
 
 import domethyme
 from domethyme.network.binary import UNITS, arrays_of
 from domethyme.network.mapped import HEAD
-from domethyme.network.polyline import encoded
-from domethyme_service import asking, endpoints, osrm_request, parameters
-from domethyme_service.errors import Refused
+from domethyme_service import access, endpoints, osrm_request, parameters, worker, wsgi
+from domethyme_service.budget import Budget
+from domethyme_service.errors import RequestError
 from domethyme_service.osrm_geometry import simplified
-from domethyme_service.work import MOST_WAITING, Budget, Desk, Stopped
 
 PATH = "/nodes/length?from=1&to=2"
 HIGH = "0.0003,0.00001;0.0077,-0.00002"
+IMPORT = f"import sys\nsys.path.insert(0, {str(PYTHON)!r})\nfrom domethyme_service import command, gunicorn_app\n"
 # How long a request may be held up by others, in seconds; on a machine that has much to do a test allows more.
 HELD_UP, BUSY = 0.25, 20
 
@@ -41,23 +40,37 @@ class RestartTests(ServiceCase):
     def says(self, text):
         return any(text in line for line in self.said)
 
-    def test_a_front_that_is_silent_is_replaced(self):
-        """A front that hangs for good, as by a pattern that never ends, is killed after ten seconds, and the service goes on."""
-        process = self.serve("--fronts", "2")
-        hung = fronts_of(process)[0]
+    def test_a_worker_that_is_silent_is_replaced(self):
+        """One that hangs for good, as by a loop that lets no signal through, is killed after its time, and the service goes on."""
+        self.command = (sys.executable, "-c", f"{IMPORT}gunicorn_app.FIXED['timeout'] = 3\ncommand.main()")
+        process = self.serve()
+        hung = workers_of(process)[0]
         os.kill(hung, signal.SIGSTOP)
-        begun = time.monotonic()
-        self.wait_for(lambda: self.says(f"front {hung} has been silent for"), 60)
-        self.assertGreater(time.monotonic() - begun, 8)
-        self.wait_for(lambda: len(fronts_of(process)) == 2 and hung not in fronts_of(process))
-        self.wait_for(lambda: self.value("fronts") == 2)
-        self.assertEqual((self.value("front_silences_total"), self.value("front_restarts_total")), (1, 1))
+        self.wait_for(lambda: self.says(f"WORKER TIMEOUT (pid:{hung})"), 60)
+        self.wait_for(lambda: len(workers_of(process)) == 4 and hung not in workers_of(process))
+        self.wait_for(lambda: self.value("workers") == 4)
+        self.assertEqual((self.value("worker_timeouts_total"), self.value("worker_restarts_total")), (1, 1))
         self.assertEqual(self.ask(PATH)[0], 200)
 
-    def test_no_connection_is_lost_as_fronts_end(self):
-        """Each request comes by a connection of its own, while fronts are killed between requests and generations replaced: the
-        socket stays, so none is refused or reset but those that a front had that was killed."""
-        process = self.serve("--fronts", "2")
+    def test_an_answer_that_takes_too_long(self):
+        """It ends with 504, and its worker is replaced; others are answered meanwhile. A batch may take its time for each block."""
+        slow = "node_queries.length_between = lambda *words: time.sleep(60)\nblocks = node_queries.blocks_of\n"
+        slow += "node_queries.blocks_of = lambda body: (time.sleep(0.7) or block for block in blocks(body))\n"
+        slow += "worker.ANSWER_SECONDS, worker.LONG_SECONDS = 2.0, 2.0\n"
+        self.command = (sys.executable, "-c", f"{IMPORT}import time\nfrom domethyme_service import node_queries, worker\n{slow}command.main()")
+        process = self.serve()
+        before = set(workers_of(process))
+        begun = time.monotonic()
+        self.assertEqual(self.ask(PATH), (504, {"code": "Timeout", "message": "the answer took more than 2 s"}))
+        self.assertGreater(time.monotonic() - begun, 1.9)
+        self.wait_for(lambda: len(workers_of(process)) == 4 and len(before & set(workers_of(process))) == 3)
+        self.assertEqual((self.value("requests_cancelled_total"), self.value("work_stopped_total")), (1, 1))
+        status, text = self.ask("/nodes/lengths", "POST", '{"from": 1, "to": 1}\n' * 256 * 5)
+        self.assertEqual((status, text.count("length")), (200, 256 * 5))
+
+    def test_no_connection_is_lost_as_workers_are_replaced(self):
+        """Each request comes by a connection of its own, while the files are read again: the socket stays, so none is refused or reset."""
+        process = self.serve()
         wanted, lost, count, is_over = self.ask(PATH), [], [0], threading.Event()
 
         def client():
@@ -81,30 +94,21 @@ class RestartTests(ServiceCase):
             each.join()
         self.assertEqual(lost, [])
         self.assertGreater(count[0], 20)
-        # (a connection that waits while no front is there is answered by the next one)
-        keeper = children_of(process.pid)[-1]
-        for front in children_of(keeper):
-            os.kill(front, signal.SIGKILL)
+        # (a connection that waits while no worker is there is answered by the next one)
+        for number in workers_of(process):
+            os.kill(number, signal.SIGKILL)
         self.assertEqual(self.ask(PATH), wanted)
 
-    def test_a_keeper_that_is_killed(self):
+    def test_an_arbiter_that_is_killed_leaves_nothing(self):
         process = self.serve()
-        wanted, keeper = self.ask(PATH), children_of(process.pid)[0]
-        os.kill(keeper, signal.SIGKILL)
-        self.wait_for(lambda: self.says("the keeper of the fronts ended by signal 9"))
-        self.wait_for(lambda: keeper not in children_of(process.pid) and len(fronts_of(process)) == 1)
-        self.assertEqual(self.ask(PATH), wanted)
-
-    def test_a_master_that_is_killed_leaves_nothing(self):
-        process = self.serve("--fronts", "2")
-        left = [*children_of(process.pid), *fronts_of(process)]
-        self.assertEqual(len(left), 3)
+        left = workers_of(process)
+        self.assertEqual(len(left), 4)
         process.kill()
         self.wait_for(lambda: not any(pathlib.Path(f"/proc/{number}").exists() for number in left))
 
-    def test_fronts_are_forked_without_threads(self):
-        process = self.serve("--network", self.folder / "v", "--fronts", "2")
-        for number in (process.pid, *children_of(process.pid)):
+    def test_workers_are_forked_without_threads(self):
+        process = self.serve("--network", self.folder / "v")
+        for number in (process.pid, *workers_of(process)):
             self.assertEqual(os.listdir(f"/proc/{number}/task"), [str(number)])
 
     def test_reloads_that_fail_say_why(self):
@@ -139,11 +143,11 @@ class RestartTests(ServiceCase):
             hierarchy.unlink()
             hierarchy.write_bytes(good[hierarchy])
         self.assertEqual(self.ask(PATH), wanted)
-        self.assertEqual(self.value("reloads_refused_total"), len(cases) + 1)
+        self.assertEqual((self.value("reload_failures_total"), self.value("last_reload_failed")), (len(cases) + 1, 1))
         self.assertEqual(self.value("reloads_total"), 0)
 
     def test_a_hierarchy_that_is_overwritten(self):
-        """In place, by one of as many nodes and links: a front that is started anew answers as before, until a reload."""
+        """In place, by one of as many nodes and links: a worker that is started anew answers as before, until a reload."""
         process = self.serve()
         wanted = self.ask(PATH)
         path, graph = self.folder / "v.rch", self.graph
@@ -153,23 +157,23 @@ class RestartTests(ServiceCase):
         with open(path, "r+b") as file:
             file.write((self.folder / "n.rch").read_bytes())
         self.assertEqual(self.ask(PATH), wanted)
-        for front in fronts_of(process):
-            os.kill(front, signal.SIGKILL)
+        for number in workers_of(process):
+            os.kill(number, signal.SIGKILL)
         self.wait_for(lambda: self.says("another one is started"))
-        self.wait_for(lambda: len(fronts_of(process)) == 1)
+        self.wait_for(lambda: len(workers_of(process)) == 4)
         self.assertEqual(self.ask(PATH), wanted)
         process.send_signal(signal.SIGHUP)
         self.wait_for(lambda: self.says("reloaded"))
         self.assertEqual(self.ask(PATH)[1]["length"], 2 * wanted[1]["length"])
 
     def test_metrics_are_of_the_whole_service(self):
-        process = self.serve("--fronts", "3")
+        process = self.serve()
         for _ in range(30):
             self.ask(PATH)
         name = 'requests_total{endpoint="/nodes/length",status="200"}'
         self.assertEqual({self.value(name) for _ in range(12)}, {30})
-        os.kill(fronts_of(process)[0], signal.SIGKILL)
-        self.wait_for(lambda: self.value("front_restarts_total") == 1)
+        os.kill(workers_of(process)[0], signal.SIGKILL)
+        self.wait_for(lambda: self.value("worker_restarts_total") == 1)
         process.send_signal(signal.SIGHUP)
         self.wait_for(lambda: self.value("reloads_total") == 1)
         self.assertEqual(self.value(name), 30)
@@ -193,55 +197,33 @@ class RestartTests(ServiceCase):
             self.serve(descriptors=[99])
             self.assertIn(f'"length":{wanted[1]["length"]}'.encode(), b"".join(iter(lambda: stream.recv(4096), b"")))
 
-    def test_what_comes_as_the_service_ends(self):
-        """Is answered, be it that the service ends, and not reset."""
+    def test_what_is_under_way_as_the_service_ends(self):
+        """It is answered whole; and a signal that comes behind many others isn't lost."""
         process = self.serve()
-        body = b'{"from": 1, "to": 7}\n' * 150_000
+        body = b'{"from": 1, "to": 7}\n' * 100_000
         head = f"POST /nodes/routes HTTP/1.1\r\nHost: x\r\nContent-Type: application/json\r\nContent-Length: {len(body)}\r\n\r\n"
-        with socket.create_connection(("127.0.0.1", self.port), 30) as held:
+        with socket.create_connection(("127.0.0.1", self.port), 60) as held, held.makefile("rb") as file:
             held.sendall(head.encode() + body)
-            time.sleep(0.3)
+            time.sleep(0.5)
+            for _ in range(20):
+                process.send_signal(signal.SIGHUP)
             process.send_signal(signal.SIGTERM)
-            time.sleep(1.5)
-            self.assertIn(b" 503 ", self.raw(b"GET /health HTTP/1.1\r\nHost: x\r\n\r\n", True))
-            self.assertIn(b" 200 OK", held.recv(4096))
-        self.assertEqual(process.wait(30), 0)
+            answer = read_answer(file)
+            self.assertEqual((answer.status, answer.body.count(b"nodes")), (200, 100_000))
+        self.assertEqual(process.wait(60), 0)
 
     def test_a_module_in_the_working_folder(self):
         """The service is started in a folder with modules of its own names, which don't run."""
-        for name in ("numpy", "aiohttp", "json", "domethyme_service"):
+        for name in ("numpy", "gunicorn", "json", "domethyme_service"):
             self.write(f"{name}.py", f"open({str(self.folder / 'ran')!r}, 'w').close()\n")
         before = os.getcwd()
         os.chdir(self.folder)
         try:
-            self.serve("--fronts", "2", "--network", self.folder / "v")
+            self.serve("--network", self.folder / "v")
         finally:
             os.chdir(before)
         self.assertEqual(self.ask("/health")[0], 200)
         self.assertFalse((self.folder / "ran").exists())
-
-
-class DescriptorTests(ServiceCase):
-    def test_more_connections_than_descriptors(self):
-        """Under a limit of 200 descriptors: connections beyond are answered 503, and that is logged."""
-        self.command = ("prlimit", "--nofile=200:200", *self.command)
-        self.serve()
-        self.assertTrue(any("a front has at most 136 connections" in line for line in self.said), self.said)
-        with contextlib.ExitStack() as stack:
-            streams = [stack.enter_context(socket.create_connection(("127.0.0.1", self.port), 20)) for _ in range(136)]
-            for stream in streams[:3]:
-                stream.sendall(b"GET /health HTTP/1.1\r\nHost: x\r\n\r\n")
-                self.assertIn(b"200 OK", stream.recv(4096))
-            self.assertIn(b" 503 ", self.raw(b""))
-            streams[0].sendall(f"GET {PATH} HTTP/1.1\r\nHost: x\r\n\r\n".encode())
-            self.assertIn(b"200 OK", streams[0].recv(4096))
-
-    def test_the_soft_limit_is_raised(self):
-        hard = resource.getrlimit(resource.RLIMIT_NOFILE)[1]
-        self.command = ("prlimit", "--nofile=128:", *self.command)
-        process = self.serve("--connections", "300")
-        text = pathlib.Path(f"/proc/{fronts_of(process)[0]}/limits").read_text()
-        self.assertGreaterEqual(int(re.search(r"Max open files +(\d+)", text)[1]), min(300, hard))
 
 
 class BrowserTests(ServiceCase):
@@ -290,42 +272,40 @@ class BrowserTests(ServiceCase):
         self.assertRegex(status, rb"(?s)^HTTP/1.1 204 .*Access-Control-Allow-Headers: Content-Type")
 
     def test_addresses(self):
-        self.assertTrue(asking.is_address("[::1]", "::1") and asking.is_address("10.0.0.7", "::ffff:10.0.0.7"))
-        self.assertFalse(asking.is_address("10.0.0.8", "10.0.0.7") or asking.is_address("localhost", "10.0.0.7"))
-        allowed = asking.Allowed.of(["Routes.Example"], "none")
-        self.assertTrue(allowed.is_host("routes.example:443", "10.0.0.7"))
+        self.assertTrue(access.is_address("[::1]", "::1") and access.is_address("10.0.0.7", "::ffff:10.0.0.7"))
+        self.assertFalse(access.is_address("10.0.0.8", "10.0.0.7") or access.is_address("localhost", "10.0.0.7"))
+        allowed = access.AccessPolicy.of(["Routes.Example"], "none")
+        self.assertTrue(allowed.allows_host("routes.example:443", "10.0.0.7"))
 
 
 class FramingTests(ServiceCase):
-    def test_upgrades_and_tunnels(self):
-        """Garbage behind them is no request, is answered so, and leaves nothing in the log."""
+    def test_what_is_behind_a_request(self):
+        """Each connection has one request: what is behind it is read by nobody, be it garbage or another request."""
         self.serve()
-        for head in (f"GET {PATH} HTTP/1.1\r\nHost: x\r\nConnection: Upgrade\r\nUpgrade: websocket\r\n\r\n",
-                     "CONNECT x:443 HTTP/1.1\r\nHost: x\r\n\r\n"):
-            answer = self.raw(head.encode() + b"\x16\x03\x01garbage\r\n\r\n")
-            self.assertRegex(answer, rb"HTTP/1\.[01] 400 ")
+        get = f"GET {PATH} HTTP/1.1\r\nHost: x\r\n"
+        for head, more, status in (
+            (f"{get}Connection: Upgrade\r\nUpgrade: websocket\r\n\r\n", "\x16\x03\x01garbage\r\n\r\n", 200),
+            ("CONNECT x:443 HTTP/1.1\r\nHost: x\r\n\r\n", "garbage", 400), (f"{get}\r\n", f"{get}\r\n" * 100, 200),
+        ):
+            answer = self.raw((head + more).encode("latin-1"))
+            self.assertEqual((answer.count(b"HTTP/1.1 "), answer.count(f"HTTP/1.1 {status} ".encode())), (1, 1), answer)
         self.assertFalse([line for line in self.said if "Traceback" in line], self.said)
 
-    def test_a_line_feed_alone_is_refused_at_once(self):
-        self.serve("--head-seconds", "60")
-        begun = time.monotonic()
-        self.assertIn(b" 400 ", self.raw(f"GET {PATH} HTTP/1.1\nHost: x\n\n".encode()))
-        self.assertLess(time.monotonic() - begun, BUSY)
-
-    def test_many_requests_ahead(self):
-        """Two hundred connections that send all they can ahead: less than 1 MiB for each is held."""
-        process = self.serve("--network", self.folder / "v")
-        many = f"GET {PATH} HTTP/1.1\r\nHost: x\r\n\r\n".encode() * 6000
-        before = resident(fronts_of(process)[0])
-        with contextlib.ExitStack() as stack:
-            for _ in range(200):
-                stream = stack.enter_context(socket.create_connection(("127.0.0.1", self.port), 20))
-                stream.setblocking(False)
-                with contextlib.suppress(BlockingIOError):
-                    while True:
-                        stream.send(many)
-            time.sleep(1)
-            self.assertLess(resident(fronts_of(process)[0]) - before, 200 * 1024)
+    def test_forms_of_smuggling(self):
+        """A request with two framings is refused, and of none two are answered."""
+        self.serve()
+        smuggled = f"GET {PATH} HTTP/1.1\r\nHost: x\r\n\r\n"
+        lengths = ("+4", "4_0", "0x4", "4, 4", " 4 4", "-1", "\x0b4")
+        forms = [f"Content-Length: {length}\r\n" for length in lengths]
+        forms += ["Content-Length: 4\r\nContent-Length: 9\r\n", "Content-Length: 4\r\nTransfer-Encoding: chunked\r\n"]
+        forms += [f"Transfer-Encoding: {coding}\r\n" for coding in ("xchunked", "chunked, identity", "identity, chunked", "\x0bchunked", "gzip")]
+        forms += ["Transfer-Encoding: chunked\r\nTransfer-Encoding: chunked\r\n", "Transfer-Encoding : chunked\r\n"]
+        for form in forms:
+            with self.subTest(form=form):
+                head = f"POST /nodes/lengths HTTP/1.1\r\nHost: x\r\nContent-Type: application/json\r\n{form}\r\n"
+                answer = self.raw((head + "0\r\n\r\n" + smuggled).encode("latin-1"), True)
+                self.assertRegex(answer, rb"^HTTP/1\.1 400 ")
+                self.assertEqual(answer.count(b"HTTP/1.1 "), 1)
 
 
 class WorkTests(ServiceCase):
@@ -376,23 +356,6 @@ class WorkTests(ServiceCase):
         finally:
             connection.close()
 
-    def test_a_client_that_has_gone_stops_its_work(self):
-        self.serve("--network", self.folder / "v")
-        places = [f"{0.00001 * number:.5f},0.00001" for number in range(1000)]
-        for how in ("reset", "closed"):
-            with self.subTest(how=how):
-                before = self.value("work_stopped_total")
-                with socket.create_connection(("127.0.0.1", self.port), 20) as stream:
-                    stream.sendall(f"GET /table/v1/car/{';'.join(places)} HTTP/1.1\r\nHost: x\r\n\r\n".encode())
-                    time.sleep(0.2)
-                    if how == "reset":
-                        stream.setsockopt(socket.SOL_SOCKET, socket.SO_LINGER, struct.pack("ii", 1, 0))
-                end = time.monotonic() + 30
-                while self.value("connections") > 1:
-                    self.assertLess(time.monotonic(), end)
-                    time.sleep(0.05)
-                self.assertLessEqual(self.value("work_stopped_total") - before, 1)
-
     def test_bodies_that_do_not_come_leave_room_for_batches(self):
         """A hundred POSTs without their bodies: batches of others are answered."""
         self.serve()
@@ -407,32 +370,11 @@ class WorkTests(ServiceCase):
         """Five hundred at the antipodes, with unlimited radiuses."""
         self.serve("--network", self.folder / "v")
         words = ";".join(["-179.99,0.01"] * 500)
-        held_up = self.longest_health(lambda: self.ask(f"/route/v1/car/{words}?radiuses={';'.join(['unlimited'] * 500)}&overview=false"))
+        held_up = self.longest_health(lambda: self.ask(f"/route/v1/car/{words}?radiuses={';'.join(['unlimited'] * 500)}&overview=false", seconds=60))
         self.assertLess(held_up, HELD_UP * BUSY)
 
 
-class DeskTests(unittest.TestCase):
-    def test_a_turn_of_the_loop_is_short_while_lines_are_simplified(self):
-        """A line of 80,000 points that alternates between two corners: by processor time of the loop, and the wall beside it."""
-        ways = [np.column_stack((np.linspace(0, 1, 800), np.random.default_rng(number).normal(0, 0.01, 800))) for number in range(100)]
-
-        def work(budget):
-            return [len(text) for text in encoded([simplified(way, 0.001, budget).tolist() for way in ways], 5)]
-
-        async def run():
-            desk, turns = Desk(), []
-            doing = asyncio.ensure_future(desk.do(work))
-            while not doing.done():
-                begun = time.thread_time()
-                await asyncio.sleep(0.001)
-                turns.append(time.thread_time() - begun)
-            desk.close()
-            return max(turns), len(doing.result())
-
-        longest, count = asyncio.run(run())
-        self.assertLess(longest, HELD_UP)
-        self.assertEqual(count, 100)
-
+class BudgetTests(unittest.TestCase):
     def test_simplified(self):
         """By the plain rule, point by point: no point is further off than it may be, and the ends stay."""
         rng = np.random.default_rng(5)
@@ -450,45 +392,10 @@ class DeskTests(unittest.TestCase):
 
     def test_budgets(self):
         budget = Budget()
-        with self.assertRaises(Refused):
+        with self.assertRaises(RequestError):
             budget.spend(10**9)
-        with self.assertRaises(Refused):
+        with self.assertRaises(RequestError):
             simplified(np.zeros((1000, 2)), -1.0, small())
-        budget.stop()
-        for attempt in (budget.step, lambda: budget.spend(1), lambda: list(budget.over([1]))):
-            with self.assertRaises(Stopped):
-                attempt()
-
-    def test_work_is_stopped_and_limited(self):
-        stopped, steps = [], []
-
-        def endless(budget):
-            while True:
-                budget.step()
-                steps.append(1)
-                time.sleep(0.001)
-
-        async def run():
-            desk = Desk(lambda: stopped.append(1))
-            tasks = [asyncio.ensure_future(desk.do(endless)) for _ in range(MOST_WAITING)]
-            await asyncio.sleep(0.05)
-            with self.assertRaises(Refused):
-                await desk.do(endless)
-            with self.assertRaises(TimeoutError):
-                async with asyncio.timeout(0.05):
-                    await tasks[0]
-            for task in tasks:
-                task.cancel()
-            await asyncio.gather(*tasks, return_exceptions=True)
-            while desk.waiting:
-                await asyncio.sleep(0.01)
-            count = len(steps)
-            await asyncio.sleep(0.05)
-            self.assertEqual(len(steps), count)
-            desk.close()
-
-        asyncio.run(run())
-        self.assertEqual(len(stopped), MOST_WAITING)
 
 
 class PatternTests(unittest.TestCase):
@@ -496,21 +403,19 @@ class PatternTests(unittest.TestCase):
     WORST = {
         "METRES": ("9", "9.9", "0."), "DIRECTION": ("9", "9,", ","), "INDEX": ("9",), "NODE": ("9",), "COUNT": ("9",),
         "NUMBER": ("9", "9.", "+9", "9e", ".9"), "PROFILE": ("a", "a.", "."), "LINE": ("polyline(", "(", "polyline6("),
-        "TILE": ("/map/roads/9/", "9/", "/"), "HOST": ("a", "a.", "[:", "a:9", "["), "FIRST_LINE": ("GET ", "! ", "G", " HTTP/1.1"),
-        "LENGTH": ("9",),
+        "TILE": ("/map/roads/9/", "9/", "/"), "HOST": ("a", "a.", "[:", "a:9", "["), "ORIGIN": ("a", "a:", "://"),
+        "TARGET": ("/", "http://", "a"), "LENGTH": ("9",), "NO_HEAD": ("a", "\r\n", "\r"), "BODY_LENGTH": ("\r\ncontent-length:", " ", "9"),
     }
 
     def test_each_is_linear(self):
         """Each pattern of the package that may see the network takes no more than in proportion to the text."""
-        from domethyme_service import connection
-
         found = {}
-        for module in (asking, connection, endpoints, osrm_request, parameters):
+        for module in (access, endpoints, osrm_request, parameters, worker, wsgi):
             found |= {name: value for name, value in vars(module).items() if isinstance(value, re.Pattern)}
         self.assertEqual(found.keys(), self.WORST.keys(), "a pattern without its worst texts, or texts without a pattern")
         for name, pattern in found.items():
             for part in self.WORST[name]:
-                for begin, end in (("", ""), ("", "\0"), ("polyline(", "\n"), ("GET ", "\0")):
+                for begin, end in (("", ""), ("", "\0"), ("polyline(", "\n"), ("\r\ncontent-length:", "\0")):
                     times = [self.least(pattern, begin + part * (size // len(part)) + end) for size in (20_000, 80_000)]
                     self.assertLess(times[1], 0.05 + 20 * times[0], (name, part, times))
 
@@ -519,7 +424,7 @@ class PatternTests(unittest.TestCase):
         times = []
         for _ in range(3):
             begun = time.thread_time()
-            pattern.fullmatch(given)
+            (pattern.search if pattern in (worker.BODY_LENGTH, worker.NO_HEAD) else pattern.fullmatch)(given)
             times.append(time.thread_time() - begun)
         return min(times)
 

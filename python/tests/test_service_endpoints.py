@@ -7,7 +7,7 @@ import unittest
 from service_case import ServiceCase
 from tool_case import TOOLS
 
-from domethyme_service import endpoints, metrics, server
+from domethyme_service import endpoints, metrics, wsgi
 
 PAGE = TOOLS.parent / "docs/SERVICE.md"
 
@@ -27,12 +27,12 @@ class TableTests(unittest.TestCase):
     def test_statuses_are_counted(self):
         """Each status that the package answers has a place among the counters."""
         text = "".join(path.read_text() for path in (TOOLS.parent / "python/domethyme_service").glob("*.py"))
-        found = {int(number) for number in re.findall(r"(?:Refused|_whole|_json)\(\s*([1-5]\d\d),", text)}
+        found = {int(number) for number in re.findall(r"(?:RequestError|Response|whole)\(\s*([1-5]\d\d),", text)}
         self.assertGreater(len(found), 9)
         self.assertLessEqual(found, {*metrics.STATUSES})
 
     def test_each_is_answered(self):
-        self.assertEqual(server.ANSWERS.keys(), {endpoint.name for endpoint in endpoints.ENDPOINTS})
+        self.assertEqual(wsgi.ANSWERS.keys(), {endpoint.name for endpoint in endpoints.ENDPOINTS})
         self.assertEqual(len(endpoints.BY_NAME), len(endpoints.ENDPOINTS))
 
 

@@ -1,52 +1,16 @@
-"""Tests of the service by numbers of nodes: lengths against a search of their own, batches, faults of requests, and limits."""
-import asyncio
-import contextlib
-import http.client
+"""Tests of the service by numbers of nodes: lengths against a search of their own, batches, faults of requests, and of the command."""
+import datetime
 import json
 import os
 import re
-import signal
 import socket
-import threading
+import subprocess
 import time
 
-from service_case import ServiceCase, fronts_of, lengths_from
-from tool_case import TOOLS
+from service_case import ServiceCase, lengths_from, workers_of
+from tool_case import ROOT, TOOLS
 
-from domethyme.lines import Answer
-from domethyme_service import nodes
-from domethyme_service.questions import NodeKeys
-
-
-class QuickQuestions:
-    """They are answered at once."""
-
-    nodes, keys = 8, NodeKeys()
-
-    async def routes(self, pairs):
-        return [Answer(1, 2, 5, (1, 2)) for _ in pairs]
-
-
-async def longest_turn(body, blocks=400):
-    """The most processor seconds of a turn of the event loop while a batch is answered, for so many blocks."""
-    turns, is_over = [0.0], False
-
-    async def turn():
-        while not is_over:
-            begun = time.thread_time()
-            await asyncio.sleep(0)
-            turns.append(time.thread_time() - begun)
-
-    turning = asyncio.ensure_future(turn())
-    await asyncio.sleep(0)
-    async with contextlib.aclosing(nodes.batch(QuickQuestions(), True, body)) as parts:
-        async for _ in parts:
-            blocks -= 1
-            if not blocks:
-                break
-    is_over = True
-    await turning
-    return max(turns)
+from domethyme_service import command
 
 
 class NodesTests(ServiceCase):
@@ -142,39 +106,6 @@ class NodesTests(ServiceCase):
         status, text = self.ask("/nodes/lengths", "POST", '{ "to":2,"from" : 1 }\r\n  {"from": "1", "to": 2}\n ')
         self.assertEqual([line.get("from", line.get("line")) for line in map(json.loads, text.splitlines())], [1, 1])
 
-    def test_four_megabytes_of_faulty_lines(self):
-        """Others are answered meanwhile. Under load the time isn't that of the service, so a turn's processor time is limited."""
-        self.serve()
-        with socket.create_connection(("127.0.0.1", self.port), 20) as stream:
-            stream.sendall(b"POST /nodes/routes HTTP/1.1\r\nHost: x\r\nContent-Type: application/x-ndjson\r\nContent-Length: 4194304\r\n\r\n" + b"\n" * 4194304)
-            for _ in range(5):
-                self.assertEqual(self.ask("/health")[0], 200)
-        for body in (b"\n" * 4194304, b'{"from":1,"to":2}\n' * 100_000, b"x" * 4194304, b'{"from":1,"to":9}\n' * 100_000):
-            self.assertLess(asyncio.run(longest_turn(body)), 0.25)
-
-    def test_what_is_no_http(self):
-        self.serve("--connections", "20")
-        good = b"GET /nodes/length?from=1&to=2 HTTP/1.1\r\nHost: x\r\n"
-        for sent in (b"\0\1\2\r\n\r\n", b"GET http://[ HTTP/1.1\r\n\r\n", b"GET / HTTP/9.9\r\nConnection: close\r\n\r\n",
-                     b"GET /" + b"x" * 70_000 + b" HTTP/1.1\r\n\r\n", good + b"Content-Length: -1\r\n\r\n"):
-            with self.subTest(sent=sent[:30]):
-                head, _, body = self.raw(sent, True).partition(b"\r\n\r\n")
-                self.assertIn(int(head.split()[1]), (400, 404, 505))
-                self.assertIn("code", json.loads(body))
-        self.assertEqual(self.raw((good + b"\r\n") * 200, True).count(b'{"from":1,"to":2,'), 200)
-        upgrade = good + b"Connection: Upgrade\r\nUpgrade: h2c\r\n\r\n"
-        self.assertEqual(self.raw(upgrade + good + b"\r\n", True).count(b" 200 OK"), 2)
-        absolute = good.replace(b"/nodes", b"http://x/nodes") + b"Connection: close\r\n\r\n"
-        self.assertIn(b" 200 OK", self.raw(absolute))
-
-    def test_more_connections_than_there_may_be(self):
-        self.serve("--connections", "1")
-        self.assertEqual(self.ask("/health")[0], 200)
-        with socket.create_connection(("127.0.0.1", self.port)) as first:
-            first.sendall(b"GET /health HTTP/1.1\r\nHost: x\r\n\r\n")
-            self.assertIn(b"200 OK", first.recv(4096))
-            self.assertIn(b" 503 ", self.raw(b""))
-
     def test_health_metrics_and_log(self):
         self.serve("--access-log")
         wanted = {"status": "ok", "nodes": self.graph.nodes, "links": self.links()}
@@ -183,48 +114,64 @@ class NodesTests(ServiceCase):
         self.assertEqual(self.value('requests_total{endpoint="/nodes/length",status="200"}'), 1)
         self.assertEqual(self.value("questions_total"), 1)
         self.assertEqual(self.headers["Content-Type"], "text/plain; version=0.0.4; charset=utf-8")
-        time.sleep(0.2)
+        self.ask("/nodes/length?from=1&to=0")
         text = self.ask("/metrics")[1]
         names = set(re.findall(r"(?m)^# TYPE (\S+) ", text))
         self.assertEqual(set(re.findall(r"(?m)^# HELP (\S+) \S", text)), names)
         self.assertGreater(len(names), 10)
-        lines = [json.loads(line) for line in self.said if line.startswith("{")]
-        self.assertEqual(lines[1]["endpoint"], "/nodes/length")
-        self.assertEqual(set(lines[1]), {"time", "method", "endpoint", "status", "milliseconds"})
+        for name, least in (("resident_memory_bytes", 1 << 20), ("last_reload_timestamp_seconds", time.time() - 1000), ("workers", 4), ("fronts", 4)):
+            self.assertGreaterEqual(self.value(name), least)
+        version = re.search(r'(?m)^version = "(.*)"', (ROOT / "python/pyproject.toml").read_text())[1]
+        self.assertEqual(self.value(re.search(r"domethyme_(build_info{.*}) 1", text)[1]), 1)
+        self.assertIn(f'domethyme_build_info{{version="{version}",', text)
+        self.wait_for(lambda: sum('"/nodes/length"' in line for line in self.said) == 2)
+        good, refused = (json.loads(line) for line in self.said if '"/nodes/length"' in line)
+        self.assertEqual(set(good), {"time", "method", "endpoint", "status", "bytes", "milliseconds"})
+        self.assertGreater(good["bytes"], 20)
+        self.assertEqual((set(refused) - set(good), refused["error"], refused["status"]), ({"error"}, "InvalidValue", 400))
+        self.assertLess(abs(datetime.datetime.fromisoformat(good["time"]).timestamp() - time.time()), 1000)
 
     def links(self):
         return int.from_bytes((self.folder / "v.rch").read_bytes()[8:16], "big")
 
 
-class FrontTests(ServiceCase):
-    def test_killed_under_a_load(self):
-        """A front is killed while clients ask: no answer is wrong, and one whose connection broke is asked for again."""
-        process = self.serve("--fronts", "2")
-        wanted = {stop: self.ask(f"/nodes/length?from=1&to={stop}") for stop in range(1, 20)}
-        wrong, right, end = [], [0] * 4, time.monotonic() + 2
+class CommandTests(ServiceCase):
+    def refused(self, *words, status=1):
+        return self.run_program([TOOLS / "domethyme-serve", self.folder / "v.rch", "--port", "0", *words], status=status).stderr
 
-        def client(number):
-            while time.monotonic() < end:
-                for stop, answer in wanted.items():
-                    try:
-                        found = self.ask(f"/nodes/length?from=1&to={stop}")
-                    except (OSError, http.client.HTTPException):
-                        continue
-                    wrong.extend([found] if found != answer else [])
-                    right[number] += 1
+    def test_where_it_listens(self):
+        """On the loopback, or at a unix socket, for nginx: what leads elsewhere is refused, and nginx's file is named."""
+        for words in (["--host", "0.0.0.0"], ["--host", "::"], ["--host", "192.0.2.1"], ["--bind", "0.0.0.0:5000"], ["--bind", "unix:"]):
+            with self.subTest(words=words):
+                self.assertIn("packaging/nginx/domethyme.conf", self.refused(*words))
+        with socket.create_server(("127.0.0.1", 0)) as taken:
+            port = taken.getsockname()[1]
+            message = f"can't listen at 127.0.0.1, port {port}: Address already in use: another --port, or 0 for any that is free"
+            self.assertEqual(self.refused("--port", port), f"domethyme-serve: {message}\n")
 
-        clients = [threading.Thread(target=client, args=[number]) for number in range(len(right))]
-        for each in clients:
-            each.start()
-        for _ in range(4):
-            time.sleep(0.3)
-            for number in fronts_of(process)[:1]:
-                os.kill(number, signal.SIGKILL)
-        for each in clients:
-            each.join()
-        self.assertEqual(wrong, [])
-        self.assertGreaterEqual(min(right), len(wanted), "each client got answers")
-        self.assertGreaterEqual(self.value("front_restarts_total"), 1)
+    def test_a_socket_that_is_handed_over(self):
+        with socket.create_server(("0.0.0.0", 0)) as listening:
+            os.dup2(listening.fileno(), 98)
+            self.addCleanup(os.close, 98)
+            words = ["bash", "-c", 'exec 3<&98 98<&-; LISTEN_FDS=1 LISTEN_PID=$$ exec "$@"', "", TOOLS / "domethyme-serve", self.folder / "v.rch"]
+            ended = subprocess.run(list(map(str, words)), capture_output=True, text=True, pass_fds=[98], timeout=120)
+        self.assertEqual(ended.returncode, 1)
+        self.assertIn("won't listen at 0.0.0.0: other machines ask through nginx", ended.stderr)
+
+    def test_options_that_went(self):
+        """Each names what there is in its place, and those with another name are taken by both."""
+        for words, name in ((["--connections", "9"], "worker_connections"), (["--client-connections", "9"], "limit_conn"),
+                            (["--head-seconds", "9"], "client_header_timeout")):
+            self.assertIn(f"{words[0]} is no longer an option: use {name}", self.refused(*words, status=2))
+        parser = command.argument_parser()
+        old = parser.parse_args(["x", "--fronts", "5", "--within", "7", "--table-cells", "8", "--checked", "g"])
+        self.assertEqual(old, parser.parse_args(["x", "--workers", "5", "--default-radius", "7", "--max-table-cells", "8", "--verify", "g"]))
+        self.assertIn("an origin is SCHEME://HOST", self.refused("--cors", "example.org", status=2))
+
+    def test_at_least_four_workers(self):
+        process = self.serve("--workers", "2")
+        self.assertIn("domethyme-serve: --workers 2: there are 4, since a long request holds one\n", self.said)
+        self.wait_for(lambda: len(workers_of(process)) == 4)
 
     def test_what_can_not_start(self):
         self.write("v.rch", "no hierarchy")
@@ -232,4 +179,4 @@ class FrontTests(ServiceCase):
         self.assertIn(f"{self.folder}/v.rch: is no file that `routecli prepare` wrote", self.run_program(words, status=1).stderr)
         words[1] = self.folder / "none"
         self.assertIn("none: No such file", self.run_program(words, status=1).stderr)
-        self.run_program([*words, "--fronts", "0"], status=2)
+        self.run_program([*words, "--workers", "0"], status=2)

@@ -12,7 +12,7 @@ from tool_case import TOOLS
 from test_turns import STEP as CROSSING_STEP
 from test_turns import crossing
 
-from domethyme_service.tables import FEW_CELLS
+from domethyme_service.osrm_tables import FEW_CELLS
 from domethyme.network.tables import points_of, read_arcs, read_nodes
 
 METRES = math.pi / 180 * 6_371_008.8

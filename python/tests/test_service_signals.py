@@ -1,5 +1,5 @@
 """Tests of the service's signals under a small load: SIGHUP takes a new hierarchy, SIGTERM ends it, and no request is lost.
-Several fronts on one port."""
+Several workers on one port."""
 import contextlib
 import http.client
 import json
@@ -11,7 +11,7 @@ import threading
 import time
 import unittest.mock
 
-from service_case import ServiceCase, children_of, fronts_of
+from service_case import ServiceCase, workers_of
 
 import domethyme
 
@@ -47,8 +47,7 @@ class Client(threading.Thread):
             except (OSError, http.client.HTTPException, KeyError) as error:
                 self.lost.append(repr(error))
                 return
-            if answer.will_close:
-                return
+            connection.close()  # (each connection has one request)
 
 
 class SignalTests(ServiceCase):
@@ -106,13 +105,13 @@ class SignalTests(ServiceCase):
         """A file that is right for its graph is served; one of other weights isn't, at a reload and at a start."""
         right = self.folder / "right.gr"
         right.write_bytes((self.folder / "v.gr").read_bytes())
-        process = self.serve("--checked", right)
+        process = self.serve("--verify", right)
         old = self.ask(PATH)
         self.prepare(2)
         process.send_signal(signal.SIGHUP)
         self.wait_for(lambda: any("reload refused: " in line and "v.rch: not shown: bound" in line for line in self.said))
         self.assertEqual(self.ask(PATH), old)
-        words = ["domethyme-serve", self.folder / "v.rch", "--port", "0", "--checked", right]
+        words = ["domethyme-serve", self.folder / "v.rch", "--port", "0", "--verify", right]
         ended = self.run_tool(*words, status=1)
         self.assertIn("v.rch: not shown: bound", ended.stderr)
         # (the program reads it by the number under which it is open, which no user knows)
@@ -125,7 +124,7 @@ class SignalTests(ServiceCase):
         slow.chmod(0o755)
         for number in (signal.SIGTERM, signal.SIGKILL):
             fast.touch()
-            process = self.serve("--checked", self.folder / "v.gr", "--program", slow)
+            process = self.serve("--verify", self.folder / "v.gr", "--program", slow)
             fast.unlink()
             checking.unlink(missing_ok=True)
             process.send_signal(signal.SIGHUP)
@@ -166,33 +165,31 @@ class SignalTests(ServiceCase):
 
     def test_an_idle_connection_does_not_hold_up_the_end(self):
         process = self.serve()
-        connection = http.client.HTTPConnection("127.0.0.1", self.port)
-        self.addCleanup(connection.close)
-        connection.request("GET", PATH)
-        connection.getresponse().read()
-        process.send_signal(signal.SIGINT)
-        self.assertEqual(process.wait(10), 0)
+        with socket.create_connection(("127.0.0.1", self.port), 20) as idle:
+            idle.sendall(b"GET")
+            time.sleep(0.2)
+            process.send_signal(signal.SIGTERM)
+            self.assertEqual(process.wait(20), 0)
 
-    def test_fronts(self):
-        """Two fronts answer; one that is killed is replaced; SIGHUP and SIGTERM reach all."""
-        process = self.serve("--fronts", "2")
-        fronts = fronts_of(process)
-        self.assertEqual(len(fronts), 2)
+    def test_workers(self):
+        """One that is killed is replaced; SIGHUP and SIGTERM reach all; SIGTTIN and SIGTTOU change their number."""
+        process = self.serve()
+        workers = workers_of(process)
+        self.assertEqual(len(workers), 4)
         old = self.ask(PATH)[1]["length"]
-        clients = self.clients(1)
-        os.kill(fronts[0], signal.SIGKILL)
-        self.wait_for(lambda: any(f"front {fronts[0]} ended by signal 9: another one is started" in line for line in self.said))
-        self.wait_for(lambda: self.value("fronts") == 2)
-        self.assertEqual(self.value("front_restarts_total"), 1)
-        for client in clients:
-            client.stop.set()
-            client.join()
+        os.kill(workers[0], signal.SIGKILL)
+        self.wait_for(lambda: any(f"worker {workers[0]} has ended: another one is started" in line for line in self.said))
+        self.wait_for(lambda: self.value("workers") == 4)
+        self.assertEqual(self.value("worker_restarts_total"), 1)
+        for number, count in ((signal.SIGTTIN, 5), (signal.SIGTTOU, 4)):
+            process.send_signal(number)
+            self.wait_for(lambda count=count: self.value("workers") == count)
         self.prepare(2)
         process.send_signal(signal.SIGHUP)
         self.wait_for(lambda: any("reloaded" in line for line in self.said))
         self.assertEqual({self.ask(PATH)[1]["length"] for _ in range(20)}, {2 * old})
-        self.wait_for(lambda: len(children_of(process.pid)) == 1)
-        fronts = fronts_of(process)
+        self.wait_for(lambda: len(workers_of(process)) == 4)
+        workers = workers_of(process)
         process.send_signal(signal.SIGTERM)
         self.assertEqual(process.wait(20), 0)
-        self.assertFalse(any(pathlib.Path(f"/proc/{front}").exists() for front in fronts))
+        self.assertFalse(any(pathlib.Path(f"/proc/{number}").exists() for number in workers))

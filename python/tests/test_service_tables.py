@@ -9,8 +9,8 @@ from tool_case import ROOT
 import domethyme
 from domethyme.network.binary import UNITS, arrays_of
 from domethyme.sweeps import Sweeps
-from domethyme_service.errors import Unable
-from domethyme_service.snapshot import Files, opened
+from domethyme_service.dataset import DatasetPaths, open_dataset
+from domethyme_service.errors import StartupError
 
 
 class TableTests(ServiceCase):
@@ -70,10 +70,10 @@ class TableTests(ServiceCase):
 
     def test_tables_that_are_others(self):
         """The service doesn't start by tables whose lengths aren't the library's, and does where they aren't wanted."""
-        files = Files(str(self.folder / "v.rch"), str(self.folder / "v"), True)
+        files = DatasetPaths(str(self.folder / "v.rch"), str(self.folder / "v"), True)
         lengths = Sweeps.lengths
         with unittest.mock.patch.object(Sweeps, "lengths", lambda *words: lengths(*words) + 1):
-            with self.assertRaisesRegex(Unable, "v.rch: tables differ from the library's lengths: start with --tables proved"):
-                opened(files)
-            opened(files._replace(has_tables=False)).router.close()
-        opened(files).router.close()
+            with self.assertRaisesRegex(StartupError, "v.rch: tables differ from the library's lengths: start with --tables proved"):
+                open_dataset(files)
+            open_dataset(files._replace(has_tables=False)).router.close()
+        open_dataset(files).router.close()

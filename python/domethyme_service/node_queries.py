@@ -1,38 +1,37 @@
 """Routes and lengths between nodes by their numbers, from 1, as in files: one pair, or a batch of pairs as NDJSON.
 
-A batch is read in blocks of ROWS lines. A block of good lines is parsed by one call of `json`. A block with a fault is parsed line
-by line. The event loop runs between blocks, and between the questions of one.
+A batch is answered in blocks of ROWS lines. A block of good lines is parsed by one call of `json`. A block with a fault is parsed line
+by line.
 """
-import asyncio
 import json
-from collections.abc import AsyncGenerator, Iterator, Sequence
+from collections.abc import Iterator, Sequence
 
 from domethyme.lines import NO_WAY, Answer
 
-from .errors import Refused, invalid_query, invalid_value
+from .errors import RequestError, invalid_query, invalid_value
 from .parameters import Parameter, Values, node_of
-from .questions import NodeKeys, Pair, Questions
+from .queries import NodeKeys, Pair, Queries
 
 LONGEST_LINE = 256
-# Lines of a block, and the bytes of a body that are split at once. 256 faulty lines take some 3 ms.
+# Lines of a block, and the bytes of a body that are split at once.
 ROWS, PIECE = 256, 1 << 14
 # So many lines with a fault are reported: the next one ends the answer.
 MOST_FAULTS = 1000
 
 
-def route_between(questions: Questions, source: int, target: int) -> bytes:
-    """The route of a pair of nodes as JSON: `length`, `arcs` and `nodes` are null where there is no way. Raises Refused."""
+def route_between(questions: Queries, source: int, target: int) -> bytes:
+    """The route of a pair of nodes as JSON: `length`, `arcs` and `nodes` are null where there is no way. Raises RequestError."""
     return questions.keys.put(route_told((source, target), questions.route(source, target)), (source, target))
 
 
-def length_between(questions: Questions, source: int, target: int) -> bytes:
-    """The length alone. Raises Refused."""
+def length_between(questions: Queries, source: int, target: int) -> bytes:
+    """The length alone. Raises RequestError."""
     length = questions.length(source, target)
     return questions.keys.put(length_told((source, target), NO_WAY if length is None else length), (source, target))
 
 
-def node_asked(questions: Questions, values: Values, number: Parameter[int | None], key: Parameter[str | None]) -> int:
-    """The node that one of two parameters names. Raises Refused."""
+def node_asked(questions: Queries, values: Values, number: Parameter[int | None], key: Parameter[str | None]) -> int:
+    """The node that one of two parameters names. Raises RequestError."""
     node, name = values[number], values[key]
     if node is not None and name is not None:
         raise invalid_query(f"{number.name} and {key.name} are both given")
@@ -56,27 +55,27 @@ def length_told(pair: Pair, length: int) -> bytes:
     return b'{"from":%d,"to":%d,"length":%d}' % (*pair, length)
 
 
-async def batch(questions: Questions, has_routes: bool, body: bytes) -> AsyncGenerator[bytes, None]:
+def batch(questions: Queries, has_routes: bool, body: bytes) -> Iterator[bytes]:
     """The answer to lines `{"from": S, "to": T}`, in order, a piece for each block; a fault is reported in its line, and too many end
-    the answer. Raises Refused where a question can't be answered."""
+    the answer. Raises RequestError where a question can't be answered."""
     first, faults = 1, 0
     for lines in blocks_of(body):
         rows = rows_of(lines, questions.nodes, questions.keys)
-        places = [place for place, ends in enumerate(rows) if isinstance(ends, Refused)]
+        places = [place for place, ends in enumerate(rows) if isinstance(ends, RequestError)]
         faults += len(places)
         if is_over := faults > MOST_FAULTS:
             last = places[MOST_FAULTS - faults]
-            rows = [*rows[:last], Refused(400, "TooBig", f"more than {MOST_FAULTS} lines have an error: this line and all behind it aren't answered")]
-        pairs = [ends for ends in rows if not isinstance(ends, Refused)]
-        told = map(route_told, pairs, await questions.routes(pairs)) if has_routes else map(
-            length_told, pairs, await questions.lengths(pairs)
-        )
-        told = map(questions.keys.put, told, pairs)
-        yield b"".join(line_of(ends, told, row) for row, ends in enumerate(rows, first))
+            rows = [*rows[:last], RequestError(400, "TooBig", f"more than {MOST_FAULTS} lines have an error: this line and all behind it aren't answered")]
+        pairs = [ends for ends in rows if not isinstance(ends, RequestError)]
+        if has_routes:
+            told = [route_told(pair, questions.route(*pair)) for pair in pairs]
+        else:
+            told = [length_told(*each) for each in zip(pairs, questions.lengths(pairs))]
+        answers = map(questions.keys.put, told, pairs)
+        yield b"".join(answer_line(ends, answers, row) for row, ends in enumerate(rows, first))
         first += len(lines)
         if is_over:
             return
-        await asyncio.sleep(0)
 
 
 def blocks_of(body: bytes) -> Iterator[list[bytes]]:
@@ -92,7 +91,7 @@ def blocks_of(body: bytes) -> Iterator[list[bytes]]:
         begin = end
 
 
-def rows_of(lines: list[bytes], nodes: int, keys: NodeKeys) -> Sequence[Pair | Refused]:
+def rows_of(lines: list[bytes], nodes: int, keys: NodeKeys) -> Sequence[Pair | RequestError]:
     """For each line its pair, or what is wrong with it."""
     if (pairs := pairs_of(lines, nodes)) is not None:
         return pairs
@@ -117,7 +116,7 @@ def pairs_of(lines: list[bytes], nodes: int) -> list[Pair] | None:
     return pairs if is_good and all(1 <= one <= nodes and 1 <= two <= nodes for one, two in pairs) else None
 
 
-def pair_of(line: bytes, nodes: int, keys: NodeKeys) -> Pair | Refused:
+def pair_of(line: bytes, nodes: int, keys: NodeKeys) -> Pair | RequestError:
     """The pair of a line, or what is wrong with it."""
     try:
         if len(line) > LONGEST_LINE:
@@ -130,21 +129,21 @@ def pair_of(line: bytes, nodes: int, keys: NodeKeys) -> Pair | Refused:
         return node_of(fields["from"], "from", nodes), node_of(fields["to"], "to", nodes)
     except (ValueError, RecursionError):
         return invalid_query("the line isn't JSON in UTF-8")
-    except Refused as refused:
-        return refused
+    except RequestError as error:
+        return error
 
 
 def object_of(members: list[tuple[str, object]]) -> dict[str, object]:
-    """An object of JSON. Raises Refused where a name is there twice."""
+    """An object of JSON. Raises RequestError where a name is there twice."""
     found = dict(members)
     if len(found) < len(members):
         raise invalid_query("a name is there twice")
     return found
 
 
-def line_of(ends: Pair | Refused, told: Iterator[bytes], row: int) -> bytes:
-    """One line of the answer; the next one that is told is taken where there is one for it."""
-    if not isinstance(ends, Refused):
-        return next(told) + b"\n"
+def answer_line(ends: Pair | RequestError, answers: Iterator[bytes], row: int) -> bytes:
+    """One output line: the next answer, or the error of an invalid input line."""
+    if not isinstance(ends, RequestError):
+        return next(answers) + b"\n"
     found = {"code": ends.code, "message": ends.message, "line": row}
     return json.dumps(found, separators=(",", ":")).encode() + b"\n"

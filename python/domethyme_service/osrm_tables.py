@@ -1,7 +1,6 @@
 """Tables of durations and distances between points on roads. Where only weights are wanted, and there are many cells, they are
 computed from the links of the hierarchy's file by sweeps (domethyme.sweeps), many times as fast as by a question for each cell.
 That is no part of what is proved, and is tested against it. Else the hierarchy is asked for each cell."""
-import asyncio
 import collections
 import math
 from collections.abc import Iterator, Sequence
@@ -16,11 +15,10 @@ from domethyme.network.tables import EARTH_RADIUS, Point
 from domethyme.sweeps import NO_WAY, Numbers, Seeds, Sweeps
 
 from .endpoints import DESTINATIONS, FALLBACK_COORDINATE, FALLBACK_SPEED, FIGURES, SCALE_FACTOR, SOURCES
-from .errors import Refused, not_implemented
+from .errors import RequestError, not_implemented
+from .json_text import join_array, to_json
 from .parameters import Values
-from .questions import ROUTES, Questions
-from .texts import list_of, text_of
-from .work import Budget, Desk
+from .queries import Queries
 
 # Tables of so many cells take no longer by questions, which are asked for them; and so many are asked in any case.
 FEW_CELLS, MOST_ASKED = 100, 10_000
@@ -41,7 +39,7 @@ class Wanted(NamedTuple):
 
     @classmethod
     def by(cls, values: Values, roads: Roads, places: Sequence[Point]) -> "Wanted":
-        """What the values of the parameters say. Raises Refused for durations where the network has none."""
+        """What the values of the parameters say. Raises RequestError for durations where the network has none."""
         if "duration" in values[FIGURES] and not roads.has_seconds:
             raise not_implemented("this network has no seconds, so no durations: ask annotations=weight or distance")
         sources, destinations = ([places[number] for number in values[side]] for side in (SOURCES, DESTINATIONS))
@@ -54,22 +52,22 @@ class Wanted(NamedTuple):
         return set(self.names) <= {self.unit, "weight"}
 
     def refuse_if_too_many(self, cells: int, has_sweeps: bool) -> bool:
-        """Whether the table is computed by sweeps. Raises Refused where too many questions would be asked."""
+        """Whether the table is computed by sweeps. Raises RequestError where too many questions would be asked."""
         is_swept = has_sweeps and self.is_of_weights and cells > FEW_CELLS
         if not is_swept and cells > MOST_ASKED:
             why = f"of annotations={self.unit} or weight alone" if has_sweeps else "under --tables fast"
-            raise Refused(400, "TooBig", f"a table may have {MOST_ASKED} cells, unless it is {why}")
+            raise RequestError(400, "TooBig", f"a table may have {MOST_ASKED} cells, unless it is {why}")
         return is_swept
 
 
 def table_by_sweeps(
-    sweeps: Sweeps, roads: Roads, wanted: Wanted, starts: Sequence[Spot], ends: Sequence[Spot], budget: Budget
+    sweeps: Sweeps, roads: Roads, wanted: Wanted, starts: Sequence[Spot], ends: Sequence[Spot]
 ) -> dict[str, str]:
     """The members of the answer, by sweeps."""
     exits, entries = seeds([spot.exits for spot in starts]), seeds([spot.entries for spot in ends])
-    weights = sweeps.between(exits, entries, budget.step)
-    lower_where_near(weights, roads, starts, ends, budget)
-    rows = (row_of(weights[row], UNITS_OF_ANSWERS.get(wanted.unit, 1)) for row in budget.over(range(len(starts))))
+    weights = sweeps.between(exits, entries)
+    lower_where_near(weights, roads, starts, ends)
+    rows = (row_of(weights[row], UNITS_OF_ANSWERS.get(wanted.unit, 1)) for row in range(len(starts)))
     return told(wanted, starts, ends, (dict.fromkeys(wanted.names, row) for row in rows))
 
 
@@ -80,12 +78,12 @@ def seeds(sides: Sequence[dict[int, tuple[int, int]]]) -> Seeds:
     return Seeds(len(sides), places, nodes, added)
 
 
-def lower_where_near(table: Numbers, roads: Roads, starts: Sequence[Spot], ends: Sequence[Spot], budget: Budget) -> None:
+def lower_where_near(table: Numbers, roads: Roads, starts: Sequence[Spot], ends: Sequence[Spot]) -> None:
     """Lowers the cells of points that are at one node, or one behind the other on an arc."""
     columns = collections.defaultdict(list)
     for column, end in enumerate(ends):
         columns[end.copies or end.edge].append(column)
-    for row, start in budget.over(enumerate(starts)):
+    for row, start in enumerate(starts):
         for column in columns.get(start.copies or start.edge, ()):
             weight = least_between(roads, start, ends[column])
             if weight is not None and not 0 <= table[row, column] <= weight:
@@ -119,10 +117,10 @@ def told(wanted: Wanted, starts: Sequence[Spot], ends: Sequence[Spot], rows: Ite
         if wanted.scale is not None and "duration" in figures:
             figures = figures | {"duration": [None if value is None else round(value * wanted.scale, 3) for value in figures["duration"]]}
         for name in wanted.names:
-            texts[name].append(text_of(figures[name]))
-    found = {f"{name}s": list_of(texts[name]) for name in ("duration", "distance", "weight") if name in texts}
+            texts[name].append(to_json(figures[name]))
+    found = {f"{name}s": join_array(texts[name]) for name in ("duration", "distance", "weight") if name in texts}
     if wanted.fallback is not None:
-        found["fallback_speed_cells"] = text_of(guessed)
+        found["fallback_speed_cells"] = to_json(guessed)
     return found
 
 
@@ -151,24 +149,16 @@ def metres_apart(one: Point, other: Point) -> float:
     return 2 * EARTH_RADIUS * math.asin(math.sqrt(min(1.0, half)))
 
 
-async def table_by_cells(
-    questions: Questions, roads: Roads, desk: Desk, wanted: Wanted, starts: Sequence[Spot], ends: Sequence[Spot]
+def table_by_cells(
+    questions: Queries, roads: Roads, wanted: Wanted, starts: Sequence[Spot], ends: Sequence[Spot]
 ) -> dict[str, str]:
     """The members of the answer, by a question for each cell."""
-    async with desk.turn():
-        rows = [await row_by_cells(questions, roads, wanted, start, ends) for start in starts]
-    return told(wanted, starts, ends, iter(rows))
+    return told(wanted, starts, ends, (row_by_cells(questions, roads, wanted, start, ends) for start in starts))
 
 
-async def row_by_cells(
-    questions: Questions, roads: Roads, wanted: Wanted, start: Spot, ends: Sequence[Spot]
-) -> dict[str, Row]:
-    """The figures of a row; others are answered after some cells. Where weights are all that is wanted, routes aren't looked at."""
-    found: list[Figures | None] = []
-    for number, end in enumerate(ends, 1):
-        found.append(cell(questions, roads, start, end, wanted.is_of_weights))
-        if number % ROUTES == 0 or number == len(ends):
-            await asyncio.sleep(0)
+def row_by_cells(questions: Queries, roads: Roads, wanted: Wanted, start: Spot, ends: Sequence[Spot]) -> dict[str, Row]:
+    """The figures of a row. Where weights are all that is wanted, routes aren't looked at."""
+    found = [cell(questions, roads, start, end, wanted.is_of_weights) for end in ends]
     return {name: [None if each is None else value_of(each, name) for each in found] for name in wanted.names}
 
 
@@ -177,7 +167,7 @@ def value_of(figures: Figures, name: str) -> float | None:
     return figures["duration"] if name == "duration" else figures["distance"] if name == "distance" else figures["weight"]
 
 
-def cell(questions: Questions, roads: Roads, start: Spot, end: Spot, only_weights: bool) -> Figures | None:
+def cell(questions: Queries, roads: Roads, start: Spot, end: Spot, only_weights: bool) -> Figures | None:
     """The figures of one cell, None where there is no way."""
     if only_weights:
         weight = weight_between(questions, roads, start, end)

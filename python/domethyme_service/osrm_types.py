@@ -1,4 +1,4 @@
-"""The answers of OSRM's API, version 1, as they are in JSON. Coordinates are [longitude, latitude] in degrees, weights are in the
+"""The parts of answers of OSRM's API, version 1, as they are in JSON. Coordinates are [longitude, latitude] in degrees, weights are in the
 unit of `weight_name` (seconds or metres), durations in seconds, distances in metres, bearings in degrees from north, clockwise. A
 duration is null where the network has no seconds."""
 from typing import Literal, NotRequired, TypedDict, Union
@@ -68,36 +68,3 @@ class RouteLeg(Figures):
     summary: str
     steps: list[Step]
     annotation: NotRequired[dict[str, list[float | None]]]
-
-
-class WholeRoute(Figures):
-    """A route by all places."""
-
-    legs: list[RouteLeg]
-    weight_name: str
-    geometry: NotRequired[Geometry]
-
-
-class RouteAnswer(TypedDict):
-    code: Literal["Ok"]
-    routes: list[WholeRoute]
-    waypoints: NotRequired[list[Waypoint]]
-
-
-class NearestAnswer(TypedDict):
-    code: Literal["Ok"]
-    waypoints: list[Waypoint]
-
-
-class TableAnswer(TypedDict):
-    """Rows are sources, and columns destinations; null is no way."""
-
-    code: Literal["Ok"]
-    durations: NotRequired[list[list[float | None]]]
-    distances: NotRequired[list[list[float | None]]]
-    weights: NotRequired[list[list[float | None]]]
-    sources: NotRequired[list[Waypoint]]
-    destinations: NotRequired[list[Waypoint]]
-
-
-Answer = Union[RouteAnswer, NearestAnswer, TableAnswer]

@@ -1,0 +1,24 @@
+"""What an answer may take of points, so that none is larger than a process can hold. Its time is limited by who calls the service."""
+from .errors import RequestError
+
+# Points of lines that the answer to a request may have, and those that may be looked at to simplify its line.
+MAX_POINTS, MAX_LOOKED_AT = 4_000_000, 80_000_000
+
+
+class Budget:
+    """What is left for a request."""
+
+    def __init__(self) -> None:
+        self.points, self.looked_at = MAX_POINTS, MAX_LOOKED_AT
+
+    def spend(self, points: int) -> None:
+        """Takes N points. Raises RequestError if fewer are left."""
+        self.points -= points
+        if self.points < 0:
+            raise RequestError(400, "TooBig", f"the answer has more than {MAX_POINTS} points: ask for fewer places, or overview=false")
+
+    def look_at(self, points: int) -> None:
+        """The same of points that are looked at."""
+        self.looked_at -= points
+        if self.looked_at < 0:
+            raise RequestError(400, "TooBig", "the line of the route takes too long to simplify: ask for overview=full or false")

@@ -1,0 +1,298 @@
+"""The service under gunicorn, which holds its processes: the arbiter opens the files and forks the workers, which then share them. SIGHUP
+has a child open the files first, and the arbiter if that was well; else the old ones stay in use.
+
+gunicorn's own settings are taken from GUNICORN_CMD_ARGS, as by its own command, but for those that the service rests on (`FIXED`).
+"""
+import contextlib
+import ctypes
+import gc
+import logging
+import os
+import select
+import signal
+import socket
+import time
+from collections.abc import Callable
+from typing import Any, NamedTuple, NoReturn
+
+import gunicorn
+import gunicorn.arbiter
+from gunicorn.app.base import BaseApplication
+
+from domethyme import DomethymeError
+
+from .dataset import DatasetPaths, end_with_parent, open_dataset
+from .errors import StartupError
+from .metrics import SharedMetrics
+from .slots import Slots
+from .worker import Worker
+from .wsgi import Environ, Options, Service
+
+# Seconds after which gunicorn kills a worker that is silent, behind all that one may take for an answer; and for the service to end.
+TIMEOUT, GRACEFUL_SECONDS = 30, 30
+# How many loads of the files may have workers at once that each have a row of metrics.
+LOADS = 8
+# The parameter of mallopt for the number of heaps (M_ARENA_MAX in malloc.h).
+ARENA_MAX = -8
+ENDING = (signal.SIGTERM, signal.SIGINT, signal.SIGQUIT)
+FIXED = {
+    "worker_class": "domethyme_service.worker.Worker", "preload_app": True, "threads": 1, "timeout": TIMEOUT, "umask": 0o117,
+    "daemon": False, "reload": False, "limit_request_line": 0, "limit_request_fields": 100, "limit_request_field_size": 8190,
+    "max_requests": 0, "reuse_port": False,
+}
+log = logging.getLogger("domethyme_service")
+
+
+class Interrupted(BaseException):
+    """The service was told to end while it opened files."""
+
+
+class Setup(NamedTuple):
+    """What the service serves: the files, how it answers, the sockets as gunicorn's `bind` has them, none where systemd has them, the
+    number of workers, whether a second socket is for probes, where a worker of its own answers, and whether the log has places."""
+
+    paths: DatasetPaths
+    options: Options
+    bind: list[str]
+    workers: int
+    has_probe: bool = False
+    log_places: bool = False
+
+
+class Application(BaseApplication):  # type: ignore[misc] # (gunicorn has no types)
+    """The application of gunicorn."""
+
+    def __init__(self, setup: Setup, versions: dict[str, str]) -> None:
+        self.setup = setup
+        self.workers = setup.workers + setup.has_probe
+        self.metrics = SharedMetrics(1 + LOADS * self.workers, {**versions, "gunicorn": gunicorn.__version__})
+        self.slots = Slots(setup.workers // 2)
+        self.generation = 0
+        # (gunicorn would wait for whoever reads it)
+        self.notify_socket = os.environ.pop("NOTIFY_SOCKET", "")
+        super().__init__()
+
+    def load_config(self) -> None:
+        """Settings of the environment, and over them those of the service."""
+        self.cfg.set("graceful_timeout", GRACEFUL_SECONDS)
+        if os.access("/dev/shm", os.W_OK):
+            self.cfg.set("worker_tmp_dir", "/dev/shm")
+        for name, value in vars(self.cfg.parser().parse_args(self.cfg.get_cmd_args_from_env())).items():
+            if value is not None and name != "args":
+                self.cfg.set(name, value)
+        hooks = {hook.__name__: hook for hook in (pre_fork, post_fork, post_request, child_exit, when_ready)}
+        for name, value in {**FIXED, **hooks, "bind": self.setup.bind, "workers": self.workers}.items():
+            self.cfg.set(name, value)
+
+    def load(self) -> Service:
+        """Opens the files. Raises StartupError or a DomethymeError."""
+        return self.opened(self.setup.paths)
+
+    def opened(self, paths: DatasetPaths) -> Service:
+        return Service(open_dataset(paths), self.setup.options, self.metrics)
+
+    def run(self) -> None:
+        """Runs the service; ends the process. Raises StartupError or a DomethymeError where it can't start."""
+        log.parent = logging.getLogger("gunicorn.error")
+        Arbiter(self).run()
+
+
+class Trial(NamedTuple):
+    """A child that opens the files, and the pipe by which it says how that went: `ready STAMP`, or why not."""
+
+    process: int
+    pipe: int
+
+
+class Arbiter(gunicorn.arbiter.Arbiter):  # type: ignore[misc] # (gunicorn has no types)
+    """gunicorn's arbiter, which drops no signal, and reloads by files that were tried."""
+
+    trial: Trial | None = None
+    wants_reload = is_opening = is_reloading = False
+    # The workers of files that were replaced: once none accepts connections, a reload is done.
+    old: list[Worker] = []
+
+    def setup(self, app: Application) -> None:
+        super().setup(app)
+        settle()
+
+    def signal(self, sig: int, frame: object) -> None:
+        """Keeps a signal until the loop comes to it, one of each kind. One that ends the service interrupts the opening of files."""
+        if sig not in self.SIG_QUEUE:
+            self.SIG_QUEUE.append(sig)
+        self.wakeup()
+        if self.is_opening and sig in ENDING:
+            raise Interrupted
+
+    def handle_hup(self) -> None:
+        """Has a child open the files. A signal that comes while one does so has another one open them behind it."""
+        log.info("reload: the files are read again%s", "" if self.trial is None else " once the reload under way has ended")
+        if self.trial is not None:
+            self.wants_reload = True
+            return
+        reads, writes = os.pipe()
+        process = os.fork()
+        if not process:
+            in_child(lambda: os.write(writes, self.tried()))
+        os.close(writes)
+        self.trial = Trial(process, reads)
+
+    def handle_usr2(self) -> None:
+        log.error("SIGUSR2 is not supported: SIGHUP reads the files again, and a restart takes another version")
+
+    def tried(self) -> bytes:
+        """How the opening of the files goes, in a child."""
+        try:
+            return ready(self.app.load()).encode()
+        except Exception as fault:
+            return reason_of(fault).encode("utf-8", "replace")[:4000]
+
+    def manage_workers(self) -> None:
+        """Looks after the workers, a trial, and a reload that isn't done."""
+        if self.trial is not None and select.select([self.trial.pipe], [], [], 0)[0]:
+            self.end_trial(self.trial)
+        super().manage_workers()
+        self.old = [worker for worker in self.old if worker.pid in self.WORKERS]
+        if self.is_reloading and not any(worker.row.workers for worker in self.old):
+            self.is_reloading = False
+            self.app.metrics.own.reloads += 1
+            log.info("reloaded, %d nodes", self.app.callable.queries.nodes)
+
+    def end_trial(self, trial: Trial) -> None:
+        """Reloads by files that a child has opened, or says why it couldn't."""
+        said = os.read(trial.pipe, 1 << 16).decode("utf-8", "replace")
+        os.close(trial.pipe)
+        self.trial = None
+        if said.startswith("ready "):
+            self.reload_files(said)
+        else:
+            self.refuse_reload(said or "the process that opens the files has ended")
+        if self.wants_reload:
+            self.wants_reload = False
+            self.handle_hup()
+
+    def reload_files(self, tried: str) -> None:
+        """Opens the files that a child has tried, with their graph if it has, and replaces the workers."""
+        self.is_opening = True
+        try:
+            service = self.app.opened(self.app.setup.paths._replace(graph=None))
+            if ready(service) != tried:
+                raise StartupError(f"{self.app.setup.paths.hierarchy}: has changed since it was tried")
+        except Exception as fault:
+            return self.refuse_reload(reason_of(fault))
+        except Interrupted:
+            return
+        finally:
+            self.is_opening = False
+        self.old, self.is_reloading = list(self.WORKERS.values()), True
+        gc.unfreeze()
+        self.app.callable, self.app.generation = service, self.app.generation + 1
+        del service
+        self.reload()
+        note_load(self.app.metrics)
+
+    def refuse_reload(self, why: str) -> None:
+        log.error("reload refused: %s", why)
+        self.app.metrics.own.reload_failures += 1
+        self.app.metrics.own.last_reload_failed = 1
+
+    def kill_worker(self, pid: int, sig: int) -> None:
+        """Sends a signal to a worker: that it has to end, or SIGABRT, since it is silent."""
+        if sig == signal.SIGABRT:
+            self.app.metrics.own.worker_timeouts += 1
+        elif pid in self.WORKERS and sig in (signal.SIGTERM, signal.SIGQUIT):
+            self.WORKERS[pid].told = True
+        super().kill_worker(pid, sig)
+
+
+def pre_fork(arbiter: Arbiter, worker: Worker) -> None:
+    """Gives a worker its row of metrics and its socket."""
+    app, others = arbiter.app, list(arbiter.WORKERS.values())
+    used = {id(other.row) for other in others}
+    worker.row = next((row for row in app.metrics.rows[1:] if id(row) not in used), app.metrics.rows[-1])
+    worker.slots, worker.log_places, worker.generation = app.slots, app.setup.log_places, app.generation
+    if app.setup.has_probe:
+        worker.is_probe = not any(other.is_probe and other.generation == app.generation for other in others)
+        worker.sockets = [arbiter.LISTENERS[worker.is_probe]]
+
+
+def post_fork(arbiter: Arbiter, worker: Worker) -> None:
+    """In the worker: it ends with the arbiter, and counts in its own row."""
+    end_with_parent(signal.SIGTERM)
+    worker.row.process = os.getpid()
+    arbiter.app.metrics.own = worker.row
+
+
+def child_exit(arbiter: Arbiter, worker: Worker) -> None:
+    """A worker has ended: the arbiter starts another one if it wasn't told to."""
+    worker.row.reset_gauges()
+    if not worker.told:
+        arbiter.app.metrics.own.worker_restarts += 1
+        log.error("worker %s has ended: another one is started", worker.pid)
+
+
+def post_request(worker: Worker, _request: object, environ: Environ, response: Any) -> None:
+    """In the worker: an answer was written, or broken off."""
+    worker.record(environ, response)
+
+
+def when_ready(arbiter: Arbiter) -> None:
+    """The service listens."""
+    own = arbiter.app.metrics.own
+    own.process = os.getpid()
+    note_load(arbiter.app.metrics)
+    log.info("listens at %s, %d nodes", address_of(arbiter.LISTENERS[0]), arbiter.app.callable.queries.nodes)
+    notify(arbiter.app.notify_socket, "READY=1")
+
+
+def note_load(metrics: SharedMetrics) -> None:
+    """The files were opened that are served now."""
+    metrics.own.last_reload_failed, metrics.own.last_reload_timestamp = 0, time.time()
+
+
+def ready(service: Service) -> str:
+    """What a trial says of a service whose files are open: the state of the hierarchy's file."""
+    return f"ready {' '.join(map(str, service.dataset.stamp))}"
+
+
+def reason_of(fault: Exception) -> str:
+    """Why files can't be opened, in a line."""
+    kind = "" if isinstance(fault, (StartupError, DomethymeError, OSError)) else f"{type(fault).__name__}: "
+    return " ".join(f"{kind}{fault}".split())
+
+
+def in_child(work: Callable[[], object]) -> NoReturn:
+    """Does the work in a process that was forked for it, which ends with the arbiter and with the work."""
+    try:
+        for number in (signal.SIGHUP, signal.SIGINT, signal.SIGTERM, signal.SIGCHLD):
+            signal.signal(number, signal.SIG_IGN if number == signal.SIGHUP else signal.SIG_DFL)
+        end_with_parent()
+        work()
+    finally:
+        os._exit(0)
+
+
+def settle() -> None:
+    """Prepares the memory of this process for its workers. What the opening of files took goes back to the system (glibc's malloc_trim),
+    what is left is nothing that workers look for garbage in, and each has one heap."""
+    gc.collect()
+    gc.freeze()
+    libc = ctypes.CDLL(None)
+    libc.mallopt(ARENA_MAX, 1)
+    libc.malloc_trim(0)
+
+
+def address_of(listener: Any) -> str:
+    """The address of a socket as an URL has it, or `unix:PATH`."""
+    name = listener.getsockname()
+    if isinstance(name, (str, bytes)):
+        return f"unix:{os.fsdecode(name)}"
+    return f"http://{f'[{name[0]}]' if ':' in name[0] else name[0]}:{name[1]}/"
+
+
+def notify(name: str, text: str) -> None:
+    """Sends a line to the socket of systemd, if there is one. It doesn't wait where nobody reads that."""
+    if name[:1] in ("/", "@"):
+        with contextlib.suppress(OSError), socket.socket(socket.AF_UNIX, socket.SOCK_DGRAM) as stream:
+            stream.setblocking(False)
+            stream.sendto(text.encode(), "\0" + name[1:] if name[0] == "@" else name)

@@ -1,0 +1,21 @@
+"""JSON in parts: what is large is joined of texts that are made one by one."""
+import json
+from collections.abc import Iterable, Mapping
+
+# (no value has itself as a part)
+ENCODER = json.JSONEncoder(separators=(",", ":"), allow_nan=False, ensure_ascii=False, check_circular=False)
+
+
+def to_json(value: object) -> str:
+    """A value as JSON."""
+    return ENCODER.encode(value)
+
+
+def join_object(members: Mapping[str, str]) -> str:
+    """An object, by the texts of its members."""
+    return "{" + ",".join(f"{to_json(name)}:{text}" for name, text in members.items()) + "}"
+
+
+def join_array(items: Iterable[str]) -> str:
+    """An array, by the texts of its items."""
+    return "[" + ",".join(items) + "]"

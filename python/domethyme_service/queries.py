@@ -1,0 +1,89 @@
+"""Queries to the hierarchy, which is in the memory of this process (domethyme.router): the library answers, and its answers are
+proved. Nodes are numbered from 1, as in files."""
+import json
+from collections.abc import Sequence
+
+import numpy as np
+
+from domethyme import DomethymeError
+from domethyme.lines import Answer
+from domethyme.network.legs import Sides
+from domethyme.router import Router
+
+from .errors import RequestError, invalid_value
+from .metrics import SharedMetrics
+
+Pair = tuple[int, int]
+
+
+class NodeKeys:
+    """The keys by which the user of a network knows its nodes, none where they have none."""
+
+    def __init__(self, keys: Sequence[str] = ()) -> None:
+        self._nodes = {key: node for node, key in enumerate(keys, 1)}
+        self._texts = [json.dumps(key, ensure_ascii=False).encode("utf-8", "replace") for key in keys]
+
+    def node(self, key: object, name: str) -> int:
+        """The node of a key. Raises RequestError where there is none, with the name of the parameter."""
+        found = self._nodes.get(key) if isinstance(key, str) else None
+        if found is None:
+            raise invalid_value(f"{name} is the key of no node" if self._nodes else f"there is no {name}: the nodes have no keys")
+        return found
+
+    def put(self, told: bytes, pair: Pair) -> bytes:
+        """An answer about a pair, an object of JSON, with both keys, where nodes have keys."""
+        if not self._texts:
+            return told
+        return b'%b,"from_key":%b,"to_key":%b}' % (told[:-1], *(self._texts[node - 1] for node in pair))
+
+
+class Queries:
+    """Asks a router, and counts that. `nodes` and `links` are those of the hierarchy, and `keys` those of the network.
+
+    All methods raise RequestError where memory runs out, or the file is of no graph."""
+
+    def __init__(self, router: Router, links: int, metrics: SharedMetrics, keys: NodeKeys = NodeKeys()) -> None:
+        self.router, self.nodes, self.links, self._metrics, self.keys = router, router.nodes, links, metrics, keys
+
+    def length(self, source: int, target: int) -> int | None:
+        """The least length, None where there is no way."""
+        self._metrics.own.queries += 1
+        try:
+            return self.router.length(source - 1, target - 1)
+        except DomethymeError as error:
+            raise query_error(error) from error
+
+    def route(self, source: int, target: int) -> Answer | None:
+        """A shortest path, None where there is no way."""
+        return self.between({source: (0, 0)}, {target: (0, 0)})
+
+    def between(self, exits: Sides, entries: Sides, with_nodes: bool = True) -> Answer | None:
+        """The least way from one of several nodes to one of several, with the weights that lead there, or its length alone."""
+        self._metrics.own.queries += 1
+        sides = [[(node - 1, side[node][0]) for node in sorted(side)] for side in (exits, entries)]
+        try:
+            found = self.router.between(sides[0], sides[1], with_nodes)
+        except DomethymeError as error:
+            raise query_error(error) from error
+        if found is None:
+            return None
+        return Answer(found.source + 1, found.target + 1, found.length, tuple([node + 1 for node in found.nodes]))
+
+    def lengths(self, pairs: Sequence[Pair]) -> list[int]:
+        """The least length of each pair, NO_WAY where there is no way."""
+        if not pairs:
+            return []
+        pairs_u32, out = np.array(pairs, np.uint32).reshape(-1, 2) - np.uint32(1), np.empty(len(pairs), np.int64)
+        try:
+            with self.router.seat() as seat:
+                seat.lengths(pairs_u32.ctypes.data, len(pairs_u32), out.ctypes.data)
+        except DomethymeError as error:
+            raise query_error(error) from error
+        self._metrics.own.queries += len(pairs)
+        found: list[int] = out.tolist()
+        return found
+
+
+def query_error(error: DomethymeError) -> RequestError:
+    """A query that the library couldn't answer."""
+    return RequestError(500, "InternalError", error.message)

@@ -1,0 +1,35 @@
+"""The files of the page at `/`. They are read once, when the service starts, and are named in a list, so no path leads elsewhere. Their
+policy lets the page load nothing but them and ask nothing but this service."""
+import pathlib
+
+from .errors import RequestError
+
+FOLDER = pathlib.Path(__file__).resolve().parent / "page"
+TYPES = {
+    ".html": "text/html; charset=utf-8",
+    ".css": "text/css; charset=utf-8",
+    ".js": "text/javascript; charset=utf-8",
+    ".svg": "image/svg+xml",
+}
+POLICY = (
+    "default-src 'none'; script-src 'self'; style-src 'self'; img-src 'self'; connect-src 'self'; "
+    "base-uri 'none'; form-action 'none'; frame-ancestors 'none'"
+)
+HEADERS = {"Content-Security-Policy": POLICY, "Referrer-Policy": "no-referrer", "Cache-Control": "no-cache"}
+CACHE_ONE_DAY = {"Cache-Control": "public, max-age=86400"}
+NO_CACHE = {"Cache-Control": "no-cache"}
+
+
+def page_files() -> dict[str, tuple[str, bytes]]:
+    """By path the type and the bytes of each file of the page."""
+    found = {f"/map/{file.name}": (TYPES[file.suffix], file.read_bytes()) for file in sorted(FOLDER.iterdir()) if file.suffix in TYPES}
+    found["/"] = found.pop("/map/index.html")
+    return found
+
+
+FILES = page_files()
+
+
+def no_network_error() -> RequestError:
+    """The answer to a request for places from a service that has no network."""
+    return RequestError(400, "InvalidService", "the service has no network: start it with --network")

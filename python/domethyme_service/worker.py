@@ -1,0 +1,347 @@
+"""A sync worker of gunicorn that waits for no client: it takes a request once its head has come, and a long one once a slot is free. It
+ends an answer that takes too long, counts and logs requests, and answers errors of HTTP as JSON."""
+import collections
+import contextlib
+import datetime
+import enum
+import json
+import logging
+import os
+import re
+import select
+import signal
+import socket
+import time
+from collections.abc import Iterable, Iterator
+from typing import Any, NamedTuple
+
+from gunicorn.http import RequestParser
+from gunicorn.http.errors import NoMoreData
+from gunicorn.workers.sync import SyncWorker
+
+from .errors import RequestError, malformed, too_late
+from .metrics import Row
+from .slots import Slots
+from .wsgi import JSON, STATUS_LINES, Environ, Service, StartResponse
+
+# Seconds for a head and a short body to come, for an answer, and for that of a long request or between two blocks of a batch.
+HEAD_SECONDS, ANSWER_SECONDS, LONG_SECONDS = 10.0, 10.0, 25.0
+# Seconds for which a long request waits for a slot, and after which a worker looks for one again.
+SLOT_SECONDS, LOOK_SECONDS = 5.0, 0.05
+# Seconds for clients that haven't sent a head as the worker ends, and for a body or a head that nobody wants.
+LAST_SECONDS, BODY_LINGER, HEAD_LINGER = 1.0, 0.5, 0.05
+# Milliseconds for which a worker waits for the head of a client that has just connected, before it looks after others.
+FIRST_MILLISECONDS = 2
+# The greatest head, and its first line; and what a request has at most that isn't a long one: bytes of a body, of a path (25 places have some 500), and of
+# a whole target.
+MAX_HEAD, MAX_LINE, SHORT_BODY, SHORT_PATH, SHORT_TARGET = 1 << 17, 65_600, 2048, 512, 4096
+# Connections that may wait for their heads, in each worker.
+MAX_WAITING = 500
+# What no head has (RFC 9112): other control characters, a CR or an LF alone, and a line that goes on in the next.
+NO_HEAD = re.compile(rb"[\0-\x08\x0b\x0c\x0e-\x1f\x7f]|\r(?=[^\n])|(?<!\r)\n|\n[ \t]")
+BODY_LENGTH = re.compile(rb"(?i)\r\ncontent-length:[ \t]*([0-9]{1,4})[ \t]*\r\n")
+GONE = select.EPOLLRDHUP | select.EPOLLHUP | select.EPOLLERR
+access_log, log = logging.getLogger("domethyme_service.access"), logging.getLogger("domethyme_service")
+
+
+class Late(BaseException):
+    """The time for an answer is over."""
+
+
+class Head(enum.Enum):
+    """What has come of a request: its head and short body, less, nothing, since the client has closed, or what is no head."""
+
+    WHOLE, PARTIAL, CLOSED, MALFORMED = range(4)
+
+
+class Connection(NamedTuple):
+    """A connection, its client's address, until when it may wait, and its request, once its head was read."""
+
+    client: socket.socket
+    address: Any
+    deadline: float
+    request: Any = None
+
+
+class HeadWithBody:
+    """A client to which the head of an answer is sent with what follows it: one call of the kernel less, and of an answer whose worker is
+    killed before its body nothing has gone, so that nginx may ask once more."""
+
+    def __init__(self, client: socket.socket) -> None:
+        self._client, self._head, self._has_sent = client, b"", False
+
+    def __getattr__(self, name: str) -> Any:
+        return getattr(self._client, name)
+
+    def sendall(self, data: bytes) -> None:
+        if self._has_sent:
+            self._client.sendall(self._head + data if self._head else data)
+            self._head = b""
+        else:
+            self._head, self._has_sent = data, True
+
+    def flush(self) -> None:
+        """Sends a head that nothing follows."""
+        if self._head:
+            self._client.sendall(self._head)
+
+
+class Worker(SyncWorker):  # type: ignore[misc] # (gunicorn has no types)
+    """A worker. Before the fork the arbiter sets `row`, its metrics, `slots`, which all workers share, and whether the log has places."""
+
+    row: Row
+    slots: Slots
+    log_places = False
+    # What the arbiter knows of it: which load of the files it serves, whether it is the one for probes, and was told to end.
+    generation, is_probe, told = 0, False, False
+
+    def init_process(self) -> None:
+        self.heads: dict[int, Connection] = {}
+        self.queue: collections.deque[Connection] = collections.deque()
+        self.seconds, self.begun, self.is_timed = ANSWER_SECONDS, 0.0, False
+        super().init_process()
+
+    def init_signals(self) -> None:
+        super().init_signals()
+        signal.signal(signal.SIGALRM, self.handle_alarm)
+
+    def handle_alarm(self, _number: int, _frame: object) -> None:
+        if self.is_timed:
+            raise Late
+
+    def load_wsgi(self) -> None:
+        self.service: Service = self.app.wsgi()
+        self.wsgi = self.answer
+
+    def run(self) -> None:
+        """Answers until it is told to end, and then those that have connected before."""
+        listener, self.epoll = self.sockets[0], select.epoll()
+        self.epoll.register(self.PIPE[0], select.EPOLLIN)
+        self.epoll.register(listener, select.EPOLLIN | select.EPOLLEXCLUSIVE)
+        listener.setblocking(False)
+        self.row.workers = 1
+        while self.alive and self.is_parent_alive():
+            self.notify()
+            self.look_after_waiting()
+            has_accepted = self.accept(listener)
+            if self.heads or not has_accepted:
+                self.wait(0.0 if has_accepted else 1.0)
+        self.row.workers = 0
+        self.epoll.unregister(listener)
+        end = time.monotonic() + LAST_SECONDS
+        while self.queue or self.heads and time.monotonic() < end:
+            self.notify()
+            self.look_after_waiting()
+            self.wait(LOOK_SECONDS)
+
+    def accept(self, listener: Any) -> bool:
+        """Takes the next connection; returns whether there was one."""
+        if len(self.heads) >= MAX_WAITING:
+            time.sleep(LOOK_SECONDS)
+            return False
+        try:
+            client, address = listener.accept()
+        except (BlockingIOError, ConnectionAbortedError):
+            return False
+        except OSError as error:  # (no descriptors, or no memory for one)
+            log.error("can't accept connections: %s", error.strerror)
+            time.sleep(1.0)
+            return False
+        client.setblocking(True)
+        connection = Connection(client, address, time.monotonic() + HEAD_SECONDS)
+        if (head := head_of(client)) is Head.PARTIAL:
+            wait_for(client)
+            head = head_of(client)
+        if head is Head.PARTIAL:
+            self.heads[client.fileno()] = connection
+            self.epoll.register(client, select.EPOLLIN | select.EPOLLRDHUP | select.EPOLLET)
+        else:
+            self.begin(connection, head)
+        return True
+
+    def wait(self, seconds: float) -> None:
+        """Waits for connections, for more of those that it has, and for signals."""
+        for number, events in self.epoll.poll(min(seconds, LOOK_SECONDS) if self.queue else seconds):
+            if number == self.PIPE[0]:
+                os.read(number, 4096)
+            elif number in self.heads:
+                head = head_of(self.heads[number].client)
+                if head is not Head.PARTIAL or events & GONE:
+                    self.begin(self.no_longer_waiting(number), Head.CLOSED if head is Head.PARTIAL else head)
+
+    def no_longer_waiting(self, number: int) -> Connection:
+        self.epoll.unregister(number)
+        return self.heads.pop(number)
+
+    def look_after_waiting(self) -> None:
+        """Refuses heads that are too late, and answers long requests for which there are slots."""
+        now = time.monotonic()
+        while self.heads and (first := next(iter(self.heads.items())))[1].deadline < now:
+            self.refuse(self.no_longer_waiting(first[0]), RequestError(408, "Timeout", "the request's head has not come whole"))
+        while self.queue:
+            if self.slots.take():
+                self.serve(self.queue.popleft())
+            elif self.queue[0].deadline < time.monotonic():
+                self.row.long_refused += 1
+                self.refuse(self.queue.popleft(), RequestError(503, "Overloaded", "too many long requests at once"))
+            else:
+                return
+
+    def begin(self, connection: Connection, head: Head) -> None:
+        """Reads the head of a request, and answers it, or has it wait for a slot."""
+        if head is not Head.WHOLE:
+            return connection.client.close() if head is Head.CLOSED else self.refuse(connection, malformed())
+        try:
+            request = next(RequestParser(self.cfg, connection.client, connection.address))
+        except (NoMoreData, StopIteration, OSError):
+            return connection.client.close()
+        except Exception:  # (gunicorn has an error for each fault, and no other for them)
+            return self.refuse(connection, malformed())
+        connection = connection._replace(request=request, deadline=time.monotonic() + SLOT_SECONDS)
+        if is_long(request) and (self.queue or not self.slots.take()):
+            self.queue.append(connection)
+        else:
+            self.serve(connection)
+
+    def serve(self, connection: Connection) -> None:
+        """Answers a request, and frees the slot that it has."""
+        client, request = connection.client, connection.request
+        self.begun = time.monotonic()
+        is_slow = is_long(request) or request.path.startswith(("/table/", "/nodes/routes", "/nodes/lengths"))
+        self.start_alarm(LONG_SECONDS if is_slow else ANSWER_SECONDS)
+        try:
+            sender = HeadWithBody(client)
+            self.handle_request(self.sockets[0], request, sender, connection.address)
+            sender.flush()
+        except (StopIteration, OSError):  # (the client has gone)
+            pass
+        except Late:
+            self.end_after_alarm()
+        except Exception as error:
+            self.handle_error(request, client, connection.address, error)
+        finally:
+            self.stop_alarm()
+            self.slots.free()
+            client.close() if request.method in ("GET", "HEAD") and not is_long(request) else linger(client)
+
+    def answer(self, environ: Environ, start_response: StartResponse) -> Iterable[bytes]:
+        """What gunicorn calls: the service, and 504 in place of an answer that takes too long. A worker in which one was broken off
+        ends behind it, since what that held may be lost."""
+        begun: list[tuple[object, ...]] = []
+        try:
+            blocks = self.service(environ, lambda *head: begun.append(head))
+        except Late:
+            self.end_after_alarm()
+            blocks = self.service.refuse(environ, lambda *head: begun.append(head), too_late(self.seconds))
+        start_response(*begun[-1])
+        return blocks if isinstance(blocks, list) else self.timed(blocks)
+
+    def timed(self, blocks: Iterable[bytes]) -> Iterator[bytes]:
+        """The blocks of an answer, each with the time that a whole one has."""
+        for block in blocks:
+            self.notify()
+            self.start_alarm(self.seconds)
+            yield block
+
+    def start_alarm(self, seconds: float) -> None:
+        self.seconds, self.is_timed = seconds, True
+        signal.setitimer(signal.ITIMER_REAL, seconds)
+
+    def stop_alarm(self) -> None:
+        self.is_timed = False
+        signal.setitimer(signal.ITIMER_REAL, 0)
+
+    def end_after_alarm(self) -> None:
+        self.row.cancelled += 1
+        self.alive = False
+
+    def handle_error(self, request: Any, client: socket.socket, address: Any, error: Exception) -> None:
+        """Answers an error inside of gunicorn or of the service, of which nothing was sent."""
+        log.error("error while answering", exc_info=error)
+        write(client, RequestError(500, "InternalError", "an error inside"))
+
+    def refuse(self, connection: Connection, error: RequestError) -> None:
+        """Answers a request that nothing was read of but its head, and closes."""
+        self.row.count("other", error.status, 0.0)
+        write(connection.client, error)
+        linger(connection.client, HEAD_LINGER if connection.request is None else BODY_LINGER)
+
+    def record(self, environ: Environ, response: Any) -> None:
+        """Counts and logs an answer."""
+        seconds, endpoint = time.monotonic() - self.begun, environ.get("domethyme.endpoint", "other")
+        status = response.status_code if response is not None and response.status else 500
+        self.row.count(endpoint, status, seconds)
+        if not access_log.isEnabledFor(logging.INFO):
+            return
+        now = datetime.datetime.now(datetime.timezone.utc).isoformat(timespec="milliseconds").replace("+00:00", "Z")
+        line = {"time": now, "method": environ.get("REQUEST_METHOD"), "endpoint": endpoint, "status": status}
+        line |= {"bytes": response.sent if response is not None else 0, "milliseconds": round(1000 * seconds, 3)}
+        error: RequestError | None = environ.get("domethyme.error")
+        if error is not None:
+            line["error"] = error.code
+        if self.log_places:
+            line |= {"path": environ.get("RAW_URI"), "remote": environ.get("REMOTE_ADDR") or environ.get("HTTP_X_REAL_IP")}
+            line |= {} if error is None else {"message": error.message}
+        access_log.info(json.dumps(line))
+
+
+def wait_for(client: socket.socket) -> None:
+    """Waits a moment for what a client sends first."""
+    coming = select.poll()
+    coming.register(client, select.POLLIN)
+    coming.poll(FIRST_MILLISECONDS)
+
+
+def head_of(client: socket.socket) -> Head:
+    """What has come of a request. Nothing of it is taken."""
+    try:
+        come = client.recv(MAX_HEAD, socket.MSG_PEEK | socket.MSG_DONTWAIT)
+    except BlockingIOError:
+        return Head.PARTIAL
+    except OSError:
+        return Head.CLOSED
+    return judge_head(come) if come else Head.CLOSED
+
+
+def judge_head(come: bytes) -> Head:
+    """The same of the bytes that have come."""
+    end = come.find(b"\r\n\r\n")
+    if NO_HEAD.search(come, 0, len(come) if end < 0 else end + 4):
+        return Head.MALFORMED
+    if end < 0:
+        is_endless = len(come) == MAX_HEAD or len(come) > MAX_LINE and b"\n" not in come
+        return Head.MALFORMED if is_endless else Head.PARTIAL
+    length = BODY_LENGTH.search(come, 0, end + 2)
+    if length is None or int(length[1]) > SHORT_BODY or len(come) - end - 4 >= int(length[1]):
+        return Head.WHOLE
+    # (one with several lengths is refused by gunicorn)
+    head = come[:end].lower()
+    return Head.WHOLE if b"\ntransfer-encoding" in head or head.count(b"\ncontent-length") > 1 else Head.PARTIAL
+
+
+def is_long(request: Any) -> bool:
+    """Whether a request may take seconds, by its head: of many places, or with a body that isn't short or whose length isn't known."""
+    if len(request.path) > SHORT_PATH or len(request.uri) > SHORT_TARGET:
+        return True
+    lengths = [value for name, value in request.headers if name in ("CONTENT-LENGTH", "TRANSFER-ENCODING")]
+    return any(not value.isdecimal() or int(value[:9]) > SHORT_BODY for value in lengths)
+
+
+def write(client: socket.socket, error: RequestError) -> None:
+    """Writes an error as a whole answer."""
+    body = json.dumps({"code": error.code, "message": error.message}, separators=(",", ":")).encode()
+    more = "Retry-After: 1\r\n" if error.status == 503 else ""
+    fields = f"Content-Type: {JSON}\r\nContent-Length: {len(body)}\r\nConnection: close\r\n{more}\r\n"
+    with contextlib.suppress(OSError):
+        client.send(f"HTTP/1.1 {STATUS_LINES[error.status]}\r\n{fields}".encode() + body)
+
+
+def linger(client: socket.socket, seconds: float = BODY_LINGER) -> None:
+    """Closes a connection of which something may not have been read. To close it at once would reset it, and its answer be lost."""
+    end = time.monotonic() + seconds
+    with contextlib.suppress(OSError), client:
+        client.shutdown(socket.SHUT_WR)
+        while (left := end - time.monotonic()) > 0:
+            client.settimeout(left)
+            if not client.recv(1 << 16):
+                return

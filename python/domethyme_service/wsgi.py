@@ -1,0 +1,267 @@
+"""The service as a function of WSGI (PEP 3333): `Service(dataset, options, metrics)(environ, start_response)`. It has no clock, starts no
+process and opens no socket: how long an answer may take, and how many processes answer, is for who calls it (gunicorn_app).
+
+Beside the keys of WSGI it reads RAW_URI, the target as it came, still percent-encoded, as gunicorn has it. It leaves in `environ` for
+a log `domethyme.endpoint`, by which requests are counted, and `domethyme.error`, the RequestError of an answer that is one. A
+request that came by a unix socket, which has no address, came through nginx, whose X-Local-Address is believed.
+"""
+import http
+import itertools
+import logging
+import re
+import urllib.parse
+from collections.abc import Callable, Iterable, Mapping
+from typing import Any, NamedTuple
+
+from domethyme import DomethymeError
+from domethyme.network.snapping import Roads
+
+from . import node_queries, osrm
+from .access import AccessPolicy, check_content_type
+from .dataset import Dataset
+from .endpoints import FROM, FROM_KEY, OSRM, TO, TO_KEY, Endpoint, find_endpoint
+from .errors import RequestError, invalid_query, malformed
+from .json_text import to_json
+from .metrics import SharedMetrics
+from .osrm_request import parse_request
+from .parameters import Context, Values
+from .queries import Queries
+from .static import CACHE_ONE_DAY, FILES, HEADERS, NO_CACHE, no_network_error
+from .tiles import Tiles
+
+MAX_BODY, MAX_FIELDS = 4 << 20, 50
+# The targets of requests, and the lengths of bodies.
+TARGET = re.compile(r"/[!-~]{0,65535}|https?://[!-~]{1,65528}")
+LENGTH = re.compile("[0-9]{1,18}")
+JSON = "application/json; charset=utf-8"
+LINES = "application/x-ndjson; charset=utf-8"
+METRICS = "text/plain; version=0.0.4; charset=utf-8"
+STATUS_LINES = {status.value: f"{status.value} {status.phrase}" for status in http.HTTPStatus}
+Environ = dict[str, Any]
+StartResponse = Callable[..., object]
+log = logging.getLogger("domethyme_service")
+
+
+class Options(NamedTuple):
+    """How a service answers: who may ask, the metres within which a place has to have a road, and the cells that a table may have."""
+
+    access: AccessPolicy
+    default_radius: float = 1000.0
+    max_table_cells: int = 1_000_000
+
+
+class Response(NamedTuple):
+    """An answer: its status, its headers, and its body, a list of one part, or its blocks one by one."""
+
+    status: int
+    headers: dict[str, str]
+    body: Iterable[bytes]
+
+
+class Call(NamedTuple):
+    """A request: its endpoint, the path as it came, still percent-encoded, its parameters, and what WSGI has of it."""
+
+    endpoint: Endpoint
+    path: str
+    query: Mapping[str, str]
+    environ: Environ
+
+    def values(self, context: Context = Context()) -> Values:
+        """The values of its parameters. Raises RequestError."""
+        return self.endpoint.values(self.query, context)
+
+
+class Service:
+    """Answers requests from a dataset. `metrics` has the row of this process, which counts queries."""
+
+    def __init__(self, dataset: Dataset, options: Options, metrics: SharedMetrics) -> None:
+        self.dataset, self.options, self.metrics = dataset, options, metrics
+        self.queries = Queries(dataset.router, dataset.links, metrics, dataset.keys)
+        self.headers = {"X-Content-Type-Options": "nosniff", **options.access.headers}
+
+    def __call__(self, environ: Environ, start_response: StartResponse) -> Iterable[bytes]:
+        """Answers one request."""
+        environ["domethyme.endpoint"] = "other"
+        try:
+            response = self.respond(environ)
+        except RequestError as error:
+            return self.refuse(environ, start_response, error)
+        except DomethymeError as error:
+            log.error("%s", error.message)
+            message = "a file of the service can't be read: its log says why"
+            return self.refuse(environ, start_response, RequestError(500, "InternalError", message))
+        except Exception:
+            log.exception("error while answering")
+            return self.refuse(environ, start_response, RequestError(500, "InternalError", "an error inside"))
+        return send(environ, start_response, response)
+
+    def refuse(self, environ: Environ, start_response: StartResponse, error: RequestError) -> Iterable[bytes]:
+        """Answers with an error."""
+        environ["domethyme.error"] = error
+        more = {"Retry-After": "1"} if error.status == 503 else {}
+        response = self.whole(error.status, to_json({"code": error.code, "message": error.message}), JSON, more)
+        return send(environ, start_response, response)
+
+    def respond(self, environ: Environ) -> Response:
+        """The answer to a request. Raises RequestError, and a DomethymeError where a file is damaged."""
+        host, path, query = parse_target(environ)
+        endpoint = find_endpoint(path)
+        environ["domethyme.endpoint"] = endpoint.name
+        self.options.access.check(host, local_address(environ), environ, endpoint.name == "/")
+        method = environ["REQUEST_METHOD"]
+        if method == "OPTIONS" and "HTTP_ACCESS_CONTROL_REQUEST_METHOD" in environ and self.options.access.headers:
+            return self.preflight()
+        if method != endpoint.method and not (method == "HEAD" and endpoint.method == "GET"):
+            raise RequestError(405, "MethodNotAllowed", f"the method of this path is {endpoint.method}")
+        if endpoint.method == "GET" and (has_body(environ) or "HTTP_CONTENT_ENCODING" in environ):
+            raise invalid_query("a GET has no body")
+        return ANSWERS[endpoint.name](self, Call(endpoint, path, query, environ))
+
+    def preflight(self) -> Response:
+        """What a browser asks before a page whose origin is allowed sends a batch."""
+        asked = {"Access-Control-Allow-Methods": "GET, POST", "Access-Control-Allow-Headers": "Content-Type"}
+        return Response(204, {**self.headers, **asked, "Access-Control-Max-Age": "7200"}, [b""])
+
+    def file(self, call: Call) -> Response:
+        """A file of the page."""
+        kind, text = FILES[call.path]
+        return self.whole(200, text, kind, HEADERS)
+
+    def map_about(self, call: Call) -> Response:
+        tiles = self.need_tiles()
+        call.values()
+        return self.whole(200, tiles.start, JSON, NO_CACHE)
+
+    def map_roads(self, call: Call) -> Response:
+        tiles = self.need_tiles()
+        call.values()
+        return self.whole(200, tiles.at(call.path), JSON, CACHE_ONE_DAY)
+
+    def osrm(self, call: Call) -> Response:
+        """An answer of OSRM's API."""
+        request = parse_request(call.path, call.query, self.options.default_radius)
+        means = osrm.Means(self.queries, self.need_roads(), self.dataset.sweeps, self.options.max_table_cells)
+        return self.whole(200, osrm.answer(means, request), JSON)
+
+    def pair(self, call: Call) -> Response:
+        """The answer for a pair of nodes."""
+        values = call.values(Context(nodes=self.queries.nodes))
+        told = node_queries.route_between if call.endpoint.name == "/nodes/route" else node_queries.length_between
+        ends = (node_queries.node_asked(self.queries, values, *each) for each in ((FROM, FROM_KEY), (TO, TO_KEY)))
+        return self.whole(200, told(self.queries, *ends), JSON)
+
+    def batch(self, call: Call) -> Response:
+        """Reads the body whole, and answers block by block: a client may send all before it reads. An error before the first block is a
+        whole answer; behind it nothing but a broken connection can say so."""
+        call.values()
+        check_content_type(call.environ.get("CONTENT_TYPE", ""))
+        body = read_body(call.environ)
+        blocks = node_queries.batch(self.queries, call.endpoint.name == "/nodes/routes", body)
+        first = next(blocks, b"")
+        return Response(200, {"Content-Type": LINES, **self.headers}, itertools.chain([first], blocks))
+
+    def health(self, _call: Call) -> Response:
+        """Says that requests are answered."""
+        return self.whole(200, to_json({"status": "ok", "nodes": self.queries.nodes, "links": self.queries.links}), JSON)
+
+    def show_metrics(self, _call: Call) -> Response:
+        """The metrics of the whole service."""
+        return self.whole(200, self.metrics.text(self.queries.nodes), METRICS)
+
+    def whole(self, status: int, text: str | bytes, kind: str, more: Mapping[str, str] | None = None) -> Response:
+        """An answer whose body is known."""
+        body = text if isinstance(text, bytes) else text.encode("utf-8", "replace")
+        return Response(status, {"Content-Type": kind, "Content-Length": str(len(body)), **self.headers, **(more or {})}, [body])
+
+    def need_roads(self) -> Roads:
+        """The network. Raises RequestError if the service has none."""
+        if self.dataset.roads is None:
+            raise no_network_error()
+        return self.dataset.roads
+
+    def need_tiles(self) -> Tiles:
+        """The tiles of the network. Raises RequestError if the service has none."""
+        if self.dataset.tiles is None:
+            raise no_network_error()
+        return self.dataset.tiles
+
+
+def send(environ: Environ, start_response: StartResponse, response: Response) -> Iterable[bytes]:
+    """Begins an answer, and returns its body, of which a HEAD has nothing."""
+    start_response(STATUS_LINES[response.status], list(response.headers.items()))
+    return [] if environ["REQUEST_METHOD"] == "HEAD" else response.body
+
+
+def parse_target(environ: Environ) -> tuple[str | None, str, dict[str, str]]:
+    """The host that a request is for, its path and its parameters. Raises RequestError for what isn't HTTP/1.0 or 1.1, and for
+    parameters that come twice."""
+    target, host = environ["RAW_URI"], environ.get("HTTP_HOST")
+    length, coding = environ.get("CONTENT_LENGTH") or "0", environ.get("HTTP_TRANSFER_ENCODING", "chunked")
+    if not TARGET.fullmatch(target) or not LENGTH.fullmatch(length) or coding.lower() != "chunked" or "," in (host or ""):
+        raise malformed()
+    if environ["SERVER_PROTOCOL"] not in ("HTTP/1.0", "HTTP/1.1"):
+        raise RequestError(505, "HttpVersion", "the service speaks HTTP/1.0 and HTTP/1.1")
+    if host is None and environ["SERVER_PROTOCOL"] == "HTTP/1.1" or environ["REQUEST_METHOD"] == "CONNECT":
+        raise malformed()
+    if target[0] != "/":
+        host, _, target = target.partition("://")[2].partition("/")
+        target = f"/{target}"
+    path, _, query = target.partition("?")
+    try:
+        pairs = parse_query(query)
+    except ValueError:
+        raise invalid_query("the parameters cannot be read") from None
+    parameters = dict(pairs)
+    if len(parameters) != len(pairs):
+        raise invalid_query("a parameter comes twice")
+    return host, path, parameters
+
+
+def parse_query(query: str) -> list[tuple[str, str]]:
+    """The names and values of a query. Raises ValueError."""
+    if "%" in query or "+" in query or query.count("&") >= MAX_FIELDS:
+        return urllib.parse.parse_qsl(query, keep_blank_values=True, errors="strict", max_num_fields=MAX_FIELDS)
+    return [(name, value) for name, _, value in (field.partition("=") for field in query.split("&") if field)]
+
+
+def local_address(environ: Environ) -> str:
+    """The address that a request came to, through nginx or not."""
+    return str(environ.get("SERVER_NAME") if environ.get("REMOTE_ADDR") else environ.get("HTTP_X_LOCAL_ADDRESS", ""))
+
+
+def has_body(environ: Environ) -> bool:
+    return environ.get("CONTENT_LENGTH", "0").strip("0") != "" or "HTTP_TRANSFER_ENCODING" in environ
+
+
+def read_body(environ: Environ) -> bytes:
+    """The body of a batch. Raises RequestError where it is longer than MAX_BODY, compressed, or ends before it is whole."""
+    if environ.get("HTTP_CONTENT_ENCODING", "identity").lower() != "identity":
+        raise RequestError(415, "InvalidQuery", "the body may not be compressed")
+    length = environ.get("CONTENT_LENGTH")
+    if length is not None and int(length) > MAX_BODY:
+        raise RequestError(413, "TooBig", f"the body may have {MAX_BODY} bytes")
+    try:
+        body: bytes = environ["wsgi.input"].read(MAX_BODY + 1)
+    except (OSError, ValueError):  # (as gunicorn has what isn't a part of a body)
+        raise malformed() from None
+    if len(body) > MAX_BODY:
+        raise RequestError(413, "TooBig", f"the body may have {MAX_BODY} bytes")
+    if length is not None and len(body) < int(length):
+        raise invalid_query("the body has not come whole")
+    return body
+
+
+# By the name of an endpoint, what answers it.
+ANSWERS: dict[str, Callable[[Service, Call], Response]] = {
+    "/": Service.file,
+    "/map/files": Service.file,
+    "/map/about": Service.map_about,
+    "/map/roads": Service.map_roads,
+    **{f"/{service}": Service.osrm for service in OSRM},
+    "/nodes/route": Service.pair,
+    "/nodes/length": Service.pair,
+    "/nodes/routes": Service.batch,
+    "/nodes/lengths": Service.batch,
+    "/health": Service.health,
+    "/metrics": Service.show_metrics,
+}

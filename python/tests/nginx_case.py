@@ -1,0 +1,69 @@
+"""What the tests through nginx share: the shipped configuration (packaging/nginx/domethyme.conf) before a service at a unix socket, run
+by a real nginx as the user of the test."""
+import getpass
+import os
+import pathlib
+import re
+import shutil
+import socket
+import subprocess
+import time
+
+from service_case import ServiceCase
+from tool_case import ROOT
+
+SHIPPED = ROOT / "packaging/nginx/domethyme.conf"
+MAIN = """
+{user}daemon off; worker_processes 2; pid {folder}/nginx.pid; error_log {folder}/nginx.log;
+events {{ worker_connections 4096; }}
+http {{
+    client_body_temp_path {folder}/body; proxy_temp_path {folder}/proxy; fastcgi_temp_path {folder}/fastcgi;
+    uwsgi_temp_path {folder}/uwsgi; scgi_temp_path {folder}/scgi;
+    # (a test may come from an address of its choice)
+    set_real_ip_from 127.0.0.1; real_ip_header X-Test-Address;
+    {shipped}
+}}
+"""
+
+
+def free_port() -> int:
+    """A port that nothing listens at."""
+    with socket.create_server(("127.0.0.1", 0)) as stream:
+        return int(stream.getsockname()[1])
+
+
+def configuration(folder: pathlib.Path, port: int) -> str:
+    """The shipped configuration, with the sockets, logs and the port of a test."""
+    text = SHIPPED.read_text(encoding="utf-8").replace("/run/domethyme/", f"{folder}/").replace("/var/log/nginx/", f"{folder}/")
+    text = text.replace("listen [::]:80;", "").replace("listen 80;", f"listen 127.0.0.1:{port};")
+    user = f"user {getpass.getuser()};\n" if os.geteuid() == 0 else ""
+    return MAIN.format(folder=folder, shipped=text, user=user)
+
+
+class NginxCase(ServiceCase):
+    """A test with a service behind nginx, which listens at `self.port`."""
+
+    def serve_behind_nginx(self, *words):
+        """Starts both, and returns the process of the service."""
+        process = self.serve("--network", self.folder / "v", "--bind", f"unix:{self.folder}/serve.sock", *words)
+        self.port = free_port()
+        (self.folder / "nginx.conf").write_text(configuration(self.folder, self.port), encoding="utf-8")
+        program = shutil.which("nginx", path=f"{os.environ['PATH']}:/usr/sbin")
+        self.nginx = subprocess.Popen([program, "-c", self.folder / "nginx.conf", "-e", self.folder / "nginx.log"], stdin=subprocess.DEVNULL)
+        self.addCleanup(self.nginx.wait)
+        self.addCleanup(self.nginx.terminate)  # (with its workers, which a kill would leave behind)
+        self.wait_for(self.listens)
+        return process
+
+    def listens(self):
+        self.assertIsNone(self.nginx.poll(), "nginx has ended")
+        try:
+            socket.create_connection(("127.0.0.1", self.port), 5).close()
+            return True
+        except OSError:
+            return False
+
+    def log(self, name="domethyme.log"):
+        """A log of nginx, once it is written."""
+        time.sleep(0.3)
+        return re.sub("(?m)^$", "", (self.folder / name).read_text())
