@@ -8,13 +8,11 @@ use Rattle.ch_graph.specs.Hierarchy.{Hierarchy, IsWellMade, IsRiseFall, HasRiseF
 use Rattle.ch_graph.specs.Unfolding.{Joined}
 use Rattle.ch_query.specs.declared.seed.Seed.{Seed}
 use Rattle.ch_query.specs.Places.{IsRiseFallAt}
+use Rattle.ch_query.specs.Ways.{free}
 use Rattle.ch_query.specs.Seeds.Laws.{seed-node, seeds-none, seeds-cons}
 use Rattle.ch_query.specs.Seeds.{AreSeeds, HasWalkBetween, IsValueBetween, IsWalkBetween, cost_between}
 use Rattle.ch_query.proofs.SeedPlaces.{among-from_get}
 use Rattle.ch_query.proofs.Turning.{bound_in_limit}
-
-abbrev pub free : ℕ → Seed
-free v = record { node = v; cost = zero_cost }
 
 abbrev pub only : ℕ → List Seed
 only v = free v ∷ []
@@ -26,7 +24,7 @@ same_at : (v k : ℕ) (seed : Seed) → k < 1 → get_or (only v) k seed ≡ see
 same_at v zero seed low is = sym is
 same_at v (suc k) seed low is = absurd (omega (arith, low))
 
-same_seed : (v : ℕ) (seed : Seed) → Contains (only v) seed → seed ≡ free v
+pub same_seed : (v : ℕ) (seed : Seed) → Contains (only v) seed → seed ≡ free v
 same_seed v seed among = same_at v among.0 seed among.1 among.2
 
 free_cost : (w : Cost) → (zero_cost ⊕ w) ⊕ zero_cost ≡ w

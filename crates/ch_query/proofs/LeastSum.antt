@@ -44,12 +44,12 @@ link-arc h side l among rises =
       cost = ap (λ (m : Link). m.cost) same;
     }
 
-rise-walk : (h : Hierarchy) {ls : List Link} {x z : ℕ} {c : Cost} → Chain (IsRising h) ls x z c → Walk (LinkArc h Rise) (rank_of h x) (rank_of h z) c
+pub rise-walk : (h : Hierarchy) {ls : List Link} {x z : ℕ} {c : Cost} → Chain (IsRising h) ls x z c → Walk (LinkArc h Rise) (rank_of h x) (rank_of h z) c
 rise-walk h nothing = stay
 rise-walk h (then {l = l} rising from rest) = go (subst (λ n. LinkArc h Rise (rank_of h n) (rank_of h l.to) l.cost) from (link-arc h Rise l rising.among rising.rises)) (rise-walk h rest)
 
 -- against the links that fall
-fall-walk : (h : Hierarchy) {ls : List Link} {x z : ℕ} {c : Cost} → Chain (IsFalling h) ls x z c → Walk (LinkArc h Fall) (rank_of h z) (rank_of h x) c
+pub fall-walk : (h : Hierarchy) {ls : List Link} {x z : ℕ} {c : Cost} → Chain (IsFalling h) ls x z c → Walk (LinkArc h Fall) (rank_of h z) (rank_of h x) c
 fall-walk h nothing = stay
 fall-walk h (then {l = l} {x = x} {z = z} {d = d} falling from rest) =
     let last : LinkArc h Fall (rank_of h l.to) (rank_of h x) l.cost = subst (λ n. LinkArc h Fall (rank_of h l.to) (rank_of h n) l.cost) from (link-arc h Fall l falling.among falling.falls) in
@@ -57,12 +57,12 @@ fall-walk h (then {l = l} {x = x} {z = z} {d = d} falling from rest) =
 
 module _ (h : Hierarchy) (made : IsWellMade h) where
   -- a walk of a side from the rank of a node ends at one
-  end_in : {side : Side} {q r : ℕ} {c : Cost} → Walk (LinkArc h side) q r c → q < length h.ranks → r < length h.ranks
+  pub end_in : {side : Side} {q r : ℕ} {c : Cost} → Walk (LinkArc h side) q r c → q < length h.ranks → r < length h.ranks
   end_in stay low = low
   end_in {side} (go arc rest) low = end_in rest (subst (λ p. p < length h.ranks) arc.leads.head (rank_below h made (head_at h side arc.link) (head_in h made side arc.link arc.leads.climbs.within)))
 
   -- and is a rise, or a fall back to where it began
-  walk-rise : {q r : ℕ} {c : Cost} → Walk (LinkArc h Rise) q r c → (x z : ℕ) → x < length h.ranks → z < length h.ranks → rank_of h x ≡ q → rank_of h z ≡ r → (ls : List Link) × Chain (IsRising h) ls x z c
+  pub walk-rise : {q r : ℕ} {c : Cost} → Walk (LinkArc h Rise) q r c → (x z : ℕ) → x < length h.ranks → z < length h.ranks → rank_of h x ≡ q → rank_of h z ≡ r → (ls : List Link) × Chain (IsRising h) ls x z c
   walk-rise stay x z x_in z_in at there = ([], subst (λ y. Chain (IsRising h) [] x y zero_cost) (same_node h made x z x_in z_in (at ∙ sym there)) nothing)
   walk-rise (go {d = d} arc rest) x z x_in z_in at there =
       let l : Link = link_at h arc.link in
@@ -70,7 +70,7 @@ module _ (h : Hierarchy) (made : IsWellMade h) where
       let more = walk-rise rest l.to z (head_in h made Rise arc.link arc.leads.climbs.within) z_in arc.leads.head there in
       (l ∷ more.0, chain-same (ap (λ (e : Cost). e ⊕ d) arc.cost) (then (record { among = link-among h arc.link arc.leads.climbs.within; rises = arc.leads.climbs.rises }) from more.1))
 
-  walk-fall : {q r : ℕ} {c : Cost} → Walk (LinkArc h Fall) q r c → (x z : ℕ) → x < length h.ranks → z < length h.ranks → rank_of h x ≡ q → rank_of h z ≡ r → (ls : List Link) × Chain (IsFalling h) ls z x c
+  pub walk-fall : {q r : ℕ} {c : Cost} → Walk (LinkArc h Fall) q r c → (x z : ℕ) → x < length h.ranks → z < length h.ranks → rank_of h x ≡ q → rank_of h z ≡ r → (ls : List Link) × Chain (IsFalling h) ls z x c
   walk-fall stay x z x_in z_in at there = ([], subst (λ y. Chain (IsFalling h) [] y x zero_cost) (same_node h made x z x_in z_in (at ∙ sym there)) nothing)
   walk-fall (go {c = c} {d = d} arc rest) x z x_in z_in at there =
       let l : Link = link_at h arc.link in
@@ -82,7 +82,7 @@ module _ (h : Hierarchy) (made : IsWellMade h) where
 -- The law of the stop
 
 -- what costs no more than one that counts, counts too
-counts_less : (bound : Cost) (best : Option Cost) → IsDownward (CountsBelow bound best)
+pub counts_less : (bound : Cost) (best : Option Cost) → IsDownward (CountsBelow bound best)
 counts_less bound best c d less counts = record {
   short = no_longer_at_most less counts.short;
   below = λ b is. at_most_trans_below less (counts.below b is);
@@ -95,7 +95,7 @@ both_parts p a q b =
     ∙ (sym (sum_assoc (p ⊕ a) b q) ∙ ap (λ (d : Cost). d ⊕ q) (sum_assoc p a b))
 
 -- what the walk to a label costs, by its seed and the rest
-seed_parts : {h : Hierarchy} {side : Side} {seeds : List Seed} {r : ℕ} {d c : Cost} (w : StartedWalk (LinkArc h side) (IsSeedAt h seeds) r d) → d ≡ c → c ≡ w.begins.seed.cost ⊕ w.rest
+pub seed_parts : {h : Hierarchy} {side : Side} {seeds : List Seed} {r : ℕ} {d c : Cost} (w : StartedWalk (LinkArc h side) (IsSeedAt h seeds) r d) → d ≡ c → c ≡ w.begins.seed.cost ⊕ w.rest
 seed_parts w is = sym is ∙ (sym w.sum ∙ ap (λ (e : Cost). e ⊕ w.rest) (sym w.begins.cost))
 
 module _ (h : Hierarchy) (made : IsWellMade h) (starts ends : List Seed) (begins : AreSeeds h starts) (stops : AreSeeds h ends) (bound : Cost) (up down : List (Mark Label)) (best : Option Cost) (rises : IsClimbing h Rise starts bound best up) (falls : IsClimbing h Fall ends bound best down) where

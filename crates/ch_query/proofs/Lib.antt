@@ -16,3 +16,6 @@ pub mod Between
 pub mod FreeSeeds
 pub mod Pairs
 pub mod Results
+pub mod Climbs
+pub mod Falls
+pub mod WaysBetween

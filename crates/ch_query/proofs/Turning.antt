@@ -18,6 +18,7 @@ use Rattle.ch_query.specs.declared.meeting.Meeting.{Meeting}
 use Rattle.ch_query.specs.Labels.{AreShort, Meets, CountsBelow}
 use Rattle.ch_query.specs.Seeds.{IsSeedAt}
 use Rattle.ch_query.specs.Climb.{cost_at}
+use Rattle.ch_query.specs.Climbing.{IsClimbedOn}
 use Rattle.ch_query.specs.Marks.{label_cost, costs_of, settled_in, IsNoLater, IsLatest, IsLeastOpen, IsNoMore, FitAll}
 use Rattle.ch_query.specs.Searching.{LinkArc, IsClimbing, IsFrom, IsSearching, ClimbsTo, IsOpenedOver, ArePassed}
 use Rattle.ch_query.specs.Meeting.{IsBestSoFar, IsLooked}
@@ -124,6 +125,18 @@ module _ (h : Hierarchy) (side : Side) (seeds : List Seed) (bound : Cost) (old :
 
     pub turn-count : settled_count new ≡ settled_count old + 1
     turn-count = opened.count ∙ count-settle old r e e next.opens
+
+    -- it settled that node and no other
+    pub turn-climbed_on : IsClimbedOn r e old new
+    turn-climbed_on = record {
+      here = turn-here label_cost IsNoLater (ClimbsTo h side bound r e.cost) turn;
+      stays = λ q d was. turn-stays label_cost IsNoLater (ClimbsTo h side bound r e.cost) turn q d was;
+      settled = λ q d closed. elim (turn-settled label_cost IsNoLater (ClimbsTo h side bound r e.cost) turn q d closed) [
+        | inl this ↦ inl this.0
+        | inr before ↦ inr before
+      ];
+      count = turn-count;
+    }
 
     -- the best meeting so far, once the other side was looked at there
     pub best-turn : (there : List (Mark Label)) (best found : Option Meeting) → IsBestSoFar bound old there best → IsLooked bound r e.cost (costs_of there r) best found → IsBestSoFar bound new there found

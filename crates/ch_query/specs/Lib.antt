@@ -9,5 +9,7 @@ pub mod Marks
 pub mod Front
 pub mod Ready
 pub mod Searching
+pub mod Ways
+pub mod Climbing
 pub mod Beginning
 pub mod Meeting

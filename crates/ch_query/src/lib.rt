@@ -23,7 +23,9 @@
 //! ```
 #![tactic(auto)]
 
+mod climb;
 mod descent;
+mod fall;
 mod frontier;
 mod half;
 mod hierarchy_ref;
@@ -42,7 +44,9 @@ mod side;
 mod turn;
 mod upward;
 
+pub use climb::Climbed;
+pub use fall::Fall;
 pub use hierarchy_ref::HierarchyRef;
-pub use laws::labels_are_right;
+pub use laws::{labels_are_right, ways_are_walks};
 pub use search::{Found, FoundBetween, Search, SearchOf};
 pub use seed::Seed;

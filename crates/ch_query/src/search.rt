@@ -1,16 +1,22 @@
-ghost use Rattle.std.specs.Prelude.{◌≡◌, ◌<◌, length, option_map, Some, IfOk, IfSome};
+ghost use Rattle.std.specs.Prelude.{◌≡◌, ◌<◌, length, option_map, Some, IfOk, IfSome, OnOk};
 ghost use Rattle.ch_cost.specs.Cost.{zero_cost, IsSummable};
 ghost use Rattle.ch_graph.specs.Graph as graphs;
 ghost use Rattle.ch_graph.specs.Hierarchy.{IsRight, IsValue, IsWellMade};
 ghost use Rattle.ch_graph.specs.Unfolding.{Joined};
+ghost use Rattle.ch_query.specs.declared.side.Side.TheVariants.{Rise};
 ghost use Rattle.ch_query.specs.Places.{IsRiseFallAt};
 ghost use Rattle.ch_query.specs.Seeds.{AreSeeds, IsValueBetween, IsWalkBetween, IsLeastWalkBetween, IsDistanceBetween, longest};
+ghost use Rattle.ch_query.specs.Ways.{AreFallsTo, AreLeastClimbs};
 
+use crate::climb::Climbed;
+use crate::fall::Fall;
 use crate::frontier::Frontier;
+use crate::half::Half;
 use crate::hierarchy_ref::HierarchyRef;
 use crate::layout::Layout;
 use crate::query::Query;
 use crate::seed::Seed;
+use crate::side::Side;
 use ch_cost::Cost;
 use ch_graph::{Hierarchy, LinkId};
 use std::alloc::{AllocError, Global};
@@ -219,6 +225,49 @@ impl<H: HierarchyRef> SearchOf<H> {
     {
         let most = Cost::of_walk(LONGEST, 0);
         self.least_cost(starts, ends, most)
+    }
+
+    /// Lists the least climb to each node that links which rise lead to from one of the starts, with what the start
+    /// costs, in place of what the list had: of those that are no longer than the bound. A call that fails leaves any
+    /// part of them in the list.
+    ///
+    /// It is half of a query, whose other half is the links that fall from there ([`Search::falls_to`]). Ranks are below
+    /// the number of nodes, and no node is listed twice. Takes the time of a side of a query that has no end, by the heap
+    /// of [`Search::distance`], and 16 bytes for each node that it comes to.
+    pub fn climb(
+        &mut self,
+        starts: &[Seed],
+        bound: Cost,
+        climbs: &mut Vec<Climbed>,
+    ) -> Result<(), AllocError>
+        requires starts { AreSeeds self.old starts.now }
+        requires bound { IsSummable bound }
+        ensures climbs { OnOk result (AreLeastClimbs self.old Rise starts.now bound climbs.new.items) }
+        ensures kept { self.new ≡ self.old }
+    {
+        let half = Half {
+            hierarchy: self.hierarchy.hierarchy(),
+            steps: &self.layout.rising,
+            side: Side::Rise,
+            seeds: starts,
+            bound,
+        };
+        let climbed = half.climb(&mut self.up, climbs);
+        self.up.give_back();
+        climbed
+    }
+
+    /// Lists the links that fall to the node of a rank, in place of what the list had. A call that fails leaves any part
+    /// of them in the list.
+    ///
+    /// Takes time by the number of these links, and 16 bytes for each.
+    pub fn falls_to(&self, rank: u32, falls: &mut Vec<Fall>) -> Result<(), AllocError>
+        requires rank_in { rank < length self.now.ranks }
+        ensures falls { OnOk result (AreFallsTo self.now rank falls.new.items) }
+    {
+        self.layout
+            .falling
+            .list_falls(self.hierarchy.hierarchy(), rank, falls)
     }
 
     /// The least walk from a start to an end, if one is no longer than the bound with both. Frees the memory of a far

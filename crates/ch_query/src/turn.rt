@@ -56,7 +56,7 @@ impl Half<'_> {
     }
 
     /// Follows each link that climbs from a node that was reached, where the sum is below the limit.
-    fn pass_over(
+    pub fn pass_over(
         &self,
         from: Reached,
         limit: Option<Cost>,
