@@ -2,3 +2,4 @@ pub mod Betweens
 pub mod Found
 pub mod Least
 pub mod Pairs
+pub mod RowLengths

@@ -1,14 +1,16 @@
 -- Routes between several starts and several ends, each with a cost of its own.
-use Rattle.std.specs.Prelude.{ℕ, ◌≡◌, ◌+◌, ◌-◌, ◌<◌, ◌≤◌, List, ◌∷◌, length, map, Contains, Option, Some, None, option_map, slice_get}
+use Rattle.std.specs.Prelude.{ℕ, ◌≡◌, ◌+◌, ◌-◌, ◌<◌, ◌≤◌, List, [], ◌∷◌, length, map, Contains, Option, Some, None, option_map, slice_get}
 use Rattle.ch_cost.specs.declared.cost.Cost.{Cost}
 use Rattle.ch_cost.specs.Cost.{length_of}
 use Rattle.ch_graph.specs.declared.link.Link.{Link}
 use Rattle.ch_graph.specs.Walk.{Walk}
 use Rattle.ch_graph.specs.Graph.{Graph, ArcOf}
-use Rattle.ch_graph.specs.Hierarchy.{Hierarchy, IsRiseFall, UnfoldsAll}
+use Rattle.ch_graph.specs.Hierarchy.{Hierarchy, IsRight, IsRiseFall, UnfoldsAll}
+use Rattle.ch_laws.specs.ByWeight.{IsRightByWeight}
 use Rattle.ch_query.specs.declared.seed.Seed.{Seed}
 use Rattle.ch_query.specs.Seeds.{IsDistanceBetween, IsValueBetween, cost_between, longest}
-use Rattle.ch_route.specs.Routes.{Route, IsFewestWalk}
+use Rattle.ch_query.specs.Ways.{free}
+use Rattle.ch_route.specs.Routes.{Route, IsFewestWalk, or_none}
 
 -- the places of a start and of an end in their lists, what these and the way between them cost together, and the nodes
 -- along that way, both ends among them
@@ -111,3 +113,13 @@ pub record IsLengthBetweenBy (h : Hierarchy) (starts ends : List Seed) (n : Opti
   pub value : Option Cost
   pub least : IsValueBetween h starts ends longest value
   pub long : n ≡ option_map length_of value
+
+-- In a row of lengths
+
+-- the length from several starts to one node, by the hierarchy and in each graph that it is right for, be it by weight alone
+pub record IsRowLengthFrom (h : Hierarchy) (starts : List Seed) (t n : ℕ) : Type 0 where
+  pub length : Option ℕ
+  pub found : IsLengthBetweenBy h starts (free t ∷ []) length
+  pub exact : (g : Graph) → IsRight g h → IsLengthBetween g starts (free t ∷ []) length
+  pub by_weight : (g : Graph) → IsRightByWeight g h → IsLeastLengthBetween g starts (free t ∷ []) length
+  pub written : n ≡ or_none length

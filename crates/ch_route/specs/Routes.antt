@@ -5,9 +5,10 @@ use Rattle.ch_cost.specs.Cost.{length_of}
 use Rattle.ch_graph.specs.declared.link.Link.{Link}
 use Rattle.ch_graph.specs.Walk.{Walk, visited}
 use Rattle.ch_graph.specs.Graph.{Graph, ArcOf, IsLeastLength}
-use Rattle.ch_graph.specs.Hierarchy.{Hierarchy, IsValue}
-use Rattle.ch_laws.specs.ByWeight.{IsShortest}
+use Rattle.ch_graph.specs.Hierarchy.{Hierarchy, IsRight, IsValue}
+use Rattle.ch_laws.specs.ByWeight.{IsShortest, IsRightByWeight}
 use Rattle.ch_laws.specs.Theorems.{IsLeastRoute}
+use Rattle.ch_table.specs.declared.row.TheConstants.{NO_LENGTH}
 
 -- what a way from one node to another costs, and the nodes along it, both ends among them
 pub record Route : Type 0 where
@@ -60,3 +61,18 @@ pub record IsLengthBy (h : Hierarchy) (s t : ℕ) (n : Option ℕ) : Type 0 wher
   pub value : Option Cost
   pub least : IsValue h s t value
   pub long : n ≡ option_map length_of value
+
+-- In a row of lengths
+
+-- a length, or the number that stands for none
+abbrev pub or_none : Option ℕ → ℕ
+or_none (Some n) = n
+or_none None = NO_LENGTH
+
+-- the length by the hierarchy, and in each graph that this is right for, be it by weight alone, the least over all walks
+pub record IsRowLength (h : Hierarchy) (s t n : ℕ) : Type 0 where
+  pub length : Option ℕ
+  pub found : IsLengthBy h s t length
+  pub exact : (g : Graph) → IsRight g h → IsLeastLength g s t length
+  pub by_weight : (g : Graph) → IsRightByWeight g h → IsLeastLength g s t length
+  pub written : n ≡ or_none length

@@ -25,6 +25,7 @@ mod route;
 mod router;
 
 pub use ch_query::{HierarchyRef, Seed};
+pub use ch_table::{NO_LENGTH, Selection};
 pub use ch_unpack::UnpackError;
 pub use laws::routes_are_least;
 pub use route::{Route, RouteBetween};

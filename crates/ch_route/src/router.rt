@@ -1,20 +1,23 @@
-ghost use Rattle.std.specs.Prelude.{◌≡◌, ◌<◌, length, option_map, Err, IfOk, ℕ};
-ghost use Rattle.ch_cost.specs.Cost.{length_of};
+ghost use Rattle.std.specs.Prelude.{◌≡◌, ◌+◌, ◌<◌, ◌≤◌, ◌^◌, length, option_map, All, Err, IfOk, OnErr, OnOk, ℕ};
+ghost use Rattle.ch_cost.specs.Cost.{length_of, of_walk};
 ghost use Rattle.ch_graph.specs.declared.version.Version.TheVariants.{One};
 ghost use Rattle.ch_graph.specs.Graph.{Graph, IsLeastLength};
 ghost use Rattle.ch_graph.specs.Hierarchy.{IsRight, IsWellMade};
 ghost use Rattle.ch_graph.specs.Limits.{IsGraph};
 ghost use Rattle.ch_laws.specs.ByWeight.{IsRightByWeight};
 ghost use Rattle.ch_query.specs.Seeds.{AreSeeds};
-ghost use Rattle.ch_route.specs.Between.{HasTooLongBetween, IsLeastBetween, IsLeastLengthBetween, IsLengthBetween, IsLengthBetweenBy, IsRouteBetweenBy, IsShortestBetween};
-ghost use Rattle.ch_route.specs.Routes.{HasTooLong, IsFewestWalk, IsLeastWalk, IsLengthBy, IsRouteBy};
+ghost use Rattle.ch_route.specs.Between.{HasTooLongBetween, IsLeastBetween, IsLeastLengthBetween, IsLengthBetween, IsLengthBetweenBy, IsRouteBetweenBy, IsRowLengthFrom, IsShortestBetween};
+ghost use Rattle.ch_route.specs.Routes.{HasTooLong, IsFewestWalk, IsLeastWalk, IsLengthBy, IsRouteBy, IsRowLength};
+ghost use Rattle.ch_table.specs.Lengths.{IsLengthFromAny, IsRow};
+ghost use Rattle.ch_table.specs.Selection.{IsSelection};
 ghost use Rattle.ch_unpack.specs.declared.error.UnpackError.TheVariants.{TooLong};
 
 use crate::laws::routes_are_least;
 use crate::route::{Route, RouteBetween};
 use ch_cost::Cost;
 use ch_graph::{Hierarchy, places_name_links};
-use ch_query::{HierarchyRef, SearchOf, Seed};
+use ch_query::{HierarchyRef, SearchOf, Seed, ways_are_walks};
+use ch_table::Selection;
 use ch_unpack::{UnpackError, unpack};
 use std::alloc::{AllocError, Global};
 use std::marker::Model;
@@ -173,6 +176,66 @@ impl<H: HierarchyRef> RouterOf<H> {
         let _well_made = self.nodes();
         let cost = self.search.cost_between(starts, ends)?;
         Ok(length_of(cost))
+    }
+
+    /// Selects the part of the hierarchy that paths to these targets fall through, for rows of lengths to them.
+    ///
+    /// Takes the time and the memory of [`Selection::new`].
+    pub fn select(&self, targets: &[u32]) -> Result<Selection, AllocError>
+        requires targets { All (λ t. t < length self.now.ranks) targets.now }
+        ensures selection { IfOk result (λ s. IsSelection self.now s) }
+        ensures targets { IfOk result (λ s. s.targets ≡ targets.now) }
+    {
+        Selection::new(self.alloc, &self.search, targets)
+    }
+
+    /// Writes the least length of a path from a node to each target of a selection, from a place of the row on, or
+    /// [`NO_LENGTH`](ch_table::NO_LENGTH) where there is none: what [`Router::length`] returns for each pair.
+    ///
+    /// The selection is of the same hierarchy. Takes the time and the memory of [`Selection::lengths`]. If memory is
+    /// refused, the row is as before.
+    pub fn lengths(
+        &mut self,
+        source: u32,
+        selection: &Selection,
+        row: &mut [u64],
+        from: usize,
+    ) -> Result<(), AllocError>
+        requires source_in { source < length self.old.ranks }
+        requires selection { IsSelection self.old selection.now }
+        requires room { from + length selection.now.targets ≤ length row.old }
+        ensures row { OnOk result (IsRow (IsRowLength self.old source) selection.now.targets from row.old row.new) }
+        ensures refused { OnErr result (row.new ≡ row.old) }
+        ensures kept { self.new ≡ self.old }
+    {
+        routes_are_least();
+        selection.lengths(&mut self.search, source, row, from)
+    }
+
+    /// The same from several starts, each with a cost of its own, of paths that are no longer than a limit with their
+    /// start: what [`Router::length_between`] returns for each target alone, where it is within the limit. A limit of 2^62
+    /// cuts no path off.
+    pub fn lengths_from(
+        &mut self,
+        starts: &[Seed],
+        limit: u64,
+        selection: &Selection,
+        row: &mut [u64],
+        from: usize,
+    ) -> Result<(), AllocError>
+        requires starts { AreSeeds self.old starts.now }
+        requires limit { limit ≤ 2 ^ 62 }
+        requires selection { IsSelection self.old selection.now }
+        requires room { from + length selection.now.targets ≤ length row.old }
+        ensures within { OnOk result (IsRow (IsLengthFromAny self.old starts.now (of_walk limit 0)) selection.now.targets from row.old row.new) }
+        ensures row { OnOk result (limit ≡ 2 ^ 62 → IsRow (IsRowLengthFrom self.old starts.now) selection.now.targets from row.old row.new) }
+        ensures refused { OnErr result (row.new ≡ row.old) }
+        ensures kept { self.new ≡ self.old }
+    {
+        routes_are_least();
+        ways_are_walks();
+        let _well_made = self.nodes();
+        selection.lengths_from(&mut self.search, starts, limit, row, from)
     }
 
     // The route between starts and ends by the hierarchy alone.

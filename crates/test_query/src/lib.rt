@@ -1,7 +1,7 @@
-//! Tests of costs, graphs, queries and routes from without: sums and their order, least lengths, links of pairs, and
-//! small hierarchies with answers by hand.
+//! Tests of costs, graphs, queries, tables and routes from without: sums and their order, least lengths, links of pairs,
+//! and small hierarchies with answers by hand.
 //!
-//! A crate of its own, so that `ch_cost`, `ch_graph`, `ch_query` and `ch_unpack` are proved once and nothing waits for
+//! A crate of its own, so that `ch_cost`, `ch_graph`, `ch_query`, `ch_table` and `ch_unpack` are proved once and nothing waits for
 //! their tests. It has no code but tests.
 #![tactic(auto)]
 
@@ -27,3 +27,5 @@ mod routes;
 mod searches;
 #[cfg(test)]
 mod several;
+#[cfg(test)]
+mod tables;

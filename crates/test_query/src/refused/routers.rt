@@ -75,3 +75,39 @@ fn router_beside(rt: HostRuntime) -> Result<(), Fail> {
     assert!(rt; is_drawn_beside(rt.alloc(), &hierarchy)?);
     Ok(())
 }
+
+/// The lengths from 0 to 3 and back to 0, and what is behind them, by a selection that is made again where it runs out of
+/// memory, and a call that is made again where it does: before, the row is as it was.
+fn row(router: &mut Router<'_>) -> Result<[u64; 3], Fail> {
+    let mut row = [9; 3];
+    if router.nodes() < 4 {
+        return Ok(row);
+    }
+    let selection = match router.select(&[3, 0]) {
+        Ok(selection) => selection,
+        Err(AllocError) => router.select(&[3, 0])?,
+    };
+    if let Err(AllocError) = router.lengths(0, &selection, &mut row, 0) {
+        if row != [9; 3] {
+            return Ok(row);
+        }
+        router.lengths(0, &selection, &mut row, 0)?;
+    }
+    Ok(row)
+}
+
+/// Whether the row of the drawn hierarchy is that, by a new router.
+fn has_row(alloc: Global, hierarchy: &Hierarchy) -> Result<bool, Fail> {
+    let mut router = match Router::new(alloc, hierarchy) {
+        Ok(router) => router,
+        Err(AllocError) => Router::new(alloc, hierarchy)?,
+    };
+    Ok(row(&mut router)? == [4, 0, 9])
+}
+
+#[test]
+fn lengths(rt: HostRuntime) -> Result<(), Fail> {
+    let hierarchy = hierarchy_of(rt.alloc(), DRAWN_RANKS, DRAWN, (20, 4))?;
+    assert!(rt; has_row(rt.alloc(), &hierarchy)?);
+    Ok(())
+}

@@ -1,0 +1,10 @@
+pub mod LeastLabels
+pub mod LeastWays
+pub mod Raising
+pub mod Sweeping
+pub mod Rows
+pub mod Ordered
+pub mod LayingDown
+pub mod Marked
+pub mod Ends
+pub mod Bounds

@@ -1,0 +1,4 @@
+pub mod Lengths
+pub mod Labels
+pub mod Selection
+pub mod Laying
