@@ -68,6 +68,8 @@ class Service:
             if found := re.search(r"listens at (?:http://127\.0\.0\.1:(\d+)/|unix:)", line):
                 self.port = int(found[1] or 0)
                 break
+        else:
+            raise SystemExit("service_load: the service doesn't start")
         self.seconds_to_begin = time.monotonic() - begun
         threading.Thread(target=self.process.stderr.read, daemon=True).start()
         if not given.direct:

@@ -80,7 +80,7 @@ class Application(BaseApplication):  # type: ignore[misc] # (gunicorn has no typ
         for name, value in vars(self.cfg.parser().parse_args(self.cfg.get_cmd_args_from_env())).items():
             if value is not None and name != "args":
                 self.cfg.set(name, value)
-        hooks = {hook.__name__: hook for hook in (pre_fork, post_fork, post_request, child_exit, when_ready)}
+        hooks = {hook.__name__: hook for hook in (pre_fork, post_fork, pre_request, post_request, child_exit, when_ready)}
         for name, value in {**FIXED, **hooks, "bind": self.setup.bind, "workers": self.workers}.items():
             self.cfg.set(name, value)
 
@@ -229,6 +229,10 @@ def child_exit(arbiter: Arbiter, worker: Worker) -> None:
     if not worker.told:
         arbiter.app.metrics.own.worker_restarts += 1
         log.error("worker %s has ended: another one is started", worker.pid)
+
+
+def pre_request(_worker: Worker, _request: object) -> None:
+    """In the worker: gunicorn's own would make a line for its log that nobody reads, and has the path."""
 
 
 def post_request(worker: Worker, _request: object, environ: Environ, response: Any) -> None:

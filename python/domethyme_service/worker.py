@@ -37,9 +37,9 @@ FIRST_MILLISECONDS = 2
 MAX_HEAD, MAX_LINE, SHORT_BODY, SHORT_PATH, SHORT_TARGET = 1 << 17, 65_600, 2048, 512, 4096
 # Connections that may wait for their heads, in each worker.
 MAX_WAITING = 500
-# What no head has (RFC 9112): other control characters, a CR or an LF alone, and a line that goes on in the next.
-NO_HEAD = re.compile(rb"[\0-\x08\x0b\x0c\x0e-\x1f\x7f]|\r(?=[^\n])|(?<!\r)\n|\n[ \t]")
-BODY_LENGTH = re.compile(rb"(?i)\r\ncontent-length:[ \t]*([0-9]{1,4})[ \t]*\r\n")
+# The control characters that no head has.
+CONTROLS = bytes([*range(9), 11, 12, *range(14, 32), 127])
+BODY_LENGTH = re.compile(rb"\ncontent-length:[ \t]*([0-9]{1,4})[ \t]*\r")
 GONE = select.EPOLLRDHUP | select.EPOLLHUP | select.EPOLLERR
 access_log, log = logging.getLogger("domethyme_service.access"), logging.getLogger("domethyme_service")
 
@@ -55,12 +55,13 @@ class Head(enum.Enum):
 
 
 class Connection(NamedTuple):
-    """A connection, its client's address, until when it may wait, and its request, once its head was read."""
+    """A connection, its client's address, until when it may wait, and its request, once its head was read, and whether it is a long one."""
 
     client: socket.socket
     address: Any
     deadline: float
     request: Any = None
+    is_long: bool = False
 
 
 class HeadWithBody:
@@ -197,8 +198,8 @@ class Worker(SyncWorker):  # type: ignore[misc] # (gunicorn has no types)
             return connection.client.close()
         except Exception:  # (gunicorn has an error for each fault, and no other for them)
             return self.refuse(connection, malformed())
-        connection = connection._replace(request=request, deadline=time.monotonic() + SLOT_SECONDS)
-        if is_long(request) and (self.queue or not self.slots.take()):
+        connection = Connection(connection.client, connection.address, time.monotonic() + SLOT_SECONDS, request, is_long(request))
+        if connection.is_long and (self.queue or not self.slots.take()):
             self.queue.append(connection)
         else:
             self.serve(connection)
@@ -207,7 +208,7 @@ class Worker(SyncWorker):  # type: ignore[misc] # (gunicorn has no types)
         """Answers a request, and frees the slot that it has."""
         client, request = connection.client, connection.request
         self.begun = time.monotonic()
-        is_slow = is_long(request) or request.path.startswith(("/table/", "/nodes/routes", "/nodes/lengths"))
+        is_slow = connection.is_long or request.path.startswith(("/table/", "/nodes/routes", "/nodes/lengths"))
         self.start_alarm(LONG_SECONDS if is_slow else ANSWER_SECONDS)
         try:
             sender = HeadWithBody(client)
@@ -222,7 +223,7 @@ class Worker(SyncWorker):  # type: ignore[misc] # (gunicorn has no types)
         finally:
             self.stop_alarm()
             self.slots.free()
-            client.close() if request.method in ("GET", "HEAD") and not is_long(request) else linger(client)
+            client.close() if request.method in ("GET", "HEAD") and not connection.is_long else linger(client)
 
     def answer(self, environ: Environ, start_response: StartResponse) -> Iterable[bytes]:
         """What gunicorn calls: the service, and 504 in place of an answer that takes too long. A worker in which one was broken off
@@ -304,19 +305,23 @@ def head_of(client: socket.socket) -> Head:
 
 
 def judge_head(come: bytes) -> Head:
-    """The same of the bytes that have come."""
+    """The same of the bytes that have come. What RFC 9112 lets a server refuse is malformed: a control character, a CR or an LF alone,
+    and a line that goes on in the next."""
     end = come.find(b"\r\n\r\n")
-    if NO_HEAD.search(come, 0, len(come) if end < 0 else end + 4):
+    head = come.removesuffix(b"\r") if end < 0 else come[: end + 4]
+    lines = head.count(b"\r\n")
+    if not head.count(b"\r") == lines == head.count(b"\n") or len(head.translate(None, CONTROLS)) < len(head):
+        return Head.MALFORMED
+    if b"\n " in head or b"\n\t" in head:
         return Head.MALFORMED
     if end < 0:
-        is_endless = len(come) == MAX_HEAD or len(come) > MAX_LINE and b"\n" not in come
-        return Head.MALFORMED if is_endless else Head.PARTIAL
-    length = BODY_LENGTH.search(come, 0, end + 2)
+        return Head.MALFORMED if len(come) == MAX_HEAD or not lines and len(come) > MAX_LINE else Head.PARTIAL
+    lowered = head.lower()
+    length = BODY_LENGTH.search(lowered)
     if length is None or int(length[1]) > SHORT_BODY or len(come) - end - 4 >= int(length[1]):
         return Head.WHOLE
     # (one with several lengths is refused by gunicorn)
-    head = come[:end].lower()
-    return Head.WHOLE if b"\ntransfer-encoding" in head or head.count(b"\ncontent-length") > 1 else Head.PARTIAL
+    return Head.WHOLE if b"\ntransfer-encoding" in lowered or lowered.count(b"\ncontent-length") > 1 else Head.PARTIAL
 
 
 def is_long(request: Any) -> bool:

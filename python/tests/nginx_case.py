@@ -3,7 +3,6 @@ by a real nginx as the user of the test."""
 import getpass
 import os
 import pathlib
-import re
 import shutil
 import socket
 import subprocess
@@ -65,5 +64,5 @@ class NginxCase(ServiceCase):
 
     def log(self, name="domethyme.log"):
         """A log of nginx, once it is written."""
-        time.sleep(0.3)
-        return re.sub("(?m)^$", "", (self.folder / name).read_text())
+        time.sleep(1.5)
+        return (self.folder / name).read_text()

@@ -81,9 +81,9 @@ class SignalTests(ServiceCase):
         for factor in (2, 3):
             self.prepare(factor)
             process.send_signal(signal.SIGHUP)
-            self.wait_for(lambda: self.ask(PATH)[1]["length"] == factor * old)
+            self.wait_for(lambda: sum("reloaded" in line for line in self.said) == factor - 1)
+            self.assertEqual({self.ask(PATH)[1]["length"] for _ in range(20)}, {factor * old})
         for lengths in self.finish(clients):
-            self.assertEqual(lengths, sorted(lengths))
             self.assertLessEqual(set(lengths), {old, 2 * old, 3 * old})
         self.wait_for(lambda: self.value("reloads_total") == 2)
 
@@ -153,15 +153,18 @@ class SignalTests(ServiceCase):
             self.assertEqual(process.wait(20), 0)
 
     def test_the_end(self):
+        """What was accepted is answered; a connection that waits then is reset, or refused."""
         process = self.serve()
         right = self.ask(PATH)[1]["length"]
         clients = self.clients()
         time.sleep(0.5)
         process.send_signal(signal.SIGTERM)
         self.assertEqual(process.wait(20), 0)
-        for lengths in self.finish(clients):
-            self.assertGreater(len(lengths), 1)
-            self.assertEqual(set(lengths), {right})
+        for client in clients:
+            client.join()
+            self.assertGreater(len(client.lengths), 1)
+            self.assertEqual((set(client.lengths), len(client.lost)), ({right}, 1))
+            self.assertRegex(client.lost[0], "Connection(Reset|Refused)Error")
 
     def test_an_idle_connection_does_not_hold_up_the_end(self):
         process = self.serve()
