@@ -127,6 +127,31 @@ static void many(domethyme *handle)
     WANT(memcmp(lengths, wanted, sizeof wanted) == 0);
 }
 
+/* A table of 72 lengths, which has a selection of its own: asked twice, with others and none in between. */
+static void rows(domethyme *handle)
+{
+    /* the towns' lengths, as README's session has them */
+    const uint64_t towns[3][3] = {{0, 300, 700}, {300, 0, 400}, {DOMETHYME_NO_LENGTH, DOMETHYME_NO_LENGTH, 0}};
+    const uint32_t sources[] = {2, 0, 1};
+    uint32_t targets[24];
+    uint64_t lengths[73];
+    for (int turn = 0; turn < 4; ++turn) {
+        for (uint32_t place = 0; place < 24; ++place)
+            targets[place] = turn == 2 ? 2 - place % 3 : place % 3;
+        for (int place = 0; place < 73; ++place)
+            lengths[place] = 42;
+        if (turn == 3)
+            WANT(domethyme_table(handle, sources, 3, targets, 0, lengths, 0) == DOMETHYME_OK);
+        WANT(domethyme_table(handle, sources, 3, targets, 24, lengths, 72) == DOMETHYME_OK && lengths[72] == 42);
+        for (int row = 0; row < 3; ++row)
+            for (int column = 0; column < 24; ++column)
+                WANT(lengths[row * 24 + column] == towns[sources[row]][targets[column]]);
+    }
+    WANT(domethyme_table(handle, sources, 3, targets, 24, lengths, 71) == DOMETHYME_NO_ROOM);
+    targets[23] = 3;
+    WANT(domethyme_table(handle, sources, 3, targets, 24, lengths, 72) == DOMETHYME_NODE_RANGE);
+}
+
 /* A code and its text. */
 typedef struct meaning {
     uint32_t code;
@@ -191,6 +216,7 @@ int main(int count, char **words)
     several(&handle);
     depots(&handle);
     many(&handle);
+    rows(&handle);
     /* A second handle lives on behind the first; a handle that is opened again closes what it had. */
     WANT(domethyme_beside(&handle, &other) == DOMETHYME_OK);
     WANT(domethyme_beside(&handle, &other) == DOMETHYME_OK);

@@ -88,6 +88,14 @@ static void run(const uint8_t *bytes, size_t count)
     while (is_out(domethyme_table(&handle, ends, 2, ends, 2, lengths, 4)))
         ;
     WANT(lengths[1] == 700 && lengths[2] == DOMETHYME_NO_LENGTH);
+    /* by rows, with a selection */
+    uint32_t many[40];
+    uint64_t rows[80];
+    for (int place = 0; place < 40; ++place)
+        many[place] = place % 3;
+    while (is_out(domethyme_table(&handle, ends, 2, many, 40, rows, 80)))
+        ;
+    WANT(rows[0] == 0 && rows[38] == 700 && rows[40] == DOMETHYME_NO_LENGTH && rows[79] == DOMETHYME_NO_LENGTH);
     domethyme_close(&handle);
     domethyme_close(&other);
 }

@@ -1,3 +1,4 @@
 mod Seeds
 pub mod Steps
 mod Boxes
+pub mod TableRows

@@ -1,4 +1,4 @@
-ghost use Rattle.std.specs.Prelude.{◌≡◌, ◌↔◌, Err, IfErr, IfOk, IsTrue, length, Some};
+ghost use Rattle.std.specs.Prelude.{◌≡◌, ◌↔◌, ◌+◌, ◌<◌, ◌≤◌, All, Err, IfErr, IfOk, IsTrue, OnOk, length, Some};
 ghost use Rattle.ch_graph.specs.Hierarchy.{version_number};
 ghost use Rattle.hierfile.specs.Bytes.{IsFaultOf};
 ghost use Rattle.hierfile.specs.Fault.{first_fault};
@@ -6,33 +6,36 @@ ghost use Rattle.hierfile.specs.Spelling.{bytes_of};
 ghost use Rattle.domethyme_c.specs.Answers.{AreNodes, IsBetween, IsLength, IsRoute, IsWrong};
 ghost use Rattle.ch_query.specs.Seeds.{AreSeeds};
 ghost use Rattle.ch_route.specs.Between.{HasTooLongBetween};
-ghost use Rattle.ch_route.specs.Routes.{HasTooLong};
+ghost use Rattle.ch_route.specs.Routes.{HasTooLong, IsRowLength};
+ghost use Rattle.ch_table.specs.Lengths.{IsRow};
+ghost use Rattle.ch_table.specs.Selection.{IsSelection};
 ghost use Rattle.ch_unpack.specs.declared.error.UnpackError.TheVariants.{TooLong};
 
 use ch_graph::Hierarchy;
-use ch_route::{Route, RouteBetween, RouterOf, Seed, UnpackError};
+use ch_route::{Route, RouteBetween, RouterOf, Seed, Selection, UnpackError};
 use hierfile::HierError;
 use std::alloc::{AllocError, Global};
 use std::marker::Model;
 use std::sync::Arc;
 
-/// What an open handle has: a router of a hierarchy, which other handles may share, and the version of its file.
+/// What an open handle has: a router of a hierarchy, which other handles may share, the version of its file, and the
+/// selection of the last table, for another table to the same targets.
 #[derive(Drop)]
 pub(crate) struct Engine {
     router: RouterOf<Arc<Hierarchy>>,
     version: u8,
+    kept: Option<Selection>,
 }
 
 impl Model for Engine {
-    ghost use Rattle.std.specs.Prelude.{◌≡◌};
     ghost use Rattle.ch_graph.specs.Hierarchy as hierarchies;
-    ghost use Rattle.ch_graph.specs.Hierarchy.{version_number};
+    ghost use Rattle.domethyme_c.specs.Engines.{IsEngine};
 
     ghost Value = { hierarchies.Hierarchy };
 
     ghost view = { λ e. e.router };
 
-    ghost invariant = { λ e. e.version ≡ version_number e.router.version };
+    ghost invariant = { λ e. IsEngine e.router e.version e.kept };
 }
 
 impl Engine {
@@ -46,7 +49,11 @@ impl Engine {
         let version = hierarchy.version();
         let hierarchy = Arc::new(alloc, hierarchy)?;
         let router = RouterOf::new(alloc, hierarchy)?;
-        Ok(Engine { router, version })
+        Ok(Engine {
+            router,
+            version,
+            kept: None,
+        })
     }
 
     /// The number of nodes.
@@ -105,6 +112,53 @@ impl Engine {
         self.router.between(starts, ends)
     }
 
+    /// Returns a selection of these targets, the one that is kept if it is of them. None is kept then.
+    pub(crate) fn selection(&mut self, targets: &[u32]) -> Result<Selection, AllocError>
+        requires targets { All (λ t. t < length self.old.ranks) targets.now }
+        ensures selection { IfOk result (λ s. IsSelection self.old s) }
+        ensures targets { IfOk result (λ s. s.targets ≡ targets.now) }
+        ensures kept { self.new ≡ self.old }
+    {
+        if let Some(kept) = self.kept.take() {
+            if kept.targets() == targets {
+                return Ok(kept);
+            }
+        }
+        self.router.select(targets)
+    }
+
+    /// Keeps a selection for the next table, in place of any other.
+    pub(crate) fn keep(&mut self, selection: Selection)
+        requires { IsSelection self.old selection }
+        ensures { self.new ≡ self.old }
+    {
+        self.kept = Some(selection);
+    }
+
+    /// Keeps no selection.
+    pub(crate) fn let_go(&mut self)
+        ensures { self.new ≡ self.old }
+    {
+        self.kept = None;
+    }
+
+    /// Writes the least length of a path to each target of a selection, from a place of the row on.
+    pub(crate) fn lengths(
+        &mut self,
+        source: u32,
+        selection: &Selection,
+        row: &mut [u64],
+        from: usize,
+    ) -> Result<(), AllocError>
+        requires source_in { source < length self.old.ranks }
+        requires selection { IsSelection self.old selection.now }
+        requires room { from + length selection.now.targets ≤ length row.old }
+        ensures row { OnOk result (IsRow (IsRowLength self.old source) selection.now.targets from row.old row.new) }
+        ensures kept { self.new ≡ self.old }
+    {
+        self.router.lengths(source, selection, row, from)
+    }
+
     /// Another engine of the same hierarchy.
     pub(crate) fn beside(&self) -> Result<Engine, AllocError>
         ensures { IfOk result (λ engine. engine ≡ self.now) }
@@ -113,6 +167,7 @@ impl Engine {
         Ok(Engine {
             router,
             version: self.version,
+            kept: None,
         })
     }
 }

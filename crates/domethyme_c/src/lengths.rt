@@ -1,10 +1,15 @@
 ghost use Rattle.std.specs.Prelude.{◌≡◌, ◌↔◌, ◌*◌, ◌<◌, ◌≤◌, All, IfOk, IsTrue, length};
+ghost use Rattle.ch_table.specs.Selection.{IsSelection};
 ghost use Rattle.domethyme_c.specs.Answers.{AreNodes, Answers, IsLengthAnswer, IsLengthOrNone, IsLengthsAnswer, IsTableAnswer};
 
 use crate::code::{NO_HANDLE, NO_LENGTH, NO_PATH, NO_ROOM, NODE_RANGE, OK, OUT_OF_MEMORY};
 use crate::engine::Engine;
 use crate::handle::Handle;
+use ch_route::Selection;
 use std::alloc::{AllocError, Global};
+
+/// How many lengths a table has at most that is answered pair by pair.
+const FEW: usize = 64;
 
 /// Two nodes.
 #[repr(C)]
@@ -136,8 +141,60 @@ fn answer_table(engine: &mut Engine, sources: &[u32], targets: &[u32], lengths: 
     fill_table(engine, sources, targets, count, lengths)
 }
 
-// Writes the lengths of a table that has room.
+// Writes the lengths of a table that has room: pair by pair where they are few, and else row by row.
 fn fill_table(
+    engine: &mut Engine,
+    sources: &[u32],
+    targets: &[u32],
+    count: usize,
+    lengths: &mut [u64],
+) -> u32
+    requires sources { All (λ v. v < length engine.old.ranks) sources.now }
+    requires targets { All (λ v. v < length engine.old.ranks) targets.now }
+    requires count { count ≡ length sources.now * length targets.now }
+    requires room { count ≤ length lengths.old }
+    ensures kept { engine.new ≡ engine.old }
+    ensures answer { IsTableAnswer engine.old sources.now targets.now result lengths.old lengths.new }
+{
+    if targets.is_empty() {
+        engine.let_go();
+    }
+    if count <= FEW {
+        return fill_pairs(engine, sources, targets, count, lengths);
+    }
+    let Ok(selection) = engine.selection(targets) else {
+        return OUT_OF_MEMORY;
+    };
+    let code = fill_rows(engine, sources, &selection, lengths);
+    engine.keep(selection);
+    code
+}
+
+// Row by row.
+fn fill_rows(
+    engine: &mut Engine,
+    sources: &[u32],
+    selection: &Selection,
+    lengths: &mut [u64],
+) -> u32
+    requires sources { All (λ v. v < length engine.old.ranks) sources.now }
+    requires selection { IsSelection engine.old selection.now }
+    requires room { length sources.now * length selection.now.targets ≤ length lengths.old }
+    ensures kept { engine.new ≡ engine.old }
+    ensures answer { IsTableAnswer engine.old sources.now selection.now.targets result lengths.old lengths.new }
+{
+    let width = selection.targets().len();
+    'rows: for row in 0..sources.len() {
+        match engine.lengths(sources[row], selection, lengths, row * width) {
+            Ok(()) => (),
+            Err(_) => return OUT_OF_MEMORY,
+        }
+    }
+    OK
+}
+
+// Pair by pair.
+fn fill_pairs(
     engine: &mut Engine,
     sources: &[u32],
     targets: &[u32],

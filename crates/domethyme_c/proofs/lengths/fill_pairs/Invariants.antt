@@ -1,6 +1,6 @@
 use Rattle.std.proofs.Common.{◌≡◌, ◌/◌, ◌%◌, length, slice_index}
 use Rattle.domethyme_c.specs.Answers.{AreWritten, IsLengthOrNone}
-use Rattle.domethyme_c.proofs.lengths.fill_table.Given as goal
+use Rattle.domethyme_c.proofs.lengths.fill_pairs.Given as goal
 
 abbrev pub invariant-places : goal.invariant-places
 invariant-places l =
