@@ -5,7 +5,7 @@ ghost use Rattle.ch_rowbook.specs.Blanks.{name_of};
 use crate::networks::{
     FEWEST, FREE, HEAVY, LONGER, Line, MOST, PARALLEL, ROW, TIE, graph_of, with_blank,
 };
-use crate::proposals::{are_of, are_shortcuts};
+use crate::proposals::{Judged, are_of, are_shortcuts, are_verdicts};
 use crate::shelf::{Lead, Numbers, cost_of};
 use ch_contract::{
     Board, CommitError, Contraction, Facts, FinishError, Finished, Ledger, Proposal, ProposeError,
@@ -35,9 +35,6 @@ type Offer = (
     Result<Receipt, CommitError>,
 );
 
-/// The verdict on a pair of nodes, or `None` where it isn't one of neighbours.
-type Judged = (u32, u32, Option<Verdict>);
-
 /// A link: its ends, its cost and its middle.
 pub type Linked = (u32, u32, Numbers, Option<u32>);
 
@@ -63,7 +60,7 @@ struct Case {
 
 const ROW_OF_THREE: Case = Case {
     nodes: 3,
-    lines: &ROW,
+    lines: ROW,
     turns: &[],
     log: &[(&[1, 2], 1), (&[2], 0), (&[], 0)],
     links: &[
@@ -76,7 +73,7 @@ const ROW_OF_THREE: Case = Case {
 
 const TIE_OF_FOUR: Case = Case {
     nodes: 4,
-    lines: &TIE,
+    lines: TIE,
     turns: &[],
     log: &[(&[2, 3], 0), (&[2, 3], 1), (&[3], 0), (&[], 0)],
     links: &[
@@ -91,7 +88,7 @@ const TIE_OF_FOUR: Case = Case {
 
 const HEAVIEST_WEIGHTS: Case = Case {
     nodes: 4,
-    lines: &HEAVY,
+    lines: HEAVY,
     turns: &[],
     log: &[(&[1, 2, 3], 3), (&[2, 3], 0), (&[3], 0), (&[], 0)],
     links: &[
@@ -188,7 +185,7 @@ const HEAVY_BY_COMMITS: Case = Case {
     ..HEAVIEST_WEIGHTS
 };
 
-const CASES: [Case; 11] = [
+const CASES: &[Case] = &[
     ROW_OF_THREE,
     TIE_OF_FOUR,
     HEAVIEST_WEIGHTS,
@@ -198,7 +195,7 @@ const CASES: [Case; 11] = [
     // Parallel arcs and a loop.
     Case {
         nodes: 2,
-        lines: &PARALLEL,
+        lines: PARALLEL,
         turns: &[],
         log: &[(&[1], 0), (&[], 0)],
         links: &[(0, 1, (4, 1), None)],
@@ -207,7 +204,7 @@ const CASES: [Case; 11] = [
     // No shortcut where an arc is as short.
     Case {
         nodes: 3,
-        lines: &FEWEST,
+        lines: FEWEST,
         turns: &[],
         log: &[(&[1, 2], 0), (&[2], 0), (&[], 0)],
         links: &[
@@ -220,7 +217,7 @@ const CASES: [Case; 11] = [
     // A shortcut where another way is as short, but of more arcs.
     Case {
         nodes: 5,
-        lines: &LONGER,
+        lines: LONGER,
         turns: &[],
         log: &[
             (&[3, 4], 1),
@@ -243,7 +240,7 @@ const CASES: [Case; 11] = [
     // Arcs of weight 0.
     Case {
         nodes: 2,
-        lines: &FREE,
+        lines: FREE,
         turns: &[],
         log: &[(&[1], 0), (&[], 0)],
         links: &[(0, 1, (0, 1), None), (1, 0, (0, 1), None)],
@@ -260,22 +257,47 @@ const CASES: [Case; 11] = [
     },
 ];
 
-/// Whether a board of the graph returns what the case expects for the offers, and the sweep and the hierarchy are its own.
-fn comes_to<S: Site, R: Wait>(
+/// How a hierarchy is taken out of a board.
+#[derive(Clone, Copy)]
+enum End {
+    /// As a whole.
+    Board,
+    /// By its ledger, which gives the log and the rows besides.
+    Ledger,
+    /// The same, by two threads.
+    LedgerByTwo,
+}
+
+/// Whether a board of the graph returns what the case expects for the offers, and what is taken out of it then is the
+/// case's.
+fn comes_to<S: Site, R: Threads + Wait>(
     rt: &R,
     alloc: Global,
     blank: Blank,
     graph: Graph,
     case: &Case,
+    end: End,
 ) -> Result<bool, Fail>
     requires of_graph { S.graph ≡ graph }
     requires of_book { S.book ≡ name_of blank }
     requires nodes { blank.nodes ≡ graph.nodes }
     requires bound { blank.bound ≡ bound_of graph }
 {
-    let (mut board, _): (Board<S>, Reader<S>) = Board::new(rt, alloc, blank, graph)?;
+    let (board, _): (Board<S>, Reader<S>) = Board::new(rt, alloc, blank, graph)?;
+    Ok(goes_well(rt, alloc, board, case, end)?)
+}
+
+/// Whether a fresh board does.
+fn goes_well<S: Site, R: Threads + Wait>(
+    rt: &R,
+    alloc: Global,
+    board: Board<S>,
+    case: &Case,
+    end: End,
+) -> Result<bool, SweepError> {
+    let mut board = board;
     let holds = takes_turns(rt, alloc, &mut board, case)?;
-    Ok(holds & is_finished(board, case)?)
+    Ok(holds & is_finished(rt, board, case, end))
 }
 
 /// The hierarchy of a board, which is lost where it has none.
@@ -286,38 +308,20 @@ pub fn finished<S: Site>(board: Board<S>) -> Result<Hierarchy, FinishError> {
     }
 }
 
-/// Whether a board comes to the hierarchy of the case.
-fn is_finished<S: Site>(board: Board<S>, case: &Case) -> Result<bool, FinishError> {
-    Ok(is_hierarchy(&finished(board)?, case))
+/// Whether what is taken out of a board is the hierarchy of the case, and its log and its rows where they come with it.
+fn is_finished<S: Site, R: Threads>(rt: &R, board: Board<S>, case: &Case, end: End) -> bool {
+    match end {
+        End::Board => match finished(board) {
+            Ok(hierarchy) => is_hierarchy(&hierarchy, case),
+            Err(_) => false,
+        },
+        End::Ledger => is_given(board.into_parts().0.finish(), case),
+        End::LedgerByTwo => is_given(board.into_parts().0.finish_by_two(rt), case),
+    }
 }
 
-/// Whether the ledger of such a board comes to the hierarchy, the log and the rows of the case.
-fn ledger_comes_to<S: Site, R: Threads + Wait>(
-    rt: &R,
-    alloc: Global,
-    blank: Blank,
-    graph: Graph,
-    case: &Case,
-    by_two: bool,
-) -> Result<bool, Fail>
-    requires of_graph { S.graph ≡ graph }
-    requires of_book { S.book ≡ name_of blank }
-    requires nodes { blank.nodes ≡ graph.nodes }
-    requires bound { blank.bound ≡ bound_of graph }
-{
-    let (mut board, _): (Board<S>, Reader<S>) = Board::new(rt, alloc, blank, graph)?;
-    let holds = takes_turns(rt, alloc, &mut board, case)?;
-    let (ledger, _) = board.into_parts();
-    Ok(holds & is_given_away(rt, ledger, case, by_two))
-}
-
-/// Whether a ledger gives away the hierarchy of the case, the log and the rows, by two threads or by one.
-fn is_given_away<R: Threads>(rt: &R, ledger: Ledger, case: &Case, by_two: bool) -> bool {
-    let given = if by_two {
-        ledger.finish_by_two(rt)
-    } else {
-        ledger.finish()
-    };
+/// Whether the hierarchy of the case was given away, its log and its rows.
+fn is_given(given: Result<Finished, (Ledger, FinishError)>, case: &Case) -> bool {
     match given {
         Ok(finished) => {
             is_hierarchy(&finished.hierarchy, case)
@@ -384,7 +388,7 @@ fn answers<S: Site, R: Wait>(
 fn is_offer(proposal: &Proposal, (degrees, rows, verdicts, shortcuts, _): &Offer) -> bool {
     has_facts(proposal, *degrees, shortcuts.len())
         & are_of(proposal.rests_on(), rows)
-        & has_verdicts(proposal, verdicts)
+        & are_verdicts(proposal, verdicts)
         & are_shortcuts(proposal.shortcuts(), shortcuts)
 }
 
@@ -399,11 +403,6 @@ fn has_facts(proposal: &Proposal, (node, ins, outs): Degrees, shortcuts: usize) 
     proposal.facts() == facts
 }
 
-/// Whether a proposal has these verdicts.
-fn has_verdicts(proposal: &Proposal, verdicts: &[Judged]) -> bool {
-    verdicts.iter().all(|(from, to, verdict)| proposal.verdict(*from, *to) == *verdict)
-}
-
 /// Whether a node isn't proposed, for this reason.
 fn refuses<S: Site>(alloc: Global, board: &mut Board<S>, node: u32, reason: ProposeError) -> bool {
     propose(alloc, board, node, SETTLE).err() == Some(reason)
@@ -411,77 +410,84 @@ fn refuses<S: Site>(alloc: Global, board: &mut Board<S>, node: u32, reason: Prop
 
 /// Whether the receipts are those of the nodes from this one on, each of the rank of its number.
 fn in_order(receipts: &[Receipt], first: u32) -> bool {
-    (first..).zip(receipts).all(|(node, receipt)| (receipt.node == node) & (receipt.rank == node))
+    let mut holds = true;
+    for (node, receipt) in (first..).zip(receipts) {
+        holds &= (receipt.node == node) & (receipt.rank == node);
+    }
+    holds
 }
 
 /// Whether the log has an entry for each node, by its number, with these neighbours and this many shortcuts.
 fn is_log(entries: &[Contraction], expected: &[(&[u32], u64)]) -> bool {
-    are_numbered(entries) & are_expected(entries, expected)
-}
-
-/// Whether the entries are of the nodes from 0 on, each of the rank of its number.
-fn are_numbered(entries: &[Contraction]) -> bool {
-    (0u32..).zip(entries).all(|(node, entry)| (entry.node == node) & (entry.rank == node))
-}
-
-/// Whether the entries have these neighbours, and this many shortcuts.
-fn are_expected(entries: &[Contraction], expected: &[(&[u32], u64)]) -> bool {
-    entries.len() == expected.len()
-        && entries.iter().zip(expected).all(|(entry, (neighbours, shortcuts))| {
-            (entry.neighbours.as_slice() == *neighbours) & (entry.shortcuts == *shortcuts)
-        })
+    let mut holds = entries.len() == expected.len();
+    let mut node = 0_u32;
+    for (entry, (neighbours, shortcuts)) in entries.iter().zip(expected) {
+        holds &= (entry.node == node) & (entry.rank == node);
+        holds &= (entry.neighbours.as_slice() == *neighbours) & (entry.shortcuts == *shortcuts);
+        node = node.wrapping_add(1);
+    }
+    holds
 }
 
 /// Whether the hierarchy is that of the case, in which each node has the rank of its number.
 fn is_hierarchy(hierarchy: &Hierarchy, case: &Case) -> bool {
-    (0..hierarchy.nodes()).all(|node| hierarchy.rank(node) == node)
-        && hierarchy.nodes() == case.nodes
-        && are_links(hierarchy.links(), case.links)
-        && hierarchy.bound() == cost_of(case.bound)
+    let mut holds = hierarchy.nodes() == case.nodes;
+    for node in 0..hierarchy.nodes() {
+        holds &= hierarchy.rank(node) == node;
+    }
+    holds & are_links(hierarchy.links(), case.links) & (hierarchy.bound() == cost_of(case.bound))
 }
 
 /// Whether the links are these.
 pub fn are_links(links: &[Link], expected: &[Linked]) -> bool {
-    links.len() == expected.len()
-        && links.iter().zip(expected).all(|(link, (from, to, numbers, middle))| {
-            (link.from == *from)
-                & (link.to == *to)
-                & (link.cost == cost_of(*numbers))
-                & (link.middle == *middle)
-        })
+    let mut holds = links.len() == expected.len();
+    for (link, (from, to, numbers, middle)) in links.iter().zip(expected) {
+        holds &= (link.from == *from) & (link.to == *to);
+        holds &= (link.cost == cost_of(*numbers)) & (link.middle == *middle);
+    }
+    holds
 }
 
 /// Whether a board of the case's graph comes to what the case says.
-fn comes_true<R: Wait>(rt: &R, alloc: Global, case: &Case) -> Result<bool, Fail> {
+fn comes_true<R: Threads + Wait>(
+    rt: &R,
+    alloc: Global,
+    case: &Case,
+    end: End,
+) -> Result<bool, Fail> {
     let (blank, graph) = with_blank(alloc, graph_of(alloc, case.nodes, case.lines)?)?;
-    comes_to::<Brand, R>(rt, alloc, blank, graph, case)
+    comes_to::<Brand, R>(rt, alloc, blank, graph, case, end)
+}
+
+/// Whether boards of all cases do.
+fn all_come_true<R: Threads + Wait>(
+    rt: &R,
+    alloc: Global,
+    cases: &[Case],
+    end: End,
+) -> Result<bool, Fail> {
+    let mut holds = true;
+    for case in cases {
+        holds &= comes_true(rt, alloc, case, end)?;
+    }
+    Ok(holds)
+}
+
+/// Whether boards of the table's cases do.
+fn table_comes_true<R: Threads + Wait>(rt: &R, alloc: Global, end: End) -> Result<bool, Fail> {
+    all_come_true(rt, alloc, CASES, end)
 }
 
 #[test]
 fn boards_come_to_their_hierarchies(rt: HostRuntime) -> Result<(), Fail> {
-    for case in &CASES {
-        assert!(rt; comes_true(&rt, rt.alloc(), case)?);
-    }
+    assert!(rt; table_comes_true(&rt, rt.alloc(), End::Board)?);
     Ok(())
-}
-
-/// Whether a ledger of the case's graph comes to what the case says.
-fn ledger_comes_true<R: Threads + Wait>(
-    rt: &R,
-    alloc: Global,
-    case: &Case,
-    by_two: bool,
-) -> Result<bool, Fail> {
-    let (blank, graph) = with_blank(alloc, graph_of(alloc, case.nodes, case.lines)?)?;
-    ledger_comes_to::<Brand, R>(rt, alloc, blank, graph, case, by_two)
 }
 
 #[test]
 fn ledgers_come_to_their_hierarchies(rt: HostRuntime) -> Result<(), Fail> {
-    for case in &CASES {
-        assert!(rt; ledger_comes_true(&rt, rt.alloc(), case, false)?);
-        assert!(rt; ledger_comes_true(&rt, rt.alloc(), case, true)?);
-    }
+    assert!(rt; table_comes_true(&rt, rt.alloc(), End::Ledger)?);
+    assert!(rt; table_comes_true(&rt, rt.alloc(), End::LedgerByTwo)?);
     Ok(())
 }
 
@@ -509,18 +515,29 @@ fn is_given_back<S: Site>(board: Board<S>) -> bool {
     }
 }
 
+/// The arcs of the row of three nodes.
+const ROADS: &[Road] = &[
+    Road {
+        from: 1,
+        to: 0,
+        weight: 2,
+    },
+    Road {
+        from: 0,
+        to: 2,
+        weight: 3,
+    },
+];
+
 /// Whether a board of the row of three nodes has no node contracted.
 fn is_fresh<S: Site>(board: &Board<S>) -> bool {
-    let arcs = [(1, 0, 2), (0, 2, 3)].map(|(from, to, weight)| Road { from, to, weight });
-    board.log().is_empty()
-        && board.overlay().alive() == 3
-        && board.graph().arcs() == arcs.as_slice()
+    board.log().is_empty() & (board.overlay().alive() == 3) & (board.graph().arcs() == ROADS)
 }
 
 #[test]
 fn nodes_left(rt: HostRuntime) -> Result<(), Fail> {
     let alloc = rt.alloc();
-    let (blank, graph) = with_blank(alloc, graph_of(alloc, 3, &ROW)?)?;
+    let (blank, graph) = with_blank(alloc, graph_of(alloc, 3, ROW)?)?;
     assert!(rt; has_nodes_left::<Brand, HostRuntime>(&rt, alloc, blank, graph)?);
     Ok(())
 }
@@ -551,26 +568,37 @@ fn is_ledger_given_back<R: Threads>(rt: &R, ledger: Ledger) -> bool {
 #[test]
 fn nodes_left_of_a_ledger(rt: HostRuntime) -> Result<(), Fail> {
     let alloc = rt.alloc();
-    let ledger = Ledger::new(alloc, graph_of(alloc, 3, &ROW)?)?;
+    let ledger = Ledger::new(alloc, graph_of(alloc, 3, ROW)?)?;
     assert!(rt; is_ledger_given_back(&rt, ledger));
     Ok(())
 }
 
+/// Why a commit is refused, and the number of that.
+const NUMBERS: &[(CommitError, u8)] = &[
+    (CommitError::Contracted, 1),
+    (
+        CommitError::Stale {
+            node: 0,
+            seen: 0,
+            now: 3,
+            front: 1,
+        },
+        2,
+    ),
+    (CommitError::OutOfMemory, 4),
+    (CommitError::Slot, 5),
+];
+
+/// Whether each refusal has its number.
+fn are_numbered(errors: &[(CommitError, u8)]) -> bool {
+    let mut holds = true;
+    for (error, number) in errors {
+        holds &= error.number() == *number;
+    }
+    holds
+}
+
 #[test]
 fn commit_errors_by_number(rt: HostRuntime) {
-    let stale = CommitError::Stale {
-        node: 0,
-        seen: 0,
-        now: 3,
-        front: 1,
-    };
-    let errors = [
-        (CommitError::Contracted, 1u8),
-        (stale, 2),
-        (CommitError::OutOfMemory, 4),
-        (CommitError::Slot, 5),
-    ];
-    for (error, number) in errors {
-        assert!(rt; error.number() == number);
-    }
+    assert!(rt; are_numbered(NUMBERS));
 }

@@ -14,25 +14,25 @@ pub type Line = (u32, u32, u32);
 pub const MOST: u32 = u32::MAX;
 
 /// The row of three nodes: 1, 0, 2.
-pub const ROW: [Line; 2] = [(1, 0, 2), (0, 2, 3)];
+pub const ROW: &[Line] = &[(1, 0, 2), (0, 2, 3)];
 
 /// Two ways from 2 to 3 that cost the same, over 0 and over 1.
-pub const TIE: [Line; 4] = [(2, 0, 1), (0, 3, 1), (2, 1, 1), (1, 3, 1)];
+pub const TIE: &[Line] = &[(2, 0, 1), (0, 3, 1), (2, 1, 1), (1, 3, 1)];
 
 /// From 1 to 2 an arc, and a way over 0 of the same length.
-pub const FEWEST: [Line; 3] = [(1, 0, 0), (0, 2, 5), (1, 2, 5)];
+pub const FEWEST: &[Line] = &[(1, 0, 0), (0, 2, 5), (1, 2, 5)];
 
 /// Ways of length 3 from 3 to 4: one of two arcs over 0, and one of three arcs over 1 and 2.
-pub const LONGER: [Line; 5] = [(3, 0, 2), (0, 4, 1), (3, 1, 1), (1, 2, 1), (2, 4, 1)];
+pub const LONGER: &[Line] = &[(3, 0, 2), (0, 4, 1), (3, 1, 1), (1, 2, 1), (2, 4, 1)];
 
 /// Arcs of weight 0.
-pub const FREE: [Line; 2] = [(0, 1, 0), (1, 0, 0)];
+pub const FREE: &[Line] = &[(0, 1, 0), (1, 0, 0)];
 
 /// A loop, and parallel arcs.
-pub const PARALLEL: [Line; 4] = [(0, 0, 12), (0, 1, 9), (0, 1, 4), (0, 1, 6)];
+pub const PARALLEL: &[Line] = &[(0, 0, 12), (0, 1, 9), (0, 1, 4), (0, 1, 6)];
 
 /// At node 1 the way from 2 to 3 costs four times the greatest weight, which is above the bound of three times.
-pub const HEAVY: [Line; 4] = [(2, 0, MOST), (0, 1, MOST), (1, 0, MOST), (0, 3, MOST)];
+pub const HEAVY: &[Line] = &[(2, 0, MOST), (0, 1, MOST), (1, 0, MOST), (0, 3, MOST)];
 
 /// The graph of these arcs, which have to be allowed.
 pub fn graph_of(alloc: Global, nodes: u32, lines: &[Line]) -> Result<Graph, Fail> {

@@ -13,47 +13,54 @@ type Entries = &'static [(u32, u32)];
 /// The rows in which a graph begins: of each node, by its number, the arcs out of it and into it.
 #[derive(Clone, Copy)]
 struct Opening {
+    nodes: u32,
     lines: &'static [Line],
     rows: &'static [(Entries, Entries)],
     /// What this many arcs of this weight cost.
     bound: (u32, u32),
 }
 
-const OPENINGS: [Opening; 3] = [
+const OPENINGS: &[Opening] = &[
     Opening {
-        lines: &ROW,
+        nodes: 3,
+        lines: ROW,
         rows: &[(&[(2, 3)], &[(1, 2)]), (&[(0, 2)], &[]), (&[], &[(0, 3)])],
         bound: (2, 3),
     },
     Opening {
-        lines: &PARALLEL,
+        nodes: 2,
+        lines: PARALLEL,
         rows: &[(&[(1, 4)], &[]), (&[], &[(0, 4)])],
         bound: (1, 12),
     },
     Opening {
-        lines: &FREE,
+        nodes: 2,
+        lines: FREE,
         rows: &[(&[(1, 0)], &[(1, 0)]), (&[(0, 0)], &[(0, 0)])],
         bound: (1, 0),
     },
 ];
 
 /// Node 1 leads to node 2 itself, and by way of node 0.
-const DIRECT: [Line; 3] = [(1, 0, 2), (0, 2, 3), (1, 2, 4)];
+const DIRECT: &[Line] = &[(1, 0, 2), (0, 2, 3), (1, 2, 4)];
 
-/// The new rows when node 0 is contracted without a shortcut: node, arcs out and in, and rank.
-const CHANGED: [(u32, Entries, Entries, Option<u32>); 3] = [
+/// A new row: its node, its arcs out and in, and its rank.
+type Changed = (u32, Entries, Entries, Option<u32>);
+
+/// The new rows when node 0 is contracted without a shortcut.
+const CHANGED: &[Changed] = &[
     (0, &[(2, 3)], &[(1, 2)], Some(0)),
     (1, &[(2, 4)], &[], None),
     (2, &[], &[(1, 4)], None),
 ];
 
 fn are_entries(entries: &[Entry], expected: Entries) -> bool {
-    entries.len() == expected.len()
-        && entries.iter().zip(expected).all(|(entry, (other, weight))| {
-            (entry.other == *other)
-                & (entry.cost.cost() == Cost::of_weight(*weight))
-                & (entry.middle == Middle::NONE)
-        })
+    let mut holds = entries.len() == expected.len();
+    for (entry, (other, weight)) in entries.iter().zip(expected) {
+        holds &= (entry.other == *other) & (entry.middle == Middle::NONE);
+        holds &= entry.cost.cost() == Cost::of_weight(*weight);
+    }
+    holds
 }
 
 fn is_row(row: &Row, out: Entries, inn: Entries, rank: Option<u32>) -> bool {
@@ -73,43 +80,57 @@ fn overlay_of(alloc: Global, nodes: u32, lines: &[Line]) -> Result<Overlay, Fail
 fn begins(overlay: &Overlay, opening: &Opening) -> bool {
     let (count, heaviest) = opening.bound;
     let nodes = overlay.nodes();
-    let mut holds = overlay.bound() == Cost::of_arcs(count, heaviest) && overlay.alive() == nodes;
+    let mut holds = (overlay.bound() == Cost::of_arcs(count, heaviest))
+        & (overlay.alive() == nodes);
     for node in 0..nodes {
-        holds &= match opening.rows.get(node as usize) {
-            Some((out, inn)) => is_row(overlay.row(node), out, inn, None),
-            None => false,
-        };
+        if let Some((out, inn)) = opening.rows.get(node as usize) {
+            holds &= is_row(overlay.row(node), out, inn, None);
+        }
         holds &= overlay.version(node) == u64::from(node);
     }
-    holds && nodes as usize == opening.rows.len()
+    holds & (nodes as usize == opening.rows.len())
+}
+
+/// Whether a node, which isn't the greatest number, has a middle, and that isn't the one of no node.
+fn has_middle(node: u32) -> bool {
+    if node >= u32::MAX {
+        return false;
+    }
+    let middle = Middle::at(node);
+    (middle.node() == Some(node)) & (middle == Middle::at(node)) & (middle != Middle::NONE)
 }
 
 #[test]
 fn a_middle_is_a_node_or_none(rt: HostRuntime) -> Result<(), Fail> {
-    for node in [0, 1, u32::MAX - 1] {
-        assert!(rt; Middle::at(node).node() == Some(node));
-        assert!(rt; Middle::at(node) == Middle::at(node) && Middle::at(node) != Middle::NONE);
-    }
-    assert!(rt; Middle::NONE.node() == None && Middle::NONE == Middle::NONE);
+    assert!(rt; has_middle(0) & has_middle(1) & has_middle(u32::MAX - 1));
+    assert!(rt; (Middle::NONE.node() == None) & (Middle::NONE == Middle::NONE));
     assert!(rt; Middle::at(1) != Middle::at(2));
     Ok(())
 }
 
+/// Whether graphs begin in their rows.
+fn all_begin(alloc: Global, openings: &[Opening]) -> Result<bool, Fail> {
+    let mut holds = true;
+    for opening in openings {
+        let overlay = overlay_of(alloc, opening.nodes, opening.lines)?;
+        holds &= begins(&overlay, opening);
+    }
+    Ok(holds)
+}
+
 #[test]
 fn opening_rows(rt: HostRuntime) -> Result<(), Fail> {
-    for opening in &OPENINGS {
-        let overlay = overlay_of(rt.alloc(), opening.rows.len() as u32, opening.lines)?;
-        assert!(rt; begins(&overlay, opening));
-    }
+    assert!(rt; all_begin(rt.alloc(), OPENINGS)?);
     Ok(())
 }
 
-/// Whether the rows are the new ones.
-fn are_changed(rows: &[(u32, Arc<Row>)]) -> bool {
-    rows.len() == CHANGED.len()
-        && rows.iter().zip(&CHANGED).all(|((at, row), (node, out, inn, rank))| {
-            (at == node) & is_row(row, out, inn, *rank)
-        })
+/// Whether the rows are these.
+fn are_changed(rows: &[(u32, Arc<Row>)], expected: &[Changed]) -> bool {
+    let mut holds = rows.len() == expected.len();
+    for ((at, row), (node, out, inn, rank)) in rows.iter().zip(expected) {
+        holds &= (at == node) & is_row(row, out, inn, *rank);
+    }
+    holds
 }
 
 /// Whether the contraction of node 0 of three nodes without a shortcut brings the new rows.
@@ -119,12 +140,12 @@ fn brings_new_rows(overlay: &Overlay) -> Result<bool, AllocError>
     if overlay.nodes() != 3 {
         return Ok(false);
     }
-    Ok(are_changed(overlay.plan(0, &[])?.rows()))
+    Ok(are_changed(overlay.plan(0, &[])?.rows(), CHANGED))
 }
 
 #[test]
 fn rows_without_a_shortcut(rt: HostRuntime) -> Result<(), Fail> {
-    let overlay = overlay_of(rt.alloc(), 3, &DIRECT)?;
+    let overlay = overlay_of(rt.alloc(), 3, DIRECT)?;
     assert!(rt; brings_new_rows(&overlay)?);
     Ok(())
 }

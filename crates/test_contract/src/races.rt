@@ -197,7 +197,11 @@ fn was_written(log: &[Written], seen: &Seen) -> bool {
 }
 
 fn were_written(log: &[Written], seen: &[Seen]) -> bool {
-    seen.iter().all(|seen| was_written(log, seen))
+    let mut holds = true;
+    for seen in seen {
+        holds &= was_written(log, seen);
+    }
+    holds
 }
 
 /// Contracts all nodes of a grid while two threads read. Whether each row that was read is the one that was written
@@ -281,13 +285,19 @@ fn was_read(log: &[Written], read: &Read) -> bool {
     }
 }
 
+/// Whether the rows are of contracted nodes, each of the rank of its number.
+fn are_done(rows: &[Seen]) -> bool {
+    let mut holds = true;
+    for seen in rows {
+        holds &= seen.row.rank == Some(seen.node);
+    }
+    holds
+}
+
 /// Whether each node was read once, when all were contracted, and its row is the one that was written at its version.
 fn is_last(log: &[Written], read: &Read) -> bool {
     match read {
-        Ok(last) => {
-            let done = last.iter().all(|seen| seen.row.rank == Some(seen.node));
-            done & (last.len() == NODES as usize) & were_written(log, last)
-        }
+        Ok(last) => { (last.len() == NODES as usize) & are_done(last) & were_written(log, last) }
         Err(_) => false,
     }
 }

@@ -43,12 +43,12 @@ const ANEW: &[Version] = &[
 
 /// Whether entries are these.
 pub fn are(entries: &[Entry], expected: Entries) -> bool {
-    entries.len() == expected.len()
-        && entries.iter().zip(expected).all(|(entry, (other, numbers, middle))| {
-            (entry.other == *other)
-                & (entry.cost.cost() == cost_of(*numbers))
-                & (entry.middle.node() == *middle)
-        })
+    let mut holds = entries.len() == expected.len();
+    for (entry, (other, numbers, middle)) in entries.iter().zip(expected) {
+        holds &= (entry.other == *other) & (entry.middle.node() == *middle);
+        holds &= entry.cost.cost() == cost_of(*numbers);
+    }
+    holds
 }
 
 /// Whether an answer is of this node, and has this version and its row.
@@ -147,7 +147,7 @@ fn follow<S: Site, R: Wait>(
 #[test]
 fn readers_find_the_rows_of_a_board(rt: HostRuntime) -> Result<(), Fail> {
     let alloc = rt.alloc();
-    let (blank, graph) = with_blank(alloc, graph_of(alloc, 3, &ROW)?)?;
+    let (blank, graph) = with_blank(alloc, graph_of(alloc, 3, ROW)?)?;
     assert!(rt; follows::<Brand, HostRuntime>(&rt, alloc, blank, graph)?);
     Ok(())
 }
@@ -214,7 +214,7 @@ fn contracts_second<S: Site, R: Wait>(
 #[test]
 fn a_ledger_goes_on_with_a_new_book(rt: HostRuntime) -> Result<(), Fail> {
     let alloc = rt.alloc();
-    let (blank, graph) = with_blank(alloc, graph_of(alloc, 3, &ROW)?)?;
+    let (blank, graph) = with_blank(alloc, graph_of(alloc, 3, ROW)?)?;
     let ledger = taken_out::<Brand, HostRuntime>(&rt, alloc, blank, graph)?;
     let (blank, ledger) = with_book(alloc, ledger)?;
     assert!(rt; goes_on::<Brand, HostRuntime>(&rt, alloc, blank, ledger)?);

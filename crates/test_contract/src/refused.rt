@@ -20,12 +20,12 @@ use ch_contract::{
 };
 use ch_cost::Cost;
 use ch_graph::{Graph, Hierarchy};
-use ch_overlay::{Overlay, RowSource, SeeError, Seen};
+use ch_overlay::{Overlay, Row, RowSource, SeeError, Seen};
 use ch_rowbook::{Blank, BookError, Reader};
 use ch_witness::{SearchError, search};
 use std::alloc::{AllocError, Global};
 use std::marker::Brand;
-use std::sync::Wait;
+use std::sync::{Arc, Wait};
 use std::test::Fail;
 
 /// How many nodes each search settles at most.
@@ -52,30 +52,41 @@ fn changes(overlay: &Overlay, nodes: &[u32]) -> Result<bool, AllocError>
         Ok(change) => change,
         Err(AllocError) => overlay.plan(0, &[])?,
     };
-    Ok(
-        change
-            .rows()
-            .iter()
-            .map(|(node, _)| *node)
-            .eq(nodes.iter().copied()),
-    )
+    Ok(are_rows_of(change.rows(), nodes))
+}
+
+/// Whether the rows are of these nodes, in this order.
+fn are_rows_of(rows: &[(u32, Arc<Row>)], nodes: &[u32]) -> bool {
+    let mut holds = rows.len() == nodes.len();
+    for ((at, _), node) in rows.iter().zip(nodes) {
+        holds &= at == node;
+    }
+    holds
 }
 
 /// A number of nodes, arcs, and the nodes whose rows change with the contraction of node 0.
-const CHANGES: [(u32, &[Line], &[u32]); 2] = [(3, &ROW, &[0, 1, 2]), (4, &TIE, &[0, 2, 3])];
+type Changing = (u32, &'static [Line], &'static [u32]);
+
+const CHANGES: &[Changing] = &[(3, ROW, &[0, 1, 2]), (4, TIE, &[0, 2, 3])];
+
+/// Whether the rows of those nodes change.
+fn all_change(alloc: Global, cases: &[Changing]) -> Result<bool, Fail> {
+    let mut holds = true;
+    for (nodes, lines, changed) in cases {
+        let graph = graph_of(alloc, *nodes, lines)?;
+        holds &= changes(&started(alloc, &graph)?, changed)?;
+    }
+    Ok(holds)
+}
 
 #[test]
 fn start_and_plan(rt: HostRuntime) -> Result<(), Fail> {
-    let alloc = rt.alloc();
-    for (nodes, lines, changed) in CHANGES {
-        let graph = graph_of(alloc, nodes, lines)?;
-        assert!(rt; changes(&started(alloc, &graph)?, changed)?);
-    }
+    assert!(rt; all_change(rt.alloc(), CHANGES)?);
     Ok(())
 }
 
 /// Node 3 is reached from node 2 by way of 0 or of 1, at the same cost.
-const TIED: [Lead; 4] = [
+const TIED: &[Lead] = &[
     (2, 0, (1, 1)),
     (0, 3, (1, 1)),
     (2, 1, (1, 1)),
@@ -92,15 +103,19 @@ fn finds_way(alloc: Global, shelf: &mut Shelf) -> Result<bool, SearchError> {
     Ok(is_one_way(&found.ways, Some((&[2, 1, 3], (2, 2)))))
 }
 
-#[test]
-fn search_round_a_node(rt: HostRuntime) -> Result<(), Fail> {
-    let alloc = rt.alloc();
-    let mut shelf = Shelf::new(alloc, 4, &TIED, (3, 1), None)?;
+/// Whether it does, by a shelf of the tie.
+fn tied_finds_way(alloc: Global) -> Result<bool, Fail> {
+    let mut shelf = Shelf::new(alloc, 4, TIED, (3, 1), None)?;
     let answer = match finds_way(alloc, &mut shelf) {
         Err(SearchError::OutOfMemory) => finds_way(alloc, &mut shelf),
         answer => answer,
     };
-    assert!(rt; answer?);
+    Ok(answer?)
+}
+
+#[test]
+fn search_round_a_node(rt: HostRuntime) -> Result<(), Fail> {
+    assert!(rt; tied_finds_way(rt.alloc())?);
     Ok(())
 }
 
@@ -128,11 +143,15 @@ fn needs_none(alloc: Global, shelf: &mut Shelf) -> Result<bool, ProposeError> {
     Ok(are_of(proposal.rests_on(), &[0, 2, 1]) & proposal.shortcuts().is_empty())
 }
 
+/// Whether it does, by a shelf of the tie.
+fn tied_needs_none(alloc: Global) -> Result<bool, Fail> {
+    let mut shelf = Shelf::new(alloc, 4, TIED, (3, 1), None)?;
+    Ok(needs_none(alloc, &mut shelf)?)
+}
+
 #[test]
 fn propose_by_a_shelf(rt: HostRuntime) -> Result<(), Fail> {
-    let alloc = rt.alloc();
-    let mut shelf = Shelf::new(alloc, 4, &TIED, (3, 1), None)?;
-    assert!(rt; needs_none(alloc, &mut shelf)?);
+    assert!(rt; tied_needs_none(rt.alloc())?);
     Ok(())
 }
 
@@ -223,7 +242,7 @@ fn hierarchy_of<S: Site>(board: Board<S>) -> Result<Hierarchy, FinishError> {
 }
 
 /// The links of the row of three nodes with node 0 at the bottom.
-const LINKS: [Linked; 3] = [
+const LINKS: &[Linked] = &[
     (0, 2, (3, 1), None),
     (1, 0, (2, 1), None),
     (1, 2, (5, 2), Some(0)),
@@ -260,13 +279,13 @@ fn comes_to<S: Site, R: Wait>(
 
 /// Whether the hierarchy of a board has the links of the row of three nodes.
 fn has_links<S: Site>(board: Board<S>) -> Result<bool, FinishError> {
-    Ok(are_links(hierarchy_of(board)?.links(), &LINKS))
+    Ok(are_links(hierarchy_of(board)?.links(), LINKS))
 }
 
 #[test]
 fn board(rt: HostRuntime) -> Result<(), Fail> {
     let alloc = rt.alloc();
-    let (blank, graph) = with_blank(alloc, graph_of(alloc, 3, &ROW)?)?;
+    let (blank, graph) = with_blank(alloc, graph_of(alloc, 3, ROW)?)?;
     assert!(rt; comes_to::<Brand, HostRuntime>(&rt, alloc, blank, graph)?);
     Ok(())
 }
@@ -298,7 +317,7 @@ fn goes_on_again<R: Wait>(rt: &R, alloc: Global, ledger: Ledger) -> Result<bool,
 #[test]
 fn ledger_in_a_book(rt: HostRuntime) -> Result<(), Fail> {
     let alloc = rt.alloc();
-    let (blank, ledger) = with_book(alloc, Ledger::new(alloc, graph_of(alloc, 3, &ROW)?)?)?;
+    let (blank, ledger) = with_book(alloc, Ledger::new(alloc, graph_of(alloc, 3, ROW)?)?)?;
     let holds = match goes_on::<Brand, HostRuntime>(&rt, alloc, blank, ledger) {
         Err((ledger, BookError::OutOfMemory)) => goes_on_again(&rt, alloc, ledger)?,
         answer => matches!(answer, Ok(true)),
@@ -369,7 +388,7 @@ fn is_seen<S: Site, R: Wait>(
 #[test]
 fn board_and_reader(rt: HostRuntime) -> Result<(), Fail> {
     let alloc = rt.alloc();
-    let (blank, graph) = with_blank(alloc, graph_of(alloc, 4, &TIE)?)?;
+    let (blank, graph) = with_blank(alloc, graph_of(alloc, 4, TIE)?)?;
     assert!(rt; is_seen::<Brand, HostRuntime>(&rt, alloc, blank, graph)?);
     Ok(())
 }
@@ -416,7 +435,7 @@ fn are_found<S: Site, R: Wait>(
 #[test]
 fn commit_and_readers(rt: HostRuntime) -> Result<(), Fail> {
     let alloc = rt.alloc();
-    let (blank, graph) = with_blank(alloc, graph_of(alloc, 3, &ROW)?)?;
+    let (blank, graph) = with_blank(alloc, graph_of(alloc, 3, ROW)?)?;
     assert!(rt; are_found::<Brand, HostRuntime>(&rt, alloc, blank, graph)?);
     Ok(())
 }

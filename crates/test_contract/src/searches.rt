@@ -19,7 +19,7 @@ use std::sync::Wait;
 use std::test::Fail;
 
 /// Node 3 is reached from node 2 by way of 0 or of 1, at the same cost.
-const TIE: [Lead; 4] = [
+const TIE: &[Lead] = &[
     (2, 0, (1, 1)),
     (0, 3, (1, 1)),
     (2, 1, (1, 1)),
@@ -27,7 +27,7 @@ const TIE: [Lead; 4] = [
 ];
 
 /// The same, but the way over 0 is of more arcs.
-const FEWEST: [Lead; 4] = [
+const FEWEST: &[Lead] = &[
     (2, 0, (1, 1)),
     (0, 3, (1, 2)),
     (2, 1, (1, 1)),
@@ -35,10 +35,10 @@ const FEWEST: [Lead; 4] = [
 ];
 
 /// Node 3 is reached from node 2 over three arcs.
-const CHAIN: [Lead; 3] = [(2, 1, (1, 1)), (1, 0, (1, 1)), (0, 3, (1, 1))];
+const CHAIN: &[Lead] = &[(2, 1, (1, 1)), (1, 0, (1, 1)), (0, 3, (1, 1))];
 
 /// The same with two arcs of weight 0.
-const SHORT_CHAIN: [Lead; 3] = [(2, 1, (0, 1)), (1, 0, (1, 1)), (0, 3, (0, 1))];
+const SHORT_CHAIN: &[Lead] = &[(2, 1, (0, 1)), (1, 0, (1, 1)), (0, 3, (0, 1))];
 
 /// A way as a test gives it: its nodes and its cost.
 type Wanted = (&'static [u32], Numbers);
@@ -55,26 +55,26 @@ type Case = (
 
 const BY_1: Option<Wanted> = Some((&[2, 1, 3], (2, 2)));
 
-const CASES: [Case; 15] = [
+const CASES: &[Case] = &[
     // The target is settled third, and its row isn't read.
-    (&TIE, None, (0, (2, 2), 64), BY_1, &[2, 1]),
-    (&TIE, None, (0, (2, 2), 2), BY_1, &[2, 1]),
-    (&TIE, None, (0, (2, 2), 1), None, &[2]),
-    (&TIE, None, (0, (1, 2), 64), None, &[2, 1]),
-    (&TIE, None, (0, (2, 1), 64), None, &[2, 1]),
+    (TIE, None, (0, (2, 2), 64), BY_1, &[2, 1]),
+    (TIE, None, (0, (2, 2), 2), BY_1, &[2, 1]),
+    (TIE, None, (0, (2, 2), 1), None, &[2]),
+    (TIE, None, (0, (1, 2), 64), None, &[2, 1]),
+    (TIE, None, (0, (2, 1), 64), None, &[2, 1]),
     // Node 9 isn't there: of the two ways of equal cost the first is kept, and each row is read once.
     (
-        &TIE,
+        TIE,
         None,
         (9, (2, 2), 64),
         Some((&[2, 0, 3], (2, 2))),
         &[2, 0, 1],
     ),
     // A cutoff may have more arcs than the bound, whose length is 3.
-    (&TIE, None, (0, (2, 9), 64), BY_1, &[2, 1]),
-    (&TIE, None, (0, (1, 9), 64), None, &[2, 1]),
+    (TIE, None, (0, (2, 9), 64), BY_1, &[2, 1]),
+    (TIE, None, (0, (1, 9), 64), None, &[2, 1]),
     // Of two ways of one length that of fewer arcs is found.
-    (&FEWEST, None, (9, (2, 3), 64), BY_1, &[2, 0, 1]),
+    (FEWEST, None, (9, (2, 3), 64), BY_1, &[2, 0, 1]),
     // A direct arc to a target that isn't settled.
     (
         &[(2, 3, (1, 1))],
@@ -85,24 +85,24 @@ const CASES: [Case; 15] = [
     ),
     // Over three arcs, and not where one of their nodes is avoided.
     (
-        &CHAIN,
+        CHAIN,
         None,
         (9, (3, 3), 64),
         Some((&[2, 1, 0, 3], (3, 3))),
         &[2, 1, 0],
     ),
-    (&CHAIN, None, (0, (3, 3), 64), None, &[2, 1]),
+    (CHAIN, None, (0, (3, 3), 64), None, &[2, 1]),
     // A shorter way than the cutoff may be of more arcs.
     (
-        &SHORT_CHAIN,
+        SHORT_CHAIN,
         None,
         (9, (2, 2), 64),
         Some((&[2, 1, 0, 3], (1, 3))),
         &[2, 1, 0],
     ),
-    (&SHORT_CHAIN, None, (9, (1, 2), 64), None, &[2, 1, 0]),
+    (SHORT_CHAIN, None, (9, (1, 2), 64), None, &[2, 1, 0]),
     // A search doesn't go on from a ranked row.
-    (&TIE, Some(1), (0, (2, 2), 64), None, &[2, 1]),
+    (TIE, Some(1), (0, (2, 2), 64), None, &[2, 1]),
 ];
 
 /// Whether the one way is this, or there is none where none is given.
@@ -145,18 +145,29 @@ fn comes_true(alloc: Global, (leads, ranked, rule, way, asked): &Case) -> Result
     Ok(holds & (shelf.asked.as_slice() == *asked))
 }
 
+/// Whether all cases do.
+fn all_come_true(alloc: Global, cases: &[Case]) -> Result<bool, Fail> {
+    let mut holds = true;
+    for case in cases {
+        holds &= comes_true(alloc, case)?;
+    }
+    Ok(holds)
+}
+
 #[test]
 fn one_search(rt: HostRuntime) -> Result<(), Fail> {
-    for case in &CASES {
-        assert!(rt; comes_true(rt.alloc(), case)?);
-    }
+    assert!(rt; all_come_true(rt.alloc(), CASES)?);
     Ok(())
 }
 
 /// Whether the first four cases, which are those of the tie without ranks, come true by these rows.
-fn finds_by_opening_rows<S: RowSource>(alloc: Global, source: &mut S) -> Result<bool, SearchError> {
+fn finds_by_opening_rows<S: RowSource>(
+    alloc: Global,
+    source: &mut S,
+    cases: &[Case],
+) -> Result<bool, SearchError> {
     let mut holds = true;
-    for (_, _, rule, way, _) in CASES.iter().take(4) {
+    for (_, _, rule, way, _) in cases.iter().take(4) {
         holds &= finds_round(alloc, source, *rule, *way)?;
     }
     Ok(holds)
@@ -168,6 +179,7 @@ fn both_find<S: Site, R: Wait>(
     alloc: Global,
     blank: Blank,
     graph: Graph,
+    cases: &[Case],
 ) -> Result<bool, Fail>
     requires of_graph { S.graph ≡ graph }
     requires of_book { S.book ≡ name_of blank }
@@ -175,15 +187,15 @@ fn both_find<S: Site, R: Wait>(
     requires bound { blank.bound ≡ bound_of graph }
 {
     let (mut board, mut reader): (Board<S>, Reader<S>) = Board::new(rt, alloc, blank, graph)?;
-    let by_board = finds_by_opening_rows(alloc, &mut board)?;
-    Ok(by_board & finds_by_opening_rows(alloc, &mut reader)?)
+    let by_board = finds_by_opening_rows(alloc, &mut board, cases)?;
+    Ok(by_board & finds_by_opening_rows(alloc, &mut reader, cases)?)
 }
 
 #[test]
 fn searches_by_a_board_and_its_reader(rt: HostRuntime) -> Result<(), Fail> {
     let alloc = rt.alloc();
-    let (blank, graph) = with_blank(alloc, graph_of(alloc, 4, &networks::TIE)?)?;
-    assert!(rt; both_find::<Brand, HostRuntime>(&rt, alloc, blank, graph)?);
+    let (blank, graph) = with_blank(alloc, graph_of(alloc, 4, networks::TIE)?)?;
+    assert!(rt; both_find::<Brand, HostRuntime>(&rt, alloc, blank, graph, CASES)?);
     Ok(())
 }
 
@@ -228,12 +240,16 @@ fn finds_twice(alloc: Global, shelf: &mut Shelf) -> Result<bool, Fail> {
     Ok(first & second & hands_out(alloc, &mut searcher)?)
 }
 
+/// Whether they do by a shelf of the tie, and ask it for each row once.
+fn asks_once(alloc: Global) -> Result<bool, Fail> {
+    let mut shelf = Shelf::new(alloc, 4, TIE, (3, 1), None)?;
+    let holds = finds_twice(alloc, &mut shelf)?;
+    Ok(holds & (shelf.asked.as_slice() == [2u32, 1].as_slice()))
+}
+
 #[test]
 fn two_searches_ask_for_a_row_once(rt: HostRuntime) -> Result<(), Fail> {
-    let alloc = rt.alloc();
-    let mut shelf = Shelf::new(alloc, 4, &TIE, (3, 1), None)?;
-    let holds = finds_twice(alloc, &mut shelf)?;
-    assert!(rt; holds & (shelf.asked.as_slice() == [2u32, 1].as_slice()));
+    assert!(rt; asks_once(rt.alloc())?);
     Ok(())
 }
 
@@ -246,26 +262,26 @@ type AimCase = (
     &'static [u32],
 );
 
-const AIM_CASES: [AimCase; 5] = [
+const AIM_CASES: &[AimCase] = &[
     // The second way costs no less than the first, so the row of its node isn't read.
-    (&TIE, ((2, 2), (1, 1)), Some((&[2, 0, 3], (2, 2))), &[2, 0]),
+    (TIE, ((2, 2), (1, 1)), Some((&[2, 0, 3], (2, 2))), &[2, 0]),
     (
-        &CHAIN,
+        CHAIN,
         ((3, 3), (1, 1)),
         Some((&[2, 1, 0, 3], (3, 3))),
         &[2, 1, 0],
     ),
     // What is settled third is too far off for the last arc.
-    (&CHAIN, ((2, 2), (1, 1)), None, &[2, 1]),
+    (CHAIN, ((2, 2), (1, 1)), None, &[2, 1]),
     // It isn't where a shorter way of more arcs is enough.
     (
-        &SHORT_CHAIN,
+        SHORT_CHAIN,
         ((2, 2), (0, 1)),
         Some((&[2, 1, 0, 3], (1, 3))),
         &[2, 1, 0],
     ),
     // What is wrong of an aim may cost the way.
-    (&CHAIN, ((3, 3), (3, 1)), None, &[2]),
+    (CHAIN, ((3, 3), (3, 1)), None, &[2]),
 ];
 
 /// Whether a search that has this aim finds the way, or none where none is given.
@@ -301,10 +317,17 @@ fn is_aimed(alloc: Global, (leads, aim, way, asked): &AimCase) -> Result<bool, F
     Ok(holds & (shelf.asked.as_slice() == *asked))
 }
 
+/// Whether all cases do.
+fn all_are_aimed(alloc: Global, cases: &[AimCase]) -> Result<bool, Fail> {
+    let mut holds = true;
+    for case in cases {
+        holds &= is_aimed(alloc, case)?;
+    }
+    Ok(holds)
+}
+
 #[test]
 fn a_search_with_an_aim(rt: HostRuntime) -> Result<(), Fail> {
-    for case in &AIM_CASES {
-        assert!(rt; is_aimed(rt.alloc(), case)?);
-    }
+    assert!(rt; all_are_aimed(rt.alloc(), AIM_CASES)?);
     Ok(())
 }
