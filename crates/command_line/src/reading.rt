@@ -359,7 +359,7 @@ const STINT: &str =
     "Switch a thread to its next order after C contractions, the requested one first and then the others: 1 to 1099511627776; without it a thread keeps the requested one";
 
 const PROGRESS: &str =
-    "Show on standard error how many nodes are contracted and how long the rest may take, if that is a terminal, and at the end what was made";
+    "Show on standard error how many nodes are contracted, if that is a terminal, from the beginning and not only after a second, and at the end what was made";
 
 const EXPLAIN: &str =
     "Explain a refusal in more lines on standard error, as is done if that is a terminal, or with ROUTECLI_EXPLAIN=1";
@@ -389,7 +389,7 @@ Example: routecli info net.rch";
 const CHECKED: &str = "Hierarchy file to check";
 
 const CHECK_PROGRESS: &str =
-    "Show on standard error how many nodes are contracted once more and how long the rest may take, if that is a terminal";
+    "Show on standard error how many nodes are contracted once more, if that is a terminal, from the beginning and not only after a second";
 
 const CHECKING: &str =
     "It prints right, with status 0; wrong: and what shows that, with status 9; or not shown: and where, with status 10, which is no proof that the file is wrong.\n\n\

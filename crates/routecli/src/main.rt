@@ -27,7 +27,7 @@ use std::sync::Wait;
 use std::thread::Threads;
 use std::time::Clock;
 use std::{env, fs, io};
-use terminal::{Cleared, Ended, Failure, Kept, Meter, Watched, explain, warn_of, write_end};
+use terminal::{Cleared, Ended, Failure, Kept, Meter, Watched, conclude, warn_of, write_end};
 use whole_file::{OutFile, is_one_file, obstacle};
 
 /// The environment variable that asks for explanations everywhere.
@@ -59,13 +59,8 @@ fn main(rt: HostRuntime) -> ExitCode {
     };
     let failure = done.failure.or(input.failure()).or(out.failure());
     let ended = Ended { failure, ..done };
-    if err.is_terminal() && is_broken_pipe(out.failure()) {
-        return ExitCode::from(ended.outcome.status());
-    }
-    let status = ended.outcome.report(&mut err);
-    if explains {
-        explain(&rt, &call.job, &ended, &mut err);
-    }
+    let is_silent = err.is_terminal() && is_broken_pipe(out.failure());
+    let status = conclude(&rt, &call.job, &ended, explains, is_silent, &mut err);
     ExitCode::from(status)
 }
 
@@ -198,20 +193,19 @@ fn check<'a, R: Files + AllocGlobal + Clock, W: io::Write>(
     ensures done { IfOk result (λ ended. IsCheckingStatus (status_after ended.outcome)) }
     ensures unopened { IfErr result IsUnopened }
 {
-    let shows = check.progress && terminal.is_terminal();
     let first = open(rt, Input::Graph, check.graph);
     let second = open(rt, Input::Hierarchy, check.hierarchy);
     let (mut first, mut second) = (first?, second?);
     Ok(Ended {
-        outcome: check_files(rt, shows, &mut first, &mut second, out, terminal),
+        outcome: check_files(rt, check.progress, &mut first, &mut second, out, terminal),
         failure: first.failure().or(second.failure()),
     })
 }
 
-// Checks a hierarchy's file against a graph's text, and shows how far it has come if it is to be shown.
+// Checks a hierarchy's file against a graph's text, and shows how far it has come if standard error is a terminal.
 fn check_files<R: AllocGlobal + Clock, G: io::Read + Drop, H: io::Read, W: io::Write>(
     rt: &R,
-    shows: bool,
+    is_asked: bool,
     graph: &mut G,
     hierarchy: &mut H,
     out: &mut W,
@@ -219,8 +213,8 @@ fn check_files<R: AllocGlobal + Clock, G: io::Read + Drop, H: io::Read, W: io::W
 ) -> Outcome
     ensures { IsCheckingStatus (status_after result) }
 {
-    if shows {
-        if let Ok(meter) = Meter::new(rt, terminal) {
+    if terminal.is_terminal() {
+        if let Ok(meter) = Meter::new(rt, terminal, is_asked) {
             let mut graph = Watched::new(graph, &meter);
             let mut out = Cleared::new(&meter, out);
             let outcome = perform_check(rt.alloc(), &mut graph, hierarchy, &mut out, &meter);
@@ -231,7 +225,7 @@ fn check_files<R: AllocGlobal + Clock, G: io::Read + Drop, H: io::Read, W: io::W
     perform_check(rt.alloc(), graph, hierarchy, out, &Unwatched)
 }
 
-// Prepares a hierarchy, and shows how far it has come if that is asked for and standard error is a terminal.
+// Prepares a hierarchy, and shows how far it has come if standard error is a terminal.
 fn prepare<'a, R: Files + AllocGlobal + Clock + Threads + Wait + Sync>(
     rt: &R,
     preparation: &Preparation<'a>,
@@ -240,41 +234,48 @@ fn prepare<'a, R: Files + AllocGlobal + Clock + Threads + Wait + Sync>(
     ensures done { IfOk result (λ ended. IsPreparingStatus (status_after ended.outcome)) }
     ensures unopened { IfErr result IsUnopened }
 {
-    let shows = preparation.progress && terminal.is_terminal();
     let mut graph = open(rt, Input::Graph, preparation.graph)?;
-    let ended = prepare_of(rt, shows, preparation, &mut graph, terminal);
+    let ended = prepare_of(rt, preparation, &mut graph, terminal);
     Ok(Ended {
         outcome: ended.outcome,
         failure: ended.failure.or(graph.failure()),
     })
 }
 
-// Prepares a hierarchy of a graph's text, and shows by a meter how far it has come, and at the end what was made, if that is to
-// be shown.
+// Prepares a hierarchy of a graph's text. At a terminal a meter shows how far it has come, and at the end what was made, if that
+// is asked for.
 fn prepare_of<'a, R: Files + AllocGlobal + Clock + Threads + Wait + Sync, G: io::Read + Drop>(
     rt: &R,
-    shows: bool,
     preparation: &Preparation<'a>,
     graph: &mut G,
     terminal: Stderr,
 ) -> Ended<'a>
     ensures { IsPreparingStatus (status_after result.outcome) }
 {
-    if shows {
-        if let Ok(meter) = Meter::new(rt, terminal) {
+    if terminal.is_terminal() {
+        if let Ok(meter) = Meter::new(rt, terminal, preparation.progress) {
             let mut graph = Watched::new(graph, &meter);
             let ended = prepare_file(rt, preparation, &mut graph, &meter);
             meter.clear();
-            show_end(rt, preparation.out, ended.outcome, &meter);
+            show_end(rt, preparation, ended.outcome, &meter);
             return ended;
         }
     }
     prepare_file(rt, preparation, graph, &OpenGate)
 }
 
-// Shows what was made, if it was.
-fn show_end<R: Files + Clock>(rt: &R, out: &str, outcome: Outcome, meter: &Meter<'_, R>) {
-    if let (Outcome::Done, Ok(made)) = (outcome, fs::metadata(rt, out)) {
+// Shows what was made, if it was, and that is asked for.
+fn show_end<R: Files + Clock>(
+    rt: &R,
+    preparation: &Preparation<'_>,
+    outcome: Outcome,
+    meter: &Meter<'_, R>,
+) {
+    let out = preparation.out;
+    if !preparation.progress || outcome != Outcome::Done {
+        return;
+    }
+    if let Ok(made) = fs::metadata(rt, out) {
         let (nodes, millis) = (meter.announced(), meter.millis());
         write_end(&mut meter.terminal(), out, made.len(), nodes, millis);
     }

@@ -2,6 +2,7 @@ use crate::fields::{field, number_of};
 use crate::hints::{Text, hint};
 use crate::look::Look;
 use crate::shown::Shown;
+use crate::sorts::{file_of, text_of};
 use grfile::GrError;
 use hierfile::HierError;
 use jobs::Job;
@@ -49,65 +50,88 @@ pub fn explain<R: Files + AllocGlobal, E: Write>(
 ) {
     match ended.outcome {
         Outcome::Done => {}
-        Outcome::Wrong | Outcome::NotShown => explain_verdict(job, ended.outcome, err),
+        Outcome::Wrong => explain_hierarchy(rt, job, WRONG, err),
+        Outcome::NotShown => explain_hierarchy(rt, job, DOUBTFUL, err),
         Outcome::Refused(cause) => match cause {
+            Cause::Graph(fault) => explain_text(rt, job, Input::Graph, fault, err),
+            Cause::Queries(fault) => explain_text(rt, job, Input::Queries, fault, err),
+            Cause::Hierarchy(HierError::BadMagic) => explain_magic(rt, job, err),
+            Cause::Hierarchy(HierError::Truncated) => explain_hierarchy(rt, job, CUT, err),
+            Cause::Hierarchy(_) => explain_hierarchy(rt, job, DAMAGED, err),
+            Cause::OldVersion => explain_hierarchy(rt, job, OLD, err),
+            Cause::TooLong => explain_hierarchy(rt, job, OF_NO_GRAPH, err),
             Cause::Read(_) | Cause::Write(_) | Cause::Flush => explain_failure(ended.failure, err),
-            _ => explain_cause(rt, job, &cause, err),
+            Cause::Memory => {
+                let _ = writeln!(err, "  {NO_MEMORY}");
+            }
+            Cause::Options | Cause::Mixed => {}
         },
     }
 }
 
-// Explains what a check found whose hierarchy wasn't shown to be right.
-fn explain_verdict<E: Write>(job: &Job<'_>, outcome: Outcome, err: &mut E) {
-    let Job::Check(check) = job else {
-        return;
-    };
-    let (graph, hierarchy) = (check.graph, check.hierarchy);
-    let _ = if outcome == Outcome::Wrong {
+const NO_MEMORY: &str =
+    "the system refused memory: is a limit set, or is the machine too small for this network?";
+
+/// What is said of the file of a hierarchy, behind its name.
+const WRONG: &str = "gives wrong answers: is it of another graph?";
+
+const DOUBTFUL: &str = "may be right or wrong:";
+
+const OLD: &str = "is of version 1, which can't be checked:";
+
+const OF_NO_GRAPH: &str = "is the hierarchy of no graph:";
+
+const CUT: &str = "ends too early: copy it again, or";
+
+const DAMAGED: &str = "is damaged, or wasn't made by prepare: copy it again, or";
+
+// Says of the file of the hierarchy what this is, and what may be done. If it is cut, and announces how long it is, that is said
+// too.
+fn explain_hierarchy<R: Files + AllocGlobal, E: Write>(
+    rt: &R,
+    job: &Job<'_>,
+    what: &str,
+    err: &mut E,
+) {
+    let path = path_of(job, Input::Hierarchy).unwrap_or("the hierarchy");
+    let graph = path_of(job, Input::Graph).unwrap_or("its graph");
+    let _ = writeln!(err, "  {path} {what} prepare it again of {graph}");
+    let look = Look::at_head(rt, path);
+    let head = look.head.as_slice();
+    let (have, wanted) = (size_of(rt, path), announced(head));
+    if head.len() >= 24 && u128::from(have) < wanted {
+        let _ = writeln!(
+            err,
+            "  it has {have} bytes, and its first ones announce {wanted}"
+        );
+    }
+}
+
+// Says what a file is that doesn't begin as a hierarchy does.
+fn explain_magic<R: Files + AllocGlobal, E: Write>(rt: &R, job: &Job<'_>, err: &mut E) {
+    let path = path_of(job, Input::Hierarchy).unwrap_or("the hierarchy");
+    let look = Look::at_head(rt, path);
+    let head = look.head.as_slice();
+    let _ = if head.starts_with(b"RCH") {
         writeln!(
             err,
-            "  {hierarchy} gives wrong answers for {graph}: is it of another graph? prepare it again"
+            "  {path} is of a version that this program doesn't read: prepare it again"
+        )
+    } else if let Some(file) = file_of(head) {
+        writeln!(err, "  {path}: {file}")
+    } else if let Some(line) = text_of(head) {
+        writeln!(
+            err,
+            "  {path} begins with {line}, and the call is {}",
+            call_of(job)
         )
     } else {
         writeln!(
             err,
-            "  {hierarchy} may be right or wrong for {graph}: prepare it again to be sure"
+            "  {path} is no file that prepare made, and the call is {}",
+            call_of(job)
         )
     };
-}
-
-// Explains a refusal that no failed call is behind.
-fn explain_cause<R: Files + AllocGlobal, E: Write>(
-    rt: &R,
-    job: &Job<'_>,
-    cause: &Cause,
-    err: &mut E,
-) {
-    let hierarchy = path_of(job, Input::Hierarchy).unwrap_or("the hierarchy");
-    match cause {
-        Cause::Graph(fault) => explain_text(rt, job, Input::Graph, *fault, err),
-        Cause::Queries(fault) => explain_text(rt, job, Input::Queries, *fault, err),
-        Cause::Hierarchy(fault) => explain_hierarchy(rt, hierarchy, *fault, err),
-        Cause::OldVersion => {
-            let _ = writeln!(
-                err,
-                "  {hierarchy} is of version 1, which can't be checked: prepare it again"
-            );
-        }
-        Cause::TooLong => {
-            let _ = writeln!(
-                err,
-                "  {hierarchy} is the hierarchy of no graph: prepare it again"
-            );
-        }
-        Cause::Memory => {
-            let _ = writeln!(
-                err,
-                "  the system refused memory: is a limit set, or is the machine too small for this network?"
-            );
-        }
-        _ => {}
-    }
 }
 
 // Names what couldn't be read or written, and says why.
@@ -119,8 +143,20 @@ fn explain_failure<E: Write>(failure: Option<Failure<'_>>, err: &mut E) {
     if name == "-" {
         let _ = writeln!(
             err,
-            "  - is the name of a file here: standard input is read by \"answer - -\" alone"
+            "  - is the name of a file here: for standard input name /dev/stdin"
         );
+    }
+}
+
+// How the program is called for such a job.
+fn call_of(job: &Job<'_>) -> &'static str {
+    match job {
+        Job::Answer { .. } => "routecli answer GRAPH QUERIES",
+        Job::Prepare(_) => "routecli prepare GRAPH OUT",
+        Job::Route { .. } => "routecli route HIER QUERIES",
+        Job::Serve { .. } => "routecli serve HIER",
+        Job::Info { .. } => "routecli info HIER",
+        Job::Check(_) => "routecli check GRAPH HIER",
     }
 }
 
@@ -141,7 +177,7 @@ fn path_of<'a>(job: &Job<'a>, input: Input) -> Option<&'a str> {
     }
 }
 
-// Explains the fault of a text.
+// Explains the fault of a text, and shows the line that has it.
 fn explain_text<R: Files + AllocGlobal, E: Write>(
     rt: &R,
     job: &Job<'_>,
@@ -149,23 +185,22 @@ fn explain_text<R: Files + AllocGlobal, E: Write>(
     fault: GrError,
     err: &mut E,
 ) {
-    let path = path_of(job, input);
-    let look = match path {
-        Some(path) => Look::at(rt, path, fault.line),
-        None => Look::none(rt.alloc()),
-    };
-    if let Some(path) = path {
-        show_line(path, fault.line, &look, err);
+    let mut look = Look::none(rt.alloc());
+    if let Some(path) = path_of(job, input) {
+        look = Look::at(rt, path, fault.line);
+        let line = look.line.as_slice();
+        let _ = if line.is_empty() {
+            writeln!(err, "  {path}")
+        } else {
+            writeln!(err, "  {path}:{}: {}", fault.line, Shown(line))
+        };
     }
     let is_pairs = input == Input::Queries;
-    let nodes = if is_pairs {
-        nodes_of(rt, job)
-    } else {
-        number_of(field(look.problem.as_slice(), 2))
-    };
     let text = Text {
         is_pairs,
-        nodes,
+        is_joined: job.is_joined(),
+        call: call_of(job),
+        nodes: nodes_of(rt, job, is_pairs, &look),
         is_seen: look.is_seen,
         head: look.head.as_slice(),
         problem: look.problem.as_slice(),
@@ -175,67 +210,22 @@ fn explain_text<R: Files + AllocGlobal, E: Write>(
     hint(fault.kind, &text, err);
 }
 
-// Shows the line that has the fault.
-fn show_line<E: Write>(path: &str, number: u64, look: &Look, err: &mut E) {
-    let line = look.line.as_slice();
-    if line.is_empty() {
-        let _ = writeln!(err, "  {path}");
-    } else {
-        let _ = writeln!(err, "  {path}:{number}: {}", Shown(line));
+// How many nodes a text may name: those that the graph announces, or those of the hierarchy.
+fn nodes_of<R: Files + AllocGlobal>(
+    rt: &R,
+    job: &Job<'_>,
+    is_pairs: bool,
+    look: &Look,
+) -> Option<u64> {
+    if !is_pairs {
+        return number_of(field(look.problem.as_slice(), 2));
     }
-}
-
-// How many nodes the pairs may name: those of the hierarchy, or of the graph.
-fn nodes_of<R: Files + AllocGlobal>(rt: &R, job: &Job<'_>) -> Option<u64> {
     if let Some(path) = path_of(job, Input::Hierarchy) {
         let look = Look::at_head(rt, path);
         return word_at(look.head.as_slice(), 4).map(u64::from);
     }
-    let look = Look::at(rt, path_of(job, Input::Graph)?, 0);
-    number_of(field(look.problem.as_slice(), 2))
-}
-
-// Explains why the file of a hierarchy was refused.
-fn explain_hierarchy<R: Files + AllocGlobal, E: Write>(
-    rt: &R,
-    path: &str,
-    fault: HierError,
-    err: &mut E,
-) {
-    let look = Look::at_head(rt, path);
-    let head = look.head.as_slice();
-    let _ = match fault {
-        HierError::BadMagic => writeln!(err, "  {path}: {}", magic_hint(head)),
-        HierError::Truncated if head.len() >= 24 && head.starts_with(b"RCH") => {
-            let have = size_of(rt, path);
-            let wanted = announced(head);
-            writeln!(
-                err,
-                "  {path} has {have} bytes, and its first ones announce {wanted}: copy it again, or prepare it again"
-            )
-        }
-        HierError::Truncated => writeln!(
-            err,
-            "  {path} ends too early: copy it again, or prepare it again"
-        ),
-        _ => writeln!(
-            err,
-            "  {path} is damaged, or wasn't made by prepare: copy it again, or prepare it again"
-        ),
-    };
-}
-
-// What a file is that begins with no magic.
-fn magic_hint(head: &[u8]) -> &'static str {
-    if head.starts_with(b"RCH") {
-        "a hierarchy of a version that this program doesn't read: prepare it again"
-    } else if head.starts_with(b"\x1f\x8b") {
-        "a gzip file: gunzip it, or name it as <(zcat FILE)"
-    } else if head.starts_with(b"p ") || head.starts_with(b"c ") || head.starts_with(b"a ") {
-        "a text, and no file of prepare: a graph is prepared first, and the files of route are HIER QUERIES"
-    } else {
-        "no file that prepare made"
-    }
+    let graph = Look::at(rt, path_of(job, Input::Graph)?, 0);
+    number_of(field(graph.problem.as_slice(), 2))
 }
 
 // How many bytes a file has.

@@ -1,15 +1,16 @@
 //! What a user at a terminal sees beside results: how far a preparation has come, and lines that explain how a job ended.
 //!
 //! Builds on `ch_workers`, whose workers pass a gate at each commit, on `jobs` for what was asked, and on `outcomes`, `grfile`
-//! and `hierfile` for how it ended. No contract speaks of what is shown, and nothing rests on it. What a [`Watched`] or [`Kept`]
+//! and `hierfile` for how it ended. No contract speaks of what is shown, and nothing rests on it; [`conclude`] returns the exit
+//! status of how a job ended. What a [`Watched`] or [`Kept`]
 //! reader or writer passes on is what the one behind it does, so all that is promised of a text holds through it.
 //!
 //! **Progress.** A [`Meter`] is a gate that counts the commits: some times a second the worker that passes writes one line to
-//! standard error, in the place of the one before. A [`Watched`] reader passes on a graph's text, and reports to the meter how many
+//! standard error, in the place of the one before. The first one comes after a second, or earlier if it is asked for. A [`Watched`] reader passes on a graph's text, and reports to the meter how many
 //! nodes it announces.
 //!
 //! ```rust
-//! let meter = Meter::new(rt, rt.stderr())?;
+//! let meter = Meter::new(rt, rt.stderr(), true)?;
 //! let mut graph = Watched::new(file, &meter);
 //! let ended = prepare(rt, alloc, &mut graph, &mut out, options, lists, &mut leases, &meter);
 //! meter.clear();
@@ -28,6 +29,7 @@
 //! ```
 #![tactic(auto)]
 
+mod ending;
 mod explaining;
 mod fields;
 mod files;
@@ -37,8 +39,10 @@ mod look;
 mod meter;
 mod progress;
 mod shown;
+mod sorts;
 mod watched;
 
+pub use ending::conclude;
 pub use explaining::{Ended, Failure, explain};
 pub use files::warn_of;
 pub use kept::Kept;

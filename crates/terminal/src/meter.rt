@@ -12,6 +12,9 @@ const PACE: u64 = 200;
 /// How many bytes a line has at most.
 const ROOM: usize = 192;
 
+/// After how many milliseconds a line is shown that nobody has asked for: a shorter run shows none.
+const UNASKED: u64 = 1_000;
+
 /// A gate that counts commits, or a watch of a check, which shows on standard error how far they are.
 #[derive(Drop)]
 pub struct Meter<'a, R> {
@@ -20,14 +23,16 @@ pub struct Meter<'a, R> {
     begun: Instant,
     nodes: AtomicU64,
     commits: AtomicU64,
-    // after how many milliseconds the first line was shown, or 0
+    // after how many milliseconds the first commit was seen, or 0
     first: AtomicU64,
     due: AtomicU64,
+    lines: AtomicU64,
 }
 
 impl<'a, R: Clock> Meter<'a, R> {
-    /// Returns a meter that begins now. Fails if the clock does.
-    pub fn new(clock: &'a R, err: Stderr) -> io::Result<Meter<'a, R>> {
+    /// Returns a meter that begins now. Its first line comes after a fifth of a second if it is asked for, and else after a
+    /// second. Fails if the clock does.
+    pub fn new(clock: &'a R, err: Stderr, is_asked: bool) -> io::Result<Meter<'a, R>> {
         Ok(Meter {
             clock,
             err,
@@ -35,7 +40,8 @@ impl<'a, R: Clock> Meter<'a, R> {
             nodes: AtomicU64::new(0),
             commits: AtomicU64::new(0),
             first: AtomicU64::new(0),
-            due: AtomicU64::new(PACE),
+            due: AtomicU64::new(if is_asked { PACE } else { UNASKED }),
+            lines: AtomicU64::new(0),
         })
     }
 
@@ -70,8 +76,11 @@ impl<'a, R: Clock> Meter<'a, R> {
         self.err
     }
 
-    /// Takes the line away.
+    /// Takes the line away, if one was shown: nothing of it is left.
     pub fn clear(&self) {
+        if self.lines.load(Ordering::SeqCst) == 0 {
+            return;
+        }
         let mut err = self.err;
         let _ = err.write_all(b"\r\x1b[K");
     }
@@ -79,6 +88,7 @@ impl<'a, R: Clock> Meter<'a, R> {
     // Shows a line, if it is time for one and no other worker shows it.
     fn show(&self, done: u64) {
         let millis = self.millis();
+        let first = self.first_at(millis);
         let due = self.due.load(Ordering::SeqCst);
         if millis < due {
             return;
@@ -95,8 +105,9 @@ impl<'a, R: Clock> Meter<'a, R> {
             done,
             nodes: self.announced(),
             millis,
-            contracting: millis.saturating_sub(self.first_at(millis)),
+            contracting: millis.saturating_sub(first),
         };
+        self.lines.fetch_add(1, Ordering::SeqCst);
         let mut room = [0u8; ROOM];
         let mut rest = room.as_mut_slice();
         write_line(&mut rest, &progress);
@@ -107,7 +118,7 @@ impl<'a, R: Clock> Meter<'a, R> {
 }
 
 impl<R: Clock> Meter<'_, R> {
-    // After how many milliseconds the first line was shown, which is now if there was none.
+    // After how many milliseconds the first commit was seen, which is now if there was none.
     fn first_at(&self, millis: u64) -> u64 {
         let first = self.first.load(Ordering::SeqCst);
         if first > 0 {

@@ -6,7 +6,7 @@ use std::time::Clock;
 use terminal::{Meter, Progress, Watched, write_end, write_line};
 
 /// Commits, nodes, milliseconds, and those of contraction, and the line that shows them.
-const LINES: [([u64; 4], &[u8]); 8] = [
+const LINES: [([u64; 4], &[u8]); 9] = [
     (
         [1, 0, 999, 999],
         b"\x1b[?7l\r1 nodes contracted, 0 s\x1b[K\x1b[?7h",
@@ -17,11 +17,15 @@ const LINES: [([u64; 4], &[u8]); 8] = [
     ),
     (
         [250, 1_000, 9_999, 5_000],
-        b"\x1b[?7l\r25 %: 250 of 1000 nodes contracted, 9 s, some 15 s to go\x1b[K\x1b[?7h",
+        b"\x1b[?7l\r25 %: 250 of 1000 nodes contracted, 9 s, at least 15 s to go\x1b[K\x1b[?7h",
     ),
     (
-        [899, 1_000, 61_500, 61_500],
-        b"\x1b[?7l\r89 %: 899 of 1000 nodes contracted, 61 s, some 6 s to go\x1b[K\x1b[?7h",
+        [499, 1_000, 61_500, 61_500],
+        b"\x1b[?7l\r49 %: 499 of 1000 nodes contracted, 61 s, at least 61 s to go\x1b[K\x1b[?7h",
+    ),
+    (
+        [500, 1_000, 61_500, 61_500],
+        b"\x1b[?7l\r50 %: 500 of 1000 nodes contracted, 61 s\x1b[K\x1b[?7h",
     ),
     (
         [900, 1_000, 61_500, 61_500],
@@ -29,7 +33,7 @@ const LINES: [([u64; 4], &[u8]); 8] = [
     ),
     (
         [0, 10, 6_000, 6_000],
-        b"\x1b[?7l\r0 %: 0 of 10 nodes contracted, 6 s, some 60 s to go\x1b[K\x1b[?7h",
+        b"\x1b[?7l\r0 %: 0 of 10 nodes contracted, 6 s, at least 60 s to go\x1b[K\x1b[?7h",
     ),
     (
         [11, 10, 200, 0],
@@ -37,7 +41,7 @@ const LINES: [([u64; 4], &[u8]); 8] = [
     ),
     (
         [1, u64::MAX, u64::MAX, u64::MAX],
-        b"\x1b[?7l\r0 %: 1 of 18446744073709551615 nodes contracted, 18446744073709551 s, some 18446744073709551615 s to go\x1b[K\x1b[?7h",
+        b"\x1b[?7l\r0 %: 1 of 18446744073709551615 nodes contracted, 18446744073709551 s, at least 18446744073709551615 s to go\x1b[K\x1b[?7h",
     ),
 ];
 
@@ -99,7 +103,7 @@ fn is_told<R: Clock>(
 fn nodes_are_announced(rt: HostRuntime) -> Result<(), Fail> {
     for (text, nodes) in TEXTS {
         for piece in [1, 3, 16] {
-            let meter = Meter::new(&rt, rt.stderr())?;
+            let meter = Meter::new(&rt, rt.stderr(), true)?;
             assert!(rt; is_told(&meter, rt.alloc(), text, piece, nodes)?);
         }
     }
@@ -108,7 +112,7 @@ fn nodes_are_announced(rt: HostRuntime) -> Result<(), Fail> {
 
 #[test]
 fn commits_are_counted(rt: HostRuntime) -> Result<(), Fail> {
-    let meter = Meter::new(&rt, rt.stderr())?;
+    let meter = Meter::new(&rt, rt.stderr(), true)?;
     for point in [
         Point::Took,
         Point::Proposed,
