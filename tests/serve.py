@@ -4,8 +4,8 @@
     tests/serve.py [--requests N] [--rubbish MEGABYTES] [--long]
 
 A client asks and waits for each reply, asks all requests at once while it reads, closes early, sends rubbish without a
-line feed, and asks for a way whose search comes to a million nodes; memory has to stay level. By default it asks 20,000 requests at once and sends 20 MB; with --long 1,000,000 and
-100 MB. It needs g++ and the proved program (README.md says how to build it), or the path in the environment variable
+line feed, and asks for a length, a way and a way between places whose searches come to a million nodes; memory has to stay
+level. By default it asks 20,000 requests at once and sends 20 MB; with --long 1,000,000 and 100 MB. It needs g++ and the proved program (README.md says how to build it), or the path in the environment variable
 ROUTECLI. The exit status is 1 at the first difference.
 """
 import collections.abc
@@ -162,8 +162,8 @@ def rubbish(hierarchy: pathlib.Path, megabytes: int) -> int:
 
 
 def far(folder: pathlib.Path) -> int:
-    """Asks for the length of a way from a node that a million links leave: the search's memory is given back. Returns 2, for
-    two tests.
+    """Asks for the length of a way from a node that a million links leave, for the way, and for one between places there: the
+    searches' memory is given back. Returns 4, for four tests.
 
     The C library may keep some 30 MB of what it is given back, and more so the second time. Its threshold is set here, so that
     it keeps no large block, and the resident size shows what the program keeps.
@@ -174,11 +174,14 @@ def far(folder: pathlib.Path) -> int:
     service = Service(fan, MALLOC_MMAP_THRESHOLD_=str(1 << 17))
     need(service.ask("d 2 3") == "n 2 3", "links lead where there are none")
     before = service.kilobytes()
-    for _ in range(3):
-        need(service.ask(f"d 1 {FAN}") == f"d 1 {FAN} 1", "a far search finds another length")
-    grown = service.kilobytes() - before
-    need(grown < FAN * 20 // 2048 and service.end() == 0, f"a far search keeps {grown} kB")
-    return 2
+    way = f"r 1 {FAN} 1 1 1 {FAN}"
+    for request, reply in [(f"d 1 {FAN}", f"d 1 {FAN} 1"), (f"q 1 {FAN}", way), (f"b 1 0 : {FAN} 0", way)]:
+        for _ in range(3):
+            need(service.ask(request) == reply, f"a far search finds another answer than {reply}")
+        grown = service.kilobytes() - before
+        need(grown < FAN * 20 // 2048, f"a far search keeps {grown} kB for {request}")
+    need(service.end() == 0, "it doesn't end well after far searches")
+    return 4
 
 
 def many(folder: pathlib.Path, count: int) -> int:

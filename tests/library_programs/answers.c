@@ -83,7 +83,7 @@ static size_t allocated(void)
     return info.uordblks + info.hblkhd;
 }
 
-/* A second handle takes 48 bytes a node, and no hierarchy of its own. */
+/* A second handle takes 48 bytes a node and no hierarchy of its own, beside what the C library adds to large blocks. */
 static void take_little(domethyme *handle)
 {
     domethyme other = DOMETHYME_CLOSED;
@@ -91,7 +91,7 @@ static void take_little(domethyme *handle)
     WANT(domethyme_nodes(handle, &nodes) == DOMETHYME_OK);
     size_t before = allocated();
     WANT(domethyme_beside(handle, &other) == DOMETHYME_OK);
-    WANT(allocated() - before <= 48 * (size_t)nodes + 4096);
+    WANT(allocated() - before <= 48 * (size_t)nodes + (1 << 16));
     domethyme_close(&other);
 }
 
