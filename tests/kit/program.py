@@ -42,13 +42,12 @@ def need_compiled(folder: Path, name: str) -> pathlib.Path:
 
 def refuse_library(folder: Path) -> str:
     """The library that refuses calls of the system (tests/refuse_call.c), compiled into the folder."""
-    compiler = next(filter(None, map(shutil.which, ["cc", "gcc", "g++"])), None)
+    compiler = shutil.which("cc") or shutil.which("gcc") or shutil.which("g++")
     if compiler is None:
         sys.exit("tests/refuse_call.c can't be compiled, which needs gcc")
-    library = pathlib.Path(folder) / "refuse.so"
-    source = ROOT / "tests/refuse_call.c"
+    library, source = str(pathlib.Path(folder) / "refuse.so"), str(ROOT / "tests/refuse_call.c")
     subprocess.run([compiler, "-x", "c", "-shared", "-fPIC", "-O1", "-o", library, source, "-ldl"], check=True)
-    return str(library)
+    return library
 
 
 class Taken(typing.NamedTuple):
