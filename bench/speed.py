@@ -12,7 +12,7 @@ each round each job of each network has its turn once, so that a machine that is
   prepare    by 1 and 4 workers and each order, `neighbours` by 1 alone; and up to 300,000 nodes a textbook hierarchy in C++
              (hierarchy.cpp), without routes
   check      `routecli check` of the hierarchy of one worker and each order
-  route      10,000 random pairs, 2,000 near ones, whose ends are at most 20 rows and columns apart, and no pairs, which reads
+  route      10,000 random pairs, 40,000 near ones, whose ends are at most 20 rows and columns apart, and no pairs, which reads
              the file alone, by the hierarchy of one worker and `edges`, which is the default, and `depth`; and by route.cpp, an
              optimised program that does the same
   search     20 of the pairs without a hierarchy: in C++ (plain_search.cpp), by Boost; up to 65,536 nodes in Python by igraph
@@ -63,7 +63,8 @@ SPARSE = [264_346, 1_000_000]
 HARD = 256
 ROUTED = ["edges", "depth"]
 WORKERS = {"edges": [1, 4], "neighbours": [1], "depth": [1, 4]}
-RANDOM, NEAR, STEPS, FEW, CHECKED = 10_000, 2_000, 20, 20, 100
+RANDOM, NEAR, STEPS, FEW, CHECKED = 10_000, 40_000, 20, 20, 100
+PAIRS = {"random": RANDOM, "near": NEAR, "few": FEW}
 MOST_ANSWERED, MOST_ORDERS, MOST_WHOLE = 10_000, 300_000, 1_000_000
 SEED = 1
 OTHERS = {"igraph": 65_536, "networkx": 10_000, "pgrouting": 10_000}  # up to how many nodes each searches
@@ -151,12 +152,14 @@ class Bench:
             print(f"left out: {', '.join(missing)}", file=sys.stderr)
         self.table, self.facts = folder / "runs.csv", folder / "facts.json"
         self.about = about()
-        self.told = {"about": self.about, "networks": {}}
+        self.told = {"about": self.about, "pairs": PAIRS, "networks": {}}
         if self.facts.exists():
             self.told = json.loads(self.facts.read_text())
             for name in ["program", "machine"]:
                 if self.told["about"][name] != self.about[name]:
                     sys.exit(f"{self.facts} is of another {name}: {self.told['about'][name]}; --anew drops it")
+            if self.told.get("pairs") != PAIRS:
+                sys.exit(f"{self.facts} has other numbers of pairs: {self.told.get('pairs')}; --anew drops it")
         self.done = set()
         if self.table.exists():
             with open(self.table) as lines:
@@ -221,7 +224,7 @@ class Bench:
             file = network.file(order, workers)
             words = [PROGRAM, "prepare", "--workers", workers, "--order", order, network.graph, file]
             taken = self.runs.taken(words)
-            network.facts["links"][f"{order} {workers}"] = links_in(file)
+            network.facts["links"][f"{order} {workers}"] = round(links_in(file) / network.facts["arcs"], 2)
             self.check_few(network, file)
             return taken.wall, taken
 
@@ -246,7 +249,7 @@ class Bench:
         def go():
             taken = self.runs.taken([self.programs["hierarchy"], network.graph, network.pairs("none")])
             prepared, links, _ = map(float, taken.said.split())
-            network.facts["links"]["textbook"] = round(links * network.facts["arcs"])
+            network.facts["links"]["textbook"] = round(links, 2)
             return prepared, taken
 
         return go
@@ -438,7 +441,8 @@ def main():
                 bench.save()
     if not tried:
         words.error(f"no job has {options.only!r} in its name")
-    print(speed_page.page(speed_page.Measured(bench.folder)), end="")
+    measured = speed_page.Measured(bench.table, bench.facts)
+    print("\n\n".join(made(measured) for made in speed_page.TABLES.values()))
     if options.page:
         subprocess.run([PYTHON, ROOT / "bench/speed_page.py", bench.folder], check=True)
 
