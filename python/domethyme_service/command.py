@@ -14,6 +14,7 @@ import logging
 import os
 import platform
 import socket
+import stat
 import sys
 from collections.abc import Sequence
 from typing import Any
@@ -127,27 +128,45 @@ def sockets(args: argparse.Namespace) -> tuple[list[str], bool]:
                 check_loopback(name[0])
         return [], len(handed_over) > 1
     if args.bind is None:
-        return [f"fd://{bound(args.host, args.port)}"], False
+        return [listen_at_port(args.host, args.port)], False
     kind, _, path = args.bind.partition(":")
     if kind != "unix" or not path:
         raise StartupError(f"--bind {args.bind}: other machines ask through nginx, by {NGINX}, and --bind unix:PATH")
-    return [f"unix:{path}", f"unix:{path}{PROBE}"], True
+    return [listen_at_path(path), listen_at_path(f"{path}{PROBE}")], True
 
 
-def bound(host: str, port: int) -> int:
-    """A socket that listens at an address of the loopback. Raises StartupError."""
+def listen_at_port(host: str, port: int) -> str:
+    """A socket that listens at an address of the loopback, as gunicorn's `bind` has it. Raises StartupError."""
     try:
-        family, kind, _, _, address = socket.getaddrinfo(host, port, type=socket.SOCK_STREAM)[0]
+        family, _, _, _, address = socket.getaddrinfo(host, port, type=socket.SOCK_STREAM)[0]
         check_loopback(str(address[0]))
-        listening = socket.socket(family, kind)
-        listening.setsockopt(socket.SOL_SOCKET, socket.SO_REUSEADDR, 1)
-        listening.setsockopt(socket.SOL_SOCKET, socket.SO_RCVBUF, RECEIVE_BUFFER)
-        listening.bind(address)
-        listening.listen(BACKLOG)
+        return listen(family, address)
     except OSError as error:
         hint = ": another --port, or 0 for any that is free" if error.errno == errno.EADDRINUSE else ""
         raise StartupError(f"can't listen at {host}, port {port}: {error.strerror}{hint}") from error
-    return listening.detach()
+
+
+def listen_at_path(path: str) -> str:
+    """The same of a unix socket of mode 0660, in place of one that was left there. (gunicorn's own would be changed of owner, which
+    the unit doesn't allow.) Raises StartupError."""
+    before = os.umask(0o117)
+    try:
+        if os.path.exists(path) and stat.S_ISSOCK(os.stat(path).st_mode):
+            os.unlink(path)
+        return listen(socket.AF_UNIX, path)
+    except OSError as error:
+        raise StartupError(f"can't listen at unix:{path}: {error.strerror}") from error
+    finally:
+        os.umask(before)
+
+
+def listen(family: int, address: Any) -> str:
+    listening = socket.socket(family, socket.SOCK_STREAM)
+    listening.setsockopt(socket.SOL_SOCKET, socket.SO_REUSEADDR, 1)
+    listening.setsockopt(socket.SOL_SOCKET, socket.SO_RCVBUF, RECEIVE_BUFFER)
+    listening.bind(address)
+    listening.listen(BACKLOG)
+    return f"fd://{listening.detach()}"
 
 
 def check_loopback(address: str) -> None:

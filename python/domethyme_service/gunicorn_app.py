@@ -36,7 +36,7 @@ LOADS = 8
 ARENA_MAX = -8
 ENDING = (signal.SIGTERM, signal.SIGINT, signal.SIGQUIT)
 FIXED = {
-    "worker_class": "domethyme_service.worker.Worker", "preload_app": True, "threads": 1, "timeout": TIMEOUT, "umask": 0o117,
+    "worker_class": "domethyme_service.worker.Worker", "preload_app": True, "threads": 1, "timeout": TIMEOUT,
     "daemon": False, "reload": False, "limit_request_line": 0, "limit_request_fields": 100, "limit_request_field_size": 8190,
     "max_requests": 0, "reuse_port": False,
 }
@@ -108,9 +108,9 @@ class Arbiter(gunicorn.arbiter.Arbiter):  # type: ignore[misc] # (gunicorn has n
     """gunicorn's arbiter, which drops no signal, and reloads by files that were tried."""
 
     trial: Trial | None = None
-    wants_reload = is_opening = is_reloading = False
-    # The workers of files that were replaced: once none accepts connections, a reload is done.
-    old: list[Worker] = []
+    wants_reload = is_opening = False
+    # Reloads that aren't done, and the workers of files that were replaced: they are once none of these accepts connections.
+    reloads, old = 0, list[Worker]()
 
     def setup(self, app: Application) -> None:
         super().setup(app)
@@ -153,9 +153,9 @@ class Arbiter(gunicorn.arbiter.Arbiter):  # type: ignore[misc] # (gunicorn has n
             self.end_trial(self.trial)
         super().manage_workers()
         self.old = [worker for worker in self.old if worker.pid in self.WORKERS]
-        if self.is_reloading and not any(worker.row.workers for worker in self.old):
-            self.is_reloading = False
-            self.app.metrics.own.reloads += 1
+        if self.reloads and not any(worker.row.workers for worker in self.old):
+            self.app.metrics.own.reloads += self.reloads
+            self.reloads = 0
             log.info("reloaded, %d nodes", self.app.callable.queries.nodes)
 
     def end_trial(self, trial: Trial) -> None:
@@ -184,7 +184,7 @@ class Arbiter(gunicorn.arbiter.Arbiter):  # type: ignore[misc] # (gunicorn has n
             return
         finally:
             self.is_opening = False
-        self.old, self.is_reloading = list(self.WORKERS.values()), True
+        self.old, self.reloads = list(self.WORKERS.values()), self.reloads + 1
         gc.unfreeze()
         self.app.callable, self.app.generation = service, self.app.generation + 1
         del service
