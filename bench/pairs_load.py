@@ -73,10 +73,15 @@ class Load:
             connection = http.client.HTTPConnection("127.0.0.1", self.port, timeout=60)
             body = self.bodies[(count // LINES + number) % len(self.bodies)]
             connection.request("POST", "/nodes/lengths", body, {"Content-Type": "application/x-ndjson"})
-            if (found := connection.getresponse().read()).count(b',"length":') != LINES:
+            answer = connection.getresponse()
+            found = answer.read()
+            connection.close()
+            if answer.status == 503:  # (there was no slot in time)
+                time.sleep(int(answer.headers["Retry-After"]))
+                continue
+            if found.count(b',"length":') != LINES:
                 raise AssertionError(found[-200:])
             count += LINES
-            connection.close()
         return count
 
     def get(self, number: int) -> int:
