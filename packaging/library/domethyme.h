@@ -140,9 +140,9 @@ uint32_t domethyme_lengths(domethyme *handle, const domethyme_pair *pairs, size_
 /* The least length from each source to each target, row by row: that from source i to target j is lengths[i * target_count +
  * j]. As domethyme_lengths else.
  *
- * Above 64 lengths it first selects what paths to the targets take: 4 bytes for each node of the hierarchy, 16 for each node that
- * is selected and 12 for each of its links. The handle keeps that for the next table to the same targets, in the same order,
- * until one to others comes; a call with no targets frees it. */
+ * Above 64 lengths it first selects what paths to the targets take: 4 bytes for each node of the hierarchy, 8 for each target,
+ * and 12 for each node that is selected and for each link to one, with room for up to as many again. The handle keeps that for
+ * the next table to the same targets, in the same order, until one to others comes; a call with no targets frees it. */
 uint32_t domethyme_table(domethyme *handle, const uint32_t *sources, size_t source_count,
                          const uint32_t *targets, size_t target_count, uint64_t *lengths, size_t room);
 

@@ -15,9 +15,9 @@ use std::marker::Model;
 /// The part of a hierarchy that walks to some targets fall through: the columns of tables.
 ///
 /// It is made once for its targets, and then gives any number of rows. It never changes, holds no reference, and is good for
-/// each search of its hierarchy, so that several threads may use one. It takes 4 bytes for each node of the hierarchy, 16 for
-/// each node that is selected, 12 for each link that falls to one of these, and 8 for each target. Road networks have few
-/// such nodes: some 18,000 for 1,000 random targets among 264,346 nodes.
+/// each search of its hierarchy, so that several threads may use one. It takes 4 bytes for each node of the hierarchy, 8 for
+/// each target, 12 for each node that is selected and 12 for each link that falls to one of these; the lists of the last two
+/// may have room for as many again. Road networks have few such nodes: some 18,000 for 1,000 random targets among 264,346.
 #[derive(Drop)]
 pub struct Selection {
     columns: Columns,
