@@ -12,6 +12,8 @@ second program doesn't either, and ends at a place where that one does. A file t
  built      Files that were contracted here in drawn orders, with shortcuts that aren't needed, and some without those that are.
  changed    Such files, and other graphs: a link left out, another weight or middle, ranks exchanged, another version or bound.
  bytes      Each byte of a small file, with each of the 255 others (in the gate with nine of them).
+ limit      Files whose checks settle some 3 % fewer nodes than a check may, and some 3 % more: the one is right, and of the other
+            the check gives up.
 
 By default as in the gate, in half a minute; with --long some twenty times as many. Each part is a line with how its checks
 ended, and the last line counts the parts; the status is 1 where one has a verdict that isn't right. What was found is kept in
@@ -42,6 +44,11 @@ SECONDS = 60
 # The graph of the changed bytes: paths that tie, a shortcut over a shortcut, and an arc beside each.
 SMALL = [(0, 1, 2), (1, 2, 3), (1, 4, 1), (2, 1, 3), (2, 3, 5), (3, 2, 5), (3, 4, 1), (4, 1, 1), (4, 3, 1), (0, 5, 0)]
 LARGER = [*SMALL, (5, 6, 4), (6, 7, 1), (7, 8, 0), (8, 6, 2), (6, 9, 1), (9, 10, 7), (10, 11, 1), (11, 0, 9), (8, 11, 3)]
+
+# A check settles at most so many nodes for each link of a file, and so many beside (docs/REFERENCE.md).
+FOR_A_LINK, FOR_ALL = 256, 4194304
+# How many nodes the circle has of files that take much work, and the weight of the arcs that lead to it from outside.
+AROUND, HEAVY = 3200, 1000000
 
 Link = tuple[int, int, int, int, int]
 # Ranks, links as (start, end, weight, arcs, middle), and the bound of a file.
@@ -245,6 +252,21 @@ def of_bytes(network: Network, data: bytes, places: range, is_long: bool) -> Ite
             yield network, data[:at] + bytes([other]) + data[at + 1 :], ()
 
 
+def outside(room: Room, percent: int) -> tuple[Network, bytes]:
+    """A circle of light arcs, and nodes outside that heavy arcs join to opposite ones of it, and the file of a right hierarchy.
+    In this the nodes outside come first, without shortcuts: a check has to search the whole circle for a way around each. They
+    are so many that the searches settle this part of what a check may."""
+    circle = [(node, (node + step) % AROUND, 1) for node in range(AROUND) for step in (1, AROUND - 1)]
+    ranks, links, _ = parts_of(room.prepared(Network(AROUND, circle), "--workers", 0))
+    most = (FOR_ALL + FOR_A_LINK * len(links)) // (AROUND - 2 * FOR_A_LINK)
+    count = most * percent // 100
+    arcs = [(start, AROUND + start, HEAVY) for start in range(count)]
+    arcs += [(AROUND + start, (start + AROUND // 2) % AROUND, HEAVY) for start in range(count)]
+    network = Network(AROUND + count, circle + arcs)
+    numbers = [rank + count for rank in ranks] + list(range(count))
+    return network, spelled(numbers, sorted([*links, *((*arc, 1, NONE) for arc in arcs)]), network.bound)
+
+
 DRAWN = {"prepared": (prepared, 60, 600), "built": (drawn, 150, 3000), "changed": (spoiled, 120, 2000)}
 
 
@@ -263,6 +285,18 @@ def run_all(room: Room, cases: Iterator[Case], counts: "collections.Counter[str]
             keep(case, found, wrong)
 
 
+def check_limits(room: Room, counts: "collections.Counter[str]") -> None:
+    """The same of the two files that come near to the limit of a check's work."""
+    for percent, wanted in [(97, Verdict(0, b"right\n", b"")), (103, Verdict(10, b"not shown: work\n", b""))]:
+        network, data = outside(room, percent)
+        found = room.check(network, data)
+        counts["checks"] += 1
+        counts[str(found.status)] += 1
+        if found != wanted:
+            counts["wrong"] += 1
+            keep((network, data, ()), found, f"by {percent} % of the work it isn't {wanted}")
+
+
 def keep(case: Case, found: Verdict, wrong: str) -> None:
     KEPT.mkdir(parents=True, exist_ok=True)
     name = KEPT / str(time.time_ns())
@@ -278,6 +312,10 @@ def work(task: tuple[str, pathlib.Path, str, int, int, int, bool, pathlib.Path |
     if part == "bytes":
         network, data = small_file(is_long)
         run_all(room, of_bytes(network, data, range(job, len(data), jobs), is_long), counts)
+        return counts
+    if part == "limit":
+        if job == 0:
+            check_limits(room, counts)
         return counts
     for number in range(job, count, jobs):
         draw = random.Random(f"{seed} {part} {number}")
@@ -296,7 +334,7 @@ def main() -> None:
     words.add_argument("--seed", default="1")
     words.add_argument("only", nargs="?", default="", metavar="WORD")
     asked = words.parse_args()
-    parts = counted.chosen(words, [*DRAWN, "bytes"], asked.only)
+    parts = counted.chosen(words, [*DRAWN, "bytes", "limit"], asked.only)
     need_program()
     passed = 0
     with tempfile.TemporaryDirectory(prefix="verdicts-") as name, multiprocessing.Pool(asked.jobs) as pool:

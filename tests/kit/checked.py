@@ -3,6 +3,7 @@
 The second follows what docs/FORMATS.md says of verdicts, and shares nothing with the program. Nodes are numbered from 0, and
 a cost is a pair (weight, arcs), as in plain.py.
 """
+import functools
 import heapq
 import re
 import typing
@@ -66,7 +67,11 @@ class Network:
             if start != end:
                 self.costs[start, end] = min((weight, 1), self.costs.get((start, end), (weight, 1)))
         self.bound = max(nodes - 1, 0) * max((weight for _, _, weight in self.arcs), default=0)
-        self.distances = [least_from(self.costs, source) for source in range(nodes)]
+
+    @functools.cached_property
+    def distances(self) -> list[Distances]:
+        """From each node, the least cost of a walk to each other."""
+        return [least_from(self.costs, source) for source in range(self.nodes)]
 
     def is_heavy(self, cost: Cost) -> bool:
         """Whether no walk that repeats no node costs as much."""

@@ -71,6 +71,16 @@ module _ (o : Overlay) (v u : ℕ) where
   pub apart_targets : (owed : List Shortcut) → AreOwed o v u owed → Contains (map (λ (p : Shortcut). p.to) owed) v → ⊥
   apart_targets owed are among = let p = contains-mapped (λ (q : Shortcut). q.to) owed v among in (are p.0 p.1).1 p.2
 
+-- what a second search leaves of what a first has left
+pub left_of_left : (o : Overlay) (v : ℕ) (owed some few : List Shortcut) → AreLeft o v owed some → AreLeft o v some few → AreLeft o v owed few
+left_of_left o v owed some few first second = record {
+  among = λ p among. first.among p (second.among p among);
+  ways = λ p among. elim (first.ways p among) [
+    | inl in_some ↦ second.ways p in_some
+    | inr way ↦ inr way
+  ];
+}
+
 -- no pair is looked at yet
 pub unmet_none : (owed : List Shortcut) (ways : List (Option Way)) → AreUnmet owed ways 0 []
 unmet_none owed ways = record {

@@ -1,3 +1,4 @@
+pub mod Refuting
 pub mod Replay
 pub mod Pairs
 pub mod Searching

@@ -1,4 +1,4 @@
-ghost use Rattle.std.specs.Prelude.{◌≡◌, Err, OnOk, [], length};
+ghost use Rattle.std.specs.Prelude.{◌≡◌, ◌≢◌, Err, OnOk, [], length};
 ghost use Rattle.ch_graph.specs.Hierarchy.{IsRight};
 ghost use Rattle.ch_graph.specs.Limits.{bound_of};
 ghost use Rattle.ch_graph.specs.declared.version.Version.TheVariants.{One, Two};
@@ -6,7 +6,7 @@ ghost use Rattle.ch_laws.specs.Contraction.{IsAlive};
 ghost use Rattle.ch_overlay.specs.Overlay.{state_of};
 ghost use Rattle.ch_check.specs.Ranks.{AreInOrder};
 ghost use Rattle.ch_check.specs.Replay.{IsContracted};
-ghost use Rattle.ch_check.specs.declared.error.CheckError.TheVariants.{Nodes, Version};
+ghost use Rattle.ch_check.specs.declared.error.CheckError.TheVariants.{Bound, Nodes, Version};
 
 use crate::comparing::{compare, compare_row};
 use crate::desk::Desk;
@@ -26,9 +26,11 @@ use std::alloc::Global;
 /// are lawful, and the arcs that this leads to are compared with the links. So nothing of the hierarchy is believed: if
 /// the result is `Ok`, it is right.
 ///
-/// It is complete for what `ch_contract` makes, and for all that searches of at most 65,536 nodes could have made; that is
-/// argued, and tested on small graphs, and not proved. An error is no proof that the hierarchy is wrong, but for [`CheckError::Nodes`];
-/// [`is_refuted_by`](crate::is_refuted_by) may give one. A hierarchy of version 1 gives [`CheckError::Version`].
+/// It is complete for what `ch_contract` makes by searches that settle 64 nodes, and for all that searches of at most 65,536
+/// nodes could have made if the check needs no more than 256 settled nodes for each link, and 4,194,304 beside: beyond that it
+/// gives up ([`CheckError::Work`]). That is argued, and tested on small graphs, and not proved. An error is no proof that the
+/// hierarchy is wrong, but for [`CheckError::Nodes`]; [`is_refuted_by`](crate::is_refuted_by) may give one. A hierarchy of
+/// version 1 gives [`CheckError::Version`].
 ///
 /// Takes memory for the rows, an entry for each end of an arc, and time by the pairs of neighbours of the nodes, by the arcs
 /// into the ends of those pairs that have no link, and by searches for those that have no way of two arcs either. A link is
@@ -37,7 +39,10 @@ pub fn check(alloc: Global, graph: &Graph, hierarchy: &Hierarchy) -> Result<(), 
     ensures right { OnOk result (IsRight graph.now hierarchy.now) }
     ensures version { OnOk result (hierarchy.now.version ≡ Two) }
     ensures wrong { result ≡ Err Nodes → IsRight graph.now hierarchy.now → ⊥ }
+    ensures nodes { result ≡ Err Nodes → length hierarchy.now.ranks ≢ graph.now.nodes }
+    ensures same { result ≢ Err Nodes → length hierarchy.now.ranks ≡ graph.now.nodes }
     ensures old { result ≡ Err Version → hierarchy.now.version ≡ One }
+    ensures bound { result ≡ Err Bound → hierarchy.now.bound ≢ bound_of graph.now }
 {
     check_watched(alloc, graph, hierarchy, &Unwatched)
 }
@@ -52,7 +57,10 @@ pub fn check_watched<W: Watch>(
     ensures right { OnOk result (IsRight graph.now hierarchy.now) }
     ensures version { OnOk result (hierarchy.now.version ≡ Two) }
     ensures wrong { result ≡ Err Nodes → IsRight graph.now hierarchy.now → ⊥ }
+    ensures nodes { result ≡ Err Nodes → length hierarchy.now.ranks ≢ graph.now.nodes }
+    ensures same { result ≢ Err Nodes → length hierarchy.now.ranks ≡ graph.now.nodes }
     ensures old { result ≡ Err Version → hierarchy.now.version ≡ One }
+    ensures bound { result ≡ Err Bound → hierarchy.now.bound ≢ bound_of graph.now }
 {
     if hierarchy.nodes() != graph.nodes() {
         return Err(CheckError::Nodes);
@@ -103,7 +111,7 @@ fn contract_all<W: Watch>(
     ensures graph { OnOk result (replay.new.graph ≡ replay.old.graph) }
     ensures nodes { OnOk result (length replay.new.overlay.rows ≡ length replay.old.overlay.rows) }
 {
-    let mut desk = Desk::new(alloc);
+    let mut desk = Desk::new(alloc, hierarchy.links().len());
     let mut done = 0u32;
     'order: for node in order {
         contract(alloc, replay, hierarchy, &mut desk, *node)?;

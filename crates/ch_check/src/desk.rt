@@ -26,15 +26,15 @@ pub struct NeighbourPairs {
 }
 
 impl Desk {
-    /// Nothing is worked out yet. It takes no memory yet.
-    pub fn new(alloc: Global) -> Desk {
+    /// Nothing is worked out yet, of a hierarchy of this many links. It takes no memory yet.
+    pub fn new(alloc: Global, links: usize) -> Desk {
         Desk {
             shortcuts: Vec::new(alloc),
             pairs: NeighbourPairs {
                 put: Vec::new(alloc),
                 owed: Vec::new(alloc),
             },
-            finder: Finder::new(alloc),
+            finder: Finder::new(alloc, links),
         }
     }
 

@@ -1,5 +1,6 @@
-ghost use Rattle.std.specs.Prelude.{◌≢◌};
-ghost use Rattle.ch_check.specs.declared.error.CheckError.TheVariants.{Nodes, Version};
+ghost use Rattle.std.specs.Prelude.{◌≡◌, ◌≢◌};
+ghost use Rattle.ch_check.specs.Refuting.{pair_of};
+ghost use Rattle.ch_check.specs.declared.error.CheckError.TheVariants.{Bound, Nodes, Version};
 
 use crate::fault::Fault;
 use std::error::Error;
@@ -16,6 +17,8 @@ pub enum CheckError {
     Version,
     /// The bound of the hierarchy isn't that of the graph.
     Bound,
+    /// The searches for ways around nodes have settled more nodes than a check may. Nothing is known of the hierarchy.
+    Work,
     /// When `via` was contracted, the hierarchy had no link from `from` to `to` that costs as little as the two arcs by way
     /// of `via`, and no way around `via` was found that does.
     Way {
@@ -39,7 +42,9 @@ pub enum CheckError {
 impl CheckError {
     /// Returns the two nodes at which the check ended, if it ended at such. Their distance may show that the hierarchy is
     /// wrong: [`is_refuted_by`](crate::is_refuted_by) compares it.
-    pub fn pair(self) -> Option<(u32, u32)> {
+    pub fn pair(self) -> Option<(u32, u32)>
+        ensures { result ≡ pair_of self }
+    {
         match self {
             CheckError::Way { from, to, .. } | CheckError::Link { from, to } => Some((from, to)),
             _ => None,
@@ -54,6 +59,7 @@ impl fmt::Display for CheckError {
             CheckError::Nodes => f.write_str("nodes"),
             CheckError::Version => f.write_str("version"),
             CheckError::Bound => f.write_str("bound"),
+            CheckError::Work => f.write_str("work"),
             CheckError::Way { via, from, to } => write!(f, "way {from} {to} by {via}"),
             CheckError::Link { from, to } => write!(f, "link {from} {to}"),
         }
@@ -63,11 +69,12 @@ impl fmt::Display for CheckError {
 impl Error for CheckError {}
 
 impl From<Fault> for CheckError {
-    ghost from_gives = { λ _ e. (e ≢ Nodes) × (e ≢ Version) };
+    ghost from_gives = { λ _ e. (e ≢ Nodes) × (e ≢ Version) × (e ≢ Bound) };
 
     fn from(fault: Fault) -> CheckError {
         match fault {
             Fault::OutOfMemory => CheckError::OutOfMemory,
+            Fault::Work => CheckError::Work,
             Fault::Way { via, from, to } => CheckError::Way { via, from, to },
             Fault::Link { from, to } => CheckError::Link { from, to },
         }

@@ -5,6 +5,8 @@ use std::alloc::{AllocError, AllocFailed};
 pub enum Fault {
     /// Out of memory.
     OutOfMemory,
+    /// The searches for ways have settled too many nodes.
+    Work,
     /// No way around a node was found for a pair.
     Way { via: u32, from: u32, to: u32 },
     /// A link and an arc between two nodes aren't the same.

@@ -1,5 +1,6 @@
-ghost use Rattle.std.specs.Prelude.{◌≢◌, IfOk, IsTrue};
+ghost use Rattle.std.specs.Prelude.{◌≡◌, ◌≢◌, IfOk, IsTrue, length};
 ghost use Rattle.ch_graph.specs.Hierarchy.{IsRight};
+ghost use Rattle.ch_check.specs.Refuting.{AreApart};
 
 use ch_cost::Cost;
 use ch_graph::{Graph, Hierarchy, value_is_unique};
@@ -19,6 +20,7 @@ pub fn is_refuted_by(
     to: u32,
 ) -> Result<bool, AllocError>
     ensures wrong { IfOk result (λ refuted. IsTrue refuted → IsRight graph.now hierarchy.now → ⊥) }
+    ensures apart { IfOk result (λ refuted. IsTrue refuted → length hierarchy.now.ranks ≡ graph.now.nodes → AreApart graph.now hierarchy.now from to) }
 {
     value_is_unique();
     let nodes = graph.nodes();

@@ -1,4 +1,4 @@
-ghost use Rattle.std.specs.Prelude.{◌≡◌, ◌≢◌, Ok, Err, IfOk, IsTrue, OnOk, Some, length, map};
+ghost use Rattle.std.specs.Prelude.{◌≡◌, ◌≢◌, ◌≤◌, ◌^◌, Ok, Err, IfOk, IsTrue, OnOk, Some, length, map};
 ghost use Rattle.std.specs.List.{slice_get};
 ghost use Rattle.std.specs.Option.{IsSomeAnd};
 ghost use Rattle.ch_cost.specs.Cost.{◌≼◌};
@@ -22,6 +22,14 @@ use std::mem;
 /// How many nodes a search settles at most. A hierarchy that was made by shorter searches has no need of longer ones.
 const SETTLE: u32 = 1 << 16;
 
+/// How many nodes a search settles that made a hierarchy here: what it came to is found by as many.
+const FEW: u32 = 1 << 6;
+
+/// How many nodes all searches of a check settle at most: this many for each link, and so many more.
+const FOR_A_LINK: u64 = 1 << 8;
+
+const FOR_ALL: u64 = 1 << 22;
+
 /// Finds ways around nodes, one after the other, in memory that is used again.
 #[derive(Drop)]
 pub struct Finder {
@@ -34,13 +42,18 @@ pub struct Finder {
     aims: Vec<Aim>,
     /// What the search before has found.
     earlier: Traced,
+    /// How many nodes its searches may still settle.
+    rest: u64,
 }
 
 impl Finder {
-    /// No way is found yet. It takes no memory yet.
-    pub fn new(alloc: Global) -> Finder {
+    /// No way is found yet. It takes no memory yet. All searches of a check of a hierarchy of this many links are its own.
+    pub fn new(alloc: Global, links: usize) -> Finder {
         Finder {
             alloc,
+            rest: (links as u64)
+                .saturating_mul(FOR_A_LINK)
+                .saturating_add(FOR_ALL),
             searcher: Searcher::new(alloc),
             ends: Vec::new(alloc),
             aims: Vec::new(alloc),
@@ -49,11 +62,9 @@ impl Finder {
     }
 
     /// Finds a way around a node for each of these pairs, which all lead from one neighbour. Fails at the first that has
-    /// none.
+    /// none, and where all searches together have settled too many nodes.
     ///
-    /// A way that costs no more than its pair will do, the best isn't wanted. So one search ends as soon as it has come to
-    /// each end, and those pairs that it leaves without a way, since it came to their ends by too costly ones, get a whole
-    /// search.
+    /// What two short searches leave without a way gets a whole one.
     pub fn find_ways(
         &mut self,
         overlay: &Overlay,
@@ -69,10 +80,8 @@ impl Finder {
         ensures ways { OnOk result (HaveWays overlay.now via owed.now) }
         ensures kept { OnOk result (AreRowsOf overlay.now (kept_of self.new.searcher.rows)) }
     {
-        find_aims(owed, &mut self.aims)?;
-        let few = self.search_ways(overlay, via, from, owed)?;
-        self.aims.clear();
-        let left = self.search_ways(overlay, via, from, &few)?;
+        let few = self.search_few(overlay, via, from, owed)?;
+        let left = self.search_ways(overlay, via, from, &few, SETTLE)?;
         if left.is_empty() {
             return Ok(());
         }
@@ -84,8 +93,13 @@ impl Finder {
         })
     }
 
-    /// Searches ways to the ends of these pairs, and returns those pairs for which it found none that costs no more.
-    fn search_ways(
+    /// Searches ways to the ends of these pairs by two short searches, and returns those pairs for which they found none that costs
+    /// no more.
+    ///
+    /// A way that costs no more than its pair will do, the best isn't wanted. So the first search ends as soon as it has come to
+    /// each end. Those pairs that it leaves without a way, since it came to their ends by too costly ones, get a search like
+    /// those by which hierarchies are made here.
+    fn search_few(
         &mut self,
         overlay: &Overlay,
         via: u32,
@@ -100,10 +114,38 @@ impl Finder {
         ensures left { IfOk result (λ left. AreLeft overlay.now via owed.now left.items) }
         ensures kept { OnOk result (AreRowsOf overlay.now (kept_of self.new.searcher.rows)) }
     {
+        find_aims(owed, &mut self.aims)?;
+        let some = self.search_ways(overlay, via, from, owed, SETTLE)?;
+        self.aims.clear();
+        let few = self.search_ways(overlay, via, from, &some, FEW)?;
+        Ok(few)
+    }
+
+    /// Searches ways to the ends of these pairs, settling at most so many nodes, and returns those pairs for which it found none
+    /// that costs no more.
+    fn search_ways(
+        &mut self,
+        overlay: &Overlay,
+        via: u32,
+        from: u32,
+        owed: &[Shortcut],
+        settle: u32,
+    ) -> Result<Vec<Shortcut>, Fault>
+        requires some { 1 ≤ settle }
+        requires few { settle ≤ 2 ^ 16 }
+        requires bound { IsBound overlay.now.bound }
+        requires inside { IsNode overlay.now from }
+        requires start { from ≢ via }
+        requires owed { AreOwed overlay.now via from owed.now }
+        requires kept { AreRowsOf overlay.now (kept_of self.old.searcher.rows) }
+        ensures left { IfOk result (λ left. AreLeft overlay.now via owed.now left.items) }
+        ensures kept { OnOk result (AreRowsOf overlay.now (kept_of self.new.searcher.rows)) }
+    {
         if owed.is_empty() {
             return Ok(Vec::new(self.alloc));
         }
-        let found = self.trace_ways(overlay, via, from, owed)?;
+        let found = self.trace_ways(overlay, via, from, owed, settle)?;
+        self.rest = rest_of(self.rest, found.steps.len())?;
         let left = unmet(self.alloc, owed, &found.ways)?;
         self.earlier = found;
         Ok(left)
@@ -116,7 +158,10 @@ impl Finder {
         via: u32,
         from: u32,
         owed: &[Shortcut],
+        settle: u32,
     ) -> Result<Traced, Fault>
+        requires some { 1 ≤ settle }
+        requires few { settle ≤ 2 ^ 16 }
         requires bound { IsBound overlay.now.bound }
         requires inside { IsNode overlay.now from }
         requires start { from ≢ via }
@@ -134,10 +179,15 @@ impl Finder {
         let earlier = mem::replace(&mut self.earlier, Traced::new(self.alloc));
         let mut rows = OverlayRows::new(overlay);
         let found = self.searcher.search(
-            self.alloc, &mut rows, rule, &self.ends, &self.aims, SETTLE, earlier,
+            self.alloc, &mut rows, rule, &self.ends, &self.aims, settle, earlier,
         );
         seen_all(found)
     }
+}
+
+/// How many nodes may still be settled after so many more, if they may.
+fn rest_of(rest: u64, settled: usize) -> Result<u64, Fault> {
+    rest.checked_sub(settled as u64).ok_or(Fault::Work)
 }
 
 /// What a search found that had each row, or that memory ran out.

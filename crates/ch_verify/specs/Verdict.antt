@@ -1,23 +1,38 @@
 -- What a check of a hierarchy's file against the text of a graph says, and how that is shown.
-use Rattle.std.specs.Prelude.{ℕ, ◌≡◌, ◌+◌, ⊤, List, ◌++◌, codes, decimal, Ok}
+use Rattle.std.specs.Prelude.{ℕ, ◌≡◌, ◌≢◌, ◌+◌, ⊤, List, ◌++◌, length, codes, decimal, Ok}
 use Rattle.ch_graph.specs.Graph.{Graph}
 use Rattle.ch_graph.specs.Hierarchy.{Hierarchy, IsRight}
+use Rattle.ch_graph.specs.Limits.{bound_of}
 use Rattle.ch_graph.specs.declared.version.Version.{Version}
 use Rattle.ch_graph.specs.declared.version.Version.TheVariants.{Two}
 use Rattle.grfile.specs.Reading.{graph_of}
 use Rattle.ch_answer.specs.File.{Spells, PreparesIn}
+use Rattle.ch_check.specs.Refuting.{AreApart}
 use Rattle.ch_verify.specs.declared.verdict.Verdict.{Verdict}
 use Rattle.ch_verify.specs.declared.verdict.Verdict.TheVariants.{Right, Wrong, NotShown}
 use Rattle.ch_verify.specs.declared.verdict.Refutation.{Refutation}
 use Rattle.ch_verify.specs.declared.verdict.Refutation.TheVariants.{Nodes, Pair}
 use Rattle.ch_verify.specs.declared.verdict.Doubt.{Doubt}
-use Rattle.ch_verify.specs.declared.verdict.Doubt.TheVariants.{Bound, Way, Link}
+use Rattle.ch_verify.specs.declared.verdict.Doubt.TheVariants.{Bound, Work, Way, Link}
 
--- what a verdict says of a graph and a hierarchy: it is right for the graph, or it isn't, or nothing
+-- What a refutation names: the hierarchy has another number of nodes, or another distance of a pair.
+abbrev pub Refutes : Refutation → Graph → Hierarchy → Type 0
+Refutes Nodes g h = length h.ranks ≢ g.nodes
+Refutes (Pair from to) g h = AreApart g h from to
+
+-- What a doubt names of the two: of the bound, that it isn't the graph's. The others say where a check ended, or that it
+-- took too much work, and nothing of the two.
+abbrev pub Doubts : Doubt → Graph → Hierarchy → Type 0
+Doubts Bound g h = h.bound ≢ bound_of g
+Doubts Work g h = ⊤
+Doubts (Way via from to) g h = ⊤
+Doubts (Link from to) g h = ⊤
+
+-- what a verdict says of a graph and a hierarchy: it is right for the graph, or it isn't, or neither
 abbrev pub Judges : Verdict → Graph → Hierarchy → Type 0
 Judges Right g h = IsRight g h
-Judges (Wrong refutation) g h = IsRight g h → ⊥
-Judges (NotShown doubt) g h = ⊤
+Judges (Wrong refutation) g h = (IsRight g h → ⊥) × Refutes refutation g h
+Judges (NotShown doubt) g h = Doubts doubt g h
 
 -- the text spells a graph and the bytes are the file of a hierarchy of this version, and this is so of the two
 pub record AreOf (v : Version) (P : Graph → Hierarchy → Type 0) (graph_text bytes : List ℕ) : Type 0 where
@@ -28,16 +43,17 @@ pub record AreOf (v : Version) (P : Graph → Hierarchy → Type 0) (graph_text 
   pub fact : P graph hierarchy
   pub spells : Spells bytes hierarchy
 
--- the bytes are the file of a hierarchy that isn't right for the graph of the text
-abbrev pub IsWrong : List ℕ → List ℕ → Type 0
-IsWrong = AreOf Two (λ g h. IsRight g h → ⊥)
+-- the bytes are the file of a hierarchy that isn't right for the graph of the text, as this refutation shows
+abbrev pub IsWrong : Refutation → List ℕ → List ℕ → Type 0
+IsWrong refutation = AreOf Two (λ g h. (IsRight g h → ⊥) × Refutes refutation g h)
 
 -- What a verdict says of the text of a graph and of bytes. They are the file of a hierarchy that is right for the graph, as
--- those that are prepared from the text; or the file of one that isn't; or both were read.
+-- those that are prepared from the text; or the file of one that isn't, as the refutation shows; or both were read, and what the
+-- doubt names is so.
 abbrev pub Says : Verdict → List ℕ → List ℕ → Type 0
 Says Right = PreparesIn Two
-Says (Wrong refutation) = IsWrong
-Says (NotShown doubt) = AreOf Two (λ g h. ⊤)
+Says (Wrong refutation) = IsWrong refutation
+Says (NotShown doubt) = AreOf Two (Doubts doubt)
 
 -- how a verdict is shown, with nodes numbered from 1
 
@@ -47,6 +63,7 @@ refutation_text (Pair from to) = codes "pair " ++ decimal (from + 1) ++ codes " 
 
 abbrev pub doubt_text : Doubt → List ℕ
 doubt_text Bound = codes "bound"
+doubt_text Work = codes "work"
 doubt_text (Way via from to) = codes "way " ++ decimal (from + 1) ++ codes " " ++ decimal (to + 1) ++ codes " by " ++ decimal (via + 1)
 doubt_text (Link from to) = codes "link " ++ decimal (from + 1) ++ codes " " ++ decimal (to + 1)
 

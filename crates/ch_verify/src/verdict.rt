@@ -35,6 +35,8 @@ pub enum Refutation {
 pub enum Doubt {
     /// The bound of the hierarchy isn't that of the graph.
     Bound,
+    /// The check has settled more nodes than it may.
+    Work,
     /// The hierarchy has no link that costs as little as the two arcs from one node to another by way of a third, and no
     /// way around the third that costs as little was found.
     Way {
@@ -84,6 +86,7 @@ impl fmt::Display for Doubt {
     fn fmt<W: fmt::Write>(&self, f: &mut fmt::Formatter<W>) -> fmt::Result {
         match self {
             Doubt::Bound => write!(f, "bound"),
+            Doubt::Work => write!(f, "work"),
             Doubt::Way { via, from, to } => {
                 write!(
                     f,

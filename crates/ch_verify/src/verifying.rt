@@ -1,10 +1,10 @@
-ghost use Rattle.std.specs.Prelude.{◌≡◌, OnOk, IfOk, IfErr};
+ghost use Rattle.std.specs.Prelude.{◌≡◌, OnOk, IfOk, IfErr, length};
 ghost use Rattle.std.specs.Io.KnownBytes.{Appends};
 ghost use Rattle.ch_graph.specs.declared.version.Version.TheVariants.{One, Two};
 ghost use Rattle.ch_answer.specs.Written.{IfTold};
 ghost use Rattle.outcomes.specs.declared.cause.Cause.TheVariants.{OldVersion};
 ghost use Rattle.ch_verify.specs.Refusal.{BreaksOff, RefusesCheck};
-ghost use Rattle.ch_verify.specs.Verdict.{Judges, Says, verdict_line};
+ghost use Rattle.ch_verify.specs.Verdict.{Doubts, Judges, Says, verdict_line};
 
 use crate::verdict::{Doubt, Refutation, Verdict};
 use ch_check::{CheckError, Watch, check_watched, is_refuted_by};
@@ -21,7 +21,7 @@ use std::io::{Read, Write};
 /// was found. The watch sees how many nodes are checked. Nothing of the file is believed: if the verdict is
 /// [`Verdict::Right`], it is one as `prepare` writes them of this text, and routes by it are shortest paths of the graph.
 /// Where the check ends at a pair of nodes, their distance in the graph is compared with that in the hierarchy, and if these
-/// differ the verdict is [`Verdict::Wrong`].
+/// differ the verdict is [`Verdict::Wrong`]. What a refutation and the doubt of the bound name is so of the two.
 ///
 /// A file of version 1, whose costs count no arcs, is refused ([`Cause::OldVersion`]). Nothing is written at a refusal,
 /// unless it is the write that failed. Takes memory for the graph, the hierarchy and the rows of
@@ -91,6 +91,7 @@ fn judge<V: Watch>(
         CheckError::Nodes => Ok(Verdict::Wrong(Refutation::Nodes)),
         CheckError::Version => unreachable!(),
         CheckError::Bound => Ok(Verdict::NotShown(Doubt::Bound)),
+        CheckError::Work => Ok(Verdict::NotShown(Doubt::Work)),
         CheckError::Way { via, from, to } => {
             refute(
                 alloc,
@@ -120,6 +121,8 @@ fn refute(
     pair: (u32, u32),
     doubt: Doubt,
 ) -> Result<Verdict, AllocError>
+    requires nodes { length hierarchy.now.ranks ≡ graph.now.nodes }
+    requires doubt { Doubts doubt graph.now hierarchy.now }
     ensures { IfOk result (λ verdict. Judges verdict graph.now hierarchy.now) }
 {
     let (from, to) = pair;

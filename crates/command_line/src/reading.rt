@@ -392,7 +392,7 @@ const CHECK_PROGRESS: &str =
     "Show on standard error how many nodes are contracted once more, if that is a terminal, from the beginning and not only after a second";
 
 const CHECKING: &str =
-    "It prints right, with status 0; wrong: and what shows that, with status 9; or not shown: and where, with status 10, which is no proof that the file is wrong.\n\n\
+    "It prints right, with status 0; wrong: and what shows that, with status 9; or not shown: and where, or that it took too much work, with status 10, which is no proof that the file is wrong.\n\n\
 From a file that is right, route and serve answer with shortest paths of GRAPH.\n\n\
 Example: routecli check net.gr net.rch";
 

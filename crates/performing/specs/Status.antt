@@ -71,7 +71,7 @@ TellsInfo outcome file old new = Ends outcome (IfSome file (λ bytes. Writes (In
 -- Wrong: it isn't. These and NotShown come of a verdict, whose line is written.
 pub record TellsChecked (outcome : Outcome) (graph file old new : Option (List ℕ)) : Type 0 where
   pub right : outcome ≡ outcomes.Done → IfTold graph file Prepares × Appends old new (verdict_line verdicts.Right)
-  pub wrong : outcome ≡ outcomes.Wrong → (refutation : Refutation) × IfTold graph file IsWrong × Appends old new (verdict_line (verdicts.Wrong refutation))
+  pub wrong : outcome ≡ outcomes.Wrong → (refutation : Refutation) × IfTold graph file (IsWrong refutation) × Appends old new (verdict_line (verdicts.Wrong refutation))
   pub not_shown : outcome ≡ outcomes.NotShown → (doubt : Doubt) × IfTold graph file (Says (verdicts.NotShown doubt)) × Appends old new (verdict_line (verdicts.NotShown doubt))
   pub refused : (cause : Cause) → outcome ≡ outcomes.Refused cause → RefusesCheck graph file old new cause
 
