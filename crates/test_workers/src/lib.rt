@@ -18,6 +18,8 @@ mod costs;
 #[cfg(test)]
 mod drops;
 #[cfg(test)]
+mod four;
+#[cfg(test)]
 mod gates;
 #[cfg(test)]
 mod keeping;
