@@ -118,7 +118,7 @@ def does_count(version, weight, arcs, middle, nodes):
 
 
 class Routes:
-    """The least rise-fall walks of a hierarchy, of those that are no longer than `longest`, or than its bound."""
+    """The shortest up-down paths of a hierarchy, of those that are no longer than `longest`, or than its bound."""
 
     def __init__(self, hierarchy, longest=None):
         self.hierarchy, self.nodes = hierarchy, len(hierarchy.ranks)

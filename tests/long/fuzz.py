@@ -242,7 +242,7 @@ def refusal_of(status, part, refused):
 
 
 def is_line(line, source, target, cost, is_route):
-    """Whether an answer line is right where the least walk has this length and so many arcs, or any number for none of
+    """Whether an answer line is right where the shortest path has this length and so many arcs, or any number for none of
     them, or where there is no walk."""
     if cost is None:
         return line == b"n %d %d" % (source, target)
@@ -264,7 +264,7 @@ class Answers:
         return len(nodes) <= self.routes.nodes and self.routes.is_route([node - 1 for node in nodes], length)
 
     def cost_of(self, source, target):
-        """The length of a least walk and how many arcs it has, where that is settled; or none."""
+        """The length of a shortest path and how many arcs it has, where that is settled; or none."""
         cost = self.routes.value(source - 1, target - 1)
         return cost if cost is None or self.version == 2 else (cost[0], None)
 
