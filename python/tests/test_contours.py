@@ -133,11 +133,23 @@ def test_nodes_in_one_place_that_differ(made_town):
     reach = Reach(net, found, [80_000])
     field = Field(reach, meshes_of(reach)[0])
     nodes, points = reach.nodes_in(field.mesh.box)
-    columns, rows = field.mesh.squares(points, 1)
+    rows, columns = field.mesh.squares(points, 1)
     of_square = {}
-    for square, level in zip(zip(columns.tolist(), rows.tolist()), reach.node_levels(nodes).tolist()):
+    for square, level in zip(zip(rows.tolist(), columns.tolist()), reach.node_levels(nodes).tolist()):
         of_square.setdefault(square, set()).add(level)
     assert sum(len(levels) > 1 for levels in of_square.values()) > 3
+
+
+def test_a_bridge_with_a_node_above_one_of_the_road():
+    """Both nodes lie in one place. The limit 0 reaches one of them alone, and no road."""
+    nodes = [(-0.01, 0), (0, 0), (0.01, 0), (0, -0.01), (0, 0), (0, 0.01)]
+    net = network(nodes, [Road(start, start + 1, 10_000, 10_000) for start in (0, 1, 3, 4)])
+    for start in (1, 4):
+        found = lengths(net, {start: 0})
+        reach = Reach(net, found, [0, 5000])
+        drawn = contours(reach)
+        assert all(contour.polygons for contour in drawn) and are_nested(drawn)
+        assert [misplaced(net, found, reach, limit, contour) for limit, contour in enumerate(drawn)] == [(0, 0, 1, 5)] * 2
 
 
 def test_places_on_roads(made_town):
@@ -152,7 +164,8 @@ def test_places_on_roads(made_town):
 
 
 def test_limits_that_differ_much(made_roads):
-    """Some grids, one within the other: contours are nested, and of one piece where their boxes meet."""
+    """Some grids, one within the other: contours are nested, of one piece where their boxes meet, and drawn on the grid of
+    the smallest box that they pass."""
     reach = Reach(made_roads, lengths(made_roads, {9000: 0}), isochrones.limits(made_roads.unit, [0.03, 1, 20]))
     meshes = meshes_of(reach)
     assert len(meshes) > 2 and [mesh.step for mesh in meshes] == sorted({mesh.step for mesh in meshes})
@@ -161,6 +174,28 @@ def test_limits_that_differ_much(made_roads):
     for mesh in meshes[:-1]:
         sides = LineString(np.array(mesh.shown)[[[0, 1], [2, 1], [2, 3], [0, 3], [0, 1]]])
         assert in_plane(reach, drawn[2].polygons).boundary.intersection(sides).length < 0.05 * sides.length
+    parts = [part for contour in drawn for part in in_plane(reach, contour.polygons).geoms]
+    ends = np.concatenate([segments(ring) for part in parts for ring in rings(part)])
+    counts = []
+    for mesh in meshes:
+        within, around = (has_both((mesh.shown or mesh.box).grown(by), ends) for by in (-0.2, 0.2))
+        assert np.hypot(*(ends[within, 1] - ends[within, 0]).T).max(initial=0) < mesh.step
+        counts.append(np.count_nonzero(within))
+        ends = ends[~around]
+    assert np.count_nonzero(counts) > 2
+
+
+def has_both(box, ends):
+    return box.has(ends[:, 0]) & box.has(ends[:, 1])
+
+
+def rings(polygon):
+    return [np.array(ring.coords) for ring in (polygon.exterior, *polygon.interiors)]
+
+
+def segments(ring):
+    """Both ends of each segment, of shape (segments, 2, 2)."""
+    return np.stack((ring[:-1], ring[1:]), axis=1)
 
 
 @pytest.fixture(scope="module")

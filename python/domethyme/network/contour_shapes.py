@@ -22,8 +22,9 @@ HALVINGS = 8
 
 
 def denoised(contours: Sequence[list[Polygon]], share: float) -> list[list[Polygon]]:
-    """Contours without the parts and holes whose area is less than a share, from 0 to 1, of the area of the contour's largest part.
-    Holes count as area of parts. A part that has one of a lesser contour in it stays. Raises ValueError for another share."""
+    """Contours without the parts and holes whose area is less than a share, from 0 to 1, of the area of the contour's
+    largest part. Holes count as area of parts. A part that has one of a lesser contour in it stays. Raises ValueError for
+    another share."""
     if not 0 <= share <= 1:
         raise ValueError(f"denoise has to be from 0 to 1, and is {share}")
     found: list[list[Polygon]] = []
@@ -43,9 +44,10 @@ def denoised(contours: Sequence[list[Polygon]], share: float) -> list[list[Polyg
 def generalized(contours: Sequence[list[Polygon]], metres: float) -> list[list[Polygon]]:
     """Contours with some of their points, so that no other one is further away from its line than this many metres.
 
-    Shapely's simplification keeps how the lines lie to one another; a line that contours share is simplified once. A ring that
-    would have no area is left out. If the result isn't valid, or one contour isn't within the next, it is tried with half of
-    the metres, and so on HALVINGS times; then contours stay as they are. Raises ValueError for less than 0 or no number.
+    Shapely's simplification keeps how the lines lie to one another; a line that contours share is simplified once. A ring
+    that would have no area is left out. If the result isn't valid, or one contour isn't within the next, it is tried with
+    half of the metres, and so on HALVINGS times; then contours stay as they are. Raises ValueError for less than 0 or no
+    number.
     """
     if not 0 <= metres < float("inf"):
         raise ValueError(f"generalize has to be a number of metres from 0, and is {metres}")
@@ -137,8 +139,8 @@ def are_nested(contours: Sequence[list[Polygon]]) -> bool:
 
 
 def split(polygons: Sequence[Polygon]) -> list[Polygon]:
-    """Polygons whose longitudes may go beyond 180, in parts none of which crosses the 180th meridian (RFC 7946, 3.1.9), their outer
-    rings counterclockwise and their holes clockwise (3.1.6)."""
+    """Polygons whose longitudes may go beyond 180, in parts none of which crosses the 180th meridian (RFC 7946, 3.1.9),
+    their outer rings counterclockwise and their holes clockwise (3.1.6)."""
     found: list[Polygon] = []
     for polygon in polygons:
         west, _, east, _ = polygon.bounds

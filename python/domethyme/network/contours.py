@@ -3,19 +3,20 @@
     contours(reach)     the polygons of each limit: those of a lesser limit lie within those of a greater one
 
 What lies inside. A point belongs to the nearest road, if that is within the allowance: an eighth of the extent of what is
-reached, but at least 100 m, and at most 200 m or two steps of the grid, whichever is more. It is inside if the part of the
-road there is reached. The field is the difference of two distances in metres: to the nearest road that isn't reached, or the
-allowance if that is less, minus the distance to the nearest road that is. Both are taken from points along the roads, half a
-step apart. The contour is the line where the field is 0.
+reached, but at least 100 m, and at most 200 m or two steps of the grid, whichever is more. It is inside if the part of
+the road there is reached. The field is the difference of two distances in metres: to the nearest road that isn't reached,
+or the allowance if that is less, minus the distance to the nearest road that is. Both are taken from points along the
+roads, half a step apart. The contour is the line where the field is 0.
 
 The grid. Its step is a power of two of metres, at most 1/200 of the contour's width or height, whichever is less, but at
-least half a metre. It is greater for a contour so long and narrow that the field would have more than MAX_POINTS. A square
-of a step has four points of the field, half a step apart. If there are nodes in a square, they determine which of its points are inside: all
-four if all of its nodes are reached, none if none is, and two if some are, as at a bridge. So the line passes within 0.7
-steps of each node that is on its wrong side, whatever the roads are.
+least half a metre. It is greater for a contour so long and narrow that the field would have more than MAX_POINTS. A
+square of a step has four points of the field, half a step apart. If there are nodes in a square, they determine which of
+its points are inside: all four if all of its nodes are reached, none if none is, and two if some are, as at a bridge. So
+the line passes within 0.7 steps of each node that is on its wrong side, whatever the roads are.
 
-How contours nest. The field of a greater limit is nowhere less. A line passes between two points of the field at least a unit
-of the last decimal away from both. So rounded lines cross neither themselves nor one another. If contours differ much in size each has a grid: in the box of a lesser one all are drawn on its grid.
+How contours nest. The field of a greater limit is nowhere less. A line passes between two points of the field at least a
+unit of the last decimal away from both. So rounded lines cross neither themselves nor one another. If contours differ
+much in size each has a grid: in the box of a lesser one all are drawn on its grid.
 """
 import itertools
 from collections.abc import Iterator, Sequence
@@ -53,7 +54,8 @@ class Mesh(NamedTuple):
     step                         in metres
     first_column, first_row      of its squares, counted from the origin of the plane
     columns, rows                how many there are
-    first, behind                the first limit whose contour is drawn on it, and the one behind the last that it is the grid of
+    first                        the first limit whose contour is drawn on it
+    behind                       the limit behind the last whose grid it is; contours of greater ones are drawn on it too
     shown                        the box in which contours are drawn on it, None for all
     """
 
@@ -83,21 +85,22 @@ class Mesh(NamedTuple):
         return Box(west, south, west + self.columns * self.step, south + self.rows * self.step)
 
     def squares(self, points: Floats, per_step: int) -> tuple[Ints, Ints]:
-        """The columns and rows of the squares in which points lie, of which a step has so many."""
+        """The rows and columns of the squares in which points lie, of which a step has so many."""
         found = np.floor(points * (per_step / self.step)).astype(np.int64)
-        return found[:, 0] - per_step * self.first_column, found[:, 1] - per_step * self.first_row
+        return found[:, 1] - per_step * self.first_row, found[:, 0] - per_step * self.first_column
 
 
 class Contour(NamedTuple):
-    """What lies within a limit: polygons in degrees, with DECIMALS, whose longitudes may go beyond 180; and the step of the grid
-    in metres, None if nothing is reached."""
+    """What lies within a limit: polygons in degrees, with DECIMALS, whose longitudes may go beyond 180; and the step of
+    the grid in metres, None if nothing is reached."""
 
     polygons: list[Polygon]
     step: float | None
 
 
 def contours(reach: Reach) -> list[Contour]:
-    """The contours of all limits. A node that is more than a step away from the line is inside if and only if it is reached."""
+    """The contours of all limits. A node that is more than a step away from the line is inside if and only if it is
+    reached."""
     found: list[list[list[Polygon]]] = [[] for _ in reach.boxes]
     steps: list[float | None] = [None for _ in reach.boxes]
     drawn: Box | None = None
@@ -133,8 +136,8 @@ def step_of(box: Box) -> float:
 
 
 def meshes_of(reach: Reach) -> list[Mesh]:
-    """The grids, the finest first. One serves as many limits as it has points for. The next one is around it and at most RATIO
-    times as coarse."""
+    """The grids, the finest first. One serves as many limits as it has points for. The next one is around it and at most
+    RATIO times as coarse."""
     served: list[tuple[float, int, Box]] = []
     rim = 0.0
     for limit, reached in enumerate(reach.boxes):
@@ -184,40 +187,49 @@ def united(parts: Sequence[list[Polygon]]) -> list[Polygon]:
 class Field:
     """The field on a grid, with its samples: arrays of a number for each point, row by row.
 
-    earliest   the least level of the points of roads in the square of half a step around a point of the field; NONE for none
+    earliest   the least level of the points of roads in the square of half a step around a point; NONE for none
     latest     the greatest level of these; 0 for none
     forced     the level from which on a point is inside because of the nodes in its square; NONE if there are none
     """
 
     def __init__(self, reach: Reach, mesh: Mesh) -> None:
-        self.mesh = mesh
+        self.mesh, count = mesh, len(reach.limits)
         shape = 2 * mesh.rows, 2 * mesh.columns
         self.earliest, self.latest = np.full(shape, NONE, np.uint8), np.zeros(shape, np.uint8)
-        self.forced = np.full(shape, NONE, np.uint8)
-        for edges in reach.chunks(reach.edges_near(mesh.box)):
+        near = reach.edges_near(mesh.box)
+        # of shorter edges both ends are points enough
+        for edges in reach.chunks(near[reach.metres_of(near) > mesh.step / 2]):
             vertices = sampled(reach.vertices(edges), mesh.step / 2)
             is_inside = mesh.box.has(vertices.points)
-            rows, shares = vertices.rows[is_inside], vertices.shares[is_inside]
-            self._add(vertices.points[is_inside], reach.shares(edges).levels(rows, shares), len(reach.limits))
+            levels = reach.shares(edges).levels(vertices.rows[is_inside], vertices.shares[is_inside])
+            self._add(vertices.points[is_inside], levels, count)
         nodes, points = reach.nodes_in(mesh.box)
-        self._force(points, reach.node_levels(nodes))
+        levels = reach.node_levels(nodes)
+        self._add(points, levels, count)
+        self._force(points, levels, count)
 
     def _add(self, points: Floats, levels: Levels, count: int) -> None:
-        """Adds samples."""
-        columns, rows = self.mesh.squares(points, 2)
-        for level in range(count + 1):
-            here = rows[levels == level], columns[levels == level]
-            self.earliest[here] = np.minimum(self.earliest[here], level)
-            self.latest[here] = np.maximum(self.latest[here], level)
+        """Adds points of roads."""
+        widen(self.earliest, self.latest, self.mesh.squares(points, 2), levels, count)
 
-    def _force(self, points: Floats, levels: Levels) -> None:
-        """Sets the four points of the squares with nodes: one half by the node with the least level, the other half by that with
-        the greatest, each on the side of its node."""
-        columns, rows = self.mesh.squares(points, 1)
+    def _force(self, points: Floats, levels: Levels, count: int) -> None:
+        """Sets the points of the squares in which nodes lie, by their levels."""
+        shape = self.mesh.rows, self.mesh.columns
+        least, greatest = np.full(shape, NONE, np.uint8), np.zeros(shape, np.uint8)
+        squares = self.mesh.squares(points, 1)
+        widen(least, greatest, squares, levels, count)
+        self.forced = least.repeat(2, axis=0).repeat(2, axis=1)
+        differ = np.flatnonzero(least[squares] != greatest[squares])
+        if len(differ):
+            self._halve(points[differ], levels[differ], squares[0][differ], squares[1][differ])
+
+    def _halve(self, points: Floats, levels: Levels, rows: Ints, columns: Ints) -> None:
+        """Sets the points of squares whose nodes differ: one half by the node with the least level, the other by that
+        with the greatest, each on the side of its node."""
         square = rows * self.mesh.columns + columns
         order = np.lexsort((levels, square))
-        is_first = np.append(True, np.diff(square[order]) > 0)[: len(order)]
-        least, greatest = order[is_first], order[np.append(is_first[1:], True)[: len(order)]]
+        is_first = np.append(True, np.diff(square[order]) > 0)
+        least, greatest = order[is_first], order[np.append(is_first[1:], True)]
         way = points[greatest] - points[least]
         is_across = np.abs(way[:, 0]) >= np.abs(way[:, 1])
         is_turned = np.where(is_across, way[:, 0], way[:, 1]) < 0
@@ -252,6 +264,14 @@ class Field:
             places = (points.round(9) + 0.5) * (self.mesh.step / 2)
             places += (self.mesh.first_column * self.mesh.step, self.mesh.first_row * self.mesh.step)
             yield [places[begin:end] for begin, end in zip(offsets, offsets[1:])]
+
+
+def widen(least: Levels, greatest: Levels, squares: tuple[Ints, Ints], levels: Levels, count: int) -> None:
+    """Lowers the least and raises the greatest level of squares, by their rows and columns, to levels from 0 to a count."""
+    for level in range(count + 1):
+        here = squares[0][levels == level], squares[1][levels == level]
+        least[here] = np.minimum(least[here], level)
+        greatest[here] = np.maximum(greatest[here], level)
 
 
 def sampled(vertices: Vertices, spacing: float) -> Vertices:

@@ -1,5 +1,5 @@
-"""What is reached, as GeoJSON: a FeatureCollection with the properties that Mapbox's Isochrone API gives contours. Needs numpy,
-scipy, contourpy and shapely.
+"""What is reached, as GeoJSON: a FeatureCollection with the properties that Mapbox's Isochrone API gives contours. Needs
+numpy, scipy, contourpy and shapely.
 
     features(reach, asked, "time")   a Feature for each contour
     limits(unit, minutes=..)         minutes or metres in the unit of a network's weights
@@ -42,8 +42,8 @@ class Style(NamedTuple):
 
 
 def limits(unit: str, minutes: Sequence[float] = (), metres: Sequence[float] = ()) -> list[int]:
-    """Minutes or metres in the unit of a network's weights (Mapped.unit). Raises ValueError for minutes if weights aren't durations,
-    for metres if they aren't distances, and if neither or both are given."""
+    """Minutes or metres in the unit of a network's weights (Mapped.unit). Raises ValueError for minutes if weights aren't
+    durations, for metres if they aren't distances, and if neither or both are given."""
     metric, factor = METRICS.get(unit, (None, 1))
     if bool(len(minutes)) == bool(len(metres)):
         raise ValueError("give minutes or metres, one of both")
@@ -54,9 +54,10 @@ def limits(unit: str, minutes: Sequence[float] = (), metres: Sequence[float] = (
 
 
 def features(reach: Reach, asked: Sequence[float], metric: Metric, style: Style = Style()) -> dict[str, Any]:
-    """The contours of what is reached, a Feature for each limit, the greatest first, and `attribution` beside them if there is one.
-    A contour lies within those of greater limits. A geometry is a Polygon or MultiPolygon, for lines and roads a LineString or
-    MultiLineString, and None if nothing is reached. Coordinates have six decimals; none crosses the 180th meridian (RFC 7946).
+    """The contours of what is reached, a Feature for each limit, the greatest first, and `attribution` beside them if
+    there is one. A contour lies within those of greater limits. A geometry is a Polygon or MultiPolygon, for lines and
+    roads a LineString or MultiLineString, and None if nothing is reached. Coordinates have six decimals; none crosses the
+    180th meridian (RFC 7946).
 
     asked    the limits in minutes or metres, as `contour` has them
 

@@ -23,6 +23,9 @@ from .tables import EARTH_RADIUS, Point, parted
 METRES_OF_DEGREE = EARTH_RADIUS * np.pi / 180
 # Edges that are worked on together.
 EDGES = 1 << 17
+# An edge is short beside a box if its metres are less than this part of the box's lesser side: a fifth of a grid's step
+# at most.
+SHORT = 2048
 # Roads are shown to so many decimals of a degree, 11 cm.
 DECIMALS = 6
 
@@ -81,10 +84,8 @@ class Box(NamedTuple):
         low, high = np.floor(np.array(self[:2]) / step), np.ceil(np.array(self[2:]) / step)
         return Box(*(low * step).tolist(), *(high * step).tolist())
 
-    def with_(self, other: "Box | None") -> "Box":
+    def with_(self, other: "Box") -> "Box":
         """The smallest one with both."""
-        if other is None:
-            return self
         west, south, east, north = other
         return Box(min(self.west, west), min(self.south, south), max(self.east, east), max(self.north, north))
 
@@ -99,8 +100,8 @@ class Box(NamedTuple):
 
 
 class Vertices(NamedTuple):
-    """The points of edges, one edge after the other: the row of the edge among those that were given, the point in the plane,
-    the share of the edge's metres before it, and whether it is the edge's last point."""
+    """The points of edges, one edge after the other: the row of the edge among those that were given, the point in the
+    plane, the share of the edge's metres before it, and whether it is the edge's last point."""
 
     rows: Ints
     points: Floats
@@ -119,8 +120,9 @@ class Vertices(NamedTuple):
 
 
 class Shares(NamedTuple):
-    """How far edges are reached, of shape (limits, edges): the share from the first point, and from the last; -1 if not even
-    that point is. `parts` are those at places: the row of the edge, and for each limit the shares between which it is reached."""
+    """How far edges are reached, of shape (limits, edges): the share from the first point, and from the last; -1 if not
+    even that point is. `parts` are those at places: the row of the edge, and for each limit the shares between which it
+    is reached."""
 
     first: Floats
     last: Floats
@@ -138,7 +140,8 @@ class Shares(NamedTuple):
         return found
 
     def intervals(self, limit: int) -> tuple[Ints, Floats, Floats]:
-        """What is reached within a limit: rows, which rise, and the shares between which they are; those of a row are apart."""
+        """What is reached within a limit: rows, which rise, and the shares between which they are; those of a row are
+        apart."""
         ways = self.first[limit], self.last[limit]
         one, other = (np.flatnonzero(way > 0) for way in ways)
         of_parts = [(row, float(lows[limit]), float(highs[limit])) for row, lows, highs in self.parts]
@@ -163,16 +166,23 @@ class Reach:
     limits    the limits, in the unit of weights
     plane     that in which boxes and points are, about the middle of what is reached
     edges     the edges with all that is reached, and others near by, which rise
-    boxes     for each limit the box of all that is reached within it, None where that is nothing
+    boxes     for each limit the box of what is reached within it, but for parts of edges that are short beside it; None if
+              nothing is
     """
 
     def __init__(
-        self, network: Mapped, lengths: Ints, limits: Sequence[int], places: Sequence[PlaceOnRoad] = (), towards: bool = False,
+        self,
+        network: Mapped,
+        lengths: Ints,
+        limits: Sequence[int],
+        places: Sequence[PlaceOnRoad] = (),
+        towards: bool = False,
     ) -> None:
         """Raises ValueError for arguments that don't fit, and NetworkError if the network's file is damaged.
 
-        lengths   the least length of each node from the nearest start, of shape (nodes,); below 0 for none, or for one beyond
-                  the greatest limit. A place on a road starts at the nodes that it leads to, each with the weight between added
+        lengths   the least length of each node from the nearest start, of shape (nodes,); below 0 for none, or for one
+                  beyond the greatest limit. A place on a road starts at the nodes that it leads to, each with the weight
+                  between added
         limits    whole numbers from 0, each greater than the one before
         places    the starts that lie on roads between nodes; what is reached of these roads from there is added
         towards   whether lengths are those to the starts instead, and what leads there is to be found
@@ -183,25 +193,21 @@ class Reach:
             raise ValueError(f"lengths have to be whole numbers with a sign, one for each of {len(network.node_lon)} nodes")
         if not self.limits or self.limits[0] < 0 or any(low >= high for low, high in zip(self.limits, self.limits[1:])):
             raise ValueError("limits have to be numbers from 0, each greater than the one before")
-        self._parts = [part for place in places if 0 < place.fraction < 1 for part in self._parts_at(place)]
+        self._places = [place for place in places if 0 < place.fraction < 1]
+        self._parts = [part for place in self._places for part in self._parts_at(place)]
         self._reached = np.flatnonzero((self._lengths >= 0) & (self._lengths <= self.limits[-1]))
         self.plane, self.edges = Plane(0, METRES_OF_DEGREE), np.empty(0, np.int64)
         self.boxes: list[Box | None] = [None] * len(self.limits)
-        points = self._points()
-        if len(points):
-            self._set_plane(points)
-            self.edges = self.edges_near(Box.around(self.plane.of(points)).grown(FARTHEST_END))
+        if len(self._reached) or self._places:
+            self._set_plane()
             self._set_boxes()
 
-    def _points(self) -> NDArray[np.int32]:
-        """The reached nodes, and the points of edges on which places lie."""
+    def _set_plane(self) -> None:
+        """Lays the plane about the middle of the reached nodes and the places, which may lie on both sides of the 180th
+        meridian."""
         network = self.network
-        nodes = np.column_stack((network.node_lon[self._reached], network.node_lat[self._reached]))
-        bounds = [network.edge_begin[edge : edge + 2].tolist() for edge, _, _ in self._parts]
-        return np.concatenate([nodes, *(network.points[begin:end] for begin, end in bounds)])
-
-    def _set_plane(self, points: NDArray[np.int32]) -> None:
-        """Lays the plane about the middle of points, which may lie on both sides of the 180th meridian."""
+        firsts = network.edge_begin[np.array([place.edge for place in self._places], dtype=np.int64)]
+        points = np.concatenate((self._units_of(self._reached), network.points[firsts]))
         first = int(points[0, 0])
         away = wrapped(points[:, 0].astype(np.int64) - first)
         middle = int(wrapped(np.array([first + (int(away.min()) + int(away.max())) // 2]))[0])
@@ -209,21 +215,37 @@ class Reach:
         self.plane = Plane(middle, METRES_OF_DEGREE * max(float(np.cos(np.radians(lat))), 0.01))
 
     def _set_boxes(self) -> None:
-        for edges in self.chunks(self.edges):
-            vertices, shares = self.vertices(edges), self.shares(edges)
-            levels = shares.levels(vertices.rows, vertices.shares)
-            for limit in range(len(self.limits)):
-                rows, lows, highs = shares.intervals(limit)
-                ends = vertices.at(np.tile(rows, 2), np.concatenate((lows, highs)))
-                self._grow_box(limit, np.concatenate((vertices.points[levels <= limit], ends)))
-        nodes, levels = self._reached, self.node_levels(self._reached)
-        points = self.plane.of(np.column_stack((self.network.node_lon[nodes], self.network.node_lat[nodes])))
+        """Sets the boxes: around the nodes and places, and then what is reached of edges near by, but for those that are
+        so short that no grid shows them."""
+        points, levels = self.plane.of(self._units_of(self._reached)), self.node_levels(self._reached)
+        here = [self.vertices(np.array([each.edge])).at(np.array([0]), np.array([each.fraction])) for each in self._places]
         for limit in range(len(self.limits)):
-            self._grow_box(limit, points[levels <= limit])
+            some = np.concatenate((points[levels <= limit], *here))
+            if len(some):
+                box = Box.around(some)
+                self.edges = self.edges_near(box.grown(FARTHEST_END))
+                long = self.edges[self.metres_of(self.edges) > min(box.sides) / SHORT]
+                for edges in self.chunks(long):
+                    box = self._around(edges, limit, box)
+                self.boxes[limit] = box
 
-    def _grow_box(self, limit: int, points: Floats) -> None:
-        if len(points):
-            self.boxes[limit] = Box.around(points).with_(self.boxes[limit])
+    def _around(self, edges: Ints, limit: int, box: Box) -> Box:
+        """The box with what is reached of edges within a limit too."""
+        vertices, shares = self.vertices(edges), self.shares(edges)
+        rows, lows, highs = shares.intervals(limit)
+        ends = vertices.at(np.tile(rows, 2), np.concatenate((lows, highs)))
+        points = np.concatenate((vertices.points[shares.levels(vertices.rows, vertices.shares) <= limit], ends))
+        return box.with_(Box.around(points)) if len(points) else box
+
+    def _units_of(self, nodes: Ints) -> NDArray[np.int32]:
+        """Where nodes lie, in units of a degree."""
+        return np.column_stack((self.network.node_lon[nodes], self.network.node_lat[nodes]))
+
+    def metres_of(self, edges: Ints) -> Floats:
+        """The metres of edges, those of one of their arcs."""
+        arcs = np.minimum(self.network.edge_first[edges], len(self.network.edge_arcs) - 1)
+        found: Floats = self.network.arc_metres[self.network.edge_arcs[arcs]]
+        return found
 
     @staticmethod
     def chunks(edges: Ints) -> Iterator[Ints]:
@@ -237,7 +259,7 @@ class Reach:
     def nodes_in(self, box: Box) -> tuple[Ints, Floats]:
         """The nodes in a box, from 0, and their points in the plane."""
         nodes = self._near(self.network.node_grid, len(self.network.node_lon), box)
-        points = self.plane.of(np.column_stack((self.network.node_lon[nodes], self.network.node_lat[nodes])))
+        points = self.plane.of(self._units_of(nodes))
         is_inside = box.has(points)
         return nodes[is_inside], points[is_inside]
 
@@ -323,8 +345,8 @@ class Reach:
         return Vertices(rows, self.plane.of(points), shares, is_last)
 
     def roads(self, limit: int) -> list[list[Point]]:
-        """The lines of all roads that are reached within a limit, which is given by its number, as far as they are reached, with
-        DECIMALS. None crosses the 180th meridian."""
+        """The lines of all roads that are reached within a limit, which is given by its number, as far as they are
+        reached, with DECIMALS. None crosses the 180th meridian."""
         return [line for edges in self.chunks(self.edges) for line in self._lines(edges, limit)]
 
     def _lines(self, edges: Ints, limit: int) -> Iterator[list[Point]]:
