@@ -48,7 +48,7 @@ const CASES: [(Order, u32); 9] = [
 ];
 
 /// The job to prepare by this many workers in this order, and after each stint in another.
-fn preparing(order: Order, workers: Workers, stint: Option<Stint>) -> Job<'static> {
+pub(crate) fn preparing(order: Order, workers: Workers, stint: Option<Stint>) -> Job<'static> {
     Job::Prepare(Preparation {
         graph: "a.gr",
         out: "a.rch",

@@ -1,5 +1,6 @@
 use crate::examples::{ONE_ARC, ONE_ARC_TEXT, ONE_ARC_V1, ROW, TWICE};
-use jobs::{Check, Job};
+use crate::orders::preparing;
+use jobs::{Check, Job, Order, Workers};
 use performing::perform;
 use std::alloc::Global;
 use std::io::{self, ErrorKind, Read, Write};
@@ -407,11 +408,14 @@ fn are_unread<R: Threads + Wait + Sync>(
     true
 }
 
+const SERVE: Job<'static> = Job::Serve { hierarchy: "a.rch" };
+
 /// Jobs of which a reader fails at once.
-const FAILED: [(Job, Given, Given); 8] = [
+const FAILED: [(Job, Given, Given); 9] = [
     (TWO, Given::Nothing, Given::Bytes(PAIRS)),
     (JOINED, Given::Nothing, Given::Bytes(PAIRS)),
     (ROUTE, Given::Nothing, Given::Bytes(PAIRS)),
+    (SERVE, Given::Nothing, Given::Bytes(PAIRS)),
     (INFO, Given::Nothing, Given::Bytes(PAIRS)),
     (CHECK, Given::Nothing, Given::Bytes(PAIRS)),
     (TWO, Given::Bytes(ONE_ARC_TEXT), Given::Nothing),
@@ -425,18 +429,23 @@ fn failed_reads(rt: HostRuntime) {
 }
 
 /// Jobs of which a reader fails after the first byte.
-const FAILED_SECOND: [(Job, Given, Given); 6] = [
+const FAILED_SECOND: [(Job, Given, Given); 9] = [
     (TWO, Given::First(b'p'), Given::Bytes(PAIRS)),
     (JOINED, Given::First(b'p'), Given::Bytes(PAIRS)),
     (ROUTE, Given::First(b'R'), Given::Bytes(PAIRS)),
+    (SERVE, Given::First(b'R'), Given::Bytes(PAIRS)),
     (INFO, Given::First(b'R'), Given::Bytes(PAIRS)),
+    (CHECK, Given::First(b'p'), Given::Bytes(ONE_ARC)),
     (TWO, Given::Bytes(ONE_ARC_TEXT), Given::First(b'p')),
     (ROUTE, Given::Bytes(ONE_ARC), Given::First(b'p')),
+    (CHECK, Given::Bytes(ONE_ARC_TEXT), Given::First(b'R')),
 ];
 
 #[test]
 fn failed_second_reads(rt: HostRuntime) {
     assert!(rt; are_unread(&rt, rt.alloc(), &FAILED_SECOND));
+    let job = preparing(Order::Edges, Workers::none(), None);
+    assert!(rt; is_unread(&rt, rt.alloc(), &job, Given::First(b'p'), Given::Nothing));
 }
 
 /// Whether a job ends with status 7 and the line of a failed write, where the writer fails.
