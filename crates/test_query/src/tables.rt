@@ -172,16 +172,31 @@ fn reaches(
 }
 
 /// Whether it gives all of these.
+fn reaches_each(
+    alloc: Global,
+    hierarchy: &Hierarchy,
+    router: &mut Router<'_>,
+    selection: &Selection,
+    given: &[Reach],
+) -> Result<bool, AllocError>
+    requires selection { IsSelection router.old selection.now }
+    requires router { router.old ≡ hierarchy.now }
+    ensures { router.new ≡ router.old }
+{
+    let mut holds = true;
+    'reaches: for at in 0..given.len() {
+        holds &= reaches(alloc, hierarchy, router, selection, given[at])?;
+    }
+    Ok(holds)
+}
+
+/// Whether a new router of a hierarchy does.
 fn reaches_all(alloc: Global, hierarchy: &Hierarchy, given: &[Reach]) -> Result<bool, Fail> {
     let mut router = Router::new(alloc, hierarchy)?;
     let Some(selection) = selected(&router, &[0, 1, 2, 3, 4])? else {
         return Ok(false);
     };
-    let mut holds = true;
-    'reaches: for at in 0..given.len() {
-        holds &= reaches(alloc, hierarchy, &mut router, &selection, given[at])?;
-    }
-    Ok(holds)
+    Ok(reaches_each(alloc, hierarchy, &mut router, &selection, given)?)
 }
 
 /// Whether the drawn hierarchy does.
