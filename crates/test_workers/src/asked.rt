@@ -69,6 +69,15 @@ impl Asked {
         }
         next >= nodes
     }
+
+    /// Whether each of the workers has.
+    fn have_begun(&self, workers: u32, nodes: u32) -> bool {
+        let mut holds = true;
+        'workers: for number in 0..workers {
+            holds &= self.has_begun(number, workers, nodes);
+        }
+        holds
+    }
 }
 
 /// An estimator whose keys rise with each call of any.
@@ -129,27 +138,42 @@ fn built_by<G: Gate, R: Threads + Wait + Sync>(
     Ok(built)
 }
 
+/// Whether each of this many workers begins with its nodes of the grid.
+fn begin<R: Threads + Wait + Sync>(rt: &R, alloc: Global, workers: u32) -> Result<bool, Fail> {
+    let asked = Asked::new(alloc, 10_000)?;
+    let options = Options { workers, ..TWO };
+    let _built = built_by(rt, alloc, grid(alloc)?, options, &asked, &OpenGate)?;
+    Ok(asked.have_begun(workers, 25))
+}
+
 #[test]
 fn each_worker_begins_with_its_nodes(rt: HostRuntime) -> Result<(), Fail> {
-    let alloc = rt.alloc();
-    for workers in [1, 2, 3] {
-        let asked = Asked::new(alloc, 10_000)?;
-        let options = Options { workers, ..TWO };
-        let _built = built_by(&rt, alloc, grid(alloc)?, options, &asked, &OpenGate)?;
-        for number in 0..workers {
-            assert!(rt; asked.has_begun(number, workers, 25));
-        }
-    }
+    assert!(rt;
+        begin(&rt, rt.alloc(), 1)? & begin(&rt, rt.alloc(), 2)? & begin(&rt, rt.alloc(), 3)?
+    );
     Ok(())
 }
 
 /// Whether each worker took two items for each of its commits, but for one that it put back at last.
 fn puts_back_once(tally: &Tally, built: &Built) -> bool {
-    built.receipts.iter().take(2).enumerate().all(|(worker, receipts)| {
+    let mut holds = true;
+    'workers: for (worker, receipts) in built.receipts.iter().take(2).enumerate() {
         let committed = receipts.len() as u64;
-        let over = tally.took(worker).wrapping_sub(committed.wrapping_mul(2));
-        over <= 1
-    })
+        holds &= tally.took(worker).wrapping_sub(committed.wrapping_mul(2)) <= 1;
+    }
+    holds
+}
+
+/// The gate of workers of whom one works at a time, each slow once it has taken an item, who are counted.
+type Slowly = Both<Both<OneAtATime, Slow>, Tally>;
+
+/// Whether two workers, who put a node back before each commit, do so once in three shifts or more.
+fn put_back<R: Threads + Wait + Sync>(rt: &R, alloc: Global, gate: &Slowly) -> Result<bool, Fail> {
+    let asked = Asked::new(alloc, 0)?;
+    let options = Options { defer: 1, ..TWO };
+    let built = built_by(rt, alloc, cliques(alloc, 200)?, options, &asked, gate)?;
+    let is_whole = gate.first.first.was_met() & gate.second.is_of(&built);
+    Ok(is_whole & puts_back_once(&gate.second, &built) & (shifts_of(&built) >= 3))
 }
 
 // Each key is above all before it, so a worker puts a node back before each of its commits, and once, whether or not a
@@ -157,8 +181,6 @@ fn puts_back_once(tally: &Tally, built: &Built) -> bool {
 // shift is over by the other's commit, when it has put a node back.
 #[test]
 fn deferrals_go_on_in_the_next_shift(rt: HostRuntime) -> Result<(), Fail> {
-    let alloc = rt.alloc();
-    let asked = Asked::new(alloc, 0)?;
     let gate = Both {
         first: Both {
             first: OneAtATime::new(),
@@ -166,9 +188,6 @@ fn deferrals_go_on_in_the_next_shift(rt: HostRuntime) -> Result<(), Fail> {
         },
         second: Tally::new(),
     };
-    let options = Options { defer: 1, ..TWO };
-    let built = built_by(&rt, alloc, cliques(alloc, 200)?, options, &asked, &gate)?;
-    assert!(rt; gate.first.first.was_met() & gate.second.is_of(&built));
-    assert!(rt; puts_back_once(&gate.second, &built) & (shifts_of(&built) >= 3));
+    assert!(rt; put_back(&rt, rt.alloc(), &gate)?);
     Ok(())
 }

@@ -121,11 +121,10 @@ impl Course {
     /// The key that the current estimator gives to a node.
     fn key(&mut self, node: u32) -> u64 {
         let clique = clique_of(node);
-        let gone = self
-            .order
-            .iter()
-            .filter(|other| clique_of(**other) == clique)
-            .count() as u64;
+        let mut gone = 0u64;
+        'order: for other in &self.order {
+            gone = gone.wrapping_add(u64::from(clique_of(*other) == clique));
+        }
         let others = u64::from(SIZE - 1).saturating_sub(gone);
         let difference = 67_108_864u64.saturating_sub(others.saturating_mul(2));
         match self.keys.get_mut(self.current) {
@@ -145,11 +144,11 @@ impl Course {
     fn next(&self) -> Option<(u64, u32)> {
         let mut next: Option<(u64, u32)> = None;
         'nodes: for (node, waiting) in (0u32..).zip(self.waiting.iter()) {
-            if let Some(key) = *waiting
-                && next.is_none_or(|(least, _)| key < least)
-            {
-                next = Some((key, node));
-            }
+            next = match (*waiting, next) {
+                (Some(key), Some((least, _))) if key >= least => next,
+                (Some(key), _) => Some((key, node)),
+                (None, _) => next,
+            };
         }
         next
     }
@@ -227,8 +226,11 @@ fn are_others(alloc: Global, left: &[u32], entry: &Contraction) -> Result<bool, 
 
 /// Whether these are the receipts of the nodes that are in an order from this rank on.
 pub(crate) fn are_receipts_from(first: usize, order: &[u32], receipts: &[Receipt]) -> bool {
-    receipts.iter().enumerate().all(|(place, receipt)| {
-        let rank = first.wrapping_add(place);
-        receipt.rank as usize == rank && order.get(rank) == Some(&receipt.node)
-    })
+    let mut holds = true;
+    let mut rank = first;
+    'receipts: for receipt in receipts {
+        holds &= (receipt.rank as usize == rank) & (order.get(rank) == Some(&receipt.node));
+        rank = rank.wrapping_add(1);
+    }
+    holds
 }

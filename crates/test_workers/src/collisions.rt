@@ -1,11 +1,11 @@
 ghost use Rattle.std.specs.Prelude.{◌≡◌, [], All, IfOk};
 
-use crate::kit::{Lists, TWO};
+use crate::kit::{Lists, TWO, graph_of};
 use crate::stations::comes_to;
 use ch_contract::{Contraction, Facts};
 use ch_cost::Cost;
 use ch_estimate::{EdgeDifference, Estimator, Lease, Leases, Note};
-use ch_graph::{Graph, Hierarchy, Link, Road};
+use ch_graph::{Graph, Hierarchy, Link};
 use ch_workers::{Built, Gate, Point, build};
 use std::alloc::{AllocError, Global};
 use std::sync::atomic::{AtomicU64, Ordering};
@@ -141,17 +141,7 @@ fn is_by_workers(built: &Built) -> bool {
 
 /// Two nodes with an arc of weight 7 each way.
 fn neighbours(alloc: Global) -> Result<Graph, Fail> {
-    let there = Road {
-        from: 0,
-        to: 1,
-        weight: 7,
-    };
-    let back = Road {
-        from: 1,
-        to: 0,
-        weight: 7,
-    };
-    Ok(Graph::checked(2, vec![in alloc; there, back]?)?)
+    graph_of(alloc, 2, &[(0, 1, 7), (1, 0, 7)])
 }
 
 /// No estimator for worker 0, and for worker 1 one that waits for the first proposal of worker 0.
@@ -187,14 +177,23 @@ fn is_of_neighbours(hierarchy: &Hierarchy) -> bool {
     (ranks == (0, 1) || ranks == (1, 0)) && hierarchy.links() == [link(0, 1), link(1, 0)].as_slice()
 }
 
+impl Meeting {
+    /// Whether nobody was kept to the last look, and one proposal was refused.
+    fn was_met(&self) -> bool {
+        (self.late.load(Ordering::SeqCst) == 0) & (self.refused.load(Ordering::SeqCst) == 1)
+    }
+}
+
+/// Whether two workers who meet at their first proposals contract both nodes, and one of them is refused once.
+fn are_met<R: Threads + Wait + Sync>(rt: &R, alloc: Global) -> Result<bool, Fail> {
+    let meeting = Meeting::new(alloc)?;
+    let built = built_by_two(rt, alloc, &meeting)?;
+    Ok(meeting.was_met() & is_of_neighbours(&built.hierarchy) & is_by_workers(&built))
+}
+
 // Each rests on both rows. Whoever comes second to the lock is refused, and tries once more.
 #[test]
 fn two_workers_propose_neighbours(rt: HostRuntime) -> Result<(), Fail> {
-    let alloc = rt.alloc();
-    let meeting = Meeting::new(alloc)?;
-    let built = built_by_two(&rt, alloc, &meeting)?;
-    let is_met = (meeting.late.load(Ordering::SeqCst) == 0)
-        & (meeting.refused.load(Ordering::SeqCst) == 1);
-    assert!(rt; is_met & is_of_neighbours(&built.hierarchy) & is_by_workers(&built));
+    assert!(rt; are_met(&rt, rt.alloc())?);
     Ok(())
 }

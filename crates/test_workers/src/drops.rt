@@ -2,73 +2,76 @@ ghost use Rattle.std.specs.Prelude.{◌≡◌, [], All, IfOk};
 
 use crate::kit::{Keys, Lists, ONE, TWO, grid, tie};
 use crate::stations::{Both, Overtaken, Together};
-use crate::traces::{Traces, traced_lists};
-use ch_estimate::{Estimator, Leases};
+use crate::traces::{Traces, built_by};
+use ch_estimate::Estimator;
 use ch_graph::Graph;
-use ch_workers::{BuildError, Built, Gate, OpenGate, Options, Point, build};
+use ch_workers::{BuildError, Built, Gate, OpenGate, Options, Point};
 use std::alloc::{AllocError, Global};
-use std::sync::{Arc, Wait};
+use std::sync::Wait;
 use std::test::Fail;
 use std::thread::Threads;
 
-/// Builds by workers whose estimators always return the greatest key, and leave traces.
-fn built_by<G: Gate, R: Threads + Wait + Sync>(
-    rt: &R,
-    alloc: Global,
-    graph: Graph,
-    options: Options,
-    traces: &Arc<Traces>,
-    gate: &G,
-) -> Result<Result<Built, BuildError>, Fail> {
-    let mut leases = Leases::new(alloc)?;
-    let lists = traced_lists(alloc, &mut leases, traces, options.workers, Keys::Greatest)?;
-    Ok(build(rt, alloc, graph, options, lists, &mut leases, gate))
+/// Whether the first of two estimators of one worker alone receives entries of the tie's log, three of them.
+fn hears_by_one<R: Threads + Wait + Sync>(rt: &R, alloc: Global) -> Result<bool, Fail> {
+    let traces = Traces::new(alloc, 1, 2)?;
+    let graph = tie(alloc)?;
+    let built = built_by(rt, alloc, graph, ONE, Keys::Greatest, &traces, &OpenGate)??;
+    Ok(traces.are_told(rt, built.log.as_slice(), &[3, 0]))
 }
 
 // The first estimator alone receives entries. The worker takes the fourth node when the log has three of them, and its
 // own entry isn't received.
 #[test]
 fn one_worker_hears_of_the_log(rt: HostRuntime) -> Result<(), Fail> {
-    let alloc = rt.alloc();
-    let traces = Traces::new(alloc, 1, 2)?;
-    let built = built_by(&rt, alloc, tie(alloc)?, ONE, &traces, &OpenGate)??;
-    assert!(rt; traces.are_dropped() & traces.are_of(&rt, built.log.as_slice()));
-    assert!(rt; (traces.told(&rt, 0) == 3) & (traces.told(&rt, 1) == 0));
+    assert!(rt; hears_by_one(&rt, rt.alloc())?);
     Ok(())
 }
 
 /// Whether the first entry of the log was committed by this worker.
 fn is_first_of(worker: usize, built: &Built) -> bool {
-    let receipts = built.receipts.get(worker);
-    let first = receipts.and_then(|receipts| receipts.first());
-    first.is_some_and(|receipt| receipt.rank == 0)
+    match built.receipts.get(worker) {
+        Some(receipts) => match receipts.first() {
+            Some(receipt) => receipt.rank == 0,
+            None => false,
+        },
+        None => false,
+    }
+}
+
+/// Whether workers of one estimator each, who pass a gate, contract a graph and hear of its log, worker 0 of an entry at
+/// least that worker 1 committed first, where that is wanted.
+fn hear<G: Gate, R: Threads + Wait + Sync>(
+    rt: &R,
+    alloc: Global,
+    graph: Graph,
+    options: Options,
+    gate: &G,
+    is_second_first: bool,
+) -> Result<bool, Fail> {
+    let traces = Traces::new(alloc, options.workers as usize, 1)?;
+    let built = built_by(rt, alloc, graph, options, Keys::Greatest, &traces, gate)??;
+    let is_early = (traces.told(rt, 0) > 0) & is_first_of(1, &built);
+    Ok(traces.are_told(rt, built.log.as_slice(), &[]) & (is_early | !is_second_first))
 }
 
 // Worker 0 receives the first entry, which isn't its own, before it commits anything.
 #[test]
 fn two_workers_hear_of_each_other(rt: HostRuntime) -> Result<(), Fail> {
-    let alloc = rt.alloc();
-    let traces = Traces::new(alloc, 2, 1)?;
     let gate = Both {
         first: Together::new(2),
         second: Overtaken::at(Point::Took),
     };
-    let built = built_by(&rt, alloc, tie(alloc)?, TWO, &traces, &gate)??;
-    assert!(rt; gate.first.was_met() & gate.second.was_met());
-    assert!(rt; traces.are_of(&rt, built.log.as_slice()));
-    assert!(rt; (traces.told(&rt, 0) > 0) & is_first_of(1, &built));
+    let holds = hear(&rt, rt.alloc(), tie(rt.alloc())?, TWO, &gate, true)?;
+    assert!(rt; holds & gate.first.was_met() & gate.second.was_met());
     Ok(())
 }
 
 #[test]
 fn five_workers_hear_of_the_log(rt: HostRuntime) -> Result<(), Fail> {
-    let alloc = rt.alloc();
-    let traces = Traces::new(alloc, 5, 1)?;
     let options = Options { workers: 5, ..TWO };
     let gate = Together::new(5);
-    let built = built_by(&rt, alloc, grid(alloc)?, options, &traces, &gate)??;
-    assert!(rt; gate.was_met() & traces.are_dropped());
-    assert!(rt; traces.are_of(&rt, built.log.as_slice()));
+    let holds = hear(&rt, rt.alloc(), grid(rt.alloc())?, options, &gate, false)?;
+    assert!(rt; holds & gate.was_met());
     Ok(())
 }
 
@@ -107,22 +110,33 @@ pub(crate) fn list_of_three(
     Ok(list)
 }
 
-/// Whether a build of the tie with six estimators ends so, and has dropped each once.
+/// Whether a build of the tie with six estimators, that settles this many nodes in a search, ends so, and has dropped each
+/// once.
 fn drops_six<R: Threads + Wait + Sync>(
     rt: &R,
     alloc: Global,
-    options: Options,
+    settle: u32,
     want: Option<BuildError>,
 ) -> Result<bool, Fail> {
     let traces = Traces::new(alloc, 2, 3)?;
-    let refused = built_by(rt, alloc, tie(alloc)?, options, &traces, &OpenGate)?.err();
+    let graph = tie(alloc)?;
+    let options = Options { settle, ..TWO };
+    let refused = built_by(
+        rt,
+        alloc,
+        graph,
+        options,
+        Keys::Greatest,
+        &traces,
+        &OpenGate,
+    )?
+    .err();
     Ok((refused == want) & traces.are_dropped())
 }
 
 #[test]
 fn estimators_are_dropped(rt: HostRuntime) -> Result<(), Fail> {
-    for (settle, want) in [(64, None), (0, Some(BuildError::BadOptions))] {
-        assert!(rt; drops_six(&rt, rt.alloc(), Options { settle, ..TWO }, want)?);
-    }
+    assert!(rt; drops_six(&rt, rt.alloc(), 64, None)?);
+    assert!(rt; drops_six(&rt, rt.alloc(), 0, Some(BuildError::BadOptions))?);
     Ok(())
 }

@@ -26,37 +26,45 @@ fn do_all<G: Gate, R: Threads + Wait + Sync>(
     gate: &G,
 ) -> Result<bool, Fail> {
     let built = built_by(rt, alloc, graph, options, Keys::Differences, gate)?;
-    Ok(is_unswept(&built) && are_least(alloc, same, &built.hierarchy)?)
+    Ok(is_unswept(&built) & are_least(alloc, same, &built.hierarchy)?)
+}
+
+/// Whether they do with the tie.
+fn do_ties<G: Gate, R: Threads + Wait + Sync>(
+    rt: &R,
+    alloc: Global,
+    options: Options,
+    gate: &G,
+) -> Result<bool, Fail> {
+    let same = tie(alloc)?;
+    do_all(rt, alloc, tie(alloc)?, &same, options, gate)
+}
+
+/// Whether they do with the grid.
+fn do_grids<G: Gate, R: Threads + Wait + Sync>(
+    rt: &R,
+    alloc: Global,
+    options: Options,
+    gate: &G,
+) -> Result<bool, Fail> {
+    let same = grid(alloc)?;
+    do_all(rt, alloc, grid(alloc)?, &same, options, gate)
 }
 
 #[test]
 fn a_worker_is_overtaken(rt: HostRuntime) -> Result<(), Fail> {
-    let alloc = rt.alloc();
     let gate = Overtaken::at(Point::Proposed);
-    let same = tie(alloc)?;
-    assert!(rt; do_all(&rt, alloc, tie(alloc)?, &same, TWO, &gate)?);
-    assert!(rt; gate.was_met());
+    let holds = do_ties(&rt, rt.alloc(), TWO, &gate)?;
+    assert!(rt; holds & gate.was_met());
     Ok(())
-}
-
-/// Whether this many workers are at their first items at the same time, and contract the graph whole, with its costs.
-fn meet<R: Threads + Wait + Sync>(
-    rt: &R,
-    alloc: Global,
-    graph: Graph,
-    same: &Graph,
-    options: Options,
-) -> Result<bool, Fail> {
-    let gate = Together::new(u64::from(options.workers));
-    Ok(do_all(rt, alloc, graph, same, options, &gate)? && gate.was_met())
 }
 
 // Of five each finds an item, since it put in five, and the other four have taken one each at most.
 #[test]
 fn workers_at_once(rt: HostRuntime) -> Result<(), Fail> {
-    let alloc = rt.alloc();
-    assert!(rt; meet(&rt, alloc, tie(alloc)?, &tie(alloc)?, TWO)?);
-    let five = Options { workers: 5, ..TWO };
-    assert!(rt; meet(&rt, alloc, grid(alloc)?, &grid(alloc)?, five)?);
+    let (two, five) = (Together::new(2), Together::new(5));
+    let ties = do_ties(&rt, rt.alloc(), TWO, &two)?;
+    let grids = do_grids(&rt, rt.alloc(), Options { workers: 5, ..TWO }, &five)?;
+    assert!(rt; ties & two.was_met() & grids & five.was_met());
     Ok(())
 }

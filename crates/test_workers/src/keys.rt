@@ -46,12 +46,11 @@ impl Given {
 
     /// Whether these keys were given, and no more.
     fn are(&self, keys: &[u64]) -> bool {
-        self.count.load(Ordering::SeqCst) == keys.len() as u64
-            && self
-                .keys
-                .iter()
-                .zip(keys)
-                .all(|(given, key)| given.load(Ordering::SeqCst) == *key)
+        let mut holds = self.count.load(Ordering::SeqCst) == keys.len() as u64;
+        'keys: for (given, key) in self.keys.iter().zip(keys) {
+            holds &= given.load(Ordering::SeqCst) == *key;
+        }
+        holds
     }
 }
 
@@ -136,7 +135,7 @@ const END: u64 = 67_108_863;
 /// The keys of the five nodes of the star, then those of its ends, one after the other, as they are taken and contracted.
 /// At last node 0 has no arcs, four neighbours that are gone, and the depth 1. Where its key has risen, it is put back,
 /// and has that key again.
-const KEYS: [(Kind, &[u64]); 3] = [
+const KEYS: &[(Kind, &[u64])] = &[
     (
         Kind::Edges,
         &[INNER, END, END, END, END, END, END, END, END, 67_108_864],
@@ -155,10 +154,21 @@ const KEYS: [(Kind, &[u64]); 3] = [
     ),
 ];
 
+/// Whether it is given those of each kind.
+fn gives_all<R: Threads + Wait + Sync>(
+    rt: &R,
+    alloc: Global,
+    all: &[(Kind, &[u64])],
+) -> Result<bool, Fail> {
+    let mut holds = true;
+    'kinds: for (kind, keys) in all {
+        holds &= gives(rt, alloc, *kind, keys)?;
+    }
+    Ok(holds)
+}
+
 #[test]
 fn keys_of_a_star(rt: HostRuntime) -> Result<(), Fail> {
-    for (kind, keys) in &KEYS {
-        assert!(rt; gives(&rt, rt.alloc(), *kind, keys)?);
-    }
+    assert!(rt; gives_all(&rt, rt.alloc(), KEYS)?);
     Ok(())
 }

@@ -24,37 +24,42 @@ pub(crate) const TWO: Options = Options {
     ..Options::PLAIN
 };
 
-/// An arc.
-fn road(from: u32, to: u32, weight: u32) -> Road {
-    Road { from, to, weight }
+/// The graph of these arcs, each of its two nodes and its weight.
+pub(crate) fn graph_of(
+    alloc: Global,
+    nodes: u32,
+    lines: &[(u32, u32, u32)],
+) -> Result<Graph, Fail> {
+    let mut arcs = Vec::new(alloc);
+    'lines: for (from, to, weight) in lines {
+        arcs.push(Road {
+            from: *from,
+            to: *to,
+            weight: *weight,
+        })?;
+    }
+    let graph = Graph::checked(nodes, arcs)?;
+    Ok(graph)
 }
 
 /// Arcs from nodes 1 and 2 into node 0, and from there to nodes 3 and 4.
 pub(crate) fn star(alloc: Global) -> Result<Graph, Fail> {
-    let arcs = vec![in alloc; road(1, 0, 1), road(2, 0, 1), road(0, 3, 1), road(0, 4, 1)]?;
-    let graph = Graph::checked(5, arcs)?;
-    Ok(graph)
+    graph_of(alloc, 5, &[(1, 0, 1), (2, 0, 1), (0, 3, 1), (0, 4, 1)])
 }
 
 /// One arc of weight 7, from node 0 to node 1.
 pub(crate) fn arc(alloc: Global) -> Result<Graph, Fail> {
-    let arcs = vec![in alloc; road(0, 1, 7)]?;
-    let graph = Graph::checked(2, arcs)?;
-    Ok(graph)
+    graph_of(alloc, 2, &[(0, 1, 7)])
 }
 
 /// The row of three nodes: 1 to 0, and 0 to 2.
 pub(crate) fn row(alloc: Global) -> Result<Graph, Fail> {
-    let arcs = vec![in alloc; road(1, 0, 2), road(0, 2, 3)]?;
-    let graph = Graph::checked(3, arcs)?;
-    Ok(graph)
+    graph_of(alloc, 3, &[(1, 0, 2), (0, 2, 3)])
 }
 
 /// Two ways from node 2 to node 3, by 0 and by 1, of one length.
 pub(crate) fn tie(alloc: Global) -> Result<Graph, Fail> {
-    let arcs = vec![in alloc; road(2, 0, 1), road(0, 3, 1), road(2, 1, 1), road(1, 3, 1)]?;
-    let graph = Graph::checked(4, arcs)?;
-    Ok(graph)
+    graph_of(alloc, 4, &[(2, 0, 1), (0, 3, 1), (2, 1, 1), (1, 3, 1)])
 }
 
 /// The grid of 25 nodes `5i + j`, with both directions between nodes next to each other, of weights from 1 to 7.
@@ -91,13 +96,21 @@ fn add_both(arcs: &mut Vec<Road>, a: u32, b: u32, is_flat: bool) -> Result<(), A
     } else {
         1 + product % 7
     };
-    arcs.push(road(a, b, weight))?;
-    arcs.push(road(b, a, weight))?;
+    arcs.push(Road {
+        from: a,
+        to: b,
+        weight,
+    })?;
+    arcs.push(Road {
+        from: b,
+        to: a,
+        weight,
+    })?;
     Ok(())
 }
 
 /// The keys that the estimators of a test give.
-#[derive(Clone, Copy, Debug)]
+#[derive(Clone, Copy)]
 pub(crate) enum Keys {
     /// Those of the edge difference.
     Differences,

@@ -3,31 +3,25 @@ use crate::stations::Trail;
 use ch_contract::Receipt;
 use ch_cost::Cost;
 use ch_estimate::Leases;
-use ch_graph::{Graph, Hierarchy, Link};
+use ch_graph::{Graph, Hierarchy};
 use ch_workers::{Built, OpenGate, Options, build};
 use std::alloc::Global;
 use std::sync::Wait;
 use std::test::Fail;
 use std::thread::Threads;
 
-/// A link without a middle.
-fn link(from: u32, to: u32, weight: u32) -> Link {
-    Link {
-        from,
-        to,
-        cost: Cost::of_weight(weight),
-        middle: None,
-    }
-}
+/// A link: its ends, its length, its arcs and its middle.
+type Given = (u32, u32, u64, u64, Option<u32>);
 
-/// A link of this length and two arcs, by way of node 0.
-fn shortcut(from: u32, to: u32, length: u64) -> Link {
-    Link {
-        from,
-        to,
-        cost: Cost::of_walk(length, 2),
-        middle: Some(0),
+/// Whether the links of a hierarchy are these.
+fn are_links(hierarchy: &Hierarchy, expected: &[Given]) -> bool {
+    let links = hierarchy.links();
+    let mut holds = links.len() == expected.len();
+    'links: for (link, (from, to, length, arcs, middle)) in links.iter().zip(expected) {
+        holds &= (link.from == *from) & (link.to == *to) & (link.middle == *middle);
+        holds &= link.cost == Cost::of_walk(*length, *arcs);
     }
+    holds
 }
 
 /// The receipt of a node.
@@ -37,15 +31,11 @@ fn receipt(node: u32, rank: u32) -> Receipt {
 
 /// Whether the nodes have these ranks, and there are no others.
 fn are_ranks(hierarchy: &Hierarchy, ranks: &[u32]) -> bool {
-    if hierarchy.nodes() as usize != ranks.len() {
-        return false;
-    }
+    let mut holds = hierarchy.nodes() as usize == ranks.len();
     'nodes: for node in 0..hierarchy.nodes() {
-        if hierarchy.rank(node) != ranks[node as usize] {
-            return false;
-        }
+        holds &= ranks.get(node as usize) == Some(&hierarchy.rank(node));
     }
-    true
+    holds
 }
 
 /// Whether one worker and the sweep received these receipts.
@@ -62,7 +52,7 @@ fn makes_of_a_star<R: Threads + Wait + Sync>(
     alloc: Global,
     workers: u32,
     ranks: &[u32],
-    links: &[Link],
+    links: &[Given],
 ) -> Result<bool, Fail> {
     let options = Options { workers, ..ONE };
     let built = built_by(
@@ -74,28 +64,34 @@ fn makes_of_a_star<R: Threads + Wait + Sync>(
         &OpenGate,
     )?;
     let hierarchy = &built.hierarchy;
-    Ok(
-        are_ranks(hierarchy, ranks)
-            && hierarchy.bound() == Cost::of_arcs(4, 1)
-            && hierarchy.links() == links,
-    )
+    let is_bound = hierarchy.bound() == Cost::of_arcs(4, 1);
+    Ok(are_ranks(hierarchy, ranks) & is_bound & are_links(hierarchy, links))
 }
+
+/// The links of the star by one worker, who contracts node 0 last.
+const BY_ONE: &[Given] = &[
+    (0, 3, 1, 1, None),
+    (0, 4, 1, 1, None),
+    (1, 0, 1, 1, None),
+    (2, 0, 1, 1, None),
+];
+
+/// Those by the sweep, which contracts node 0 first.
+const BY_NONE: &[Given] = &[
+    (0, 3, 1, 1, None),
+    (0, 4, 1, 1, None),
+    (1, 0, 1, 1, None),
+    (1, 3, 2, 2, Some(0)),
+    (1, 4, 2, 2, Some(0)),
+    (2, 0, 1, 1, None),
+    (2, 3, 2, 2, Some(0)),
+    (2, 4, 2, 2, Some(0)),
+];
 
 #[test]
 fn a_star_by_one_worker_and_by_none(rt: HostRuntime) -> Result<(), Fail> {
-    let by_one = [link(0, 3, 1), link(0, 4, 1), link(1, 0, 1), link(2, 0, 1)];
-    assert!(rt; makes_of_a_star(&rt, rt.alloc(), 1, &[4, 0, 1, 2, 3], &by_one)?);
-    let by_none = [
-        link(0, 3, 1),
-        link(0, 4, 1),
-        link(1, 0, 1),
-        shortcut(1, 3, 2),
-        shortcut(1, 4, 2),
-        link(2, 0, 1),
-        shortcut(2, 3, 2),
-        shortcut(2, 4, 2),
-    ];
-    assert!(rt; makes_of_a_star(&rt, rt.alloc(), 0, &[0, 1, 2, 3, 4], &by_none)?);
+    assert!(rt; makes_of_a_star(&rt, rt.alloc(), 1, &[4, 0, 1, 2, 3], BY_ONE)?);
+    assert!(rt; makes_of_a_star(&rt, rt.alloc(), 0, &[0, 1, 2, 3, 4], BY_NONE)?);
     Ok(())
 }
 
@@ -108,14 +104,14 @@ fn takes_turns<R: Threads + Wait + Sync>(
     own: usize,
     digits: u64,
 ) -> Result<bool, Fail> {
-    let trail = Trail::new();
-    let options = Options { turns, ..ONE };
-    let built = built_by(rt, alloc, tie(alloc)?, options, Keys::Differences, &trail)?;
     let order = [receipt(0, 0), receipt(1, 1), receipt(2, 2), receipt(3, 3)];
     let Some((worker, sweep)) = order.split_at_checked(own) else {
         return Ok(false);
     };
-    Ok(are_receipts(&built, worker, sweep) && trail.digits() == digits)
+    let trail = Trail::new();
+    let options = Options { turns, ..ONE };
+    let built = built_by(rt, alloc, tie(alloc)?, options, Keys::Differences, &trail)?;
+    Ok(are_receipts(&built, worker, sweep) & (trail.digits() == digits))
 }
 
 // After the first commit the keys of nodes 1, 2 and 3 have risen, and after the third that of node 3 has again.
@@ -139,21 +135,35 @@ fn built_without_estimators<R: Threads + Wait + Sync>(
     Ok(built)
 }
 
-/// Whether the worker contracted all nodes in this order, and made these links.
-fn is_by_order(built: &Built, order: &[Receipt], links: &[Link]) -> bool {
-    are_receipts(built, order, [].as_slice()) && built.hierarchy.links() == links
+/// Whether a worker without estimators contracts a graph by the numbers of its nodes, and makes these links.
+fn is_by_number<R: Threads + Wait + Sync>(
+    rt: &R,
+    alloc: Global,
+    graph: Graph,
+    order: &[Receipt],
+    links: &[Given],
+) -> Result<bool, Fail> {
+    let built = built_without_estimators(rt, alloc, graph, ONE)?;
+    Ok(are_receipts(&built, order, &[]) & are_links(&built.hierarchy, links))
 }
+
+/// The links of the row of three nodes, and of the one arc.
+const OF_THE_ROW: &[Given] = &[
+    (0, 2, 3, 1, None),
+    (1, 0, 2, 1, None),
+    (1, 2, 5, 2, Some(0)),
+];
+
+const OF_THE_ARC: &[Given] = &[(0, 1, 7, 1, None)];
 
 // With one heap the nodes are contracted by their numbers. Of one arc there is one link, so the length from node 0 to
 // node 1 is 7, and there is no way back.
 #[test]
 fn a_worker_without_estimators(rt: HostRuntime) -> Result<(), Fail> {
-    let order = [receipt(0, 0), receipt(1, 1), receipt(2, 2)];
-    let links = [link(0, 2, 3), link(1, 0, 2), shortcut(1, 2, 5)];
-    let built = built_without_estimators(&rt, rt.alloc(), row(rt.alloc())?, ONE)?;
-    assert!(rt; is_by_order(&built, &order, &links));
-    let built = built_without_estimators(&rt, rt.alloc(), arc(rt.alloc())?, ONE)?;
-    assert!(rt; is_by_order(&built, &order[..2], &[link(0, 1, 7)]));
+    let three = [receipt(0, 0), receipt(1, 1), receipt(2, 2)];
+    let two = [receipt(0, 0), receipt(1, 1)];
+    assert!(rt; is_by_number(&rt, rt.alloc(), row(rt.alloc())?, &three, OF_THE_ROW)?);
+    assert!(rt; is_by_number(&rt, rt.alloc(), arc(rt.alloc())?, &two, OF_THE_ARC)?);
     Ok(())
 }
 
@@ -164,10 +174,10 @@ fn a_worker_without_estimators(rt: HostRuntime) -> Result<(), Fail> {
 /// the second and the fourth as the heaps are gone through. Seed 7: they are put into the heaps 1, 0, 1, 1, and the draws
 /// are 0 0, 1 1, 1 1, 1 0. Seed 2^32 + 1: into the heaps 1, 0, 1, 1, and the draws are 0 0, 0 0, 0 1, 0 1. It has the
 /// lower 32 bits of seed 1.
-const DRAWN: [(u64, [u32; 4]); 3] = [
-    (1, [3, 0, 1, 2]),
-    (7, [1, 0, 2, 3]),
-    (4_294_967_297, [1, 0, 2, 3]),
+const DRAWN: &[(u64, &[u32])] = &[
+    (1, &[3, 0, 1, 2]),
+    (7, &[1, 0, 2, 3]),
+    (4_294_967_297, &[1, 0, 2, 3]),
 ];
 
 /// Whether the worker contracted these nodes in this order.
@@ -175,23 +185,44 @@ fn is_in_order(built: &Built, nodes: &[u32]) -> bool {
     let Some(receipts) = built.receipts.first() else {
         return false;
     };
-    receipts.len() == nodes.len()
-        && receipts
-            .iter()
-            .zip(nodes)
-            .all(|(receipt, node)| receipt.node == *node)
+    let mut holds = receipts.len() == nodes.len();
+    'receipts: for (receipt, node) in receipts.iter().zip(nodes) {
+        holds &= receipt.node == *node;
+    }
+    holds
+}
+
+/// Whether the worker contracts the nodes of the tie in this order by this seed.
+fn is_drawn<R: Threads + Wait + Sync>(
+    rt: &R,
+    alloc: Global,
+    seed: u64,
+    nodes: &[u32],
+) -> Result<bool, Fail> {
+    let options = Options {
+        heaps: 2,
+        seed,
+        ..ONE
+    };
+    let built = built_without_estimators(rt, alloc, tie(alloc)?, options)?;
+    Ok(is_in_order(&built, nodes))
+}
+
+/// Whether it does by each seed.
+fn all_are_drawn<R: Threads + Wait + Sync>(
+    rt: &R,
+    alloc: Global,
+    drawn: &[(u64, &[u32])],
+) -> Result<bool, Fail> {
+    let mut holds = true;
+    'seeds: for (seed, nodes) in drawn {
+        holds &= is_drawn(rt, alloc, *seed, nodes)?;
+    }
+    Ok(holds)
 }
 
 #[test]
 fn nodes_by_the_words_of_a_seed(rt: HostRuntime) -> Result<(), Fail> {
-    for (seed, nodes) in DRAWN {
-        let options = Options {
-            heaps: 2,
-            seed,
-            ..ONE
-        };
-        let built = built_without_estimators(&rt, rt.alloc(), tie(rt.alloc())?, options)?;
-        assert!(rt; is_in_order(&built, &nodes));
-    }
+    assert!(rt; all_are_drawn(&rt, rt.alloc(), DRAWN)?);
     Ok(())
 }

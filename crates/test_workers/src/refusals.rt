@@ -26,7 +26,7 @@ fn ends_well<R: Threads + Wait + Sync>(
 }
 
 /// Options, a number of lists, and whether they are bad.
-const OPTIONS: [(Options, u32, bool); 15] = [
+const OPTIONS: &[(Options, u32, bool)] = &[
     (Options { workers: 0, ..ONE }, 0, false),
     (Options { workers: 0, ..ONE }, 1, true),
     (Options { workers: 1, ..ONE }, 1, false),
@@ -72,10 +72,21 @@ const OPTIONS: [(Options, u32, bool); 15] = [
     ),
 ];
 
+/// Whether all of these end as they should.
+fn all_end_well<R: Threads + Wait + Sync>(
+    rt: &R,
+    alloc: Global,
+    cases: &[(Options, u32, bool)],
+) -> Result<bool, Fail> {
+    let mut holds = true;
+    'cases: for (options, lists, are_bad) in cases {
+        holds &= ends_well(rt, alloc, *options, *lists, *are_bad)?;
+    }
+    Ok(holds)
+}
+
 #[test]
 fn bad_options_are_refused(rt: HostRuntime) -> Result<(), Fail> {
-    for (options, lists, are_bad) in &OPTIONS {
-        assert!(rt; ends_well(&rt, rt.alloc(), *options, *lists, *are_bad)?);
-    }
+    assert!(rt; all_end_well(&rt, rt.alloc(), OPTIONS)?);
     Ok(())
 }

@@ -102,11 +102,12 @@ impl Tally {
         let Some((_, lists)) = built.receipts.split_last() else {
             return false;
         };
-        lists.len() == workers
-            && lists.iter().enumerate().all(|(worker, receipts)| {
-                number_of(&self.done, worker) == 1
-                    && number_of(&self.committed, worker) == receipts.len() as u64
-            })
+        let mut holds = lists.len() == workers;
+        'workers: for (worker, receipts) in lists.iter().enumerate() {
+            holds &= number_of(&self.done, worker) == 1;
+            holds &= number_of(&self.committed, worker) == receipts.len() as u64;
+        }
+        holds
     }
 
     /// Whether each worker ended once and received as many receipts as it committed, and the sweep none where there is

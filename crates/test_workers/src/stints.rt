@@ -1,32 +1,16 @@
 use crate::costs::are_least;
 use crate::kit::{Keys, ONE, TWO, grid, row, tie};
 use crate::stations::{Both, Tally, Trail};
-use crate::traces::{Traces, traced_lists};
+use crate::throngs::THRONGS;
+use crate::traces::{Traces, built_by};
 use ch_contract::Contraction;
-use ch_estimate::Leases;
 use ch_graph::Graph;
-use ch_workers::{Built, Gate, Options, Point, build};
-use std::alloc::Global;
+use ch_workers::{Gate, Options, Point};
+use std::alloc::{AllocError, Global};
 use std::sync::atomic::{AtomicU64, Ordering};
 use std::sync::{Arc, Wait};
 use std::test::Fail;
 use std::thread::Threads;
-
-/// Builds by workers whose estimators give such keys and leave traces.
-fn built_by<G: Gate, R: Threads + Wait + Sync>(
-    rt: &R,
-    alloc: Global,
-    graph: Graph,
-    options: Options,
-    keys: Keys,
-    traces: &Arc<Traces>,
-    gate: &G,
-) -> Result<Built, Fail> {
-    let mut leases = Leases::new(alloc)?;
-    let lists = traced_lists(alloc, &mut leases, traces, options.workers, keys)?;
-    let built = build(rt, alloc, graph, options, lists, &mut leases, gate)?;
-    Ok(built)
-}
 
 /// Writes down how many estimators were dropped at each point that a single worker passes, as octal digits.
 #[derive(Drop)]
@@ -45,79 +29,92 @@ impl Gate for Drops {
 
 /// Whether an entry is this one.
 fn is_entry(entry: Option<&Contraction>, node: u32, neighbours: &[u32], shortcuts: u64) -> bool {
-    entry.is_some_and(|entry| {
-        entry.node == node
-            && entry.neighbours.as_slice() == neighbours
-            && entry.shortcuts == shortcuts
-    })
+    match entry {
+        Some(entry) => {
+            (entry.node == node)
+                & (entry.neighbours.as_slice() == neighbours)
+                & (entry.shortcuts == shortcuts)
+        }
+        None => false,
+    }
 }
 
-// The row of three nodes: 1 to 0, and 0 to 2. The first estimator is used until its first commit and receives nothing;
-// the second receives the two entries that the log has when the worker takes the last node.
-#[test]
-fn a_stint_of_one_commit(rt: HostRuntime) -> Result<(), Fail> {
-    let alloc = rt.alloc();
-    let traces = Traces::new(alloc, 1, 2)?;
-    let gate = Both {
-        first: Trail::new(),
-        second: Drops {
-            traces: Arc::try_clone(&traces)?,
+impl Drops {
+    /// Nothing was dropped yet of what leaves these traces.
+    fn of(traces: &Arc<Traces>) -> Result<Drops, AllocError> {
+        Ok(Drops {
+            traces: Arc::try_clone(traces)?,
             digits: AtomicU64::new(0),
-        },
-    };
+        })
+    }
+
+    /// The digits, the last point in the last place.
+    fn digits(&self) -> u64 {
+        self.digits.load(Ordering::SeqCst)
+    }
+}
+
+/// Whether the first two entries are those of the row of three nodes.
+fn are_of_the_row(log: &[Contraction]) -> bool {
+    is_entry(log.first(), 0, &[1, 2], 1) & is_entry(log.get(1), 1, &[2], 0)
+}
+
+/// Whether the row is contracted in stints of one commit, as far as a trail and what was dropped at each point say.
+fn is_by_one_each<R: Threads + Wait + Sync>(
+    rt: &R,
+    alloc: Global,
+    traces: &Arc<Traces>,
+    gate: &Both<Trail, Drops>,
+) -> Result<bool, Fail> {
     let options = Options {
         turns: Options::PLAIN.turns,
         defer: 0,
         stint: 1,
         ..ONE
     };
-    let built = built_by(
-        &rt,
-        alloc,
-        row(alloc)?,
-        options,
-        Keys::Least,
-        &traces,
-        &gate,
-    )?;
-    assert!(rt; traces.are_dropped() & traces.are_of(&rt, built.log.as_slice()));
-    assert!(rt; (traces.told(&rt, 0) == 0) & (traces.told(&rt, 1) == 2));
+    let built = built_by(rt, alloc, row(alloc)?, options, Keys::Least, traces, gate)??;
     let log = built.log.as_slice();
-    assert!(rt; is_entry(log.first(), 0, [1, 2].as_slice(), 1));
-    assert!(rt; is_entry(log.get(1), 1, [2].as_slice(), 0));
-    assert!(rt; gate.first.digits() == 0o123_123_123_5);
-    assert!(rt; gate.second.digits.load(Ordering::SeqCst) == 0o111_111_2);
+    let are_digits = (gate.first.digits() == 0o123_123_123_5)
+        & (gate.second.digits() == 0o111_111_2);
+    Ok(traces.are_told(rt, log, &[0, 2]) & are_of_the_row(log) & are_digits)
+}
+
+// The row of three nodes: 1 to 0, and 0 to 2. The first estimator is used until its first commit and receives nothing;
+// the second receives the two entries that the log has when the worker takes the last node.
+#[test]
+fn a_stint_of_one_commit(rt: HostRuntime) -> Result<(), Fail> {
+    let traces = Traces::new(rt.alloc(), 1, 2)?;
+    let gate = Both {
+        first: Trail::new(),
+        second: Drops::of(&traces)?,
+    };
+    assert!(rt; is_by_one_each(&rt, rt.alloc(), &traces, &gate)?);
     Ok(())
 }
 
-// The tie of four nodes, whose contractions leave no shortcuts but one: the estimators change behind every second commit.
-#[test]
-fn a_stint_of_two_commits(rt: HostRuntime) -> Result<(), Fail> {
-    let alloc = rt.alloc();
-    let traces = Traces::new(alloc, 1, 3)?;
-    let gate = Drops {
-        traces: Arc::try_clone(&traces)?,
-        digits: AtomicU64::new(0),
-    };
+/// Whether the tie is contracted in stints of two commits, as far as what was dropped at each point says.
+fn is_by_two_each<R: Threads + Wait + Sync>(
+    rt: &R,
+    alloc: Global,
+    traces: &Arc<Traces>,
+    gate: &Drops,
+) -> Result<bool, Fail> {
     let options = Options {
         defer: 0,
         stint: 2,
         ..ONE
     };
-    let built = built_by(
-        &rt,
-        alloc,
-        tie(alloc)?,
-        options,
-        Keys::Least,
-        &traces,
-        &gate,
-    )?;
-    assert!(rt; traces.are_dropped() & traces.are_of(&rt, built.log.as_slice()));
-    assert!(rt;
-        (traces.told(&rt, 0) == 1) & (traces.told(&rt, 1) == 3) & (traces.told(&rt, 2) == 0)
-    );
-    assert!(rt; gate.digits.load(Ordering::SeqCst) == 0o000_000_111_111_3);
+    let built = built_by(rt, alloc, tie(alloc)?, options, Keys::Least, traces, gate)??;
+    let are_told = traces.are_told(rt, built.log.as_slice(), &[1, 3, 0]);
+    Ok(are_told & (gate.digits() == 0o000_000_111_111_3))
+}
+
+// The tie of four nodes, whose contractions leave no shortcuts but one: the estimators change behind every second commit.
+#[test]
+fn a_stint_of_two_commits(rt: HostRuntime) -> Result<(), Fail> {
+    let traces = Traces::new(rt.alloc(), 1, 3)?;
+    let gate = Drops::of(&traces)?;
+    assert!(rt; is_by_two_each(&rt, rt.alloc(), &traces, &gate)?);
     Ok(())
 }
 
@@ -139,31 +136,55 @@ fn do_all<R: Threads + Wait + Sync>(
         ..TWO
     };
     let tally = Tally::new();
-    let built = built_by(rt, alloc, graph, options, keys, &traces, &tally)?;
-    Ok(
-        tally.is_of(&built)
-            && traces.are_of(rt, built.log.as_slice())
-            && traces.are_dropped()
-            && are_least(alloc, same, &built.hierarchy)?,
-    )
+    let built = built_by(rt, alloc, graph, options, keys, &traces, &tally)??;
+    let holds = tally.is_of(&built) & traces.are_told(rt, built.log.as_slice(), &[]);
+    Ok(holds & are_least(alloc, same, &built.hierarchy)?)
+}
+
+/// Whether they contract the grid whole.
+fn do_grids<R: Threads + Wait + Sync>(
+    rt: &R,
+    alloc: Global,
+    workers: u32,
+    keys: Keys,
+) -> Result<bool, Fail> {
+    let same = grid(alloc)?;
+    do_all(rt, alloc, grid(alloc)?, &same, workers, keys)
+}
+
+/// Whether they contract the tie whole.
+fn do_ties<R: Threads + Wait + Sync>(
+    rt: &R,
+    alloc: Global,
+    workers: u32,
+    keys: Keys,
+) -> Result<bool, Fail> {
+    let same = tie(alloc)?;
+    do_all(rt, alloc, tie(alloc)?, &same, workers, keys)
+}
+
+/// Whether each of these numbers of workers contracts both whole, with its keys.
+fn all_do_both<R: Threads + Wait + Sync>(
+    rt: &R,
+    alloc: Global,
+    throngs: &[(u32, Keys)],
+) -> Result<bool, Fail> {
+    let mut holds = true;
+    'throngs: for (workers, keys) in throngs {
+        holds &= do_grids(rt, alloc, *workers, *keys)? & do_ties(rt, alloc, *workers, *keys)?;
+    }
+    Ok(holds)
 }
 
 #[test]
 fn the_grid_and_the_tie_by_stints(rt: HostRuntime) -> Result<(), Fail> {
-    let alloc = rt.alloc();
-    for workers in [0, 1, 2, 8] {
-        for keys in [Keys::Greatest, Keys::Drawn(7)] {
-            assert!(rt; do_all(&rt, alloc, grid(alloc)?, &grid(alloc)?, workers, keys)?);
-            assert!(rt; do_all(&rt, alloc, tie(alloc)?, &tie(alloc)?, workers, keys)?);
-        }
-    }
+    assert!(rt; all_do_both(&rt, rt.alloc(), THRONGS)?);
     Ok(())
 }
 
 // Each of 64 workers has three estimators, so 192 leases are out.
 #[test]
 fn the_grid_by_64_workers(rt: HostRuntime) -> Result<(), Fail> {
-    let alloc = rt.alloc();
-    assert!(rt; do_all(&rt, alloc, grid(alloc)?, &grid(alloc)?, 64, Keys::Drawn(7))?);
+    assert!(rt; do_grids(&rt, rt.alloc(), 64, Keys::Drawn(7))?);
     Ok(())
 }

@@ -21,7 +21,7 @@ fn do_all<R: Threads + Wait + Sync>(
     let options = Options { workers, ..TWO };
     let tally = Tally::new();
     let built = built_by(rt, alloc, graph, options, keys, &tally)?;
-    Ok(tally.is_of(&built) && are_least(alloc, same, &built.hierarchy)?)
+    Ok(tally.is_of(&built) & are_least(alloc, same, &built.hierarchy)?)
 }
 
 /// Whether this many workers contract the tie and both grids whole.
@@ -44,19 +44,33 @@ fn do_three<R: Threads + Wait + Sync>(
     Ok(ties & grids & flat)
 }
 
+/// Numbers of workers, and their keys.
+pub(crate) const THRONGS: &[(u32, Keys)] = &[
+    (0, Keys::Greatest),
+    (1, Keys::Greatest),
+    (2, Keys::Greatest),
+    (8, Keys::Greatest),
+    (0, Keys::Drawn(7)),
+    (1, Keys::Drawn(7)),
+    (2, Keys::Drawn(7)),
+    (8, Keys::Drawn(7)),
+];
+
+/// Whether each of these contracts all three whole.
+fn all_do_three<R: Threads + Wait + Sync>(
+    rt: &R,
+    alloc: Global,
+    throngs: &[(u32, Keys)],
+) -> Result<bool, Fail> {
+    let mut holds = true;
+    'throngs: for (workers, keys) in throngs {
+        holds &= do_three(rt, alloc, *workers, *keys)?;
+    }
+    Ok(holds)
+}
+
 #[test]
 fn ties_and_grids_by_throngs(rt: HostRuntime) -> Result<(), Fail> {
-    for (workers, keys) in [
-        (0, Keys::Greatest),
-        (1, Keys::Greatest),
-        (2, Keys::Greatest),
-        (8, Keys::Greatest),
-        (0, Keys::Drawn(7)),
-        (1, Keys::Drawn(7)),
-        (2, Keys::Drawn(7)),
-        (8, Keys::Drawn(7)),
-    ] {
-        assert!(rt; do_three(&rt, rt.alloc(), workers, keys)?);
-    }
+    assert!(rt; all_do_three(&rt, rt.alloc(), THRONGS)?);
     Ok(())
 }

@@ -3,15 +3,25 @@ ghost use Rattle.std.specs.Prelude.{◌≡◌, [], All, IfOk};
 use crate::kit::{Keys, Lists};
 use ch_contract::{Contraction, Facts};
 use ch_estimate::{EdgeDifference, Estimator, Lease, Leases, Note};
+use ch_graph::Graph;
+use ch_workers::{BuildError, Built, Gate, Options, build};
 use std::alloc::{AllocError, Global};
 use std::sync::atomic::{AtomicU64, Ordering};
 use std::sync::{Arc, Mutex, Wait};
+use std::thread::Threads;
 
 /// What an estimator leaves behind: the entries that it received, and how often it was dropped.
 #[derive(Drop)]
 struct Tape {
     entries: Mutex<Vec<Contraction>>,
     dropped: AtomicU64,
+}
+
+impl Tape {
+    /// Whether the entries are the first of a log, whole.
+    fn is_of<R: Wait>(&self, rt: &R, log: &[Contraction]) -> bool {
+        is_prefix(self.entries.lock(rt).as_slice(), log)
+    }
 }
 
 /// What the estimators of a test leave behind, by the order in which they were made: those of the first list, then those
@@ -78,11 +88,11 @@ impl Traces {
         let Some((before, _)) = self.tapes.split_at_checked(number) else {
             return false;
         };
-        before
-            .iter()
-            .rev()
-            .take(place)
-            .all(|tape| tape.dropped.load(Ordering::SeqCst) == 1)
+        let mut holds = true;
+        'before: for tape in before.iter().rev().take(place) {
+            holds &= tape.dropped.load(Ordering::SeqCst) == 1;
+        }
+        holds
     }
 
     /// How many entries the estimator of this number received.
@@ -99,9 +109,20 @@ impl Traces {
         if self.lost.load(Ordering::SeqCst) > 0 || self.early.load(Ordering::SeqCst) > 0 {
             return false;
         }
-        self.tapes
-            .iter()
-            .all(|tape| is_prefix(tape.entries.lock(rt).as_slice(), log))
+        let mut holds = true;
+        'tapes: for tape in &self.tapes {
+            holds &= tape.is_of(rt, log);
+        }
+        holds
+    }
+
+    /// Whether each was dropped once, the entries are those of a log, and the first ones received this many.
+    pub(crate) fn are_told<R: Wait>(&self, rt: &R, log: &[Contraction], told: &[usize]) -> bool {
+        let mut holds = self.are_dropped() & self.are_of(rt, log);
+        'numbers: for (number, count) in told.iter().enumerate() {
+            holds &= self.told(rt, number) == *count;
+        }
+        holds
     }
 
     /// How many drops there were.
@@ -115,9 +136,11 @@ impl Traces {
 
     /// Whether each estimator was dropped once.
     pub(crate) fn are_dropped(&self) -> bool {
-        self.tapes
-            .iter()
-            .all(|tape| tape.dropped.load(Ordering::SeqCst) == 1)
+        let mut holds = true;
+        'tapes: for tape in &self.tapes {
+            holds &= tape.dropped.load(Ordering::SeqCst) == 1;
+        }
+        holds
     }
 }
 
@@ -135,13 +158,13 @@ fn copy_of(entry: &Contraction) -> Result<Contraction, AllocError> {
 
 /// Whether these are the first entries of a log, whole.
 fn is_prefix(told: &[Contraction], log: &[Contraction]) -> bool {
-    told.len() <= log.len()
-        && told.iter().zip(log).all(|(told, entry)| {
-            told.node == entry.node
-                && told.rank == entry.rank
-                && told.neighbours.as_slice() == entry.neighbours.as_slice()
-                && told.shortcuts == entry.shortcuts
-        })
+    let mut holds = told.len() <= log.len();
+    'entries: for (told, entry) in told.iter().zip(log) {
+        holds &= (told.node == entry.node) & (told.rank == entry.rank);
+        holds &= (told.neighbours.as_slice() == entry.neighbours.as_slice())
+            & (told.shortcuts == entry.shortcuts);
+    }
+    holds
 }
 
 /// Counts the drop of the estimator of a number.
@@ -226,7 +249,7 @@ fn traced_list(
 }
 
 /// The lists of this many workers, of estimators that give such keys and leave traces.
-pub(crate) fn traced_lists(
+fn traced_lists(
     alloc: Global,
     leases: &mut Leases,
     traces: &Arc<Traces>,
@@ -240,4 +263,19 @@ pub(crate) fn traced_lists(
         lists.push(traced_list(alloc, leases, traces, keys)?)?;
     }
     Ok(lists)
+}
+
+/// Builds by workers whose estimators give such keys and leave traces.
+pub(crate) fn built_by<G: Gate, R: Threads + Wait + Sync>(
+    rt: &R,
+    alloc: Global,
+    graph: Graph,
+    options: Options,
+    keys: Keys,
+    traces: &Arc<Traces>,
+    gate: &G,
+) -> Result<Result<Built, BuildError>, AllocError> {
+    let mut leases = Leases::new(alloc)?;
+    let lists = traced_lists(alloc, &mut leases, traces, options.workers, keys)?;
+    Ok(build(rt, alloc, graph, options, lists, &mut leases, gate))
 }
