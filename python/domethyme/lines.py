@@ -40,7 +40,7 @@ def answer_of(line: bytes) -> Answer:
     kind, *fields = line.split() or [b""]
     if fields and not b"".join(fields).isdigit():
         wrong = next(field for field in fields if not field.isdigit()).decode("utf-8", "replace")
-        raise ValueError(f"the number {wrong[:40]!r} is no whole number")
+        raise ValueError(f"the number {wrong[:40]!r} isn't an integer")
     values = tuple(map(int, fields))
     if kind == b"n" and len(values) == 2:
         return Answer(values[0], values[1], NO_WAY, ())

@@ -49,7 +49,7 @@ from .tool import Fault, add_hierarchy, need_hierarchy, refuse_overwriting, word
 SIDES: tuple[Side, Side] = ("from", "to")
 ENDS_OF_TRIP = ("from_", "to_")
 ONE_PLACE = ("",)
-SWAPPED = "are longitude and latitude in each other's place?"
+SWAPPED = "are longitude and latitude swapped?"
 
 
 def read_words() -> argparse.Namespace:

@@ -248,8 +248,8 @@ def keep_largest(network: RoadNetwork, report: Report) -> RoadNetwork:
     kept |= (ends == ENDS.index(turns.END)) & from_kept | (ends == ENDS.index(turns.START)) & to_kept
     number = (np.cumsum(kept) - 1).astype(np.int32)
     found = network.with_arcs(kept[start] & kept[end])
-    report["nodes left out on islands"] = count - int(kept.sum())
-    report["pieces of road left out on islands"] = count_pieces(network) - count_pieces(found)
+    report["nodes outside the largest strongly connected component"] = count - int(kept.sum())
+    report["pieces of road outside it"] = count_pieces(network) - count_pieces(found)
     return found._replace(
         node_osm=network.node_osm[kept], node_place=network.node_place[kept], node_ends=ends[kept],
         start=number[found.start], end=number[found.end],

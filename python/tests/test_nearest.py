@@ -152,7 +152,7 @@ class TooFar(NearestCase):
     def test_places_swapped(self):
         self.write("town.nodes.csv", "node,osm,lon,lat\n1,,9.5,47.1\n")
         trips = self.write("trips.csv", "from_lon,from_lat,to_lon,to_lat\n9.5,47.1,9.5,47.1\n47.1,9.5,9.5,47.1\n")
-        says = "are longitude and latitude in each other's place?"
+        says = "are longitude and latitude swapped?"
         self.assert_refused("nearest", "town", trips, says=says)
 
     def test_skipped(self):

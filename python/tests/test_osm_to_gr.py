@@ -75,8 +75,8 @@ osm_to_gr: nodes that the map lacks: 2
 osm_to_gr: barriers that part roads: 2
 osm_to_gr: ways left out with fewer than two nodes in the map: 1
 osm_to_gr: turn restrictions not looked at: a way goes on through the node: 1
-osm_to_gr: nodes left out on islands: 3
-osm_to_gr: pieces of road left out on islands: 2
+osm_to_gr: nodes outside the largest strongly connected component: 3
+osm_to_gr: pieces of road outside it: 2
 osm_to_gr: weights raised to 1: 2
 osm_to_gr: village: 35 nodes, 73 arcs, 6.1 km of road
 """

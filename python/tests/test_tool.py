@@ -171,7 +171,7 @@ class Tables(SharedCase):
         self.assertEqual(texts.number("1.5e1", "n", "f", 1), 15.0)
         for text in ("", "1_0", "1.0", "٣", "x" * 50, "9" * 5000):
             shown = repr(text if len(text) <= 40 else text[:40] + "..")
-            self.assert_fault(f"f, row 1: n {shown} is no whole number", texts.whole_number, text, "n", "f", 1)
+            self.assert_fault(f"f, row 1: n {shown} isn't an integer", texts.whole_number, text, "n", "f", 1)
         self.assert_fault("f, row 1: n 6 isn't from 0 to 5", texts.whole_number, "6", "n", "f", 1, 0, 5)
         self.assert_fault("f, row 1: lon '181' isn't from -180 to 180", texts.number, "181", "lon", "f", 1, -180, 180)
         self.assert_fault("f, row 1: n 'nan' is no finite number", texts.number, "nan", "n", "f", 1)
@@ -210,7 +210,7 @@ class Networks(SharedCase):
         cases = [
             (head + "2,,0,0\n", ", row 2: has node '2' where node 1 comes next"),
             (head + "1,,0,0\n2,,0,91\n", ", row 3: lat '91' isn't from -90 to 90"),
-            (head + "1,x,0,0\n", ", row 2: osm 'x' is no whole number"),
+            (head + "1,x,0,0\n", ", row 2: osm 'x' isn't an integer"),
         ]
         for text, says in cases:
             self.assert_text_fault(tables.read_nodes, "n.nodes.csv", text, says)
@@ -291,7 +291,7 @@ class Networks(SharedCase):
             ("n 1 2\n\n", ", row 2: is no answer of routecli"),
             ("r 1 2 9\n", ", row 1: is no answer of routecli"),
             ("n 1 2 3\n", ", row 1: is no answer of routecli"),
-            ("r 1 2 x 1 1 2\n", ", row 1: the number 'x' is no whole number"),
+            ("r 1 2 x 1 1 2\n", ", row 1: the number 'x' isn't an integer"),
             ("r 1 2 9 2 1 2\n", ", row 1: has nodes that don't fit its pair and its number of arcs"),
             ("r 1 2 9 1 1 3\n", ", row 1: has nodes that don't fit its pair and its number of arcs"),
         ]

@@ -224,7 +224,7 @@ class Lines:
             raise NetworkError(f"WKT {shown(wkt)} has what are no degrees", path, row)
         away = metres(on_sphere(*places[[0, -1]].T), on_sphere(*(ends / UNITS).T))
         if away.max() > FARTHEST_END:
-            raise NetworkError(f"its line ends {away.max():,.0f} m from its node: from and to in each other's place?", path, row)
+            raise NetworkError(f"its line ends {away.max():,.0f} m from its node: are from and to swapped?", path, row)
         line: NDArray[np.int32] = np.round(places * UNITS).astype(np.int32)
         return line
 
