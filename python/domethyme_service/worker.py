@@ -28,8 +28,8 @@ from .wsgi import JSON, STATUS_LINES, Environ, Service, StartResponse
 HEAD_SECONDS, ANSWER_SECONDS, LONG_SECONDS = 10.0, 10.0, 25.0
 # Seconds for which a long request waits for a slot, and after which a worker looks for one again.
 SLOT_SECONDS, LOOK_SECONDS = 5.0, 0.05
-# Seconds for clients that haven't sent a head as the worker ends, and for a body or a head that nobody wants.
-LAST_SECONDS, BODY_LINGER, HEAD_LINGER = 1.0, 0.5, 0.05
+# Seconds for clients that haven't sent a head as the worker ends, and for a body that nobody wants.
+LAST_SECONDS, LINGER_SECONDS = 1.0, 2.0
 # Milliseconds for which a worker waits for the head of a client that has just connected, before it looks after others.
 FIRST_MILLISECONDS = 2
 # The greatest head, and its first line; and what a request has at most that isn't a long one: bytes of a body, of a path (25 places have some 500), and of
@@ -98,6 +98,7 @@ class Worker(SyncWorker):  # type: ignore[misc] # (gunicorn has no types)
 
     def init_process(self) -> None:
         self.heads: dict[int, Connection] = {}
+        self.closing: dict[int, Connection] = {}
         self.queue: collections.deque[Connection] = collections.deque()
         self.seconds, self.begun, self.is_timed = ANSWER_SECONDS, 0.0, False
         super().init_process()
@@ -125,12 +126,12 @@ class Worker(SyncWorker):  # type: ignore[misc] # (gunicorn has no types)
             self.notify()
             self.look_after_waiting()
             has_accepted = self.accept(listener)
-            if self.heads or not has_accepted:
+            if self.heads or self.closing or not has_accepted:
                 self.wait(0.0 if has_accepted else 1.0)
         self.row.workers = 0
         self.epoll.unregister(listener)
         end = time.monotonic() + LAST_SECONDS
-        while self.queue or self.heads and time.monotonic() < end:
+        while self.queue or (self.heads or self.closing) and time.monotonic() < end:
             self.notify()
             self.look_after_waiting()
             self.wait(LOOK_SECONDS)
@@ -138,8 +139,7 @@ class Worker(SyncWorker):  # type: ignore[misc] # (gunicorn has no types)
     def accept(self, listener: Any) -> bool:
         """Takes the next connection; returns whether there was one."""
         if len(self.heads) >= MAX_WAITING:
-            time.sleep(LOOK_SECONDS)
-            return False
+            self.refuse(self.no_longer_waiting(next(iter(self.heads))), RequestError(503, "Overloaded", "too many connections"))
         try:
             client, address = listener.accept()
         except (BlockingIOError, ConnectionAbortedError):
@@ -169,6 +169,8 @@ class Worker(SyncWorker):  # type: ignore[misc] # (gunicorn has no types)
                 head = head_of(self.heads[number].client)
                 if head is not Head.PARTIAL or events & GONE:
                     self.begin(self.no_longer_waiting(number), Head.CLOSED if head is Head.PARTIAL else head)
+            elif number in self.closing and not discard(self.closing[number].client):
+                self.closing.pop(number).client.close()
 
     def no_longer_waiting(self, number: int) -> Connection:
         self.epoll.unregister(number)
@@ -179,6 +181,8 @@ class Worker(SyncWorker):  # type: ignore[misc] # (gunicorn has no types)
         now = time.monotonic()
         while self.heads and (first := next(iter(self.heads.items())))[1].deadline < now:
             self.refuse(self.no_longer_waiting(first[0]), RequestError(408, "Timeout", "the request's head has not come whole"))
+        while self.closing and (first := next(iter(self.closing.items())))[1].deadline < now:
+            self.closing.pop(first[0]).client.close()
         while self.queue:
             if self.slots.take():
                 self.serve(self.queue.popleft())
@@ -223,7 +227,7 @@ class Worker(SyncWorker):  # type: ignore[misc] # (gunicorn has no types)
         finally:
             self.stop_alarm()
             self.slots.free()
-            client.close() if request.method in ("GET", "HEAD") and not connection.is_long else linger(client)
+            client.close() if request.method in ("GET", "HEAD") and not connection.is_long else self.linger(connection)
 
     def answer(self, environ: Environ, start_response: StartResponse) -> Iterable[bytes]:
         """What gunicorn calls: the service, and 504 in place of an answer that takes too long. A worker in which one was broken off
@@ -262,10 +266,21 @@ class Worker(SyncWorker):  # type: ignore[misc] # (gunicorn has no types)
         write(client, RequestError(500, "InternalError", "an error inside"))
 
     def refuse(self, connection: Connection, error: RequestError) -> None:
-        """Answers a request that nothing was read of but its head, and closes."""
+        """Answers a request that nothing was read of but its head, or not even that, and closes."""
         self.row.count("other", error.status, 0.0)
+        discard(connection.client)
         write(connection.client, error)
-        linger(connection.client, HEAD_LINGER if connection.request is None else BODY_LINGER)
+        connection.client.close() if connection.request is None else self.linger(connection)
+
+    def linger(self, connection: Connection) -> None:
+        """Closes a connection once its client has, or some seconds later: to close it while something is unread would reset it, and the
+        answer might be lost."""
+        try:
+            connection.client.shutdown(socket.SHUT_WR)
+            self.closing[connection.client.fileno()] = connection._replace(deadline=time.monotonic() + LINGER_SECONDS)
+            self.epoll.register(connection.client, select.EPOLLIN | select.EPOLLRDHUP)
+        except OSError:
+            connection.client.close()
 
     def record(self, environ: Environ, response: Any) -> None:
         """Counts and logs an answer."""
@@ -341,12 +356,14 @@ def write(client: socket.socket, error: RequestError) -> None:
         client.send(f"HTTP/1.1 {STATUS_LINES[error.status]}\r\n{fields}".encode() + body)
 
 
-def linger(client: socket.socket, seconds: float = BODY_LINGER) -> None:
-    """Closes a connection of which something may not have been read. To close it at once would reset it, and its answer be lost."""
-    end = time.monotonic() + seconds
-    with contextlib.suppress(OSError), client:
-        client.shutdown(socket.SHUT_WR)
-        while (left := end - time.monotonic()) > 0:
-            client.settimeout(left)
-            if not client.recv(1 << 16):
-                return
+def discard(client: socket.socket) -> bool:
+    """Reads what has come of what nobody wants, some megabytes at most; returns whether more may come."""
+    try:
+        for _ in range(64):
+            if not client.recv(1 << 16, socket.MSG_DONTWAIT):
+                return False
+    except BlockingIOError:
+        pass
+    except OSError:
+        return False
+    return True

@@ -242,7 +242,7 @@ def read_body(environ: Environ) -> bytes:
         raise RequestError(413, "TooBig", f"the body may have {MAX_BODY} bytes")
     try:
         body: bytes = environ["wsgi.input"].read(MAX_BODY + 1)
-    except (OSError, ValueError):  # (as gunicorn has what isn't a part of a body)
+    except Exception:  # (gunicorn has an error for each fault of a part, and no other for them)
         raise malformed() from None
     if len(body) > MAX_BODY:
         raise RequestError(413, "TooBig", f"the body may have {MAX_BODY} bytes")

@@ -291,6 +291,24 @@ class FramingTests(ServiceCase):
             self.assertEqual((answer.count(b"HTTP/1.1 "), answer.count(f"HTTP/1.1 {status} ".encode())), (1, 1), answer)
         self.assertFalse([line for line in self.said if "Traceback" in line], self.said)
 
+    def test_a_head_of_many_fields(self):
+        """Sixty of one form are read at once: the time of a pattern may not double with each. More than a hundred are refused."""
+        self.serve()
+        for count, status in ((60, 200), (500, 400)):
+            begun = time.monotonic()
+            answer = self.raw(f"GET {PATH} HTTP/1.1\r\nHost: x\r\n".encode() + b"x-a: b\r\n" * count + b"\r\n")
+            self.assertRegex(answer, rb"^HTTP/1\.1 %d " % status)
+            self.assertLess(time.monotonic() - begun, BUSY)
+
+    def test_parts_that_are_out_of_the_ordinary(self):
+        """None is an error inside, and the log has no line of it."""
+        self.serve()
+        head = "POST /nodes/lengths HTTP/1.1\r\nHost: x\r\nContent-Type: application/json\r\nTransfer-Encoding: chunked\r\n\r\n"
+        for body, status in (("0\r\n" + "x: y\r\n" * 3000 + "\r\n", 400), ("f" * 60_000 + "\r\nx", 400), ("0" * 60_000 + "\r\n\r\n", 200), ("5\r\nhel", 400)):
+            answer = self.raw((head + body).encode(), True)
+            self.assertRegex(answer, rb"^HTTP/1\.1 %d " % status, body[:9])
+        self.assertFalse([line for line in self.said if "Traceback" in line], self.said)
+
     def test_forms_of_smuggling(self):
         """A request with two framings is refused, and of none two are answered."""
         self.serve()

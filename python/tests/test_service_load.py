@@ -6,6 +6,7 @@ import http.client
 import itertools
 import os
 import random
+import resource
 import signal
 import socket
 import sys
@@ -137,11 +138,20 @@ class AttackTests(LoadCase):
             bodies = [self.connect(stack) for _ in range(60)]
             for number, stream in enumerate(bodies):
                 stream.sendall(post((99, 1_000_000)[number % 2]) + LINE)
-            for _ in range(30):
+            for _ in range(120):  # (in which their time is over)
                 for stream in heads[:20]:
                     with contextlib.suppress(OSError):
                         stream.sendall(b"x")
                 time.sleep(0.1)
+
+    def test_idle_connections(self):
+        """More than the workers keep: the oldest ones go, and others are answered."""
+        soft, hard = resource.getrlimit(resource.RLIMIT_NOFILE)
+        resource.setrlimit(resource.RLIMIT_NOFILE, (max(soft, 4096 if hard == resource.RLIM_INFINITY else min(4096, hard)), hard))
+        self.begin()
+        with contextlib.ExitStack() as stack, self.under_attack():
+            for _ in range(2200):
+                self.connect(stack)
 
     def test_bodies_in_parts_of_one_byte(self):
         self.begin()
