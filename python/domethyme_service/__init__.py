@@ -1,5 +1,5 @@
-"""A routing service over HTTP: a hierarchy in memory, which the proved library answers from, and OSRM's API before it. gunicorn holds its
-processes, and nginx stands before them (packaging/nginx/domethyme.conf).
+"""A routing service over HTTP: a hierarchy in memory, which the proved library answers from, and OSRM's API before it.
+gunicorn holds its processes, and nginx stands before them (packaging/nginx/domethyme.conf).
 
     command     the command line
     gunicorn_app  the arbiter, which opens the files and forks the workers, and reloads

@@ -1,7 +1,7 @@
-"""Who may ask. A page in a browser on this machine can send requests to a service that listens here alone, and a name of its own
-may lead here too (DNS rebinding). So a request has to be for a host that is allowed, and one that a browser marks as another
-page's is refused, unless that page's origin is allowed. Batches need a Content-Type that makes the browser ask before it sends one
-(a CORS preflight)."""
+"""Who may ask. A page in a browser on this machine can send requests to a service that listens here alone, and a name of
+its own may lead here too (DNS rebinding). So a request has to be for a host that is allowed, and one that a browser marks
+as another page's is refused, unless that page's origin is allowed. Batches need a Content-Type that makes the browser ask
+before it sends one (a CORS preflight)."""
 import functools
 import ipaddress
 import re
@@ -20,8 +20,8 @@ WRONG_ORIGIN = "a page of another origin asks: --cors names one that may"
 
 
 class AccessPolicy(NamedTuple):
-    """The names that requests may be for besides the address that they come to, `*` for any; and the origin whose pages may ask,
-    `*` for any, or none."""
+    """The names that requests may be for besides the address that they come to, `*` for any; and the origin whose pages may
+    ask, `*` for any, or none."""
 
     hosts: frozenset[str]
     origin: str
@@ -31,8 +31,9 @@ class AccessPolicy(NamedTuple):
         return cls(frozenset(host.lower() for host in hosts), origin)
 
     def check(self, host: str | None, local: str, environ: Mapping[str, Any], is_page: bool) -> None:
-        """Raises RequestError for a request that isn't allowed: `host` is the one that it is for, None for one of HTTP/1.0 that names
-        none, `local` the address that it came to, and `environ` that of WSGI. Links of other pages may lead to the page itself."""
+        """Raises RequestError for a request that isn't allowed: `host` is the one that it is for, None for one of HTTP/1.0
+        that names none, `local` the address that it came to, and `environ` that of WSGI. Links of other pages may lead to
+        the page itself."""
         if host is not None and not self.allows_host(host, local):
             raise RequestError(421, "InvalidHost", WRONG_HOST.format(host[:100]))
         site: str = environ.get("HTTP_SEC_FETCH_SITE", "none")

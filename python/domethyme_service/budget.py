@@ -1,4 +1,5 @@
-"""What an answer may take of points, so that none is larger than a process can hold. Its time is limited by who calls the service."""
+"""What an answer may take of points, so that none is larger than a process can hold. Its time is limited by who calls the
+service."""
 from .errors import RequestError
 
 # Points of lines that the answer to a request may have, and those that may be looked at to simplify its line.
@@ -15,10 +16,12 @@ class Budget:
         """Takes N points. Raises RequestError if fewer are left."""
         self.points -= points
         if self.points < 0:
-            raise RequestError(400, "TooBig", f"the answer has more than {MAX_POINTS} points: ask for fewer places, or overview=false")
+            hint = "ask for fewer places, or overview=false"
+            raise RequestError(400, "TooBig", f"the answer has more than {MAX_POINTS} points: {hint}")
 
     def look_at(self, points: int) -> None:
         """The same of points that are looked at."""
         self.looked_at -= points
         if self.looked_at < 0:
-            raise RequestError(400, "TooBig", "the line of the route takes too long to simplify: ask for overview=full or false")
+            hint = "ask for overview=full or false"
+            raise RequestError(400, "TooBig", f"the line of the route takes too long to simplify: {hint}")

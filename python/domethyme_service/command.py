@@ -52,7 +52,9 @@ GONE = {
 class Gone(argparse.Action):
     """An option that there was, and what there is in its place."""
 
-    def __call__(self, parser: argparse.ArgumentParser, _args: argparse.Namespace, _values: Any, option: str | None = None) -> None:
+    def __call__(
+        self, parser: argparse.ArgumentParser, _args: argparse.Namespace, _values: Any, option: str | None = None
+    ) -> None:
         parser.error(f"{option} is no longer an option: use {GONE[option or '']}")
 
 
@@ -63,7 +65,8 @@ def argument_parser() -> argparse.ArgumentParser:
     )
     add = parser.add_argument
     add("hierarchy", metavar="HIERARCHY", help="the file of a hierarchy")
-    add("--verify", "--checked", metavar="GRAPH", help="the graph for which the hierarchy has to be right, proved at each start")
+    graph = "the graph for which the hierarchy has to be right, proved at each start"
+    add("--verify", "--checked", metavar="GRAPH", help=graph)
     add("--network", metavar="NETWORK", help="the beginning of its network's file names: places on roads, OSRM's API")
     add("--compare-all", action="store_true", help="compare all links with the network, also of more than ten million")
     radius = "metres from a place to a road (1000)"
@@ -117,8 +120,8 @@ def configure_logging(access: bool) -> None:
 
 
 def sockets(args: argparse.Namespace) -> tuple[list[str], bool]:
-    """Where the service listens, as gunicorn's `bind` has it, none where systemd hands over the sockets; and whether there is one for
-    probes. Raises StartupError for an address that other machines reach."""
+    """Where the service listens, as gunicorn's `bind` has it, none where systemd hands over the sockets; and whether there
+    is one for probes. Raises StartupError for an address that other machines reach."""
     if os.environ.get("LISTEN_PID") == str(os.getpid()):
         handed_over = [FIRST_SOCKET + number for number in range(int(os.environ.get("LISTEN_FDS", "1")))]
         for number in handed_over:
@@ -147,8 +150,8 @@ def listen_at_port(host: str, port: int) -> str:
 
 
 def listen_at_path(path: str) -> str:
-    """The same of a unix socket of mode 0660, in place of one that was left there. (gunicorn's own would be changed of owner, which
-    the unit doesn't allow.) Raises StartupError."""
+    """The same of a unix socket of mode 0660, in place of one that was left there. (gunicorn's own would be changed of
+    owner, which the unit doesn't allow.) Raises StartupError."""
     before = os.umask(0o117)
     try:
         if os.path.exists(path) and stat.S_ISSOCK(os.stat(path).st_mode):
@@ -178,7 +181,8 @@ def check_loopback(address: str) -> None:
 def run(args: argparse.Namespace) -> None:
     """Runs the service; ends the process. Raises StartupError or a DomethymeError where it can't start."""
     if args.workers < MIN_WORKERS:
-        print(f"domethyme-serve: --workers {args.workers}: there are {MIN_WORKERS}, since a long request holds one", file=sys.stderr)
+        why = f"there are {MIN_WORKERS}, since a long request holds one"
+        print(f"domethyme-serve: --workers {args.workers}: {why}", file=sys.stderr)
     program = None if args.verify is None else find_program(args.program)
     paths = DatasetPaths(args.hierarchy, args.network, args.tables == "fast", args.verify, program, args.compare_all)
     options = Options(AccessPolicy.of(args.allowed_host, args.cors), args.default_radius, args.max_table_cells)

@@ -1,5 +1,5 @@
-"""The dataset that workers serve: a hierarchy, its network, and its links for tables. Its files are opened and compared with one another
-before the workers are forked, which then share it."""
+"""The dataset that workers serve: a hierarchy, its network, and its links for tables. Its files are opened and compared
+with one another before the workers are forked, which then share it."""
 import ctypes
 import os
 import signal
@@ -23,17 +23,17 @@ from .tiles import Tiles
 SAMPLES = 50
 # The operation of prctl for the signal at the parent's end (PR_SET_PDEATHSIG in sys/prctl.h).
 PARENT_SIGNAL = 1
-# The bytes up to which a network's file is verified as a whole before it is used, in a quarter of a second. Of a larger one blocks are
-# verified when they are first read.
+# The bytes up to which a network's file is verified as a whole before it is used, in a quarter of a second. Of a larger one
+# blocks are verified when they are first read.
 EAGER_VERIFY_BYTES = 1 << 28
 # What tells one state of a file from another: its device, its number there, its size, and the time of the last write.
 Stamp = tuple[int, int, int, int]
 
 
 class DatasetPaths(NamedTuple):
-    """What a dataset is read from: the file of the hierarchy, and the beginning of the names of its network's files, or None; whether
-    tables are computed by the links of the former; the graph that it is checked against, and by which program, or None; and
-    whether all links are compared with the network, however many there are."""
+    """What a dataset is read from: the file of the hierarchy, and the beginning of the names of its network's files, or
+    None; whether tables are computed by the links of the former; the graph that it is checked against, and by which
+    program, or None; and whether all links are compared with the network, however many there are."""
 
     hierarchy: str
     network: str | None
@@ -44,7 +44,8 @@ class DatasetPaths(NamedTuple):
 
 
 class Dataset(NamedTuple):
-    """The files, opened. `links` are those of the hierarchy, `keys` those of the network's nodes, and `stamp` is the hierarchy's."""
+    """The files, opened. `links` are those of the hierarchy, `keys` those of the network's nodes, and `stamp` is the
+    hierarchy's."""
 
     router: Router
     links: int

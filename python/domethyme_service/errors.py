@@ -2,8 +2,8 @@
 
 
 class RequestError(Exception):
-    """An answer `{"code": .., "message": ..}`: `status` of HTTP, 400 to 505, and `code`, OSRM's word, as InvalidQuery, or one of this
-    service."""
+    """An answer `{"code": .., "message": ..}`: `status` of HTTP, 400 to 505, and `code`, OSRM's word, as InvalidQuery, or
+    one of this service."""
 
     def __init__(self, status: int, code: str, message: str) -> None:
         super().__init__(message)

@@ -1,8 +1,8 @@
-"""The service under gunicorn, which holds its processes: the arbiter opens the files and forks the workers, which then share them. SIGHUP
-has a child open the files first, and the arbiter if that was well; else the old ones stay in use.
+"""The service under gunicorn, which holds its processes: the arbiter opens the files and forks the workers, which then
+share them. SIGHUP has a child open the files first, and the arbiter if that was well; else the old ones stay in use.
 
-gunicorn's own settings are taken from GUNICORN_CMD_ARGS, as by its own command, but for those that the service rests on (`FIXED`).
-"""
+gunicorn's own settings are taken from GUNICORN_CMD_ARGS, as by its own command, but for those that the service rests on
+(`FIXED`). """
 import contextlib
 import ctypes
 import gc
@@ -28,7 +28,8 @@ from .slots import Slots
 from .worker import Worker
 from .wsgi import Environ, Options, Service
 
-# Seconds after which gunicorn kills a worker that is silent, behind all that one may take for an answer; and for the service to end.
+# Seconds after which gunicorn kills a worker that is silent, behind all that one may take for an answer; and for the
+# service to end.
 TIMEOUT, GRACEFUL_SECONDS = 30, 30
 # How many loads of the files may have workers at once that each have a row of metrics.
 LOADS = 8
@@ -37,8 +38,8 @@ ARENA_MAX = -8
 ENDING = (signal.SIGTERM, signal.SIGINT, signal.SIGQUIT)
 FIXED = {
     "worker_class": "domethyme_service.worker.Worker", "preload_app": True, "threads": 1, "timeout": TIMEOUT,
-    "daemon": False, "reload": False, "limit_request_line": 0, "limit_request_fields": 100, "limit_request_field_size": 8190,
-    "max_requests": 0, "reuse_port": False,
+    "daemon": False, "reload": False, "limit_request_line": 0, "limit_request_fields": 100,
+    "limit_request_field_size": 8190, "max_requests": 0, "reuse_port": False,
 }
 log = logging.getLogger("domethyme_service")
 
@@ -48,8 +49,9 @@ class Interrupted(BaseException):
 
 
 class Setup(NamedTuple):
-    """What the service serves: the files, how it answers, the sockets as gunicorn's `bind` has them, none where systemd has them, the
-    number of workers, whether a second socket is for probes, where a worker of its own answers, and whether the log has places."""
+    """What the service serves: the files, how it answers, the sockets as gunicorn's `bind` has them, none where systemd has
+    them, the number of workers, whether a second socket is for probes, where a worker of its own answers, and whether the
+    log has places."""
 
     paths: DatasetPaths
     options: Options
@@ -109,7 +111,8 @@ class Arbiter(gunicorn.arbiter.Arbiter):  # type: ignore[misc] # (gunicorn has n
 
     trial: Trial | None = None
     wants_reload = is_opening = False
-    # Reloads that aren't done, and the workers of files that were replaced: they are once none of these accepts connections.
+    # Reloads that aren't done, and the workers of files that were replaced: they are once none of these accepts
+    # connections.
     reloads, old = 0, list[Worker]()
 
     def setup(self, app: Application) -> None:
@@ -117,7 +120,8 @@ class Arbiter(gunicorn.arbiter.Arbiter):  # type: ignore[misc] # (gunicorn has n
         settle()
 
     def signal(self, sig: int, frame: object) -> None:
-        """Keeps a signal until the loop comes to it, one of each kind. One that ends the service interrupts the opening of files."""
+        """Keeps a signal until the loop comes to it, one of each kind. One that ends the service interrupts the opening of
+        files."""
         if sig not in self.SIG_QUEUE:
             self.SIG_QUEUE.append(sig)
         self.wakeup()
@@ -277,8 +281,8 @@ def in_child(work: Callable[[], object]) -> NoReturn:
 
 
 def settle() -> None:
-    """Prepares the memory of this process for its workers. What the opening of files took goes back to the system (glibc's malloc_trim),
-    what is left is nothing that workers look for garbage in, and each has one heap."""
+    """Prepares the memory of this process for its workers. What the opening of files took goes back to the system (glibc's
+    malloc_trim), what is left is nothing that workers look for garbage in, and each has one heap."""
     gc.collect()
     gc.freeze()
     libc = ctypes.CDLL(None)

@@ -1,8 +1,7 @@
 """Metrics of the whole service, in the text format 0.0.4 of Prometheus. Names of endpoints are labels, and never paths.
 
-All processes share one piece of memory, in which each has a row of its own and no other writes. So whichever process is asked sums
-the rows of all, and what a process has counted is there after its end.
-"""
+All processes share one piece of memory, in which each has a row of its own and no other writes. So whichever process is
+asked sums the rows of all, and what a process has counted is there after its end. """
 import bisect
 import ctypes
 import mmap

@@ -1,5 +1,5 @@
-"""Queries to the hierarchy, which is in the memory of this process (domethyme.router): the library answers, and its answers are
-proved. Nodes are numbered from 1, as in files."""
+"""Queries to the hierarchy, which is in the memory of this process (domethyme.router): the library answers, and its answers
+are proved. Nodes are numbered from 1, as in files."""
 import json
 from collections.abc import Sequence
 
@@ -58,7 +58,8 @@ class Queries:
         return self.between({source: (0, 0)}, {target: (0, 0)})
 
     def between(self, exits: Sides, entries: Sides, with_nodes: bool = True) -> Answer | None:
-        """The least way from one of several nodes to one of several, with the weights that lead there, or its length alone."""
+        """The least way from one of several nodes to one of several, with the weights that lead there, or its length
+        alone."""
         self._metrics.own.queries += 1
         sides = [[(node - 1, side[node][0]) for node in sorted(side)] for side in (exits, entries)]
         try:

@@ -4,8 +4,8 @@ import os
 
 
 class Slots:
-    """N slots that processes share which are forked after it was made. A slot is a lock of the kernel on a byte of a file in memory,
-    so that of a process that ends is free again, however it ends."""
+    """N slots that processes share which are forked after it was made. A slot is a lock of the kernel on a byte of a file
+    in memory, so that of a process that ends is free again, however it ends."""
 
     def __init__(self, count: int) -> None:
         self.count, self._file, self._taken = count, os.memfd_create("slots"), -1

@@ -1,5 +1,5 @@
-"""The files of the page at `/`. They are read once, when the service starts, and are named in a list, so no path leads elsewhere. Their
-policy lets the page load nothing but them and ask nothing but this service."""
+"""The files of the page at `/`. They are read once, when the service starts, and are named in a list, so no path leads
+elsewhere. Their policy lets the page load nothing but them and ask nothing but this service."""
 import pathlib
 
 from .errors import RequestError

@@ -1,5 +1,5 @@
-"""A sync worker of gunicorn that waits for no client: it takes a request once its head has come, and a long one once a slot is free. It
-ends an answer that takes too long, counts and logs requests, and answers errors of HTTP as JSON."""
+"""A sync worker of gunicorn that waits for no client: it takes a request once its head has come, and a long one once a slot
+is free. It ends an answer that takes too long, counts and logs requests, and answers errors of HTTP as JSON."""
 import collections
 import contextlib
 import datetime
@@ -24,7 +24,8 @@ from .metrics import Row
 from .slots import Slots
 from .wsgi import JSON, STATUS_LINES, Environ, Service, StartResponse
 
-# Seconds for a head and a short body to come, for an answer, and for that of a long request or between two blocks of a batch.
+# Seconds for a head and a short body to come, for an answer, and for that of a long request or between two blocks of a
+# batch.
 HEAD_SECONDS, ANSWER_SECONDS, LONG_SECONDS = 10.0, 10.0, 25.0
 # Seconds for which a long request waits for a slot, and after which a worker looks for one again.
 SLOT_SECONDS, LOOK_SECONDS = 5.0, 0.05
@@ -32,8 +33,8 @@ SLOT_SECONDS, LOOK_SECONDS = 5.0, 0.05
 LAST_SECONDS, LINGER_SECONDS = 1.0, 2.0
 # Milliseconds for which a worker waits for the head of a client that has just connected, before it looks after others.
 FIRST_MILLISECONDS = 2
-# The greatest head, and its first line; and what a request has at most that isn't a long one: bytes of a body, of a path (25 places have some 500), and of
-# a whole target.
+# The greatest head, and its first line; and what a request has at most that isn't a long one: bytes of a body, of a path
+# (25 places have some 500), and of a whole target.
 MAX_HEAD, MAX_LINE, SHORT_BODY, SHORT_PATH, SHORT_TARGET = 1 << 17, 65_600, 2048, 512, 4096
 # Connections that may wait for their heads, in each worker.
 MAX_WAITING = 500
@@ -49,13 +50,15 @@ class Late(BaseException):
 
 
 class Head(enum.Enum):
-    """What has come of a request: its head and short body, less, nothing, since the client has closed, or what is no head."""
+    """What has come of a request: its head and short body, less, nothing, since the client has closed, or what is no
+    head."""
 
     WHOLE, PARTIAL, CLOSED, MALFORMED = range(4)
 
 
 class Connection(NamedTuple):
-    """A connection, its client's address, until when it may wait, and its request, once its head was read, and whether it is a long one."""
+    """A connection, its client's address, until when it may wait, and its request, once its head was read, and whether it
+    is a long one."""
 
     client: socket.socket
     address: Any
@@ -65,8 +68,8 @@ class Connection(NamedTuple):
 
 
 class HeadWithBody:
-    """A client to which the head of an answer is sent with what follows it: one call of the kernel less, and of an answer whose worker is
-    killed before its body nothing has gone, so that nginx may ask once more."""
+    """A client to which the head of an answer is sent with what follows it: one call of the kernel less, and of an answer
+    whose worker is killed before its body nothing has gone, so that nginx may ask once more."""
 
     def __init__(self, client: socket.socket) -> None:
         self._client, self._head, self._has_sent = client, b"", False
@@ -88,12 +91,14 @@ class HeadWithBody:
 
 
 class Worker(SyncWorker):  # type: ignore[misc] # (gunicorn has no types)
-    """A worker. Before the fork the arbiter sets `row`, its metrics, `slots`, which all workers share, and whether the log has places."""
+    """A worker. Before the fork the arbiter sets `row`, its metrics, `slots`, which all workers share, and whether the log
+    has places."""
 
     row: Row
     slots: Slots
     log_places = False
-    # What the arbiter knows of it: which load of the files it serves, whether it is the one for probes, and was told to end.
+    # What the arbiter knows of it: which load of the files it serves, whether it is the one for probes, and was told to
+    # end.
     generation, is_probe, told = 0, False, False
 
     def init_process(self) -> None:
@@ -139,7 +144,8 @@ class Worker(SyncWorker):  # type: ignore[misc] # (gunicorn has no types)
     def accept(self, listener: Any) -> bool:
         """Takes the next connection; returns whether there was one."""
         if len(self.heads) >= MAX_WAITING:
-            self.refuse(self.no_longer_waiting(next(iter(self.heads))), RequestError(503, "Overloaded", "too many connections"))
+            oldest = self.no_longer_waiting(next(iter(self.heads)))
+            self.refuse(oldest, RequestError(503, "Overloaded", "too many connections"))
         try:
             client, address = listener.accept()
         except (BlockingIOError, ConnectionAbortedError):
@@ -180,7 +186,8 @@ class Worker(SyncWorker):  # type: ignore[misc] # (gunicorn has no types)
         """Refuses heads that are too late, and answers long requests for which there are slots."""
         now = time.monotonic()
         while self.heads and (first := next(iter(self.heads.items())))[1].deadline < now:
-            self.refuse(self.no_longer_waiting(first[0]), RequestError(408, "Timeout", "the request's head has not come whole"))
+            late = self.no_longer_waiting(first[0])
+            self.refuse(late, RequestError(408, "Timeout", "the request's head has not come whole"))
         while self.closing and (first := next(iter(self.closing.items())))[1].deadline < now:
             self.closing.pop(first[0]).client.close()
         while self.queue:
@@ -202,7 +209,8 @@ class Worker(SyncWorker):  # type: ignore[misc] # (gunicorn has no types)
             return connection.client.close()
         except Exception:  # (gunicorn has an error for each fault, and no other for them)
             return self.refuse(connection, malformed())
-        connection = Connection(connection.client, connection.address, time.monotonic() + SLOT_SECONDS, request, is_long(request))
+        until = time.monotonic() + SLOT_SECONDS
+        connection = Connection(connection.client, connection.address, until, request, is_long(request))
         if connection.is_long and (self.queue or not self.slots.take()):
             self.queue.append(connection)
         else:
@@ -230,8 +238,8 @@ class Worker(SyncWorker):  # type: ignore[misc] # (gunicorn has no types)
             client.close() if request.method in ("GET", "HEAD") and not connection.is_long else self.linger(connection)
 
     def answer(self, environ: Environ, start_response: StartResponse) -> Iterable[bytes]:
-        """What gunicorn calls: the service, and 504 in place of an answer that takes too long. A worker in which one was broken off
-        ends behind it, since what that held may be lost."""
+        """What gunicorn calls: the service, and 504 in place of an answer that takes too long. A worker in which one was
+        broken off ends behind it, since what that held may be lost."""
         begun: list[tuple[object, ...]] = []
         try:
             blocks = self.service(environ, lambda *head: begun.append(head))
@@ -273,8 +281,8 @@ class Worker(SyncWorker):  # type: ignore[misc] # (gunicorn has no types)
         connection.client.close() if connection.request is None else self.linger(connection)
 
     def linger(self, connection: Connection) -> None:
-        """Closes a connection once its client has, or some seconds later: to close it while something is unread would reset it, and the
-        answer might be lost."""
+        """Closes a connection once its client has, or some seconds later: to close it while something is unread would reset
+        it, and the answer might be lost."""
         try:
             connection.client.shutdown(socket.SHUT_WR)
             self.closing[connection.client.fileno()] = connection._replace(deadline=time.monotonic() + LINGER_SECONDS)
@@ -320,8 +328,8 @@ def head_of(client: socket.socket) -> Head:
 
 
 def judge_head(come: bytes) -> Head:
-    """The same of the bytes that have come. What RFC 9112 lets a server refuse is malformed: a control character, a CR or an LF alone,
-    and a line that goes on in the next."""
+    """The same of the bytes that have come. What RFC 9112 lets a server refuse is malformed: a control character, a CR or
+    an LF alone, and a line that goes on in the next."""
     end = come.find(b"\r\n\r\n")
     head = come.removesuffix(b"\r") if end < 0 else come[: end + 4]
     lines = head.count(b"\r\n")
@@ -340,7 +348,8 @@ def judge_head(come: bytes) -> Head:
 
 
 def is_long(request: Any) -> bool:
-    """Whether a request may take seconds, by its head: of many places, or with a body that isn't short or whose length isn't known."""
+    """Whether a request may take seconds, by its head: of many places, or with a body that isn't short or whose length
+    isn't known."""
     if len(request.path) > SHORT_PATH or len(request.uri) > SHORT_TARGET:
         return True
     lengths = [value for name, value in request.headers if name in ("CONTENT-LENGTH", "TRANSFER-ENCODING")]

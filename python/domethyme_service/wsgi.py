@@ -1,10 +1,11 @@
-"""The service as a function of WSGI (PEP 3333): `Service(dataset, options, metrics)(environ, start_response)`. It has no clock, starts no
-process and opens no socket: how long an answer may take, and how many processes answer, is for who calls it (gunicorn_app).
+"""The service as a function of WSGI (PEP 3333): `Service(dataset, options, metrics)(environ, start_response)`. It has no
+clock, starts no process and opens no socket: how long an answer may take, and how many processes answer, is for who calls
+it (gunicorn_app).
 
-Beside the keys of WSGI it reads RAW_URI, the target as it came, still percent-encoded, as gunicorn has it. It leaves in `environ` for
-a log `domethyme.endpoint`, by which requests are counted, and `domethyme.error`, the RequestError of an answer that is one. A
-request that came by a unix socket, which has no address, came through nginx, whose X-Local-Address is believed.
-"""
+Beside the keys of WSGI it reads RAW_URI, the target as it came, still percent-encoded, as gunicorn has it. It leaves in
+`environ` for a log `domethyme.endpoint`, by which requests are counted, and `domethyme.error`, the RequestError of an
+answer that is one. A request that came by a unix socket, which has no address, came through nginx, whose X-Local-Address is
+believed. """
 import http
 import itertools
 import logging
@@ -43,7 +44,8 @@ log = logging.getLogger("domethyme_service")
 
 
 class Options(NamedTuple):
-    """How a service answers: who may ask, the metres within which a place has to have a road, and the cells that a table may have."""
+    """How a service answers: who may ask, the metres within which a place has to have a road, and the cells that a table
+    may have."""
 
     access: AccessPolicy
     default_radius: float = 1000.0
@@ -151,8 +153,8 @@ class Service:
         return self.whole(200, told(self.queries, *ends), JSON)
 
     def batch(self, call: Call) -> Response:
-        """Reads the body whole, and answers block by block: a client may send all before it reads. An error before the first block is a
-        whole answer; behind it nothing but a broken connection can say so."""
+        """Reads the body whole, and answers block by block: a client may send all before it reads. An error before the
+        first block is a whole answer; behind it nothing but a broken connection can say so."""
         call.values()
         check_content_type(call.environ.get("CONTENT_TYPE", ""))
         body = read_body(call.environ)
@@ -171,7 +173,8 @@ class Service:
     def whole(self, status: int, text: str | bytes, kind: str, more: Mapping[str, str] | None = None) -> Response:
         """An answer whose body is known."""
         body = text if isinstance(text, bytes) else text.encode("utf-8", "replace")
-        return Response(status, {"Content-Type": kind, "Content-Length": str(len(body)), **self.headers, **(more or {})}, [body])
+        headers = {"Content-Type": kind, "Content-Length": str(len(body)), **self.headers, **(more or {})}
+        return Response(status, headers, [body])
 
     def need_roads(self) -> Roads:
         """The network. Raises RequestError if the service has none."""
@@ -193,8 +196,8 @@ def send(environ: Environ, start_response: StartResponse, response: Response) ->
 
 
 def parse_target(environ: Environ) -> tuple[str | None, str, dict[str, str]]:
-    """The host that a request is for, its path and its parameters. Raises RequestError for what isn't HTTP/1.0 or 1.1, and for
-    parameters that come twice."""
+    """The host that a request is for, its path and its parameters. Raises RequestError for what isn't HTTP/1.0 or 1.1, and
+    for parameters that come twice."""
     target, host = environ["RAW_URI"], environ.get("HTTP_HOST")
     length, coding = environ.get("CONTENT_LENGTH") or "0", environ.get("HTTP_TRANSFER_ENCODING", "chunked")
     if not TARGET.fullmatch(target) or not LENGTH.fullmatch(length) or coding.lower() != "chunked" or "," in (host or ""):

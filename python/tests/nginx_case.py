@@ -1,5 +1,5 @@
-"""What the tests through nginx share: the shipped configuration (packaging/nginx/domethyme.conf) before a service at a unix socket, run
-by a real nginx as the user of the test."""
+"""What the tests through nginx share: the shipped configuration (packaging/nginx/domethyme.conf) before a service at a unix
+socket, run by a real nginx as the user of the test."""
 import getpass
 import os
 import pathlib

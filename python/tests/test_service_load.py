@@ -1,5 +1,5 @@
-"""Tests of the service under many clients, and under attacks of many at once: by its own port, and through nginx with the configuration
-that ships. Each answer is compared, and `/health` is asked all the time."""
+"""Tests of the service under many clients, and under attacks of many at once: by its own port, and through nginx with the
+configuration that ships. Each answer is compared, and `/health` is asked all the time."""
 import contextlib
 import gzip
 import http.client
@@ -31,7 +31,8 @@ def post(size, path="/nodes/routes", more=""):
 
 
 class Probe(threading.Thread):
-    """Asks for `/health`, and for a pair, whose answers are compared, until it is told to stop; keeps the longest time of the former."""
+    """Asks for `/health`, and for a pair, whose answers are compared, until it is told to stop; keeps the longest time of
+    the former."""
 
     def __init__(self, case, wanted):
         super().__init__(daemon=True)
@@ -129,7 +130,8 @@ class AttackTests(LoadCase):
             self.run_all([client] * 16)
 
     def test_slow_heads_and_bodies(self):
-        """Heads that stop, byte by byte and at once, and bodies that stop, short and long ones: others are answered meanwhile."""
+        """Heads that stop, byte by byte and at once, and bodies that stop, short and long ones: others are answered
+        meanwhile."""
         self.begin()
         with contextlib.ExitStack() as stack, self.under_attack():
             heads = [self.connect(stack) for _ in range(200)]
