@@ -89,7 +89,7 @@ def arrays_of(places, starts, stops, single, kind, name):
     pairs, of_pair = np.unique(np.column_stack((kind, name)), axis=0, return_inverse=True)
     rows = np.ones((len(pairs), len(binary.TEXTS)), np.int32)
     rows[:, 0], rows[:, 1] = 2 + pairs[:, 0], 2 + len(KINDS) + pairs[:, 1]
-    rows, of_arc = index.rows_of_texts(rows, of_pair[both])
+    rows, of_arc = index.unique_text_rows(rows, of_pair[both])
     encoded = [text.encode() for text in texts]
     return binary.Arrays(
         np.array([binary.VERSION]), np.zeros(2, np.int64), np.arange(1, len(places) + 1), units[:, 0].copy(), units[:, 1].copy(),
@@ -110,10 +110,10 @@ def spread(values):
 
 def write_tables(prefix, arrays):
     """The tables of osm_to_gr; returns their sizes."""
-    files, network = tables.Files(prefix), binary.in_memory(arrays, prefix)
+    files, network = tables.Files(prefix), binary.map_tempfile(arrays, prefix)
     with open(files.nodes, "w") as nodes, open(files.arcs, "w") as arcs:
-        tables.write_nodes(nodes, tables.nodes_of(network))
-        tables.write_arcs(arcs, tables.arcs_in(network))
+        tables.write_nodes(nodes, tables.nodes_from_net(network))
+        tables.write_arcs(arcs, tables.arcs_from_net(network))
     return [pathlib.Path(each).stat().st_size for each in (files.nodes, files.arcs)]
 
 
@@ -127,7 +127,7 @@ def main():
     if not 1000 <= given.nodes <= 10_000_000:
         words.error("NODES is from 1,000 to 10,000,000")
     arrays = make(given.nodes, given.seed)
-    if problem := binary.wrong(arrays):
+    if problem := binary.find_inconsistency(arrays):
         raise AssertionError(problem)
     arcs = np.column_stack((arrays.arc_from, arrays.arc_to, arrays.arc_weight)).tolist()
     with open(f"{given.network}.gr", "w") as file:

@@ -131,7 +131,7 @@ class Places:
     """Nodes, and where they lie."""
 
     def __init__(self, network):
-        arrays = binary.arrays_of(network)
+        arrays = binary.load_network(network)
         self.lon, self.lat = arrays.node_lon[:] / binary.UNITS, arrays.node_lat[:] / binary.UNITS
         self.count = len(self.lon)
 

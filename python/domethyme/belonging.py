@@ -17,7 +17,7 @@ import re
 from typing import TYPE_CHECKING, Any, NamedTuple
 
 from .errors import FileError, NetworkError, WrongHierarchy, os_reason
-from .opening import looked_at, opened
+from .opening import read_header, open_hierarchy_file
 from .program import StrPath
 
 if TYPE_CHECKING:
@@ -25,7 +25,7 @@ if TYPE_CHECKING:
     from numpy.typing import NDArray
 
     from .links import Links
-    from .network.binary import Mapped
+    from .network.binary import MappedNetwork
 
 # Links up to which all are compared; of more as many as DRAWN, unless all are asked for.
 MOST_COMPARED, DRAWN = 10_000_000, 5_000
@@ -63,14 +63,14 @@ class Origin(NamedTuple):
 def compare_files(hierarchy: str, network: str, whole: bool = False) -> None:
     """Raises WrongHierarchy where a file of a hierarchy isn't that of the network that a tool's argument NETWORK names, and the
     errors of both."""
-    from .network.own import network_of
+    from .network.own import load_network_or_dimacs
 
-    with opened(hierarchy) as file:
-        looked_at(file.fileno(), hierarchy)
-        compare(file.fileno(), hierarchy, network_of(network), whole)
+    with open_hierarchy_file(hierarchy) as file:
+        read_header(file.fileno(), hierarchy)
+        compare(file.fileno(), hierarchy, load_network_or_dimacs(network), whole)
 
 
-def compare(file: int, name: str, network: "Mapped", whole: bool = False) -> None:
+def compare(file: int, name: str, network: "MappedNetwork", whole: bool = False) -> None:
     """Raises WrongHierarchy where an open file of a hierarchy, whose head fits its size, isn't that of a network.
 
     Above MOST_COMPARED links DRAWN ones or more are compared, unless `whole`. For a million nodes all links take a second.
@@ -95,7 +95,7 @@ def of_another(name: str, network: str, how: str) -> WrongHierarchy:
     return WrongHierarchy(f"{name}: is the hierarchy of another network than {network}: {how}; {remedy}")
 
 
-def difference(links: "Links", network: "Mapped") -> str | None:
+def difference(links: "Links", network: "MappedNetwork") -> str | None:
     """The first difference between all links and the network's arcs; None where there is none."""
     import numpy as np
 
@@ -116,7 +116,7 @@ def difference(links: "Links", network: "Mapped") -> str | None:
     return without_link(int(more[0])) if len(more) else None
 
 
-def drawn_difference(links: "Links", network: "Mapped") -> str | None:
+def drawn_difference(links: "Links", network: "MappedNetwork") -> str | None:
     """The same of drawn links, always the same ones of a file."""
     import numpy as np
 
@@ -135,18 +135,18 @@ def drawn_difference(links: "Links", network: "Mapped") -> str | None:
     return None
 
 
-def least_arcs(network: "Mapped", behind: int, last: int) -> "tuple[NDArray[np.int64], NDArray[np.int64]]":
+def least_arcs(network: "MappedNetwork", behind: int, last: int) -> "tuple[NDArray[np.int64], NDArray[np.int64]]":
     """The least arcs between different nodes whose keys lie behind one key, up to another: their keys, which rise, and weights.
     A key is the number of the first node, from 0, and 32 bits with that of the second."""
     import numpy as np
 
-    from .network.threads import firsts
+    from .network.threads import differs_from_previous
 
     first, end = max(behind, 0) >> 32, min((last >> 32) + 1, len(network.out_begin) - 1)
     arcs = network.out_arcs[int(network.out_begin[first]) : int(network.out_begin[end])]
     starts, ends = network.arc_from[arcs].astype(np.int64) - 1, network.arc_to[arcs].astype(np.int64) - 1
     keys = starts << 32 | ends
-    is_wanted = firsts(keys) & (starts != ends) & (keys > behind) & (keys <= last)
+    is_wanted = differs_from_previous(keys) & (starts != ends) & (keys > behind) & (keys <= last)
     return keys[is_wanted], network.arc_weight[arcs[is_wanted]]
 
 

@@ -4,7 +4,7 @@ import subprocess
 from collections.abc import Callable, Sequence
 from typing import TYPE_CHECKING
 
-from .errors import NotShown, ProgramError, WrongHierarchy, error_of, os_reason
+from .errors import NotShown, ProgramError, WrongHierarchy, error_from_exit, os_reason
 from .program import StrPath, find_program
 
 if TYPE_CHECKING:
@@ -22,9 +22,9 @@ def check(graph: "Graph | StrPath", hierarchy: StrPath, program: StrPath | None 
     Raises WrongHierarchy if it isn't right, NotShown if neither is shown, and GraphError, HierarchyError, OutOfMemory,
     ReadWriteError, ProgramNotFound, ProgramError.
     """
-    from .graphs import text_of
+    from .graphs import graph_file
 
-    with text_of(graph) as text:
+    with graph_file(graph) as text:
         run_check(find_program(program), text, os.fspath(hierarchy), os.fspath(hierarchy))
 
 
@@ -36,17 +36,17 @@ def run_check(
     nothing, pipe = subprocess.DEVNULL, subprocess.PIPE
     words = [program, "check", "--explain", "--", graph, hierarchy]
     try:
-        ended = subprocess.run(words, stdin=nothing, stdout=pipe, stderr=pipe, pass_fds=files, preexec_fn=before)
+        completed = subprocess.run(words, stdin=nothing, stdout=pipe, stderr=pipe, pass_fds=files, preexec_fn=before)
     except OSError as error:
         raise ProgramError(f"{program}: {os_reason(error)}") from error
-    if ended.returncode == 0:
+    if completed.returncode == 0:
         return
-    if ended.returncode not in (WRONG, NOT_SHOWN):
-        raise error_of(ended.returncode, ended.stderr.replace(os.fsencode(hierarchy), os.fsencode(name)), name)
-    line = ended.stdout.decode("ascii", "replace").strip()
-    told = ended.stderr.decode("utf-8", "replace").replace(hierarchy, name)
+    if completed.returncode not in (WRONG, NOT_SHOWN):
+        raise error_from_exit(completed.returncode, completed.stderr.replace(os.fsencode(hierarchy), os.fsencode(name)), name)
+    line = completed.stdout.decode("ascii", "replace").strip()
+    told = completed.stderr.decode("utf-8", "replace").replace(hierarchy, name)
     explanation = [" ".join(each.split()) for each in told.splitlines()]
-    if ended.returncode == NOT_SHOWN:
+    if completed.returncode == NOT_SHOWN:
         raise NotShown(f"{name}: {line}", NOT_SHOWN, explanation)
     fault = WrongHierarchy(f"{name}: {line}", WRONG, explanation)
     words = line.split()

@@ -127,12 +127,12 @@ KINDS: dict[int, type[DomethymeError]] = {
 }
 
 
-def error_of(status: int, said: bytes, file: str = "") -> DomethymeError:
-    """The error for a run of the program that ended with a status other than 0 and wrote `said` to standard error: a line, and
+def error_from_exit(status: int, stderr: bytes, file: str = "") -> DomethymeError:
+    """The error for a run of the program that ended with a status other than 0 and wrote `stderr` to standard error: a line, and
     with --explain more. One of a hierarchy's file begins with the name of the file, where it is given."""
     if status < 0:
         return ProgramStopped(f"routecli was ended by signal {-status}")
-    lines = [" ".join(line.split()) for line in said.decode("utf-8", "replace").splitlines()]
+    lines = [" ".join(line.split()) for line in stderr.decode("utf-8", "replace").splitlines()]
     found = next((row for row, line in enumerate(lines) if not line.startswith(WARNING)), None)
     message = f"routecli ended with status {status}" if found is None else lines.pop(found)
     if file and found is not None and KINDS.get(status) is HierarchyError:

@@ -21,30 +21,30 @@ from .program import StrPath
 
 
 @contextlib.contextmanager
-def writing(path: StrPath, mode: str = "w") -> Iterator[IO[Any]]:
+def atomic_write(path: StrPath, mode: str = "w") -> Iterator[IO[Any]]:
     """A file to write: whole after the block, or as it was where the block ends by an exception."""
     if str(path) == "-":
         if isinstance(sys.stdout, io.TextIOWrapper):
             sys.stdout.reconfigure(encoding="utf-8", newline="\n")
         yield sys.stdout if mode == "w" else sys.stdout.buffer  # type: ignore[misc]
         sys.stdout.flush()
-    elif is_straight(path):
-        with named_faults(path), open(path, mode, **text_form(mode)) as file:
+    elif is_special_file(path):
+        with add_paths_to_errors(path), open(path, mode, **encoding_options(mode)) as file:
             yield file
     else:
-        with named_faults(path), files_beside([path], mode) as (file,):
+        with add_paths_to_errors(path), temp_files_for([path], mode) as (file,):
             yield file
 
 
 @contextlib.contextmanager
-def whole_files(*paths: StrPath) -> Iterator[list[IO[Any]]]:
+def atomic_write_all(*paths: StrPath) -> Iterator[list[IO[Any]]]:
     """Files of text to write: all whole after the block, or all as they were where it ends by an exception."""
-    with named_faults(*paths), files_beside(paths, "w") as files:
+    with add_paths_to_errors(*paths), temp_files_for(paths, "w") as files:
         yield files
 
 
 @contextlib.contextmanager
-def named_faults(*paths: StrPath) -> Iterator[None]:
+def add_paths_to_errors(*paths: StrPath) -> Iterator[None]:
     """A failed write in the block, as on a full disk, is reported with the names of its files."""
     try:
         yield
@@ -54,7 +54,7 @@ def named_faults(*paths: StrPath) -> Iterator[None]:
         raise
 
 
-def is_straight(path: StrPath) -> bool:
+def is_special_file(path: StrPath) -> bool:
     """Whether there is something at the path that is no regular file: a pipe, a terminal, a device."""
     try:
         return not stat.S_ISREG(os.stat(path).st_mode)
@@ -62,33 +62,33 @@ def is_straight(path: StrPath) -> bool:
         return False
 
 
-def text_form(mode: str) -> dict[str, Any]:
+def encoding_options(mode: str) -> dict[str, Any]:
     return {} if "b" in mode else {"encoding": "utf-8", "newline": "\n"}
 
 
 @contextlib.contextmanager
-def files_beside(paths: Sequence[StrPath], mode: str) -> Iterator[list[IO[Any]]]:
+def temp_files_for(paths: Sequence[StrPath], mode: str) -> Iterator[list[IO[Any]]]:
     """Files beside those of the paths, which take their places, synced, when the block has ended well."""
     targets = [os.path.realpath(path) for path in paths]
-    besides: list[str] = []
+    temp_paths: list[str] = []
     try:
         with contextlib.ExitStack() as opened_files:
             files: list[IO[Any]] = []
             for path, target in zip(paths, targets):
-                beside = make_beside(path, target)
-                besides.append(beside)
-                files.append(opened_files.enter_context(open(beside, mode, **text_form(mode))))
+                temp_path = make_temp_file(path, target)
+                temp_paths.append(temp_path)
+                files.append(opened_files.enter_context(open(temp_path, mode, **encoding_options(mode))))
             yield files
             for file in files:
                 file.flush()
                 os.fsync(file.fileno())
-        take_places(besides, targets)
+        replace_all(temp_paths, targets)
     finally:
-        for beside in besides:
-            remove_if_there(beside)
+        for temp_path in temp_paths:
+            unlink_missing_ok(temp_path)
 
 
-def make_beside(path: StrPath, target: str) -> str:
+def make_temp_file(path: StrPath, target: str) -> str:
     """The path of a new empty file in the folder of the target, with the permissions that the target has or would get."""
     if os.path.isdir(target):
         raise IsADirectoryError(errno.EISDIR, "is a folder", os.fspath(path))
@@ -96,12 +96,12 @@ def make_beside(path: StrPath, target: str) -> str:
     try:
         if os.path.exists(target) and not os.access(target, os.W_OK):
             raise PermissionError(errno.EACCES, "may not be written")
-        handle, beside = tempfile.mkstemp(prefix=f"{name}.", suffix=".new", dir=folder)
+        handle, temp_path = tempfile.mkstemp(prefix=f"{name}.", suffix=".new", dir=folder)
     except OSError as error:
         raise OSError(error.errno, error.strerror, os.fspath(path)) from error
     os.fchmod(handle, permissions_at(target))
     os.close(handle)
-    return beside
+    return temp_path
 
 
 def permissions_at(target: str) -> int:
@@ -113,26 +113,26 @@ def permissions_at(target: str) -> int:
         return 0o666 & ~mask
 
 
-def take_places(besides: list[str], targets: list[str]) -> None:
+def replace_all(temp_paths: list[str], targets: list[str]) -> None:
     """Gives each file its target's name; where one can't have it, those before get their old files back."""
-    olds = [f"{beside}.old" for beside in besides]
+    backups = [f"{temp_path}.old" for temp_path in temp_paths]
     done = 0
     try:
-        for target, old in zip(targets[:-1], olds):
-            keep_old(target, old)
-        for beside, target in zip(besides, targets):
-            os.replace(beside, target)
+        for target, backup in zip(targets[:-1], backups):
+            back_up(target, backup)
+        for temp_path, target in zip(temp_paths, targets):
+            os.replace(temp_path, target)
             done += 1
     except BaseException:
-        for target, old in zip(targets[:done], olds):
-            put_back(target, old)
+        for target, backup in zip(targets[:done], backups):
+            restore(target, backup)
         raise
     finally:
-        for old in olds:
-            remove_if_there(old)
+        for backup in backups:
+            unlink_missing_ok(backup)
 
 
-def keep_old(target: str, old: str) -> None:
+def back_up(target: str, old: str) -> None:
     """Gives the file at the target, if there is one, a second name, or a copy by that name."""
     if not os.path.exists(target):
         return
@@ -142,14 +142,14 @@ def keep_old(target: str, old: str) -> None:
         shutil.copy2(target, old)
 
 
-def put_back(target: str, old: str) -> None:
+def restore(target: str, old: str) -> None:
     """Puts back what was at the target: the file that was kept, or none."""
     if os.path.exists(old):
         os.replace(old, target)
     else:
-        remove_if_there(target)
+        unlink_missing_ok(target)
 
 
-def remove_if_there(path: StrPath) -> None:
+def unlink_missing_ok(path: StrPath) -> None:
     with contextlib.suppress(FileNotFoundError):
         os.unlink(path)

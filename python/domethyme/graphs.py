@@ -10,11 +10,11 @@ from typing import TYPE_CHECKING, Any, Literal
 from . import library, texts
 from .errors import ReadWriteError, os_reason
 from .extras import need
-from .files import writing
+from .files import atomic_write
 from .hierarchy import Hierarchy
 from .keys import Keys
 from .program import StrPath, find_program, run_program
-from .texts import HEAVIEST, MOST_NODES
+from .texts import MAX_WEIGHT, MOST_NODES
 
 if TYPE_CHECKING:
     import numpy as np
@@ -47,7 +47,7 @@ class Graph:
 
         self.from_nodes: "NDArray[np.int64]" = whole_numbers("from_nodes", from_nodes, 0, MOST_NODES - 1)
         self.to_nodes: "NDArray[np.int64]" = whole_numbers("to_nodes", to_nodes, 0, MOST_NODES - 1)
-        self.weights: "NDArray[np.int64]" = whole_numbers("weights", weights, 0, HEAVIEST)
+        self.weights: "NDArray[np.int64]" = whole_numbers("weights", weights, 0, MAX_WEIGHT)
         if self.weights.ndim != 1 or not self.from_nodes.shape == self.to_nodes.shape == self.weights.shape:
             raise ValueError("from_nodes, to_nodes and weights have to be of one dimension and as long as one another")
         if len(self.weights) > MOST_ARCS:
@@ -72,9 +72,9 @@ class Graph:
         need("numpy")
         import numpy as np
 
-        from .keys import as_list, is_missing, plain
+        from .keys import as_list, is_missing, to_python_scalar
 
-        starts, ends = ([plain(key) for key in as_list(side)] for side in (sources, targets))
+        starts, ends = ([to_python_scalar(key) for key in as_list(side)] for side in (sources, targets))
         numbers: dict[Any, int] = {}
         for key in [*starts, *ends]:
             numbers.setdefault(key, len(numbers))
@@ -101,7 +101,7 @@ class Graph:
         import numpy as np
 
         arcs = np.column_stack([self.from_nodes + 1, self.to_nodes + 1, self.weights])
-        with writing(path) as file:
+        with atomic_write(path) as file:
             texts.write_graph(file, self.nodes, arcs.tolist())
 
     def prepare(self, hierarchy: StrPath, **options: Any) -> Hierarchy:
@@ -120,8 +120,8 @@ def scaled(weights: "ArrayLike", scale: float) -> "NDArray[np.int64]":
         products = np.asarray(weights, float) * scale
     except TypeError:
         raise ValueError("weights have to be numbers, and one is missing") from None
-    if products.size and not (np.isfinite(products).all() and products.min() >= 0 and products.max() <= HEAVIEST):
-        raise ValueError(f"weights times {scale:g} have to be from 0 to {HEAVIEST}")
+    if products.size and not (np.isfinite(products).all() and products.min() >= 0 and products.max() <= MAX_WEIGHT):
+        raise ValueError(f"weights times {scale:g} have to be from 0 to {MAX_WEIGHT}")
     rounded: "NDArray[np.int64]" = np.rint(products).astype(np.int64)
     if lost := int(np.count_nonzero((products > 0) & (rounded == 0))):
         warnings.warn(f"{lost} of {rounded.size} weights are above 0, and 0 once they are scaled by {scale:g}", stacklevel=3)
@@ -178,11 +178,11 @@ def prepare(
     ReadWriteError, ProgramNotFound, ProgramError, LibraryNotFound.
     """
     found = find_program(program)
-    library.loaded()  # (the result is a Hierarchy: what it needs is looked for before the work)
+    library.load_library()  # (the result is a Hierarchy: what it needs is looked for before the work)
     options = {"--order": order, "--workers": workers, "--seed": seed, "--stint": stint}
-    words = [str(word) for name, value in options.items() if value is not None for word in (name, value)]
-    with text_of(graph) as text:
-        run_program(found, ["prepare", *words], [text, os.fspath(hierarchy)])
+    arguments = [str(word) for name, value in options.items() if value is not None for word in (name, value)]
+    with graph_file(graph) as text:
+        run_program(found, ["prepare", *arguments], [text, os.fspath(hierarchy)])
     keys = graph.keys if isinstance(graph, Graph) else None
     if keys is not None and keys.can_be_saved():
         keys.save(hierarchy)
@@ -190,11 +190,11 @@ def prepare(
 
 
 @contextlib.contextmanager
-def text_of(graph: "Graph | StrPath") -> Iterator[str]:
+def graph_file(graph: "Graph | StrPath") -> Iterator[str]:
     """The path of the text of a graph, which is written for the block where there is only a Graph. Raises ReadWriteError where a
     file can't be opened."""
     if not isinstance(graph, Graph):
-        need_readable(graph)
+        check_readable(graph)
         yield os.fspath(graph)
         return
     with tempfile.TemporaryDirectory(prefix="domethyme-") as folder:
@@ -203,7 +203,7 @@ def text_of(graph: "Graph | StrPath") -> Iterator[str]:
         yield text
 
 
-def need_readable(path: StrPath) -> None:
+def check_readable(path: StrPath) -> None:
     """Raises ReadWriteError where a file can't be opened."""
     try:
         with open(path, "rb"):

@@ -8,9 +8,9 @@ from typing import TYPE_CHECKING, Any, Literal, NamedTuple, Union, overload
 from .errors import NoSuchNode
 from .extras import need
 from .keys import Keys, as_list
-from .opening import looked_at, opened, read_at
+from .opening import read_header, open_hierarchy_file, pread_all
 from .program import StrPath
-from .router import Answer, Router
+from .router import RouterResult, Router
 
 if TYPE_CHECKING:
     import numpy as np
@@ -23,7 +23,7 @@ if TYPE_CHECKING:
 MOST_ADDED = (1 << 32) - 1
 
 # How many metres away the nearest node may be.
-WITHIN = 1000.0
+DEFAULT_MAX_METRES = 1000.0
 
 Ends = Union[Mapping[Any, int], Iterable[Any]]
 Rows = Union["NDArray[Any]", Sequence[Any]]
@@ -93,14 +93,14 @@ class Hierarchy:
         network, and ValueError for keys that don't fit.
         """
         self.path, self._name = path, os.fspath(path)
-        self._file = opened(self._name)
+        self._file = open_hierarchy_file(self._name)
         try:
-            self.nodes, self.links = looked_at(self._file.fileno(), self._name)
-            data = read_at(self._file.fileno(), 0, os.fstat(self._file.fileno()).st_size)
+            self.nodes, self.links = read_header(self._file.fileno(), self._name)
+            data = pread_all(self._file.fileno(), 0, os.fstat(self._file.fileno()).st_size)
             self.keys = None if keys is None else Keys(keys, self.nodes)
             if self.keys is not None:
-                self.keys.need_fitting(path, data)
-            self.network, self._compare_all = network_of(network), compare_all
+                self.keys.check_consistent(path, data)
+            self.network, self._compare_all = as_network(network), compare_all
             self._router = Router(data, self._name)
             if self.network is not None:
                 self.network.compare(self._file.fileno(), self._name, compare_all)
@@ -212,12 +212,12 @@ class Hierarchy:
         return arrays.like_axes(table, sources, targets, self.keys is not None, missing)
 
     @overload
-    def nearest(self, lon: float, lat: float, end: bool = False, *, within: float = WITHIN) -> tuple[Any, float]: ...
+    def nearest(self, lon: float, lat: float, end: bool = False, *, within: float = DEFAULT_MAX_METRES) -> tuple[Any, float]: ...
     @overload
     def nearest(
-        self, lon: Rows, lat: Rows, end: bool = False, *, within: float = WITHIN
+        self, lon: Rows, lat: Rows, end: bool = False, *, within: float = DEFAULT_MAX_METRES
     ) -> "tuple[NDArray[Any], NDArray[np.float64]]": ...
-    def nearest(self, lon: Any, lat: Any, end: bool = False, *, within: float = WITHIN) -> tuple[Any, Any]:
+    def nearest(self, lon: Any, lat: Any, end: bool = False, *, within: float = DEFAULT_MAX_METRES) -> tuple[Any, Any]:
         """The node nearest to each place in degrees, or its key, and how many metres away it is along the great circle: one
         where routes begin, or with `end` one where they end, which differ at junctions with turn restrictions. Two numbers
         give a node and a float, two arrays give two arrays. Needs the network. Raises NoSuchNode where none is
@@ -225,7 +225,7 @@ class Hierarchy:
         if self.network is None:
             raise ValueError("the hierarchy has no network: give Hierarchy the word network=")
         nodes, metres = self.network.nearest(lon, lat, end)
-        need_near(metres, within)
+        check_within(metres, within)
         if self.keys is None:
             return nodes, metres
         return (self.keys.key(nodes) if isinstance(nodes, int) else self.keys.of(nodes)), metres
@@ -246,14 +246,14 @@ class Hierarchy:
     def _ends(self, name: str, ends: Ends) -> list[tuple[int, int]]:
         """One side of `between`: nodes from 0, and what is added at each."""
         rows = ends.items() if isinstance(ends, Mapping) else [row if is_pair(row) else (row, 0) for row in ends]
-        found = [(self._node(node), whole(name, added)) for node, added in rows]
+        found = [(self._node(node), as_int(name, added)) for node, added in rows]
         if not found:
             raise ValueError(f"{name} have to be a node or more")
         if not all(0 <= added <= MOST_ADDED for _, added in found):
             raise ValueError(f"the lengths added at {name} have to be from 0 to {MOST_ADDED}")
         return found
 
-    def _route(self, answer: Answer | None) -> Route | None:
+    def _route(self, answer: RouterResult | None) -> Route | None:
         if answer is None:
             return None
         numbers = answer.nodes
@@ -272,7 +272,7 @@ class Hierarchy:
             return self._sweeps
 
 
-def network_of(network: "Network | StrPath | None") -> "Network | None":
+def as_network(network: "Network | StrPath | None") -> "Network | None":
     if network is None or not isinstance(network, (str, os.PathLike)):
         return network
     need("numpy")
@@ -281,18 +281,18 @@ def network_of(network: "Network | StrPath | None") -> "Network | None":
     return Network(network)
 
 
-def need_near(metres: Any, within: float) -> None:
+def check_within(metres: Any, within: float) -> None:
     """Raises NoSuchNode for the first place whose node is farther away."""
     import numpy as np
 
     far = np.flatnonzero(~(np.ravel(metres) <= within))
     if len(far):
         place, away = int(far[0]), float(np.ravel(metres)[far[0]])
-        said = f"place {place} has no node within {within:g} m: the nearest is {away:,.0f} m away; lon comes before lat"
-        raise NoSuchNode(said, place)
+        message = f"place {place} has no node within {within:g} m: the nearest is {away:,.0f} m away; lon comes before lat"
+        raise NoSuchNode(message, place)
 
 
-def whole(name: str, added: Any) -> int:
+def as_int(name: str, added: Any) -> int:
     """An added length as an int, which it has to be."""
     if not is_whole(added):
         raise ValueError(f"the lengths added at {name} have to be whole numbers, and {added!r} is none")

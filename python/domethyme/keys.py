@@ -7,9 +7,9 @@ from typing import TYPE_CHECKING, Any
 
 from .belonging import digest_of
 from .errors import FileError, NoSuchNode, os_reason
-from .files import writing
+from .files import atomic_write
 from .program import StrPath
-from .texts import table
+from .texts import open_table
 
 if TYPE_CHECKING:
     import numpy as np
@@ -28,19 +28,19 @@ class Keys:
         """
         self._names: list[Hashable]
         self._nodes: dict[Any, int]
-        self._shared: set[Hashable]
+        self._ambiguous: set[Hashable]
         self._digest: str | None = None
         self._is_partial = isinstance(keys, Mapping)
         if isinstance(keys, Keys):
-            self._names, self._nodes, self._shared = keys._names, keys._nodes, keys._shared
+            self._names, self._nodes, self._ambiguous = keys._names, keys._nodes, keys._ambiguous
             self._digest, self._is_partial = keys._digest, keys._is_partial
         elif isinstance(keys, Mapping):
-            self._names, self._nodes, self._shared = names_of(keys), {plain(key): int(keys[key]) for key in keys}, set()
+            self._names, self._nodes, self._ambiguous = keys_by_node(keys), {to_python_scalar(key): int(keys[key]) for key in keys}, set()
         else:
-            self._names = [plain(key) for key in keys]
-            self._nodes, self._shared = numbers_of(self._names)
-            if self._shared:
-                raise ValueError(f"key {next(iter(self._shared))!r} names two nodes")
+            self._names = [to_python_scalar(key) for key in keys]
+            self._nodes, self._ambiguous = index_keys(self._names)
+            if self._ambiguous:
+                raise ValueError(f"key {next(iter(self._ambiguous))!r} names two nodes")
         if nodes is not None:
             if len(self._names) > nodes or len(self._names) < nodes and not self._is_partial:
                 raise ValueError(f"there are keys of {len(self._names)} nodes, and the hierarchy has {nodes}")
@@ -51,8 +51,8 @@ class Keys:
         """The keys in a column of a CSV file with a row for each node, in order, as NETWORK.nodes.csv: whole numbers as
         int, other texts as str, an empty one for no key. A key of several nodes can't be asked for, but that of a junction with
         turn restrictions, which is the node where routes begin (the column ends is `from`). Raises NetworkError."""
-        with table(path, [column]) as rows:
-            listed = [(key_of(fields[column]), fields.get("ends", "")) for _, fields in rows]
+        with open_table(path, [column]) as rows:
+            listed = [(parse_key(fields[column]), fields.get("ends", "")) for _, fields in rows]
         return cls.of_rows([key for key, _ in listed], [ends for _, ends in listed])
 
     @classmethod
@@ -60,17 +60,17 @@ class Keys:
         """The key of each node, or None, and its place at a junction with turn restrictions, as `read` has them."""
         keys = cls(())
         keys._names = list(names)
-        keys._nodes, keys._shared = numbers_of(keys._names)
-        begins = {key: node for node, (key, end) in enumerate(zip(keys._names, ends)) if end == "from" and key in keys._shared}
+        keys._nodes, keys._ambiguous = index_keys(keys._names)
+        begins = {key: node for node, (key, end) in enumerate(zip(keys._names, ends)) if end == "from" and key in keys._ambiguous}
         keys._nodes |= begins
-        keys._shared -= begins.keys()
+        keys._ambiguous -= begins.keys()
         return keys
 
     @classmethod
     def saved(cls, hierarchy: StrPath) -> "Keys":
         """The keys that `save` or Graph.prepare has written beside the file of a hierarchy, FILE.keys. Raises FileError where
         there is no such file, or where it is of another hierarchy."""
-        keys = saved_with(hierarchy, digest_of(hierarchy))
+        keys = load_if_matching(hierarchy, digest_of(hierarchy))
         if keys is None:
             raise FileError(f"has the keys of another file than {os.fspath(hierarchy)}", keys_path(hierarchy))
         return keys
@@ -80,11 +80,11 @@ class Keys:
         another hierarchy. The file is JSON, and whole. Raises ValueError where a key is neither str nor int, and OSError."""
         if not self.can_be_saved():
             raise ValueError("keys that are saved have to be str or int")
-        plainly, _ = numbers_of(self._names)
+        plainly, _ = index_keys(self._names)
         chosen = [[key, node] for key, node in self._nodes.items() if key not in plainly]
         digest = digest_of(hierarchy)
         saved = {"format": FORMAT, "hierarchy": digest, "keys": self._names, "chosen": chosen}
-        with writing(keys_path(hierarchy)) as file:
+        with atomic_write(keys_path(hierarchy)) as file:
             json.dump(saved, file, ensure_ascii=False, separators=(",", ":"))
         self._digest = self._digest and digest
 
@@ -92,7 +92,7 @@ class Keys:
         """Whether all keys are str or int."""
         return all(key is None or type(key) in (str, int) for key in self._names)
 
-    def need_fitting(self, hierarchy: StrPath, data: bytes) -> None:
+    def check_consistent(self, hierarchy: StrPath, data: bytes) -> None:
         """Raises ValueError where these are the saved keys of another file than the hierarchy's, whose bytes are given, or where the
         keys saved beside it are its own and have a key at another node."""
         if self._digest is None and not os.path.exists(keys_path(hierarchy)):
@@ -102,7 +102,7 @@ class Keys:
             again = "if its nodes are numbered as in that file, save them for it: keys.save(path)"
             raise ValueError(f"the keys were saved for another file than {os.fspath(hierarchy)}: {again}")
         try:
-            saved = saved_with(hierarchy, digest)
+            saved = load_if_matching(hierarchy, digest)
         except FileError:
             return
         if saved is None:
@@ -128,7 +128,7 @@ class Keys:
         try:
             return self._nodes[key]
         except (KeyError, TypeError):
-            problem = "names several nodes" if key in self._shared else "names no node"
+            problem = "names several nodes" if key in self._ambiguous else "names no node"
             raise NoSuchNode(f"key {key!r} {problem}", key) from None
 
     def key(self, node: int) -> Hashable:
@@ -162,7 +162,7 @@ def keys_path(hierarchy: StrPath) -> str:
     return f"{os.fspath(hierarchy)}.keys"
 
 
-def saved_with(hierarchy: StrPath, digest: str) -> Keys | None:
+def load_if_matching(hierarchy: StrPath, digest: str) -> Keys | None:
     """The keys saved beside a hierarchy's file if they are of the file with this digest, else None. Raises FileError."""
     path = keys_path(hierarchy)
     try:
@@ -174,7 +174,7 @@ def saved_with(hierarchy: StrPath, digest: str) -> Keys | None:
             return None
         keys = Keys(())
         keys._names, keys._digest, keys._is_partial = list(saved["keys"]), digest, True
-        keys._nodes, keys._shared = numbers_of(keys._names)
+        keys._nodes, keys._ambiguous = index_keys(keys._names)
         chosen = dict(saved["chosen"])
         if any(keys._names[node] != key for key, node in chosen.items()):
             raise ValueError("chosen")
@@ -183,11 +183,11 @@ def saved_with(hierarchy: StrPath, digest: str) -> Keys | None:
     except (ValueError, TypeError, LookupError) as error:
         raise FileError("has no keys as Keys.save writes them", path) from error
     keys._nodes |= chosen
-    keys._shared -= chosen.keys()
+    keys._ambiguous -= chosen.keys()
     return keys
 
 
-def names_of(nodes: Mapping[Any, int]) -> list[Hashable]:
+def keys_by_node(nodes: Mapping[Any, int]) -> list[Hashable]:
     """The key of each node of a mapping from keys to nodes."""
     names: list[Hashable] = [None] * (max(map(int, nodes.values()), default=-1) + 1)
     for key, node in nodes.items():
@@ -195,11 +195,11 @@ def names_of(nodes: Mapping[Any, int]) -> list[Hashable]:
             raise ValueError(f"key {key!r} names {node!r}, which is no node")
         if names[int(node)] is not None:
             raise ValueError(f"keys {names[int(node)]!r} and {key!r} name one node")
-        names[int(node)] = plain(key)
+        names[int(node)] = to_python_scalar(key)
     return names
 
 
-def numbers_of(names: Sequence[Hashable]) -> tuple[dict[Any, int], set[Hashable]]:
+def index_keys(names: Sequence[Hashable]) -> tuple[dict[Any, int], set[Hashable]]:
     """The node of each key that names one, and the keys that name several."""
     nodes: dict[Any, int] = {}
     shared: set[Hashable] = set()
@@ -211,14 +211,14 @@ def numbers_of(names: Sequence[Hashable]) -> tuple[dict[Any, int], set[Hashable]
     return nodes, shared
 
 
-def key_of(text: str) -> Hashable:
+def parse_key(text: str) -> Hashable:
     """The key that a field of a table means: a whole number as it is written plainly, another text, or none."""
     digits = text.removeprefix("-")
     is_plain = digits.isascii() and digits.isdigit() and (digits[0] != "0" or text == "0")
     return int(text) if is_plain else text or None
 
 
-def plain(key: Any) -> Hashable:
+def to_python_scalar(key: Any) -> Hashable:
     """A scalar of numpy as the Python object that equals it; anything else as it is."""
     found: Hashable = key.item() if type(key).__module__ == "numpy" else key
     return found

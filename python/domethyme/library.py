@@ -78,7 +78,7 @@ def find_library(named: StrPath | None = None) -> str:
 
 
 @functools.cache
-def loaded() -> ctypes.CDLL:
+def load_library() -> ctypes.CDLL:
     """The library, which releases the interpreter's lock while it works. Raises LibraryNotFound."""
     path = find_library()
     try:
@@ -88,13 +88,13 @@ def loaded() -> ctypes.CDLL:
             call.argtypes, call.restype = arguments, RETURNS.get(name, ctypes.c_uint32)
     except (OSError, AttributeError) as error:
         why = str(error).removeprefix(f"{path}: ")
-        said = f"{path}: {why}; install libdomethyme1, build it by packaging/build-library, or set DOMETHYME_LIBRARY"
-        raise LibraryNotFound(said) from None
+        message = f"{path}: {why}; install libdomethyme1, build it by packaging/build-library, or set DOMETHYME_LIBRARY"
+        raise LibraryNotFound(message) from None
     return found
 
 
-def text_of(code: int) -> str:
+def error_message(code: int) -> str:
     """What a code means."""
     text = ctypes.create_string_buffer(TEXT)
-    loaded().domethyme_text(code, text, TEXT)
+    load_library().domethyme_text(code, text, TEXT)
     return text.value.decode("ascii", "replace")

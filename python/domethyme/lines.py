@@ -13,12 +13,12 @@ from typing import NamedTuple
 from .errors import DomethymeError, HierarchyError, OutOfMemory, ProgramError
 
 # What may befall a request that is right.
-FAULTS = (b"e OutOfMemory", b"e TooLong")
-WRONG = "is no answer of routecli"
+ERROR_REPLIES = (b"e OutOfMemory", b"e TooLong")
+NOT_A_REPLY = "is no answer of routecli"
 NO_WAY = -1
 
 
-class Answer(NamedTuple):
+class RouteReply(NamedTuple):
     """What a reply says of a pair: the length, NO_WAY where there is no way, and the nodes, () where they weren't asked."""
 
     source: int
@@ -27,7 +27,7 @@ class Answer(NamedTuple):
     nodes: tuple[int, ...]
 
 
-def ready_of(line: bytes) -> tuple[int, int] | None:
+def parse_ready(line: bytes) -> tuple[int, int] | None:
     """Nodes and links by the first line of `serve`; None for any other line."""
     words = line.split()
     if len(words) < 3 or words[0] != b"ready" or not (words[1] + words[2]).isdigit():
@@ -35,7 +35,7 @@ def ready_of(line: bytes) -> tuple[int, int] | None:
     return int(words[1]), int(words[2])
 
 
-def answer_of(line: bytes) -> Answer:
+def parse_reply(line: bytes) -> RouteReply:
     """What a line `r`, `d` or `n S T` says. Raises ValueError for any other one."""
     kind, *fields = line.split() or [b""]
     if fields and not b"".join(fields).isdigit():
@@ -43,15 +43,15 @@ def answer_of(line: bytes) -> Answer:
         raise ValueError(f"the number {wrong[:40]!r} isn't an integer")
     values = tuple(map(int, fields))
     if kind == b"n" and len(values) == 2:
-        return Answer(values[0], values[1], NO_WAY, ())
+        return RouteReply(values[0], values[1], NO_WAY, ())
     if kind == b"d" and len(values) == 3:
-        return Answer(values[0], values[1], values[2], ())
+        return RouteReply(values[0], values[1], values[2], ())
     if kind != b"r" or len(values) < 5:
-        raise ValueError(WRONG)
+        raise ValueError(NOT_A_REPLY)
     source, target, length, arcs = values[:4]
     if len(values) != arcs + 5 or (values[4], values[-1]) != (source, target):
         raise ValueError("has nodes that don't fit its pair and its number of arcs")
-    return Answer(source, target, length, values[4:])
+    return RouteReply(source, target, length, values[4:])
 
 
 def length_of(line: bytes) -> int:
@@ -59,29 +59,29 @@ def length_of(line: bytes) -> int:
     return int(line.split(b" ", 4)[3])
 
 
-def answer_to(request: bytes, reply: bytes) -> Answer | None:
+def parse_reply_to(request: bytes, reply: bytes) -> RouteReply | None:
     """What a reply to a request says, None where there is no way. Raises the error of a reply `e`, and ProgramError for a line
     that is no reply to this request."""
     if reply.startswith(b"e "):
-        raise error_of_reply(reply)
-    if not is_reply_to(request, reply):
+        raise reply_error(reply)
+    if not matches_request(request, reply):
         raise ProgramError("routecli replied to another pair than it was asked")
-    return None if reply.startswith(b"n") else answer_of(reply)
+    return None if reply.startswith(b"n") else parse_reply(reply)
 
 
-def is_reply_to(request: bytes, reply: bytes) -> bool:
+def matches_request(request: bytes, reply: bytes) -> bool:
     """Whether the line is a reply to this request, `q`, `d` or `b`: of its kind, and of its nodes."""
     kind, ends = request[:1], request[1:]
-    if reply in FAULTS:
+    if reply in ERROR_REPLIES:
         return True
     if kind == b"b":
-        return reply == b"n" or is_between(request, reply)
+        return reply == b"n" or matches_between(request, reply)
     if reply == b"n" + ends:
         return True
     return reply.startswith((b"r" if kind == b"q" else b"d") + ends + b" ")
 
 
-def is_between(request: bytes, reply: bytes) -> bool:
+def matches_between(request: bytes, reply: bytes) -> bool:
     """Whether a line `r S T ..` has one of the starts and one of the ends of a request `b S C .. : T D ..`."""
     words = reply.split(b" ", 3)
     starts, _, ends = request[2:].partition(b" : ")
@@ -90,7 +90,7 @@ def is_between(request: bytes, reply: bytes) -> bool:
     return words[1] in starts.split()[::2] and words[2] in ends.split()[::2]
 
 
-def error_of_reply(reply: bytes) -> DomethymeError:
+def reply_error(reply: bytes) -> DomethymeError:
     """The error that a reply `e KIND` means."""
     kind = reply[2:].decode("ascii", "replace")
     if kind == "OutOfMemory":

@@ -7,7 +7,7 @@ import numpy as np
 from numpy.typing import NDArray
 
 from .errors import HierarchyError
-from .opening import HEAD_BYTES, read_at
+from .opening import HEAD_BYTES, pread_all
 
 FIELDS = [("start", ">u4"), ("end", ">u4"), ("weight", ">i8"), ("arcs", ">u4"), ("middle", ">u4")]
 KINDS = {b"RCH1": np.dtype(FIELDS[:3] + FIELDS[4:]), b"RCH2": np.dtype(FIELDS)}
@@ -37,7 +37,7 @@ class Links(NamedTuple):
         """All links, AT_A_TIME in a part. Raises HierarchyError for a link that can't be."""
         for begin in range(0, self.size, AT_A_TIME):
             count = min(AT_A_TIME, self.size - begin)
-            yield self._checked(read_at(self.file, self._place(begin), count * self.kind.itemsize))
+            yield self._checked(pread_all(self.file, self._place(begin), count * self.kind.itemsize))
 
     def rows(self, numbers: NDArray[np.int64]) -> NDArray[Any]:
         """The links of these numbers. Raises HierarchyError for one that can't be."""

@@ -8,14 +8,14 @@ import numpy as np
 from numpy.typing import NDArray
 
 from .lines import NO_WAY
-from .router import Router, Seat
+from .router import Router, Searcher
 
 # Questions that a thread asks in one call.
-AT_A_TIME = 512
+CHUNK_SIZE = 512
 T = TypeVar("T")
 
 
-class Found(NamedTuple):
+class BatchRoutes(NamedTuple):
     """Routes: the length of each, NO_WAY where there is none, how many nodes it has, and the nodes of all."""
 
     lengths: NDArray[np.int64]
@@ -25,13 +25,13 @@ class Found(NamedTuple):
 
 def lengths(router: Router, pairs: NDArray[np.int64]) -> NDArray[np.int64]:
     """The least lengths of pairs of nodes, of shape (n, 2), NO_WAY where there is no path."""
-    asked, found = np.ascontiguousarray(pairs, dtype=np.uint32), np.empty(len(pairs), np.int64)
+    pairs_u32, found = np.ascontiguousarray(pairs, dtype=np.uint32), np.empty(len(pairs), np.int64)
 
-    def ask(part: slice, seat: Seat) -> None:
-        some, others = asked[part], found[part]
-        seat.lengths(some.ctypes.data, len(some), others.ctypes.data)
+    def query_chunk(part: slice, seat: Searcher) -> None:
+        chunk, out = pairs_u32[part], found[part]
+        seat.lengths(chunk.ctypes.data, len(chunk), out.ctypes.data)
 
-    in_threads(router, ask, len(pairs))
+    map_chunks(router, query_chunk, len(pairs))
     return found
 
 
@@ -40,29 +40,29 @@ def table(router: Router, sources: NDArray[np.int64], targets: NDArray[np.int64]
     rows, columns = (np.ascontiguousarray(nodes, dtype=np.uint32) for nodes in (sources, targets))
     found = np.empty((len(rows), len(columns)), np.int64)
 
-    def ask(part: slice, seat: Seat) -> None:
-        some, others = rows[part], found[part]
-        seat.table(some.ctypes.data, len(some), columns.ctypes.data, len(columns), others.ctypes.data)
+    def query_chunk(part: slice, seat: Searcher) -> None:
+        chunk, out = rows[part], found[part]
+        seat.table(chunk.ctypes.data, len(chunk), columns.ctypes.data, len(columns), out.ctypes.data)
 
     if found.size:
-        in_threads(router, ask, len(rows), max(1, AT_A_TIME // len(columns)))
+        map_chunks(router, query_chunk, len(rows), max(1, CHUNK_SIZE // len(columns)))
     return found
 
 
-def routes(router: Router, pairs: NDArray[np.int64]) -> Found:
+def routes(router: Router, pairs: NDArray[np.int64]) -> BatchRoutes:
     """The routes of pairs of nodes, of shape (n, 2)."""
 
-    def ask(part: slice, seat: Seat) -> Found:
-        found = [route_by(seat, source, target) for source, target in pairs[part].tolist()]
+    def query_chunk(part: slice, seat: Searcher) -> BatchRoutes:
+        found = [route_arrays(seat, source, target) for source, target in pairs[part].tolist()]
         lengths, nodes = zip(*found)
-        return Found(np.array(lengths, np.int64), np.array([*map(len, nodes)], np.int64), np.concatenate(nodes))
+        return BatchRoutes(np.array(lengths, np.int64), np.array([*map(len, nodes)], np.int64), np.concatenate(nodes))
 
-    found = in_threads(router, ask, len(pairs)) or [Found(np.empty(0, np.int64), np.empty(0, np.int64), np.empty(0, np.int32))]
+    found = map_chunks(router, query_chunk, len(pairs)) or [BatchRoutes(np.empty(0, np.int64), np.empty(0, np.int64), np.empty(0, np.int32))]
     lengths, counts, nodes = zip(*found)
-    return Found(np.concatenate(lengths), np.concatenate(counts), np.concatenate(nodes))
+    return BatchRoutes(np.concatenate(lengths), np.concatenate(counts), np.concatenate(nodes))
 
 
-def route_by(seat: Seat, source: int, target: int) -> tuple[int, NDArray[np.int32]]:
+def route_arrays(seat: Searcher, source: int, target: int) -> tuple[int, NDArray[np.int32]]:
     """The length and the nodes of a route."""
     if not seat.route(source, target):
         return NO_WAY, np.empty(0, np.int32)
@@ -70,24 +70,24 @@ def route_by(seat: Seat, source: int, target: int) -> tuple[int, NDArray[np.int3
     return info.length, np.frombuffer(memoryview(seat.nodes), np.int32, info.nodes).copy()
 
 
-def in_threads(router: Router, ask: Callable[[slice, Seat], T], count: int, at_a_time: int = AT_A_TIME) -> list[T]:
-    """What `ask` returns for each part of so many questions, in order. Each part has a seat of its own while it is asked."""
+def map_chunks(router: Router, query_chunk: Callable[[slice, Searcher], T], count: int, at_a_time: int = CHUNK_SIZE) -> list[T]:
+    """What `query_chunk` returns for each part of so many questions, in order. Each part has a seat of its own while it is asked."""
     parts = [slice(begin, begin + at_a_time) for begin in range(0, count, at_a_time)]
 
-    def one(part: slice) -> T:
-        with router.seat() as seat:
-            return ask(part, seat)
+    def run_chunk(part: slice) -> T:
+        with router.searcher() as seat:
+            return query_chunk(part, seat)
 
     if len(parts) < 2:
-        return [*map(one, parts)]
-    with concurrent.futures.ThreadPoolExecutor(min(len(parts), processors())) as threads:
+        return [*map(run_chunk, parts)]
+    with concurrent.futures.ThreadPoolExecutor(min(len(parts), cpu_count())) as threads:
         try:
-            return [*threads.map(one, parts)]
+            return [*threads.map(run_chunk, parts)]
         except BaseException:
             threads.shutdown(wait=True, cancel_futures=True)
             raise
 
 
-def processors() -> int:
+def cpu_count() -> int:
     """How many processors this process may use."""
     return len(os.sched_getaffinity(0))

@@ -8,13 +8,13 @@ from .errors import HierarchyError, HierarchyNotFound, os_reason
 HEAD_BYTES = 24
 LINK_BYTES = {b"RCH1": 20, b"RCH2": 24}
 # Bytes that are read at once: a call reads no more than 2 GiB.
-AT_ONCE = 1 << 30
+MAX_READ = 1 << 30
 
 
-def opened(name: str) -> IO[bytes]:
+def open_hierarchy_file(name: str) -> IO[bytes]:
     """The open file of a hierarchy, which has to be a regular one: it is read again for each process."""
     try:
-        file = open(name, "rb", buffering=0, opener=at_once)
+        file = open(name, "rb", buffering=0, opener=open_nonblocking)
     except FileNotFoundError as error:
         raise HierarchyNotFound(f"{name}: {os_reason(error)}", 7) from error
     except OSError as error:
@@ -25,12 +25,12 @@ def opened(name: str) -> IO[bytes]:
     return file
 
 
-def at_once(name: str, flags: int) -> int:
+def open_nonblocking(name: str, flags: int) -> int:
     """Opens a file without a wait: a pipe that nobody writes to is none that is waited for."""
     return os.open(name, flags | os.O_NONBLOCK)
 
 
-def looked_at(file: int, name: str) -> tuple[int, int]:
+def read_header(file: int, name: str) -> tuple[int, int]:
     """The numbers of nodes and links of a file, by its head, which has to fit its size."""
     head, size = os.pread(file, HEAD_BYTES, 0), os.fstat(file).st_size
     if head[:4] not in LINK_BYTES:
@@ -41,7 +41,7 @@ def looked_at(file: int, name: str) -> tuple[int, int]:
     return nodes, links
 
 
-def read_at(file: int, place: int, size: int) -> bytes:
+def pread_all(file: int, place: int, size: int) -> bytes:
     """Bytes of an open file, as far as it has them."""
-    parts = [os.pread(file, min(AT_ONCE, size - begin), place + begin) for begin in range(0, size, AT_ONCE)]
+    parts = [os.pread(file, min(MAX_READ, size - begin), place + begin) for begin in range(0, size, MAX_READ)]
     return parts[0] if len(parts) == 1 else b"".join(parts)

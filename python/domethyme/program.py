@@ -5,7 +5,7 @@ import shutil
 import subprocess
 from typing import Union
 
-from .errors import ProgramError, ProgramNotFound, error_of, os_reason
+from .errors import ProgramError, ProgramNotFound, error_from_exit, os_reason
 
 StrPath = Union[str, "os.PathLike[str]"]
 
@@ -32,13 +32,13 @@ def find_program(named: StrPath | None = None) -> str:
     raise ProgramNotFound("routecli isn't found: name it as `program`, set ROUTECLI, or build it as README.md says")
 
 
-def run_program(program: str, words: list[str], files: list[str]) -> None:
+def run_program(program: str, arguments: list[str], files: list[str]) -> None:
     """Runs the program to its end, with empty standard input, on files of any names; raises the error of its exit status if that
     isn't 0, with the program's explanation."""
     try:
         nothing = subprocess.DEVNULL
-        ended = subprocess.run([program, *words, "--explain", "--", *files], stdin=nothing, stdout=nothing, stderr=subprocess.PIPE)
+        completed = subprocess.run([program, *arguments, "--explain", "--", *files], stdin=nothing, stdout=nothing, stderr=subprocess.PIPE)
     except OSError as error:
         raise ProgramError(f"{program}: {os_reason(error)}") from error
-    if ended.returncode != 0:
-        raise error_of(ended.returncode, ended.stderr)
+    if completed.returncode != 0:
+        raise error_from_exit(completed.returncode, completed.stderr)

@@ -17,16 +17,16 @@ from typing import NamedTuple
 
 from .errors import DomethymeError, HierarchyError, LibraryError, OutOfMemory
 from .library import (
-    FIRST_FAULT, NO_PATH, NO_ROOM, OK, OUT_OF_MEMORY, TOO_LONG, BetweenInfo, Handle, RouteInfo, Seed, loaded, text_of
+    FIRST_FAULT, NO_PATH, NO_ROOM, OK, OUT_OF_MEMORY, TOO_LONG, BetweenInfo, Handle, RouteInfo, Seed, load_library, error_message
 )
 
 # How many nodes of a route a seat has room for at first.
-ROOM = 1 << 10
+INITIAL_NODES = 1 << 10
 # Where there is no memory for a seat, how long one that is lent is waited for, and how often that is looked at, in seconds.
 PATIENCE, PAUSE = 60.0, 0.01
 
 
-class Answer(NamedTuple):
+class RouterResult(NamedTuple):
     """A shortest path: its ends, its length, with what is added at its ends, and its nodes."""
 
     source: int
@@ -35,24 +35,24 @@ class Answer(NamedTuple):
     nodes: list[int]
 
 
-class Seat:
+class Searcher:
     """A handle of the library, and what its calls write to. One thread has it at a time."""
 
     def __init__(self, name: str) -> None:
         """It is closed; `name` is the hierarchy's in messages."""
-        self.name, self._library, self._handle = name, loaded(), Handle()
+        self.name, self._library, self._handle = name, load_library(), Handle()
         self._at, self._number, self._length = byref(self._handle), ctypes.c_uint32(), ctypes.c_uint64()
         self._length_at, self._ask_length = byref(self._length), self._library.domethyme_length
         self.route_info, self.between_info = RouteInfo(), BetweenInfo()
-        self._make_room(ROOM)
+        self._resize_buffer(INITIAL_NODES)
 
     def open(self, data: bytes) -> None:
         """Opens the bytes of a file. Raises HierarchyError, with the file's first fault, and OutOfMemory."""
-        self._need(self._library.domethyme_open(self._at, data, len(data)))
+        self._check(self._library.domethyme_open(self._at, data, len(data)))
 
-    def beside(self) -> "Seat | None":
+    def clone(self) -> "Searcher | None":
         """Another seat of the same hierarchy, None where there is no memory for one."""
-        other = Seat(self.name)
+        other = Searcher(self.name)
         return None if self._library.domethyme_beside(self._at, other._at) else other
 
     def close(self) -> None:
@@ -65,13 +65,13 @@ class Seat:
     @property
     def count(self) -> int:
         """The number of nodes."""
-        self._need(self._library.domethyme_nodes(self._at, byref(self._number)))
+        self._check(self._library.domethyme_nodes(self._at, byref(self._number)))
         return self._number.value
 
     @property
     def version(self) -> int:
         """The version of the file."""
-        self._need(self._library.domethyme_version(self._at, byref(self._number)))
+        self._check(self._library.domethyme_version(self._at, byref(self._number)))
         return self._number.value
 
     def length(self, source: int, target: int) -> int | None:
@@ -83,35 +83,35 @@ class Seat:
         """Whether there is a path. A shortest one, of the fewest arcs, is in `route_info` and at the beginning of `nodes`."""
         info = self.route_info
         while True:
-            code = self._library.domethyme_route(self._at, source, target, byref(info), self._nodes_at, self._room)
+            code = self._library.domethyme_route(self._at, source, target, byref(info), self._nodes_at, self._capacity)
             if code != NO_ROOM:
                 return self._is_path(code)
-            self._make_room(2 * info.nodes)
+            self._resize_buffer(2 * info.nodes)
 
     def between(self, starts: "ctypes.Array[Seed]", ends: "ctypes.Array[Seed]", with_nodes: bool = True) -> bool:
         """The same from one of several starts to one of several ends, of the least whole length, in `between_info` and `nodes`, or
         without nodes."""
         info, sides = self.between_info, (addressof(starts), len(starts), addressof(ends), len(ends))
         while True:
-            room = self._room if with_nodes else 0
+            room = self._capacity if with_nodes else 0
             code = self._library.domethyme_between(self._at, *sides, byref(info), self._nodes_at, room)
             if code != NO_ROOM:
                 return self._is_path(code)
             if not with_nodes:
                 return True
-            self._make_room(2 * info.nodes)
+            self._resize_buffer(2 * info.nodes)
 
     def lengths(self, pairs: int, count: int, lengths: int) -> None:
         """Writes the least length of each pair of an array, NO_LENGTH where there is no path, to another; both by their
         addresses."""
-        self._need(self._library.domethyme_lengths(self._at, pairs, count, lengths, count))
+        self._check(self._library.domethyme_lengths(self._at, pairs, count, lengths, count))
 
     def table(self, sources: int, rows: int, targets: int, columns: int, lengths: int) -> None:
         """The same of each source and target, row by row."""
-        self._need(self._library.domethyme_table(self._at, sources, rows, targets, columns, lengths, rows * columns))
+        self._check(self._library.domethyme_table(self._at, sources, rows, targets, columns, lengths, rows * columns))
 
-    def _make_room(self, room: int) -> None:
-        self.nodes, self._room = (ctypes.c_uint32 * room)(), room
+    def _resize_buffer(self, room: int) -> None:
+        self.nodes, self._capacity = (ctypes.c_uint32 * room)(), room
         self._nodes_at = addressof(self.nodes)
 
     def _is_path(self, code: int) -> bool:
@@ -122,17 +122,17 @@ class Seat:
             raise self._error(code)
         return False
 
-    def _need(self, code: int) -> None:
+    def _check(self, code: int) -> None:
         if code != OK:
             raise self._error(code)
 
     def _error(self, code: int) -> DomethymeError:
-        said = f"{self.name}: {text_of(code)}"
+        message = f"{self.name}: {error_message(code)}"
         if code == OUT_OF_MEMORY:
-            return OutOfMemory(said, 6)
+            return OutOfMemory(message, 6)
         if code == TOO_LONG or code >= FIRST_FAULT:
-            return HierarchyError(said, 4)
-        return LibraryError(said)
+            return HierarchyError(message, 4)
+        return LibraryError(message)
 
 
 class Router:
@@ -141,11 +141,11 @@ class Router:
     def __init__(self, data: bytes, name: str) -> None:
         """Opens the bytes of a file that messages call `name`. Raises HierarchyError, with the file's first fault, OutOfMemory
         and LibraryNotFound."""
-        self.name, self._first = name, Seat(name)
+        self.name, self._first = name, Searcher(name)
         self._first.open(data)
         self.nodes, self.version = self._first.count, self._first.version
-        self._idle: list[Seat] = []
-        self._seats: "weakref.WeakSet[Seat]" = weakref.WeakSet()
+        self._idle: list[Searcher] = []
+        self._seats: "weakref.WeakSet[Searcher]" = weakref.WeakSet()
         self._making, self._is_closed = threading.Lock(), False
         _routers.add(self)
 
@@ -157,41 +157,41 @@ class Router:
         self._idle.clear()
 
     @contextlib.contextmanager
-    def seat(self) -> Iterator[Seat]:
+    def searcher(self) -> Iterator[Searcher]:
         """A seat that nobody else has, for a with-block."""
-        seat = self._take()
+        seat = self._acquire()
         try:
             yield seat
         finally:
-            self._give(seat)
+            self._release(seat)
 
     def length(self, source: int, target: int) -> int | None:
         """The least length from one node to another, None where there is no path."""
-        seat = self._take()
+        seat = self._acquire()
         try:
             return seat.length(source, target)
         finally:
-            self._give(seat)
+            self._release(seat)
 
-    def route(self, source: int, target: int) -> Answer | None:
+    def route(self, source: int, target: int) -> RouterResult | None:
         """A shortest path, and of all of them one with the fewest arcs; None where there is none."""
-        with self.seat() as seat:
+        with self.searcher() as seat:
             if not seat.route(source, target):
                 return None
-            return Answer(source, target, seat.route_info.length, seat.nodes[: seat.route_info.nodes])
+            return RouterResult(source, target, seat.route_info.length, seat.nodes[: seat.route_info.nodes])
 
-    def between(self, starts: Sequence[tuple[int, int]], ends: Sequence[tuple[int, int]], with_nodes: bool = True) -> Answer | None:
+    def between(self, starts: Sequence[tuple[int, int]], ends: Sequence[tuple[int, int]], with_nodes: bool = True) -> RouterResult | None:
         """The same from one of several nodes to one of several, each with a length that is added there, of the least whole length;
         or without its nodes."""
-        some, others = seeds_of(starts), seeds_of(ends)
-        with self.seat() as seat:
-            if not seat.between(some, others, with_nodes):
+        start_seeds, end_seeds = seed_array(starts), seed_array(ends)
+        with self.searcher() as seat:
+            if not seat.between(start_seeds, end_seeds, with_nodes):
                 return None
             info = seat.between_info
             nodes = seat.nodes[: info.nodes] if with_nodes else []
-            return Answer(starts[info.start][0], ends[info.end][0], info.length, nodes)
+            return RouterResult(starts[info.start][0], ends[info.end][0], info.length, nodes)
 
-    def _take(self) -> Seat:
+    def _acquire(self) -> Searcher:
         """A seat: one that is idle, or another one."""
         if self._is_closed:
             raise ValueError(f"the hierarchy {self.name} is closed")
@@ -200,35 +200,35 @@ class Router:
         except IndexError:
             return self._made()
 
-    def _made(self) -> Seat:
+    def _made(self) -> Searcher:
         """Another seat. Where there is no memory for one it waits for one that is lent. Raises OutOfMemory."""
         end = time.monotonic() + PATIENCE
         while True:
             with self._making:
                 if self._is_closed:
                     raise ValueError(f"the hierarchy {self.name} is closed")
-                made = self._first.beside()
+                made = self._first.clone()
             if made is not None:
                 self._seats.add(made)
                 return made
             if not self._seats or time.monotonic() > end:
-                raise OutOfMemory(f"{self.name}: {text_of(OUT_OF_MEMORY)}", 6)
+                raise OutOfMemory(f"{self.name}: {error_message(OUT_OF_MEMORY)}", 6)
             time.sleep(PAUSE)
             with contextlib.suppress(IndexError):
                 return self._idle.pop()
 
-    def _give(self, seat: Seat) -> None:
+    def _release(self, seat: Searcher) -> None:
         """Gives a seat back."""
         self._idle.append(seat)
         if self._is_closed:
             self._idle.clear()
 
-    def _keep_after_fork(self) -> None:
+    def _after_fork_in_child(self) -> None:
         """In a child after a fork: where another thread was making a seat, which is as it left it, the hierarchy is closed."""
         self._is_closed, self._making = self._is_closed or self._making.locked(), threading.Lock()
 
 
-def seeds_of(rows: Sequence[tuple[int, int]]) -> "ctypes.Array[Seed]":
+def seed_array(rows: Sequence[tuple[int, int]]) -> "ctypes.Array[Seed]":
     """Starts or ends: a node and a length that is added there in each row."""
     return (Seed * len(rows))(*[Seed(added, node, 0) for node, added in rows])
 
@@ -238,7 +238,7 @@ _routers: "weakref.WeakSet[Router]" = weakref.WeakSet()
 
 def _keep_all() -> None:
     for each in list(_routers):
-        each._keep_after_fork()
+        each._after_fork_in_child()
 
 
 os.register_at_fork(after_in_child=_keep_all)

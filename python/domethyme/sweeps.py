@@ -19,7 +19,7 @@ from numpy.typing import NDArray
 from .errors import HierarchyError
 from .lines import NO_WAY as NO_WAY
 from .links import Links
-from .opening import HEAD_BYTES, read_at
+from .opening import HEAD_BYTES, pread_all
 
 Numbers = NDArray[np.int64]
 Nodes = NDArray[np.int32]
@@ -106,7 +106,7 @@ class Sweeps:
         """Of the open file of a hierarchy, version 1 or 2, whose head fits its size. Raises HierarchyError where its ranks
         or links can't be."""
         links = Links.of(file, name)
-        ranks = np.frombuffer(read_at(file, HEAD_BYTES, 4 * links.nodes), ">u4").astype(np.uint32)
+        ranks = np.frombuffer(pread_all(file, HEAD_BYTES, 4 * links.nodes), ">u4").astype(np.uint32)
         if links.nodes and (ranks.max() >= links.nodes or np.bincount(ranks, minlength=links.nodes).max() > 1):
             raise HierarchyError(f"{name}: its ranks aren't the numbers from 0 to {links.nodes - 1}", 4)
         starts, ends, weights = (np.empty(links.size, kind) for kind in (np.int32, np.int32, np.int64))

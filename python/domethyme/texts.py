@@ -28,12 +28,12 @@ from collections.abc import Collection, Iterable, Iterator
 from typing import IO, NamedTuple, cast
 
 from .errors import NetworkError, os_reason
-from .lines import NO_WAY, WRONG, Answer, answer_of
+from .lines import NO_WAY, NOT_A_REPLY, RouteReply, parse_reply
 from .program import StrPath
 
 MOST_NODES = 1 << 25
 MOST_LINES = 1 << 27
-HEAVIEST = (1 << 32) - 1
+MAX_WEIGHT = (1 << 32) - 1
 MOST_COLUMNS = 12
 GZIP = b"\x1f\x8b"
 # How alike two names of columns are, from 0 to 1, for one to be suggested in place of the other.
@@ -44,7 +44,7 @@ DIGITS, BYTES_OF_DIGITS = re.compile("[-+]?[0-9]{1,4000}"), re.compile(b"[-+]?[0
 
 
 @contextlib.contextmanager
-def reading(path: StrPath) -> Iterator[IO[bytes]]:
+def open_input(path: StrPath) -> Iterator[IO[bytes]]:
     """A stream of the file's bytes, unpacked if they are those of gzip; `-` is standard input."""
     with contextlib.ExitStack() as opened:
         stream = cast(io.BufferedReader, sys.stdin.buffer)
@@ -68,14 +68,14 @@ def reading(path: StrPath) -> Iterator[IO[bytes]]:
 class Table:
     """The rows of a CSV file, by the names of its first row: iterate for (row, {column: text})."""
 
-    def __init__(self, path: StrPath, stream: IO[bytes], needed: Iterable[str]) -> None:
+    def __init__(self, path: StrPath, stream: IO[bytes], required: Iterable[str]) -> None:
         self.path = path
-        self.reader = csv.reader(text_lines(path, stream), strict=True)
+        self.reader = csv.reader(decode_lines(path, stream), strict=True)
         found = self.next_record()
         if found is None:
             raise NetworkError("is empty", path)
         self.columns = found
-        need_columns(path, self.columns, needed)
+        need_columns(path, self.columns, required)
 
     def __iter__(self) -> Iterator[tuple[int, dict[str, str]]]:
         while (record := self.next_record()) is not None:
@@ -92,7 +92,7 @@ class Table:
             record = next(self.reader, None)
         except csv.Error as error:
             raise NetworkError(f"isn't CSV: {error}", self.path, self.reader.line_num) from error
-        return record and [plain(field) for field in record]
+        return record and [unescape_formula(field) for field in record]
 
 
 def need_columns(path: StrPath, columns: list[str], needed: Iterable[str]) -> None:
@@ -122,13 +122,13 @@ def alike(name: str, others: Iterable[str]) -> str | None:
 
 
 @contextlib.contextmanager
-def table(path: StrPath, needed: Iterable[str]) -> Iterator[Table]:
-    """The Table of a file (`-` is standard input) that has each of the columns `needed` once."""
-    with reading(path) as stream:
-        yield Table(path, stream, needed)
+def open_table(path: StrPath, required: Iterable[str]) -> Iterator[Table]:
+    """The Table of a file (`-` is standard input) that has each of the columns `required` once."""
+    with open_input(path) as stream:
+        yield Table(path, stream, required)
 
 
-def text_lines(path: StrPath, stream: IO[bytes]) -> Iterator[str]:
+def decode_lines(path: StrPath, stream: IO[bytes]) -> Iterator[str]:
     """The lines of a UTF-8 text; a mark of the byte order at its beginning is dropped."""
     for row, line in enumerate(stream, 1):
         try:
@@ -138,45 +138,45 @@ def text_lines(path: StrPath, stream: IO[bytes]) -> Iterator[str]:
         yield text
 
 
-def whole_number(
-    text: str | bytes, what: str, path: StrPath, row: int | None, low: int = 0, high: int = HEAVIEST
+def parse_int(
+    text: str | bytes, what: str, path: StrPath, row: int | None, low: int = 0, high: int = MAX_WEIGHT
 ) -> int:
     """The value of a text (or bytes) of decimal digits, maybe with a sign, from low to high."""
     if not (DIGITS.fullmatch(text) if isinstance(text, str) else BYTES_OF_DIGITS.fullmatch(text)):
-        raise NetworkError(f"{what} {shown(text)} isn't an integer", path, row)
+        raise NetworkError(f"{what} {excerpt(text)} is no whole number", path, row)
     value = int(text)
     if not low <= value <= high:
         raise NetworkError(f"{what} {value} isn't from {low} to {high}", path, row)
     return value
 
 
-def number(
+def parse_float(
     text: str, what: str, path: StrPath, row: int | None, low: float = -math.inf, high: float = math.inf
 ) -> float:
     """The value of a decimal number, from low to high."""
     try:
         value = float(text)
     except ValueError as error:
-        raise NetworkError(f"{what} {shown(text)} is no number", path, row) from error
+        raise NetworkError(f"{what} {excerpt(text)} is no number", path, row) from error
     if not math.isfinite(value):
-        raise NetworkError(f"{what} {shown(text)} is no finite number", path, row)
+        raise NetworkError(f"{what} {excerpt(text)} is no finite number", path, row)
     if not low <= value <= high:
-        raise NetworkError(f"{what} {shown(text)} isn't from {low:g} to {high:g}", path, row)
+        raise NetworkError(f"{what} {excerpt(text)} isn't from {low:g} to {high:g}", path, row)
     return value
 
 
-def safe(text: str) -> str:
+def escape_formula(text: str) -> str:
     """A text for a field of CSV that a program for sheets takes for no formula: with a quote before it where it begins as one and is no
-    number, or has one already. `plain` undoes it."""
+    number, or has one already. `unescape_formula` undoes it."""
     return f"'{text}" if FORMULA.match(text) and not NUMBER.fullmatch(text) else text
 
 
-def plain(text: str) -> str:
-    """The text of which `safe` made this one."""
+def unescape_formula(text: str) -> str:
+    """The text of which `escape_formula` made this one."""
     return text[1:] if text[:1] == "'" and FORMULA.match(text[1:]) and not NUMBER.fullmatch(text[1:]) else text
 
 
-def shown(text: str | bytes) -> str:
+def excerpt(text: str | bytes) -> str:
     """A text of an input as messages show it: quoted, and not longer than a message should be."""
     text = text.decode("utf-8", "replace") if isinstance(text, bytes) else text
     return repr(text if len(text) <= 40 else text[:40] + "..")
@@ -185,7 +185,7 @@ def shown(text: str | bytes) -> str:
 # Graphs, pairs and answers
 
 
-class Graph(NamedTuple):
+class GraphLists(NamedTuple):
     """A graph: the number of its nodes, which count from 1, and its arcs in the file's order."""
 
     nodes: int
@@ -202,26 +202,26 @@ def dimacs_lines(path: StrPath, stream: IO[bytes]) -> Iterator[tuple[int, list[b
             yield row, fields
 
 
-def problem_number(fields: list[bytes], names: tuple[bytes, ...], path: StrPath, row: int, most: int) -> int:
+def parse_problem_line(fields: list[bytes], names: tuple[bytes, ...], path: StrPath, row: int, most: int) -> int:
     """The number at the end of a problem line `p NAMES NUMBER`."""
     if tuple(fields[1:-1]) != names:
         raise NetworkError(f"is no problem line `p {b' '.join(names).decode()} NUMBER`", path, row)
-    return whole_number(fields[-1], "the number", path, row, 0, most)
+    return parse_int(fields[-1], "the number", path, row, 0, most)
 
 
-def read_graph(path: StrPath) -> Graph:
+def read_graph(path: StrPath) -> GraphLists:
     """The graph of a .gr file (`-` is standard input)."""
-    graph: Graph | None = None
+    graph: GraphLists | None = None
     announced = 0
-    with reading(path) as stream:
+    with open_input(path) as stream:
         for row, fields in dimacs_lines(path, stream):
             if fields[0] == b"a" and graph is not None and len(fields) == 4:
-                graph.starts.append(whole_number(fields[1], "node", path, row, 1, graph.nodes))
-                graph.ends.append(whole_number(fields[2], "node", path, row, 1, graph.nodes))
-                graph.weights.append(whole_number(fields[3], "weight", path, row))
+                graph.starts.append(parse_int(fields[1], "node", path, row, 1, graph.nodes))
+                graph.ends.append(parse_int(fields[2], "node", path, row, 1, graph.nodes))
+                graph.weights.append(parse_int(fields[3], "weight", path, row))
             elif fields[:2] == [b"p", b"sp"] and graph is None and len(fields) == 4:
-                graph = Graph(whole_number(fields[2], "the number of nodes", path, row, 0, MOST_NODES), [], [], [])
-                announced = whole_number(fields[3], "the number of arcs", path, row, 0, MOST_LINES)
+                graph = GraphLists(parse_int(fields[2], "the number of nodes", path, row, 0, MOST_NODES), [], [], [])
+                announced = parse_int(fields[3], "the number of arcs", path, row, 0, MOST_LINES)
             else:
                 raise NetworkError("is no line of a graph", path, row)
     if graph is None:
@@ -248,14 +248,14 @@ def write_pairs(file: IO[str], pairs: Collection[tuple[int, int]], comments: Ite
     file.writelines(f"q {source} {target}\n" for source, target in pairs)
 
 
-def read_answers(path: StrPath) -> Iterator[Answer]:
+def read_answers(path: StrPath) -> Iterator[RouteReply]:
     """The answers that `routecli route` prints, one after the other (`-` is standard input)."""
-    with reading(path) as stream:
+    with open_input(path) as stream:
         for row, line in enumerate(stream, 1):
             try:
-                answer = answer_of(line)
+                answer = parse_reply(line)
             except ValueError as error:
                 raise NetworkError(str(error), path, row) from error
             if answer.length != NO_WAY and not answer.nodes:
-                raise NetworkError(WRONG, path, row)
+                raise NetworkError(NOT_A_REPLY, path, row)
             yield answer

@@ -9,9 +9,9 @@ import numpy as np
 
 from domethyme import belonging
 from domethyme.checking import run_check
-from domethyme.network.snapping import Roads
-from domethyme.opening import looked_at, read_at
-from domethyme.opening import opened as open_hierarchy
+from domethyme.network.snapping import RoadIndex
+from domethyme.opening import read_header, pread_all
+from domethyme.opening import open_hierarchy_file as open_hierarchy
 from domethyme.router import Router
 from domethyme.sweeps import Sweeps
 
@@ -49,7 +49,7 @@ class Dataset(NamedTuple):
 
     router: Router
     links: int
-    roads: Roads | None
+    roads: RoadIndex | None
     tiles: Tiles | None
     sweeps: Sweeps | None
     keys: NodeKeys
@@ -61,10 +61,10 @@ def open_dataset(paths: DatasetPaths) -> Dataset:
     with open_hierarchy(paths.hierarchy) as file:
         number = file.fileno()
         stamp = file_stamp(number)
-        _, links = looked_at(number, paths.hierarchy)
+        _, links = read_header(number, paths.hierarchy)
         if paths.graph is not None and paths.program is not None:
             run_check(paths.program, paths.graph, f"/proc/self/fd/{number}", paths.hierarchy, [number], end_with_parent)
-        router = Router(read_at(number, 0, stamp[2]), paths.hierarchy)
+        router = Router(pread_all(number, 0, stamp[2]), paths.hierarchy)
         roads = None if paths.network is None else load_roads(paths.network)
         if roads is not None:
             belonging.compare(number, paths.hierarchy, roads.arrays, paths.compare_all)
@@ -88,15 +88,15 @@ def file_stamp(file: int) -> Stamp:
     return found.st_dev, found.st_ino, found.st_size, found.st_mtime_ns
 
 
-def load_roads(network: str) -> Roads:
+def load_roads(network: str) -> RoadIndex:
     """The network, verified as far as that is quick. Raises NetworkError."""
-    roads = Roads(network)
+    roads = RoadIndex(network)
     roads.arrays.file.verify(EAGER_VERIFY_BYTES)
-    roads.box, roads.rounds  # (they are made here once, for all workers)
+    roads.box, roads.roundabout_texts  # (they are made here once, for all workers)
     return roads
 
 
-def check_tables(queries: Queries, paths: DatasetPaths, roads: Roads, sweeps: Sweeps) -> None:
+def check_tables(queries: Queries, paths: DatasetPaths, roads: RoadIndex, sweeps: Sweeps) -> None:
     """Raises StartupError where tables differ from the library's lengths, as far as SAMPLES of the network's arcs show."""
     rows = range(0, roads.count, max(1, roads.count // SAMPLES))[:SAMPLES]
     ends = [(roads.arc(row).start, roads.arc(row).end) for row in rows]

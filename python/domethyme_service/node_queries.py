@@ -6,7 +6,7 @@ by line.
 import json
 from collections.abc import Iterator, Sequence
 
-from domethyme.lines import NO_WAY, Answer
+from domethyme.lines import NO_WAY, RouteReply
 
 from .errors import RequestError, invalid_query, invalid_value
 from .parameters import Parameter, Values, node_of
@@ -42,7 +42,7 @@ def node_asked(questions: Queries, values: Values, number: Parameter[int | None]
     return node
 
 
-def route_told(pair: Pair, route: Answer | None) -> bytes:
+def route_told(pair: Pair, route: RouteReply | None) -> bytes:
     if route is None:
         return b'{"from":%d,"to":%d,"length":null,"arcs":null,"nodes":null}' % pair
     nodes = ",".join(map(str, route.nodes)).encode()

@@ -6,10 +6,10 @@ import itertools
 from collections.abc import Iterator, Sequence
 from typing import NamedTuple
 
-from domethyme.network.bearings import Towards, nearest_towards
-from domethyme.network.leg_geometry import Course, course_of, leg_figures
-from domethyme.network.legs import Leg, leg_between
-from domethyme.network.snapping import Roads, Spot
+from domethyme.network.bearings import BearingRange, nearest_with_bearing
+from domethyme.network.leg_geometry import LegGeometry, leg_geometry, leg_totals
+from domethyme.network.legs import Leg, find_leg
+from domethyme.network.snapping import RoadIndex, SnappedPoint
 from domethyme.network.tables import Point
 from domethyme.sweeps import Sweeps
 
@@ -37,7 +37,7 @@ class Means(NamedTuple):
     may have."""
 
     questions: Queries
-    roads: Roads
+    roads: RoadIndex
     sweeps: Sweeps | None
     cells: int
 
@@ -49,7 +49,7 @@ def answer(means: Means, request: Request) -> str:
     return route(means, request) if request.service == "route" else nearest(means.roads, request)
 
 
-def nearest(roads: Roads, request: Request) -> str:
+def nearest(roads: RoadIndex, request: Request) -> str:
     """The nearest points of roads, with the ids of the nodes of OpenStreetMap at the ends of their pieces; 0 is none."""
     spots = found_spots(roads, request, 0, request.values[NUMBER])
     if not spots:
@@ -57,24 +57,24 @@ def nearest(roads: Roads, request: Request) -> str:
     return to_json({"code": "Ok", "waypoints": [waypoint(request, spot, ends(roads, spot)) for spot in spots]})
 
 
-def ends(roads: Roads, spot: Spot) -> list[int]:
+def ends(roads: RoadIndex, spot: SnappedPoint) -> list[int]:
     arc = next(iter(roads.edge(spot.edge).arcs.values()))
-    return [roads.osm(node) for node in (arc.start, arc.end)]
+    return [roads.osm_id(node) for node in (arc.start, arc.end)]
 
 
-def found_spots(roads: Roads, request: Request, number: int, count: int) -> list[Spot]:
+def found_spots(roads: RoadIndex, request: Request, number: int, count: int) -> list[SnappedPoint]:
     """The nearest points of roads to a place, as near as they have to be."""
     place, within, towards = request.places[number], request.values[RADIUSES][number], request.values[BEARINGS][number]
     if towards is None:
         spots = roads.nearest(place, count)
     else:
-        spots = nearest_towards(roads, place, count, Towards(*towards), within)
+        spots = nearest_with_bearing(roads, place, count, BearingRange(*towards), within)
     return [spot for spot in spots if spot.metres <= within]
 
 
-def spots_of(roads: Roads, request: Request) -> list[Spot]:
+def spots_of(roads: RoadIndex, request: Request) -> list[SnappedPoint]:
     """The nearest point of a road to each place. Raises RequestError."""
-    found: list[Spot] = []
+    found: list[SnappedPoint] = []
     for spot in nearest_of_each(roads, request):
         if spot is None or spot.metres > request.values[RADIUSES][len(found)]:
             raise no_segment(roads, request, len(found))
@@ -82,11 +82,11 @@ def spots_of(roads: Roads, request: Request) -> list[Spot]:
     return found
 
 
-def nearest_of_each(roads: Roads, request: Request) -> Iterator[Spot | None]:
+def nearest_of_each(roads: RoadIndex, request: Request) -> Iterator[SnappedPoint | None]:
     """The nearest point to each place, by a road that leads as it has to."""
     if is_plain(request):
         for begin in range(0, len(request.places), TOGETHER):
-            yield from roads.nearest_of_each(request.places[begin : begin + TOGETHER])
+            yield from roads.nearest_batch(request.places[begin : begin + TOGETHER])
         return
     for number in range(len(request.places)):
         yield next(iter(found_spots(roads, request, number, 1)), None)
@@ -97,13 +97,13 @@ def is_plain(request: Request) -> bool:
     return all(each is None for each in request.values[BEARINGS])
 
 
-def is_near(roads: Roads, places: Sequence[Point]) -> bool:
+def is_near(roads: RoadIndex, places: Sequence[Point]) -> bool:
     """Whether all places are in the box of the roads, or near it."""
     west, south, east, north = roads.box
     return all(west - NEAR <= lon <= east + NEAR and south - NEAR <= lat <= north + NEAR for lon, lat in places)
 
 
-def no_segment(roads: Roads, request: Request, number: int) -> RequestError:
+def no_segment(roads: RoadIndex, request: Request, number: int) -> RequestError:
     """A place without a road: which, how far, and where the roads are."""
     (lon, lat), within = request.places[number], request.values[RADIUSES][number]
     west, south, east, north = roads.box
@@ -117,7 +117,7 @@ def no_segment(roads: Roads, request: Request, number: int) -> RequestError:
     )
 
 
-def waypoint(request: Request, spot: Spot, nodes: list[int] | None = None) -> Waypoint:
+def waypoint(request: Request, spot: SnappedPoint, nodes: list[int] | None = None) -> Waypoint:
     """A point as OSRM has it. The hint is read by nobody: clients send it back."""
     found: Waypoint = {"name": spot.name, "location": [spot.lon, spot.lat], "distance": round(spot.metres, 6)}
     if request.values[GENERATE_HINTS]:
@@ -133,22 +133,22 @@ def route(means: Means, request: Request) -> str:
     return route_told(means.roads, request, spots, legs_of(means, spots))
 
 
-def legs_of(means: Means, spots: Sequence[Spot]) -> list[Leg]:
+def legs_of(means: Means, spots: Sequence[SnappedPoint]) -> list[Leg]:
     """The legs of a route by these points."""
     legs: list[Leg] = []
     for number, (start, end) in enumerate(itertools.pairwise(spots)):
-        leg = leg_between(means.questions, means.roads, start, end)
+        leg = find_leg(means.questions, means.roads, start, end)
         if leg is None:
             raise RequestError(400, "NoRoute", f"there is no route from place {number} to place {number + 1}")
         legs.append(leg)
     return legs
 
 
-def route_told(roads: Roads, request: Request, spots: list[Spot], legs: list[Leg]) -> str:
+def route_told(roads: RoadIndex, request: Request, spots: list[SnappedPoint], legs: list[Leg]) -> str:
     """The answer by its legs."""
     budget, courses = Budget(), []
     for leg in legs:
-        courses.append(course := course_of(roads, leg))
+        courses.append(course := leg_geometry(roads, leg))
         budget.spend(0 if course is None else len(course.points))
     told, texts = [], []
     for each in zip(spots, spots[1:], legs, courses):
@@ -168,9 +168,9 @@ def route_told(roads: Roads, request: Request, spots: list[Spot], legs: list[Leg
     return join_object(found)
 
 
-def leg_as_told(roads: Roads, request: Request, start: Spot, end: Spot, leg: Leg, course: Course | None) -> RouteLeg:
+def leg_as_told(roads: RoadIndex, request: Request, start: SnappedPoint, end: SnappedPoint, leg: Leg, course: LegGeometry | None) -> RouteLeg:
     """A leg as OSRM has it."""
-    figures = leg_figures(roads, leg) if course is None else course.figures(0, len(leg.arcs))
+    figures = leg_totals(roads, leg) if course is None else course.figures(0, len(leg.arcs))
     names = request.values[ANNOTATIONS]
     told: RouteLeg = {
         "summary": "", "steps": [], "weight": figures["weight"], "duration": figures["duration"], "distance": figures["distance"]
@@ -184,7 +184,7 @@ def leg_as_told(roads: Roads, request: Request, start: Spot, end: Spot, leg: Leg
     return told
 
 
-def overview(request: Request, spots: list[Spot], courses: "list[Course | None]", budget: Budget) -> str:
+def overview(request: Request, spots: list[SnappedPoint], courses: "list[LegGeometry | None]", budget: Budget) -> str:
     """The line of the whole route, simplified unless all of it is asked for."""
     lines = lines_of(courses, [(spot.lon, spot.lat) for spot in spots])
     if request.values[OVERVIEW] == "simplified":

@@ -6,17 +6,17 @@ from collections.abc import Iterable, Sequence
 import numpy as np
 
 from domethyme.network.binary import UNITS
-from domethyme.network.leg_geometry import Course
+from domethyme.network.leg_geometry import LegGeometry
 from domethyme.network.network import Floats
-from domethyme.network.polyline import Line, array_of, encoded
-from domethyme.network.snapping import steps_of
+from domethyme.network.polyline import Line, points_array, encode_polylines
+from domethyme.network.snapping import segment_metres
 from domethyme.network.tables import Point
 
 from .budget import Budget
 from .osrm_types import Geometry
 
 
-def lines_of(courses: "Sequence[Course | None]", ends: list[Point]) -> list[Line]:
+def lines_of(courses: "Sequence[LegGeometry | None]", ends: list[Point]) -> list[Line]:
     """The line along each course, from a place to the next."""
     inner = ([] if course is None else course.line(0, len(course.arcs)) for course in courses)
     return [[list(begin), *some, list(end)] for begin, some, end in zip(ends, inner, ends[1:])]
@@ -30,7 +30,7 @@ def joined(lines: Iterable[Line]) -> Line:
 
 def simpler(lines: Sequence[Line], budget: Budget) -> list[Line]:
     """The lines with fewer points, none of the others further off than a thousandth of the extent of all."""
-    arrays = [array_of(line) for line in lines]
+    arrays = [points_array(line) for line in lines]
     shrink = np.array([math.cos(math.radians(arrays[0][0, 1])), 1.0])
     low, high = (side([side(array, axis=0) for array in arrays], axis=0) for side in (np.min, np.max))
     far = float(((high - low) * shrink).max()) / 1000
@@ -41,10 +41,10 @@ def shaped(lines: Sequence[Line], shape: str) -> list[Geometry]:
     """Lines as polylines, or as GeoJSON."""
     if shape == "geojson":
         return [{"type": "LineString", "coordinates": line} for line in lines]
-    return list(encoded(lines, 6 if shape == "polyline6" else 5))
+    return list(encode_polylines(lines, 6 if shape == "polyline6" else 5))
 
 
-def annotation(course: Course, names: list[str]) -> dict[str, list[float | None]]:
+def annotation(course: LegGeometry, names: list[str]) -> dict[str, list[float | None]]:
     """For each step of the leg's line the metres, seconds, weight and speed, an arc's shared out by metres; and for each point of
     it the id of OpenStreetMap of its node, 0 where that isn't known, as between junctions. Without seconds there are no durations and
     speeds: they are None."""
@@ -68,13 +68,13 @@ def annotation(course: Course, names: list[str]) -> dict[str, list[float | None]
     return found
 
 
-def nodes_of(course: Course) -> list[float]:
+def nodes_of(course: LegGeometry) -> list[float]:
     """The id of each point, one more than there are steps."""
     roads, arrays = course.roads, course.roads.arrays
     counts = [len(steps) for _, steps in steps_of_arcs(course)]
     starts, last = arrays.arc_from[course.arcs].tolist(), int(arrays.arc_to[course.arcs[-1]])
-    found = [id_ for node, count in zip(starts, counts) for id_ in [roads.osm(node), *[0] * (count - 1)]]
-    found.append(roads.osm(last))
+    found = [id_ for node, count in zip(starts, counts) for id_ in [roads.osm_id(node), *[0] * (count - 1)]]
+    found.append(roads.osm_id(last))
     if course.leg.begin > 0.0:
         found[0] = 0
     if course.leg.end < 1.0:
@@ -82,12 +82,12 @@ def nodes_of(course: Course) -> list[float]:
     return list(found)
 
 
-def steps_of_arcs(course: Course) -> list[tuple[int, list[float]]]:
+def steps_of_arcs(course: LegGeometry) -> list[tuple[int, list[float]]]:
     """Each arc with the metres of its steps; where they have no length they are equal."""
     found = []
     for place, (low, high) in enumerate(itertools.pairwise(course.begins.tolist())):
         line = [(lon / UNITS, lat / UNITS) for lon, lat in course.points[low:high].tolist()]
-        ways = steps_of(line)
+        ways = segment_metres(line)
         found.append((place, ways if sum(ways) else [1.0] * len(ways)))
     return found
 

@@ -5,7 +5,7 @@ import urllib.parse
 from collections.abc import Mapping
 from typing import NamedTuple
 
-from domethyme.network.polyline import decoded
+from domethyme.network.polyline import decode_polyline
 from domethyme.network.tables import Point
 
 from .endpoints import BY_NAME
@@ -47,7 +47,7 @@ def places_of(text: str, service: str) -> list[Point]:
     try:
         plain = urllib.parse.unquote(text, errors="strict").removesuffix(".json")
         if found := LINE.fullmatch(plain):
-            places = decoded(found[2], 6 if found[1] else 5)
+            places = decode_polyline(found[2], 6 if found[1] else 5)
         else:
             places = [place_of(word) for word in plain.split(";")[: MOST_PLACES["table"] + 1]]
     except ValueError:

@@ -9,9 +9,9 @@ import numpy as np
 from numpy.typing import NDArray
 
 from domethyme.network.binary import TEXTS
-from domethyme.network.leg_geometry import Course, Figures, figures_of
+from domethyme.network.leg_geometry import LegGeometry, Figures, make_totals
 from domethyme.network.polyline import Line
-from domethyme.network.snapping import Roads
+from domethyme.network.snapping import RoadIndex
 from domethyme.network.tables import Point
 
 from .osrm_types import Coordinates, Geometry, Maneuver, Step
@@ -61,9 +61,9 @@ class Guide:
     """The steps along a course. `starts` are the first arcs of them, and the number of arcs; of each arc there are its `texts`,
     whether it is of a roundabout, and the directions in which it begins and ends."""
 
-    def __init__(self, course: Course) -> None:
+    def __init__(self, course: LegGeometry) -> None:
         self.course, self.roads = course, course.roads
-        texts, is_round = self.roads.arrays.arc_texts[course.arcs][:, TOLD], self.roads.is_round(course.arcs)
+        texts, is_round = self.roads.arrays.arc_texts[course.arcs][:, TOLD], self.roads.is_roundabout(course.arcs)
         first, last = course.bearings
         turns = (first[1:] - last[:-1] + 180) % 360 - 180
         degrees = self.roads.degree[self.roads.arrays.arc_from[course.arcs[1:]]]
@@ -108,7 +108,7 @@ class Guide:
     def exit(self, begin: int, named: int) -> int:
         """The number of the exit by which arc `named` leaves a roundabout that is entered at arc `begin`."""
         ends = self.roads.arrays.arc_to[self.course.arcs[begin:named]].tolist()
-        return 1 + sum(self.roads.exits(node) for node in ends[:-1])
+        return 1 + sum(self.roads.count_exits(node) for node in ends[:-1])
 
 
 def put_roundabouts(is_new: NDArray[np.bool_], is_round: NDArray[np.bool_]) -> None:
@@ -122,9 +122,9 @@ def put_roundabouts(is_new: NDArray[np.bool_], is_round: NDArray[np.bool_]) -> N
     is_new[leaves] = False
 
 
-def steps_of_leg(roads: Roads, course: Course | None, start: Point, end: Point, shape: Shape) -> list[Step]:
+def steps_of_leg(roads: RoadIndex, course: LegGeometry | None, start: Point, end: Point, shape: Shape) -> list[Step]:
     """The steps from a point to another."""
-    nothing = figures_of(roads, 0, 0.0, 0.0)
+    nothing = make_totals(roads, 0, 0.0, 0.0)
     guide = None if course is None else Guide(course)
     lines = [[list(start)] * 2] if guide is None else guide.lines()
     *shapes, at_end = shape([*lines, [list(end)] * 2])

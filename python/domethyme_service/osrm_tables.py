@@ -8,9 +8,9 @@ from typing import NamedTuple
 
 import numpy as np
 
-from domethyme.network.leg_geometry import UNITS_OF_ANSWERS, Figures, figures_of, leg_figures
-from domethyme.network.legs import along_one_arc, is_at, leg_between, weight_between
-from domethyme.network.snapping import Roads, Spot
+from domethyme.network.leg_geometry import UNITS_PER_OUTPUT_UNIT, Figures, make_totals, leg_totals
+from domethyme.network.legs import leg_on_one_arc, is_same_node, find_leg, leg_weight
+from domethyme.network.snapping import RoadIndex, SnappedPoint
 from domethyme.network.tables import EARTH_RADIUS, Point
 from domethyme.sweeps import NO_WAY, Numbers, Seeds, Sweeps
 
@@ -38,7 +38,7 @@ class Wanted(NamedTuple):
     is_snapped: bool
 
     @classmethod
-    def by(cls, values: Values, roads: Roads, places: Sequence[Point]) -> "Wanted":
+    def by(cls, values: Values, roads: RoadIndex, places: Sequence[Point]) -> "Wanted":
         """What the values of the parameters say. Raises RequestError for durations where the network has none."""
         if "duration" in values[FIGURES] and not roads.has_seconds:
             raise not_implemented("this network has no seconds, so no durations: ask annotations=weight or distance")
@@ -61,13 +61,13 @@ class Wanted(NamedTuple):
 
 
 def table_by_sweeps(
-    sweeps: Sweeps, roads: Roads, wanted: Wanted, starts: Sequence[Spot], ends: Sequence[Spot]
+    sweeps: Sweeps, roads: RoadIndex, wanted: Wanted, starts: Sequence[SnappedPoint], ends: Sequence[SnappedPoint]
 ) -> dict[str, str]:
     """The members of the answer, by sweeps."""
     exits, entries = seeds([spot.exits for spot in starts]), seeds([spot.entries for spot in ends])
     weights = sweeps.between(exits, entries)
     lower_where_near(weights, roads, starts, ends)
-    rows = (row_of(weights[row], UNITS_OF_ANSWERS.get(wanted.unit, 1)) for row in range(len(starts)))
+    rows = (row_of(weights[row], UNITS_PER_OUTPUT_UNIT.get(wanted.unit, 1)) for row in range(len(starts)))
     return told(wanted, starts, ends, (dict.fromkeys(wanted.names, row) for row in rows))
 
 
@@ -78,7 +78,7 @@ def seeds(sides: Sequence[dict[int, tuple[int, int]]]) -> Seeds:
     return Seeds(len(sides), places, nodes, added)
 
 
-def lower_where_near(table: Numbers, roads: Roads, starts: Sequence[Spot], ends: Sequence[Spot]) -> None:
+def lower_where_near(table: Numbers, roads: RoadIndex, starts: Sequence[SnappedPoint], ends: Sequence[SnappedPoint]) -> None:
     """Lowers the cells of points that are at one node, or one behind the other on an arc."""
     columns = collections.defaultdict(list)
     for column, end in enumerate(ends):
@@ -90,11 +90,11 @@ def lower_where_near(table: Numbers, roads: Roads, starts: Sequence[Spot], ends:
                 table[row, column] = weight
 
 
-def least_between(roads: Roads, start: Spot, end: Spot) -> int | None:
+def least_between(roads: RoadIndex, start: SnappedPoint, end: SnappedPoint) -> int | None:
     """The weight of the way that stays at a node, or on one arc; None where there is none."""
-    if is_at(start, end):
+    if is_same_node(start, end):
         return 0
-    straight = along_one_arc(roads, start, end)
+    straight = leg_on_one_arc(roads, start, end)
     return None if straight is None else straight.weight
 
 
@@ -106,7 +106,7 @@ def row_of(weights: Numbers, unit: int) -> Row:
     return row
 
 
-def told(wanted: Wanted, starts: Sequence[Spot], ends: Sequence[Spot], rows: Iterator[dict[str, Row]]) -> dict[str, str]:
+def told(wanted: Wanted, starts: Sequence[SnappedPoint], ends: Sequence[SnappedPoint], rows: Iterator[dict[str, Row]]) -> dict[str, str]:
     """The members of the answer, by rows of the figures that are wanted."""
     texts: dict[str, list[str]] = {name: [] for name in wanted.names}
     guessed: list[list[int]] = []
@@ -125,7 +125,7 @@ def told(wanted: Wanted, starts: Sequence[Spot], ends: Sequence[Spot], rows: Ite
 
 
 def fallen_back(
-    wanted: Wanted, starts: Sequence[Spot], ends: Sequence[Spot], number: int, figures: dict[str, Row], speed: float
+    wanted: Wanted, starts: Sequence[SnappedPoint], ends: Sequence[SnappedPoint], number: int, figures: dict[str, Row], speed: float
 ) -> list[list[int]]:
     """Puts the way of a bird at this speed, in metres a second, into the cells without a way; returns which they are. A weight that is
     neither time nor distance stays unknown."""
@@ -150,13 +150,13 @@ def metres_apart(one: Point, other: Point) -> float:
 
 
 def table_by_cells(
-    questions: Queries, roads: Roads, wanted: Wanted, starts: Sequence[Spot], ends: Sequence[Spot]
+    questions: Queries, roads: RoadIndex, wanted: Wanted, starts: Sequence[SnappedPoint], ends: Sequence[SnappedPoint]
 ) -> dict[str, str]:
     """The members of the answer, by a question for each cell."""
     return told(wanted, starts, ends, (row_by_cells(questions, roads, wanted, start, ends) for start in starts))
 
 
-def row_by_cells(questions: Queries, roads: Roads, wanted: Wanted, start: Spot, ends: Sequence[Spot]) -> dict[str, Row]:
+def row_by_cells(questions: Queries, roads: RoadIndex, wanted: Wanted, start: SnappedPoint, ends: Sequence[SnappedPoint]) -> dict[str, Row]:
     """The figures of a row. Where weights are all that is wanted, routes aren't looked at."""
     found = [cell(questions, roads, start, end, wanted.is_of_weights) for end in ends]
     return {name: [None if each is None else value_of(each, name) for each in found] for name in wanted.names}
@@ -167,10 +167,10 @@ def value_of(figures: Figures, name: str) -> float | None:
     return figures["duration"] if name == "duration" else figures["distance"] if name == "distance" else figures["weight"]
 
 
-def cell(questions: Queries, roads: Roads, start: Spot, end: Spot, only_weights: bool) -> Figures | None:
+def cell(questions: Queries, roads: RoadIndex, start: SnappedPoint, end: SnappedPoint, only_weights: bool) -> Figures | None:
     """The figures of one cell, None where there is no way."""
     if only_weights:
-        weight = weight_between(questions, roads, start, end)
-        return None if weight is None else figures_of(roads, weight, 0.0, 0.0)
-    leg = leg_between(questions, roads, start, end)
-    return None if leg is None else leg_figures(roads, leg)
+        weight = leg_weight(questions, roads, start, end)
+        return None if weight is None else make_totals(roads, weight, 0.0, 0.0)
+    leg = find_leg(questions, roads, start, end)
+    return None if leg is None else leg_totals(roads, leg)

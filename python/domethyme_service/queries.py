@@ -6,7 +6,7 @@ from collections.abc import Sequence
 import numpy as np
 
 from domethyme import DomethymeError
-from domethyme.lines import Answer
+from domethyme.lines import RouteReply
 from domethyme.network.legs import Sides
 from domethyme.router import Router
 
@@ -53,13 +53,12 @@ class Queries:
         except DomethymeError as error:
             raise query_error(error) from error
 
-    def route(self, source: int, target: int) -> Answer | None:
+    def route(self, source: int, target: int) -> RouteReply | None:
         """A shortest path, None where there is no way."""
         return self.between({source: (0, 0)}, {target: (0, 0)})
 
-    def between(self, exits: Sides, entries: Sides, with_nodes: bool = True) -> Answer | None:
-        """The least way from one of several nodes to one of several, with the weights that lead there, or its length
-        alone."""
+    def between(self, exits: Sides, entries: Sides, with_nodes: bool = True) -> RouteReply | None:
+        """The least way from one of several nodes to one of several, with the weights that lead there, or its length alone."""
         self._metrics.own.queries += 1
         sides = [[(node - 1, side[node][0]) for node in sorted(side)] for side in (exits, entries)]
         try:
@@ -68,7 +67,7 @@ class Queries:
             raise query_error(error) from error
         if found is None:
             return None
-        return Answer(found.source + 1, found.target + 1, found.length, tuple([node + 1 for node in found.nodes]))
+        return RouteReply(found.source + 1, found.target + 1, found.length, tuple([node + 1 for node in found.nodes]))
 
     def lengths(self, pairs: Sequence[Pair]) -> list[int]:
         """The least length of each pair, NO_WAY where there is no way."""
@@ -76,7 +75,7 @@ class Queries:
             return []
         pairs_u32, out = np.array(pairs, np.uint32).reshape(-1, 2) - np.uint32(1), np.empty(len(pairs), np.int64)
         try:
-            with self.router.seat() as seat:
+            with self.router.searcher() as seat:
                 seat.lengths(pairs_u32.ctypes.data, len(pairs_u32), out.ctypes.data)
         except DomethymeError as error:
             raise query_error(error) from error

@@ -9,9 +9,9 @@ from typing import Any
 
 import numpy as np
 
-from domethyme.network.binary import TEXTS, UNITS, Mapped
-from domethyme.network.index import middles_of, wrapped
-from domethyme.network.levels import CODED, KINDS, Ints, plane_of, spread
+from domethyme.network.binary import TEXTS, UNITS, MappedNetwork
+from domethyme.network.index import segment_middles, wrapped_difference
+from domethyme.network.levels import CODE_ZOOM, ROAD_CLASSES, Ints, to_mercator, spread_bits
 
 from .errors import invalid_value
 
@@ -27,7 +27,7 @@ NAME = TEXTS.index("name")
 class Tiles:
     """The tiles of a network."""
 
-    def __init__(self, arrays: Mapped) -> None:
+    def __init__(self, arrays: MappedNetwork) -> None:
         self.arrays = arrays
         self.tile = functools.lru_cache(KEPT)(self._tile)
 
@@ -58,8 +58,8 @@ class Tiles:
     def _tile(self, zoom: int, x: int, y: int) -> bytes:
         """The roads of a tile as JSON: for each kind lines, whose figures are those of the first point and then the steps, in parts of
         GRID of the tile's width; and the names along them, by their lines."""
-        self.arrays.file.unchanged()
-        shown = [kind for kind in range(len(KINDS)) if zoom >= self.arrays.about[f"shown_{kind}"]]
+        self.arrays.file.check_unchanged()
+        shown = [kind for kind in range(len(ROAD_CLASSES)) if zoom >= self.arrays.about[f"shown_{kind}"]]
         found: list[dict[str, Any]] = []
         for kind in shown:
             steps, edges = self._steps(kind, zoom, x, y)
@@ -69,14 +69,14 @@ class Tiles:
 
     def _steps(self, kind: int, zoom: int, x: int, y: int) -> tuple[Ints, Ints]:
         """The steps of a kind whose middles are in the tile, in the order of their lines, and their edges."""
-        if zoom <= CODED:
-            code = int(spread(np.array([x]))[0] | spread(np.array([y]))[0] << 1)
-            low, high = (self._place(kind, each << 2 * (CODED - zoom)) for each in (code, code + 1))
+        if zoom <= CODE_ZOOM:
+            code = int(spread_bits(np.array([x]))[0] | spread_bits(np.array([y]))[0] << 1)
+            low, high = (self._place(kind, each << 2 * (CODE_ZOOM - zoom)) for each in (code, code + 1))
             steps, edges = self.arrays.step_points[low:high], self.arrays.step_edges[low:high]
             order = np.argsort(steps, kind="stable")
             return steps[order], edges[order]
-        above, edges = self._steps(kind, CODED, x >> zoom - CODED, y >> zoom - CODED)
-        plane = plane_of(middles_of(self.arrays.points, above)) * (1 << zoom)
+        above, edges = self._steps(kind, CODE_ZOOM, x >> zoom - CODE_ZOOM, y >> zoom - CODE_ZOOM)
+        plane = to_mercator(segment_middles(self.arrays.points, above)) * (1 << zoom)
         is_inside = (plane.astype(np.int64) == (x, y)).all(axis=1)
         return above[is_inside], edges[is_inside]
 
@@ -91,8 +91,8 @@ class Tiles:
     def _on_grid(self, steps: Ints, zoom: int, x: int, y: int) -> tuple[Ints, Ints]:
         """Both ends of steps on the tile's grid."""
         begins, moves = self.arrays.points[steps].astype(np.int64), self.arrays.points[steps + 1].astype(np.int64)
-        moves[:, 0] = begins[:, 0] + wrapped(moves[:, 0] - begins[:, 0])
-        found = [(plane_of(each / UNITS) * (1 << zoom) - (x, y)) for each in (begins, moves)]
+        moves[:, 0] = begins[:, 0] + wrapped_difference(moves[:, 0] - begins[:, 0])
+        found = [(to_mercator(each / UNITS) * (1 << zoom) - (x, y)) for each in (begins, moves)]
         # (a step over the 180th meridian is drawn on the side where the tile is)
         round_the_world = np.round(((found[0][:, 0] + found[1][:, 0]) / 2 - 0.5) / (1 << zoom)) * (1 << zoom)
         for each in found:

@@ -15,7 +15,7 @@ from collections.abc import Callable, Iterable, Mapping
 from typing import Any, NamedTuple
 
 from domethyme import DomethymeError
-from domethyme.network.snapping import Roads
+from domethyme.network.snapping import RoadIndex
 
 from . import node_queries, osrm
 from .access import AccessPolicy, check_content_type
@@ -176,7 +176,7 @@ class Service:
         headers = {"Content-Type": kind, "Content-Length": str(len(body)), **self.headers, **(more or {})}
         return Response(status, headers, [body])
 
-    def need_roads(self) -> Roads:
+    def need_roads(self) -> RoadIndex:
         """The network. Raises RequestError if the service has none."""
         if self.dataset.roads is None:
             raise no_network_error()

@@ -28,7 +28,7 @@ from scipy.sparse.csgraph import dijkstra
 from tqdm import tqdm
 
 from domethyme.network.tables import Files, metres_between, read_nodes
-from domethyme.texts import read_graph, reading
+from domethyme.texts import read_graph, open_input
 
 from .tool import Fault, words
 
@@ -153,7 +153,7 @@ def limit(text: str | None, usual: float, profile: dict[str, Any]) -> float:
 def plain_graph(path: str, profile: dict[str, Any], by_time: bool) -> PlainGraph:
     """The second conversion of a map."""
     read = Map()
-    with reading(path):
+    with open_input(path):
         pass
     try:
         read.apply_file(str(path))
@@ -252,7 +252,7 @@ def read_words() -> argparse.Namespace:
 def main() -> None:
     options = read_words()
     profile_path = options.profile if options.profile.endswith(".json") else PROFILES / f"{options.profile}.json"
-    with reading(profile_path) as stream:
+    with open_input(profile_path) as stream:
         profile = json.load(stream)
     if unknown := sorted(set(profile) - KNOWN):
         raise Fault(f"has members that the second conversion doesn't know: {', '.join(unknown)}", profile_path)

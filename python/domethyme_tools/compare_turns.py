@@ -26,8 +26,8 @@ from osmium.osm.mutable import Relation
 from scipy.sparse import csr_matrix
 from scipy.sparse.csgraph import dijkstra
 
-from domethyme.network.tables import Arc, Files, Point, points_of, read_arcs, read_nodes
-from domethyme.texts import reading
+from domethyme.network.tables import Arc, Files, Point, parse_linestring, read_arcs, read_nodes
+from domethyme.texts import open_input
 
 from .tool import Fault, tool, words
 
@@ -66,7 +66,7 @@ class Map(osmium.SimpleHandler):
 
 def read_map(path: pathlib.Path) -> Map:
     found = Map()
-    with reading(path):
+    with open_input(path):
         pass
     try:
         found.apply_file(str(path))
@@ -126,7 +126,7 @@ class TurnGraph:
                 rules[start, via].append((end, value))
         ways = {arc.osm for arc in arcs}
         rows, columns, costs = [], [], []
-        lines = [points_of(arc.wkt) for arc in arcs]
+        lines = [parse_linestring(arc.wkt) for arc in arcs]
         for number, arc in enumerate(arcs):
             here = osm[arc.end - 1]
             bound = rules.get((arc.osm, here), []) if once[here] == 1 else []

@@ -15,7 +15,7 @@ import subprocess
 import tarfile
 import tempfile
 
-from domethyme.files import writing
+from domethyme.files import atomic_write
 
 from .tool import Fault, warn, words
 
@@ -87,7 +87,7 @@ def main() -> None:
     if target.is_file() and is_extract(target.read_bytes()):
         warn(f"{target} is there already")
         return
-    with writing(target, "wb") as file, tempfile.TemporaryDirectory(prefix="fetch-extract-") as folder:
+    with atomic_write(target, "wb") as file, tempfile.TemporaryDirectory(prefix="fetch-extract-") as folder:
         data = fetched(pathlib.Path(folder))
         if not is_extract(data):
             raise Fault(f"{NAME} can't be had: Debian's source package has another file of that name")

@@ -39,10 +39,10 @@ from typing import Any
 
 import numpy
 
-from domethyme.files import writing
-from domethyme.network.network import places_of_nodes
+from domethyme.files import atomic_write
+from domethyme.network.network import load_node_index
 from domethyme.network.tables import ENDS, KEY, Point, Side, is_coordinates, paths_of, read_nodes
-from domethyme.texts import MOST_LINES, number, safe, shown, table, write_pairs
+from domethyme.texts import MOST_LINES, parse_float, escape_formula, excerpt, open_table, write_pairs
 
 from .tool import Fault, add_hierarchy, need_hierarchy, refuse_overwriting, words
 
@@ -107,7 +107,7 @@ class Trips(typing.NamedTuple):
 
 def read_trips(path: str, beginnings: Sequence[str]) -> Trips:
     """The trips of a CSV file."""
-    with table(path, [beginning + axis for beginning in beginnings for axis in ("lon", "lat")]) as records:
+    with open_table(path, [beginning + axis for beginning in beginnings for axis in ("lon", "lat")]) as records:
         trips = Trips(path, records.columns, [], [], {beginning: [] for beginning in beginnings})
         for row, fields in records:
             for beginning in beginnings:
@@ -120,10 +120,10 @@ def read_trips(path: str, beginnings: Sequence[str]) -> Trips:
 
 def degrees(fields: dict[str, str], column: str, most: float, path: str, row: int) -> float:
     """The number in a column of a row, from -most to most."""
-    value = number(fields[column], column, path, row)
+    value = parse_float(fields[column], column, path, row)
     if abs(value) > most:
         doubt = SWAPPED if abs(value) <= 180 else "are these degrees?"
-        raise Fault(f"{column} {shown(fields[column])} isn't from -{most} to {most}: {doubt}", path, row)
+        raise Fault(f"{column} {excerpt(fields[column])} isn't from -{most} to {most}: {doubt}", path, row)
     return value
 
 
@@ -140,12 +140,12 @@ class Places:
     """The nodes of a network, for look-ups by place."""
 
     def __init__(self, network: str) -> None:
-        self.nodes = places_of_nodes(network)
+        self.nodes = load_node_index(network)
 
     def nodes_at(self, places: list[Point], side: Side = "from") -> tuple[Any, Any]:
         """The nearest node of each (lon, lat) where routes begin (from) or end (to), and the metres to it, as arrays."""
         lon, lat = numpy.array(places, dtype=float).reshape(-1, 2).T
-        nodes, metres = self.nodes.at(lon, lat, side)
+        nodes, metres = self.nodes.nearest(lon, lat, side)
         return nodes + 1, metres
 
     def begins_of(self, ends: Any) -> Any:
@@ -155,7 +155,7 @@ class Places:
 
     @functools.lru_cache(1 << 16)
     def _begin_of(self, node: int) -> int:
-        return next((each for each in self.nodes.copies(node) if self.nodes.ends[each] == ENDS.index("from")), node)
+        return next((each for each in self.nodes.split_nodes(node) if self.nodes.ends[each] == ENDS.index("from")), node)
 
 
 def met(starts: Any, ends: Any, begins: Any) -> Any:
@@ -243,7 +243,7 @@ def snapped_rows(
 ) -> Iterator[list[Any]]:
     """The rows of --snapped, one for each pair; `keys` are those of all nodes, none where they have none."""
     def told(start: int, end: int) -> list[str]:
-        return [safe(keys[node - 1]) for node in (start, end)] if keys else []
+        return [escape_formula(keys[node - 1]) for node in (start, end)] if keys else []
 
     fields, ways = snapped.fields, [[f"{metres:.1f}" for metres in snapped.metres[side].tolist()] for side in SIDES]
     if is_matrix:
@@ -258,11 +258,11 @@ def snapped_rows(
 
 def safe_fields(fields: list[Any]) -> list[Any]:
     """A user's fields as they are safe in CSV."""
-    return [safe(field) if isinstance(field, str) else field for field in fields]
+    return [escape_formula(field) if isinstance(field, str) else field for field in fields]
 
 
 def write_snapped(path: str, columns: list[str], rows: Iterable[list[Any]]) -> None:
-    with writing(path) as file:
+    with atomic_write(path) as file:
         table_writer = csv.writer(file, lineterminator="\n")
         table_writer.writerow(safe_fields(columns))
         table_writer.writerows(rows)
@@ -274,7 +274,7 @@ def write_requests(options: argparse.Namespace) -> None:
 
     trips = read_trips(options.trips, ENDS_OF_TRIP)
     rows = zip(trips.rows, trips.ends["from_"], trips.ends["to_"])
-    with writing(options.output) as file:
+    with atomic_write(options.output) as file:
         file.writelines(f"{line}\n" for line in request_lines(options.network, rows, options.within, trips.path))
 
 
@@ -297,5 +297,5 @@ def main() -> None:
         raise Fault(f"has {len(snapped.fields)} places, which make more than {MOST_LINES} pairs", options.trips)
     if options.snapped:
         write_snapped(options.snapped, columns, snapped_rows(snapped, pairs, options.matrix, keys))
-    with writing(options.output) as file:
+    with atomic_write(options.output) as file:
         write_pairs(file, pairs, [nearest.nodes.origin(options.network).comment])

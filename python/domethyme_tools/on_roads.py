@@ -10,17 +10,17 @@ from collections.abc import Iterable, Iterator
 from typing import Any, NamedTuple
 
 from domethyme.errors import DomethymeError
-from domethyme.lines import answer_to, is_reply_to, ready_of
-from domethyme.network.tables import Point, is_coordinates, refuse_wrong_endings
+from domethyme.lines import parse_reply_to, matches_request, parse_ready
+from domethyme.network.tables import Point, is_coordinates, reject_wrong_suffix
 from domethyme.program import StrPath
-from domethyme.texts import reading
+from domethyme.texts import open_input
 
 from .tool import Fault, packages
 
 with packages():
-    from domethyme.network.leg_geometry import course_of, leg_figures
-    from domethyme.network.legs import STAYS, is_at, leg_of
-    from domethyme.network.snapping import Roads, Spot
+    from domethyme.network.leg_geometry import leg_geometry, leg_totals
+    from domethyme.network.legs import EMPTY_LEG, is_same_node, choose_leg
+    from domethyme.network.snapping import RoadIndex, SnappedPoint
 
 Trip = tuple[int | None, Point, Point]
 # How many starts, and ends, a request has at most.
@@ -40,15 +40,15 @@ class RoadRoute(NamedTuple):
     line: list[list[float]] | None
 
 
-def roads_of(network: StrPath) -> Roads:
+def roads_of(network: StrPath) -> RoadIndex:
     """The network's roads. Those of a DIMACS file have no lines."""
-    refuse_wrong_endings(network)
+    reject_wrong_suffix(network)
     if is_coordinates(network):
         raise Fault("has no roads but nodes: --on-roads is for networks of osm_to_gr", network)
-    return Roads(str(network))
+    return RoadIndex(str(network))
 
 
-def spots_of(roads: Roads, trip: Trip, within: float, path: str) -> tuple[Spot, Spot]:
+def spots_of(roads: RoadIndex, trip: Trip, within: float, path: str) -> tuple[SnappedPoint, SnappedPoint]:
     """The points of roads that are nearest to a trip's places. Raises Fault for one that is too far."""
     row, *places = trip
     found = []
@@ -61,9 +61,9 @@ def spots_of(roads: Roads, trip: Trip, within: float, path: str) -> tuple[Spot, 
     return found[0], found[1]
 
 
-def request_of(start: Spot, end: Spot, path: str, row: int | None) -> bytes:
+def request_of(start: SnappedPoint, end: SnappedPoint, path: str, row: int | None) -> bytes:
     """The one line that asks for a trip; where nothing has to be asked, one that any reply will do for."""
-    if is_at(start, end):
+    if is_same_node(start, end):
         node = start.copies[0]
         return b"b %d 0 : %d 0" % (node, node)
     if max(len(start.exits), len(end.entries)) > SIDES:
@@ -85,10 +85,10 @@ def request_lines(network: StrPath, trips: Iterable[Trip], within: float, path: 
 def routes_on_roads(network: StrPath, replies: str, path: str, trips: Iterable[Trip]) -> Iterator[RoadRoute]:
     """The routes by the replies in a file, of which the first line is `ready NODES LINKS 2`."""
     roads, others = roads_of(network), iter(trips)
-    with reading(replies) as stream:
+    with open_input(replies) as stream:
         lines = enumerate(stream, 1)
         _, first = next(lines, (1, b""))
-        ready = ready_of(first)
+        ready = parse_ready(first)
         if ready is None or ready[0] != roads.nodes:
             raise Fault(f"is no reply of routecli serve with {roads.nodes} nodes", replies, 1)
         for row, line in lines:
@@ -100,21 +100,21 @@ def routes_on_roads(network: StrPath, replies: str, path: str, trips: Iterable[T
             raise Fault("is a row more than there are replies", path, more[0])
 
 
-def route_of(roads: Roads, trip: Trip, reply: bytes, path: str, replies: str, row: int) -> RoadRoute:
+def route_of(roads: RoadIndex, trip: Trip, reply: bytes, path: str, replies: str, row: int) -> RoadRoute:
     """A trip's route by its reply, whose weights have to sum to its length."""
     start, end = spots_of(roads, trip, float("inf"), path)
     request = request_of(start, end, path, trip[0])
-    if not is_reply_to(request, reply):
+    if not matches_request(request, reply):
         raise Fault(f"is no reply to the request of row {trip[0]}", replies, row)
     try:
-        route = answer_to(request, reply)
-        leg = STAYS if is_at(start, end) else leg_of(roads, start, end, route)
+        route = parse_reply_to(request, reply)
+        leg = EMPTY_LEG if is_same_node(start, end) else choose_leg(roads, start, end, route)
     except (DomethymeError, ValueError) as error:
         raise Fault(f"{error}: is it of another network?", replies, row) from error
     if leg is None:
         return RoadRoute(trip[0], None, None, None, None, None, None)
-    course = course_of(roads, leg)
-    figures = leg_figures(roads, leg)
+    course = leg_geometry(roads, leg)
+    figures = leg_totals(roads, leg)
     if course is None:
         return RoadRoute(trip[0], 0, 0, 0.0, 0.0, [], [[start.lon, start.lat], [end.lon, end.lat]])
     names = [roads.arc(arc).name for arc in leg.arcs]

@@ -51,11 +51,11 @@ import numpy as np
 from numpy.typing import NDArray
 
 from domethyme.belonging import older_hierarchy
-from domethyme.files import whole_files
+from domethyme.files import atomic_write_all
 from domethyme.network import binary
-from domethyme.network.tables import ENDS, OSM_ATTRIBUTION, Arc, Files, Nodes, write_arcs, write_nodes, wkt_of
+from domethyme.network.tables import ENDS, OSM_ATTRIBUTION, Arc, Files, Nodes, write_arcs, write_nodes, format_linestring
 from domethyme.program import StrPath
-from domethyme.texts import MOST_LINES, MOST_NODES, reading
+from domethyme.texts import MOST_LINES, MOST_NODES, open_input
 
 from . import turns
 from .map_arrays import Folder, Places, Ways, cut, folder_beside, read_places, read_ways, step
@@ -260,7 +260,7 @@ def arcs_in(arrays: binary.Arrays) -> Iterator[Arc]:
         for start, end, weight, seconds, metres, osm, row, edge, along in zip(*parts):
             highway, name, *others = texts_of_rows[row]
             line = (arrays.points[edge_begin[edge] : edge_begin[edge + 1]] / binary.UNITS).tolist()
-            yield Arc(start, end, weight, seconds, metres, osm, highway, name, wkt_of(line if along else line[::-1]), *others)
+            yield Arc(start, end, weight, seconds, metres, osm, highway, name, format_linestring(line if along else line[::-1]), *others)
 
 
 def write_graph(file: IO[Any], arrays: binary.Arrays, folder: Folder, attribution: str) -> None:
@@ -325,10 +325,10 @@ def main() -> None:
     for_tables = [names.nodes, names.arcs, *names.forms]
     old_tables = tables_there(names, options.tables)
     report: Report = collections.Counter()
-    with reading(options.map):
+    with open_input(options.map):
         if not os.path.isfile(options.map):
             raise Fault("is no regular file; a map is read twice", options.map)
-    with whole_files(names.graph, names.binary, *(for_tables if options.tables else ())) as files:
+    with atomic_write_all(names.graph, names.binary, *(for_tables if options.tables else ())) as files:
         with folder_beside(options.out) as folder:
             network, rows_of = convert(options, profile, folder, report)
             attribution = " ".join(options.attribution.split())

@@ -32,8 +32,8 @@ from collections.abc import Callable, Iterable, Iterator
 from typing import IO, Any
 
 from domethyme.belonging import Origin
-from domethyme.files import remove_if_there, writing
-from domethyme.texts import MOST_LINES, reading
+from domethyme.files import unlink_missing_ok, atomic_write
+from domethyme.texts import MOST_LINES, open_input
 
 from .tool import Fault
 
@@ -59,7 +59,7 @@ class Survey(typing.NamedTuple):
 def spool(path: str, to: str) -> Survey:
     """Copies the query file (`-` is standard input) to the new file `to`, and gives its Survey."""
     digest, kinds = hashlib.sha256(), KindsOfLines()
-    with reading(path) as text, open(to, "xb") as copy:
+    with open_input(path) as text, open(to, "xb") as copy:
         for line in text:
             digest.update(line)
             copy.write(line)
@@ -176,7 +176,7 @@ class Folder:
             os.rename(path, gone)
             shutil.rmtree(gone, ignore_errors=True)
         else:
-            remove_if_there(path)
+            unlink_missing_ok(path)
 
     def begin(self, anew: bool) -> None:
         """Removes the drafts of older runs, and all if there is no plan or it starts over; makes a folder of drafts."""
@@ -189,7 +189,7 @@ class Folder:
 
     def forget(self) -> None:
         """Drops the plan, and with it all that `end` then finds here."""
-        remove_if_there(self.plan_file)
+        unlink_missing_ok(self.plan_file)
 
     def end(self) -> None:
         """Removes this run's drafts, and the whole folder where there is no plan: without one nothing is worth keeping."""
@@ -221,7 +221,7 @@ class Folder:
                     file.write(text)
                 parts.append((pairs, len(text)))
         plan = plan._replace(parts=parts)
-        with writing(self.plan_file) as file:
+        with atomic_write(self.plan_file) as file:
             json.dump(plan._asdict(), file)
         return plan
 

@@ -14,9 +14,9 @@ from scipy.sparse import coo_matrix
 from scipy.sparse.csgraph import connected_components
 
 from domethyme.network import binary
-from domethyme.network.index import rows_of_texts
+from domethyme.network.index import unique_text_rows
 from domethyme.network.tables import ENDS
-from domethyme.network.threads import by_parts, firsts as differs, sort
+from domethyme.network.threads import map_slices, differs_from_previous as differs, parallel_sort
 
 from . import turns
 from .map_arrays import Places, Runs
@@ -116,7 +116,7 @@ def network_of(
     def number(part: slice) -> None:
         node[part] = of_end[first[ends[part]]]
 
-    by_parts(number, len(ends))
+    map_slices(number, len(ends))
     node[apart] = of_end[apart]
     # the pieces: each begins where the one before ends, but for the first of a run
     piece_begin = begins(runs.parts)
@@ -157,7 +157,7 @@ def arcs_along(
         here, there = start[some], end[some]
         ends[0][part], ends[1][part] = np.where(back, there, here), np.where(back, here, there)
 
-    by_parts(turn, len(piece))
+    map_slices(turn, len(piece))
     return *ends, piece, is_back, np.zeros(len(piece), np.bool_), np.zeros(len(piece), np.int32)
 
 
@@ -340,7 +340,7 @@ def figures_of(network: RoadNetwork, kind: str, report: Report) -> tuple[Ints, F
         metres[part], osm[part], row[part] = rounded(ways, 2), network.roads.osm[road], network.roads.row[road]
         return int((weights == 0).sum())
 
-    report["weights raised to 1"] = sum(by_parts(fill, count))
+    report["weights raised to 1"] = sum(map_slices(fill, count))
     return weight, seconds, metres, osm, row
 
 
@@ -357,7 +357,7 @@ def texts_of(
     number[come] = np.arange(1, len(come) + 1, dtype=np.int32)
     of_row = np.zeros((len(first), len(binary.TEXTS)), np.int32)
     of_row[used] = number[rows]
-    return [attribution, *(texts[place] for place in come.tolist())], *rows_of_texts(of_row, row_of_arc)
+    return [attribution, *(texts[place] for place in come.tolist())], *unique_text_rows(of_row, row_of_arc)
 
 
 def in_order_of(first: NDArray[Any]) -> Ints:
@@ -428,7 +428,7 @@ class Pieces:
             is_along[part], is_ring[part] = head < tail, head == tail
             keys[part] = mixed(self._ways(part), np.minimum(head, tail), np.maximum(head, tail), end - begin)
 
-        by_parts(look, count)
+        map_slices(look, count)
         return is_along, is_ring, keys
 
     def of_arcs(
@@ -443,7 +443,7 @@ class Pieces:
             rows = row[network.piece[part]]
             edge[part], along[part] = number[rows], is_along[rows] ^ network.is_back[part] | is_same[rows]
 
-        by_parts(fill, len(edge))
+        map_slices(fill, len(edge))
         return edge, along
 
     def points(self, chosen: NDArray[np.bool_], is_along: NDArray[np.bool_]) -> tuple[Ints, NDArray[np.int32]]:
@@ -460,7 +460,7 @@ class Pieces:
             line = np.repeat(np.arange(part.start, part.stop), np.diff(line_begin[part.start : part.stop + 1]))
             found[low:high] = self._runs.points[first[line] + step[line] * (np.arange(low, high) - line_begin[line])]
 
-        by_parts(fill, len(first))
+        map_slices(fill, len(first))
         return line_begin, found
 
 
@@ -483,7 +483,7 @@ def maybe_equal(keys: NDArray[np.uint64]) -> list[int]:
     half = np.uint64((1 << 32) - 1)
     keys &= ~half
     keys |= np.arange(len(keys), dtype=np.uint64)
-    sort(keys)
+    parallel_sort(keys)
     is_equal = ~differs(keys >> np.uint64(32))
     is_equal[:-1] |= is_equal[1:]
     found: list[int] = np.sort(keys[is_equal] & half).tolist()

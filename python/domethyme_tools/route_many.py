@@ -29,9 +29,9 @@ from typing import Any, NoReturn
 import tqdm
 
 import domethyme_part
-from domethyme.files import named_faults, writing
+from domethyme.files import add_paths_to_errors, atomic_write
 from domethyme.network.tables import paths_of
-from domethyme.opening import looked_at, opened
+from domethyme.opening import read_header, open_hierarchy_file
 from domethyme.program import find_program
 
 from . import parts
@@ -72,7 +72,7 @@ def main() -> None:
         need_hierarchy(options)
     try:
         # (a write to OUT itself names OUT)
-        with named_faults(parts.Folder(options.out).path):
+        with add_paths_to_errors(parts.Folder(options.out).path):
             run_all(options)
     except KeyboardInterrupt:
         if os.path.exists(parts.Folder(options.out).plan_file):
@@ -121,8 +121,8 @@ def planned(
     spooled = os.path.join(folder.drafts, "whole.pairs")
     survey = parts.spool(options.pairs, spooled)
     if survey.origin is not None:
-        with opened(options.hierarchy) as file:
-            survey.origin.need(options.hierarchy, looked_at(file.fileno(), options.hierarchy)[0], options.pairs)
+        with open_hierarchy_file(options.hierarchy) as file:
+            survey.origin.need(options.hierarchy, read_header(file.fileno(), options.hierarchy)[0], options.pairs)
     digests = task["digests"]
     plan = parts.Plan(digests[task["hierarchy"]], digests[task["program"]], survey.sha256, options.part, [])
     kept = folder.kept_plan()
@@ -205,7 +205,7 @@ def refuse(folder: parts.Folder, status: int, line: str) -> NoReturn:
 def join(folder: parts.Folder, plan: parts.Plan, out: str) -> None:
     """Writes OUT of the answers of all parts, and has the folder of parts go."""
     size = sum(os.stat(folder.answers(number)).st_size for number in range(len(plan.parts)))
-    with writing(out, "wb") as file:
+    with atomic_write(out, "wb") as file:
         with tqdm.tqdm(total=size, unit="B", unit_scale=True, desc="joining", disable=None) as bar:
             folder.join(plan, file, bar.update)
     folder.forget()

@@ -15,7 +15,7 @@ from collections.abc import Iterator
 from typing import Any
 
 from domethyme.program import StrPath
-from domethyme.texts import reading
+from domethyme.texts import open_input
 
 from .tool import Fault
 
@@ -81,7 +81,7 @@ def read_profile(word: str) -> Profile:
     if not word.endswith(".json") and not os.path.exists(path):
         known = ", ".join(sorted(each.stem for each in PROFILES.glob("*.json")))
         raise Fault(f"there is no profile {word}: there is {known}; for another vehicle copy its file and name the copy")
-    with reading(path) as stream:
+    with open_input(path) as stream:
         try:
             members = json.load(stream)
         except json.JSONDecodeError as error:

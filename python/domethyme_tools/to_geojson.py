@@ -48,12 +48,12 @@ from typing import IO, Any, Union
 
 import numpy
 
-from domethyme.files import writing
-from domethyme.lines import NO_WAY, Answer
+from domethyme.files import atomic_write
+from domethyme.lines import NO_WAY, RouteReply
 from domethyme.network.binary import TEXTS, UNITS
-from domethyme.network.own import network_of
-from domethyme.network.tables import Point, attribution_of, geometry_of, parted_wkt, paths_of
-from domethyme.texts import Table, number, read_answers, safe, shown, table
+from domethyme.network.own import load_network_or_dimacs
+from domethyme.network.tables import Point, read_attribution, to_geojson_geometry, to_multilinestring, paths_of
+from domethyme.texts import Table, parse_float, read_answers, escape_formula, excerpt, open_table
 
 from .geometry import joined
 from .tool import Fault, add_hierarchy, need_hierarchy, refuse_overwriting, words
@@ -98,7 +98,7 @@ class Driven(typing.NamedTuple):
     ends where nodes have keys."""
 
     fields: dict[str, str]
-    answer: Answer
+    answer: RouteReply
     arcs: list[Driving]
     line: list[Point] | None
     keys: dict[str, str | None]
@@ -108,10 +108,10 @@ class Roads:
     """The arcs that routes take, and where they lie."""
 
     def __init__(self, network: str) -> None:
-        self.arrays = network_of(network)
+        self.arrays = load_network_or_dimacs(network)
         self.nodes = len(self.arrays.node_osm)
 
-    def arcs_along(self, answer: Answer, path: str, row: int) -> list[int]:
+    def arcs_along(self, answer: RouteReply, path: str, row: int) -> list[int]:
         """The arcs of an answer's route, whose weights sum to its length."""
         for node in answer.nodes or (answer.source, answer.target):
             if not 1 <= node <= self.nodes:
@@ -136,7 +136,7 @@ class Roads:
         names = [self.arrays.texts[text] for text in self.arrays.arc_texts[arcs, NAME].tolist()]
         return list(map(Driving, seconds, metres, names))
 
-    def keys_of(self, answer: Answer) -> dict[str, str | None]:
+    def keys_of(self, answer: RouteReply) -> dict[str, str | None]:
         """The keys of both ends, by the names of their properties; none where nodes have none."""
         ends = answer.source, answer.target
         return {name: self.arrays.key(node) for name, node in zip(KEYS, ends)} if self.arrays.has_keys else {}
@@ -167,7 +167,7 @@ def trips_at(path: str | None) -> Iterator[Trips]:
     if path is None:
         yield NoTrips()
         return
-    with table(path, ()) as trips:
+    with open_table(path, ()) as trips:
         for name in trips.columns:
             if name in (*FIGURES, STEPS, LINE):
                 raise Fault(f"column {name} has the name of a property of the routes: rename it", path, 1)
@@ -176,7 +176,7 @@ def trips_at(path: str | None) -> Iterator[Trips]:
         yield trips
 
 
-def routes_of(answers: Iterable[tuple[int, Answer]], answers_path: str, trips: Trips, roads: Roads) -> Iterator[Driven]:
+def routes_of(answers: Iterable[tuple[int, RouteReply]], answers_path: str, trips: Trips, roads: Roads) -> Iterator[Driven]:
     """The routes of the answers, which come with their row numbers, in order."""
     rows = iter(trips)
     for row, answer in answers:
@@ -193,13 +193,13 @@ def routes_of(answers: Iterable[tuple[int, Answer]], answers_path: str, trips: T
 
 
 def own_fields(
-    trip: dict[str, str], answer: Answer, keys: dict[str, str | None], trips: Trips, row: int | None
+    trip: dict[str, str], answer: RouteReply, keys: dict[str, str | None], trips: Trips, row: int | None
 ) -> dict[str, str]:
     """The fields of a trip but those of the pair and its keys, which have to be the answer's."""
     ours = dict(zip(PAIR, answer)) | keys
     for name, value in ours.items():
         if trip.get(name, str(value)) != str(value):
-            raise Fault(f"has {name} {shown(trip[name])} where the answer has {value}", trips.path, row)
+            raise Fault(f"has {name} {excerpt(trip[name])} where the answer has {value}", trips.path, row)
     return {name: text for name, text in trip.items() if name not in ours}
 
 
@@ -236,7 +236,7 @@ def feature_of(route: Driven, with_steps: bool) -> str:
     properties = route.fields | figures_of(route)
     if with_steps:
         properties[STEPS] = steps_of(route)
-    geometry = None if route.line is None else geometry_of(route.line)
+    geometry = None if route.line is None else to_geojson_geometry(route.line)
     feature = {"type": "Feature", "properties": properties, "geometry": geometry}
     return json.dumps(feature, ensure_ascii=False, separators=(",", ":"))
 
@@ -253,11 +253,11 @@ def write_collection(file: IO[str], features: Iterable[str], attribution: str) -
 def write_table(file: IO[str], routes: Iterable[Driven], columns: Iterable[str], has_keys: bool) -> None:
     """Writes the routes as CSV, the user's columns first."""
     rows, ours = csv.writer(file, lineterminator="\n"), (*PAIR, *(KEYS if has_keys else ()))
-    rows.writerow([*(safe(name) for name in columns if name not in ours), *ours, *FIGURES, LINE])
+    rows.writerow([*(escape_formula(name) for name in columns if name not in ours), *ours, *FIGURES, LINE])
     for route in routes:
-        line = None if route.line is None else parted_wkt(route.line)
-        figures = (safe(value) if isinstance(value, str) else value for value in figures_of(route).values())
-        rows.writerow([*map(safe, route.fields.values()), *figures, line])
+        line = None if route.line is None else to_multilinestring(route.line)
+        figures = (escape_formula(value) if isinstance(value, str) else value for value in figures_of(route).values())
+        rows.writerow([*map(escape_formula, route.fields.values()), *figures, line])
 
 
 def features_on_roads(options: argparse.Namespace) -> Iterator[str]:
@@ -268,7 +268,7 @@ def features_on_roads(options: argparse.Namespace) -> Iterator[str]:
         rows = list(trips)
         ends = []
         for row, fields in rows:
-            lon_lat = [number(fields.get(f"{side}_{axis}", ""), f"{side}_{axis}", options.trips, row, -most, most)
+            lon_lat = [parse_float(fields.get(f"{side}_{axis}", ""), f"{side}_{axis}", options.trips, row, -most, most)
                        for side in ("from", "to") for axis, most in (("lon", 180), ("lat", 90))]
             ends.append((row or 0, (lon_lat[0], lon_lat[1]), (lon_lat[2], lon_lat[3])))
         routes = routes_on_roads(options.network, options.answers, options.trips, ends)
@@ -276,15 +276,15 @@ def features_on_roads(options: argparse.Namespace) -> Iterator[str]:
             properties: dict[str, Any] = {**fields, **{name: getattr(route, name) for name in FIGURES}}
             if not options.no_steps:
                 properties[STEPS] = route.steps
-            geometry = None if route.line is None else geometry_of([(lon, lat) for lon, lat in route.line])
+            geometry = None if route.line is None else to_geojson_geometry([(lon, lat) for lon, lat in route.line])
             feature = {"type": "Feature", "properties": properties, "geometry": geometry}
             yield json.dumps(feature, ensure_ascii=False, separators=(",", ":"))
 
 
 def write_on_roads(options: argparse.Namespace) -> None:
-    with writing(options.output) as file:
+    with atomic_write(options.output) as file:
         if options.form == "collection":
-            write_collection(file, features_on_roads(options), attribution_of(options.network))
+            write_collection(file, features_on_roads(options), read_attribution(options.network))
         else:
             file.writelines(f"{feature}\n" for feature in features_on_roads(options))
 
@@ -300,12 +300,12 @@ def main() -> None:
     first = list(itertools.islice(answers, 1))
     if not first:
         raise Fault("has no answer", options.answers)
-    with trips_at(options.trips) as trips, writing(options.output) as file:
+    with trips_at(options.trips) as trips, atomic_write(options.output) as file:
         routes = routes_of(itertools.chain(first, answers), options.answers, trips, roads)
         features = (feature_of(route, not options.no_steps) for route in routes)
         if options.form == "csv":
             write_table(file, routes, trips.columns, roads.arrays.has_keys)
         elif options.form == "collection":
-            write_collection(file, features, attribution_of(options.network))
+            write_collection(file, features, read_attribution(options.network))
         else:
             file.writelines(f"{feature}\n" for feature in features)

@@ -42,10 +42,10 @@ from typing import IO, Any
 import numpy
 
 from domethyme.belonging import older_hierarchy
-from domethyme.files import whole_files
+from domethyme.files import atomic_write_all
 from domethyme.network import binary, own
 from domethyme.network.tables import (
-    ARC_COLUMNS, ATTRIBUTION_COMMENT, NODE_COLUMNS, Files, arcs_in, attribution_of, has_columns, nodes_of, write_arcs, write_nodes,
+    ARC_COLUMNS, ATTRIBUTION_COMMENT, NODE_COLUMNS, Files, arcs_from_net, read_attribution, has_columns, nodes_from_net, write_arcs, write_nodes,
 )
 
 from .old_tables import tables_there
@@ -100,9 +100,9 @@ def sizes_of(paths: Files, options: argparse.Namespace) -> tuple[int, int]:
 
 def write_tables(files: list[IO[Any]], arrays: binary.Arrays) -> tuple[int, int]:
     """Writes both tables; returns their sizes."""
-    network = binary.in_memory(arrays, "the network")
-    write_nodes(files[0], nodes_of(network))
-    write_arcs(files[1], arcs_in(network))
+    network = binary.map_tempfile(arrays, "the network")
+    write_nodes(files[0], nodes_from_net(network))
+    write_arcs(files[1], arcs_from_net(network))
     for file in files:
         file.flush()
     return os.fstat(files[0].fileno()).st_size, os.fstat(files[1].fileno()).st_size
@@ -113,7 +113,7 @@ def read_arrays(options: argparse.Namespace, attribution: str) -> binary.Arrays:
     nodes = own.read_nodes(options.nodes, warn)
     arcs = own.read_arcs(options.arcs, nodes, options.weight, warn)
     try:
-        return own.arrays_by(nodes, arcs, attribution)
+        return own.build_arrays(nodes, arcs, attribution)
     except ValueError as error:
         raise Fault(str(error), options.arcs) from error
 
@@ -121,12 +121,12 @@ def read_arrays(options: argparse.Namespace, attribution: str) -> binary.Arrays:
 def main() -> None:
     options = read_words()
     paths = Files(options.out)
-    attribution = attribution_of(options.out) if options.attribution is None else " ".join(options.attribution.split())
+    attribution = read_attribution(options.out) if options.attribution is None else " ".join(options.attribution.split())
     if options.tables:
         tables_there(paths, True)
     sizes = (0, 0) if options.tables else sizes_of(paths, options)
     arrays = read_arrays(options, attribution)
-    with whole_files(*outputs_of(options)) as files:
+    with atomic_write_all(*outputs_of(options)) as files:
         if options.tables:
             sizes = write_tables(files[1:3], arrays)
             for file, text in zip(files[3:-1], paths.forms_of(len(arrays.node_texts) > 0).values(), strict=True):

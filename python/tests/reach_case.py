@@ -42,7 +42,7 @@ def network(nodes, roads):
             if weight is not None:
                 figures = weight, weight / 1000, metres, way
                 builder.add_arc(Arc(start + 1, end + 1, *figures, "residential", "", f"LINESTRING ({wkt(points)})"))
-    return binary.in_memory(builder.done(), "town")
+    return binary.map_tempfile(builder.build(), "town")
 
 
 def wkt(points):

@@ -14,7 +14,7 @@ from tool_case import PYTHON, ROOT, VILLAGE, ToolCase
 import domethyme
 from domethyme.network import binary, mapped
 from domethyme.network.tables import arcs_of, lightest, read_arcs, read_node_table, read_nodes
-from domethyme.network.snapping import Roads
+from domethyme.network.snapping import RoadIndex
 from domethyme_service.tiles import Tiles
 
 # Two nodes, a road both ways and one that is straight on.
@@ -50,7 +50,7 @@ class BinaryCase(ToolCase):
 
 def answers(prefix):
     """All that is in a network's file, and some of what is answered by it."""
-    roads = Roads(prefix)
+    roads = RoadIndex(prefix)
     columns = [column[:].tolist() for column in roads.arrays.file.columns.values()]
     return str((columns, roads.nearest((0.0004, 0.0001), 2), roads.lightest((1, 2, 1)), roads.unit, Tiles(roads.arrays).about))
 
@@ -59,7 +59,7 @@ class SameTests(BinaryCase):
     def test_it_says_what_the_tables_say(self):
         for prefix in self.prefix, self.turns():
             self.assertTrue(binary.is_current(prefix))
-            self.assert_same(binary.read(f"{prefix}.net"), binary.of_tables(prefix))
+            self.assert_same(binary.read(f"{prefix}.net"), binary.arrays_from_tables(prefix))
             self.assertEqual(read_nodes(f"{prefix}.nodes.csv"), read_node_table(f"{prefix}.nodes.csv"))
             self.assertEqual(list(arcs_of(prefix)), list(read_arcs(f"{prefix}.arcs.csv")))
         self.assertIn("no", read_nodes(f"{prefix}.nodes.csv").ends)
@@ -73,7 +73,7 @@ class SameTests(BinaryCase):
     def test_the_lightest_arcs_are_found(self):
         for prefix in self.prefix, self.turns():
             wanted = lightest(read_arcs(f"{prefix}.arcs.csv"))
-            arrays = binary.arrays_of(prefix)
+            arrays = binary.load_network(prefix)
             count = len(arrays.node_osm)
             pairs = np.array([(start, end) for start in range(1, count + 1) for end in range(1, count + 1)]).T
             found = arrays.lightest(*pairs)
@@ -85,14 +85,14 @@ class SameTests(BinaryCase):
 
     def test_copies_of_a_junction(self):
         """The nodes that the turn restriction made of node 1 of the map are those with its id."""
-        roads = Roads(self.turns())
+        roads = RoadIndex(self.turns())
         osm = np.asarray(roads.arrays.node_osm).tolist()
         ends = np.asarray(roads.arrays.node_ends).tolist()
         split = {node + 1 for node, side in enumerate(ends) if side}
         self.assertGreater(len(split), 2)
         for node in range(1, roads.nodes + 1):
             wanted = {each for each in split if osm[each - 1] == osm[node - 1]} if node in split else {node}
-            self.assertEqual(set(roads.copies(node)), wanted)
+            self.assertEqual(set(roads.split_nodes(node)), wanted)
 
     def test_the_package_reads_it(self):
         for name in ("nodes.csv", "arcs.csv"):
@@ -109,11 +109,11 @@ class SameTests(BinaryCase):
         self.assertEqual((network.lon.tolist(), network.lat.tolist()), (tables.lon.tolist(), tables.lat.tolist()))
 
     def test_without_tables(self):
-        before, network = binary.of_tables(self.prefix), domethyme.Network(self.prefix)
+        before, network = binary.arrays_from_tables(self.prefix), domethyme.Network(self.prefix)
         keys, nodes, arcs = network.keys(), network.nodes_frame(), network.arcs_frame()
         for name in ("nodes.csv", "arcs.csv"):
             (self.folder / f"v.{name}").unlink()
-        self.assert_same(binary.arrays_of(self.prefix), before)
+        self.assert_same(binary.load_network(self.prefix), before)
         network = domethyme.Network(self.prefix)
         self.assertEqual((network.keys().node(1), len(network.keys())), (keys.node(1), len(keys)))
         frame = network.nodes_frame()
@@ -137,17 +137,17 @@ class OtherTests(BinaryCase):
         self.write("v.nodes.csv", text.rstrip("\n"))
         os.utime(self.folder / "v.nodes.csv", (1, 1))
         self.assertFalse(binary.is_current(self.prefix))
-        self.assertEqual(len(binary.arrays_of(self.prefix).node_osm), text.count("\n") - 1)
+        self.assertEqual(len(binary.load_network(self.prefix).node_osm), text.count("\n") - 1)
         (self.folder / "v.arcs.csv").unlink()
         with self.assertRaisesRegex(domethyme.NetworkError, "v.nodes.csv: has changed since .*v.net was made of it: run `to_network` again"):
-            binary.arrays_of(self.prefix)
+            binary.load_network(self.prefix)
 
     def test_an_archive_of_an_earlier_version(self):
         self.path.rename(self.folder / "v.npz")
         with self.assertRaisesRegex(domethyme.NetworkError, r"v\.npz: is an archive of an earlier version.*`to_network .*v\.nodes\.csv"):
-            binary.arrays_of(self.prefix)
+            binary.load_network(self.prefix)
         self.run_tool("to_network", "v.nodes.csv", "v.arcs.csv", "v")
-        self.assertEqual(len(binary.arrays_of(self.prefix).node_osm), 38)
+        self.assertEqual(len(binary.load_network(self.prefix).node_osm), 38)
 
     def test_what_is_no_file(self):
         self.path.unlink()
@@ -158,15 +158,15 @@ class OtherTests(BinaryCase):
 
     def test_written_in_place(self):
         """A file that is written while it is mapped: what was verified is verified anew, and another file is refused."""
-        arrays = Roads(self.prefix).arrays
+        arrays = RoadIndex(self.prefix).arrays
         before = {name: column[:].tolist() for name, column in arrays.file.columns.items()}
         os.utime(self.path, (1, 1))
-        arrays.file.unchanged()
+        arrays.file.check_unchanged()
         self.assertEqual({name: column[:].tolist() for name, column in arrays.file.columns.items()}, before)
         with open(self.path, "r+b") as file:
             file.seek(4000)
             file.write(b"\x77")
-        arrays.file.unchanged()
+        arrays.file.check_unchanged()
         damaged = []
         for name, column in arrays.file.columns.items():
             try:
@@ -178,15 +178,15 @@ class OtherTests(BinaryCase):
         with open(self.path, "r+b") as file:
             file.seek(-1, os.SEEK_END)
             file.write(b"\x77")
-        for attempt in (arrays.file.unchanged, lambda: arrays.file.columns[damaged[0]][:]):
+        for attempt in (arrays.file.check_unchanged, lambda: arrays.file.columns[damaged[0]][:]):
             with self.assertRaisesRegex(domethyme.NetworkError, "was written to while it was in use"):
                 attempt()
 
     def test_replaced_by_a_rename(self):
-        roads = Roads(self.prefix)
+        roads = RoadIndex(self.prefix)
         shutil.copy(self.path, self.folder / "new")
         os.replace(self.folder / "new", self.path)
-        roads.arrays.file.unchanged()
+        roads.arrays.file.check_unchanged()
         self.assertEqual(len(roads.arrays.node_lat[:]), 38)
 
 
@@ -228,7 +228,7 @@ class SmallTests(BinaryCase):
         """Sizes that are as great as can be, with the right checksum."""
         whole = self.path.read_bytes()
         tail = int(np.frombuffer(whole[: mapped.HEAD.itemsize], mapped.HEAD)["tail"][0])
-        for array in range(len(binary.FORM)):
+        for array in range(len(binary.FILE_SCHEMA)):
             for rows in (1 << 62, (1 << 64) - 1, 1 << 33, 10**9):
                 place = tail + 8 * array
                 self.keep(whole[:place] + rows.to_bytes(8, "little") + whole[place + 8 :])
@@ -259,7 +259,7 @@ class SmallTests(BinaryCase):
             ("step_points", lambda old: old + 9), ("degrees", lambda old: old[:-1]), ("edge_keys", lambda old: old[:-1]),
         ]:
             with open(self.path, "wb") as file:
-                mapped.write(file, binary.FORM, binary.VERSION, {**before, name: change(before[name])}.items())
+                mapped.write(file, binary.FILE_SCHEMA, binary.VERSION, {**before, name: change(before[name])}.items())
             with self.subTest(name=name):
                 self.refused("is damaged: ")
 
@@ -276,7 +276,7 @@ class SmallTests(BinaryCase):
         with open(self.path, "r+b") as file:
             file.seek(begin)
             file.write(b"\x0b")
-        roads = Roads(self.prefix)
+        roads = RoadIndex(self.prefix)
         self.assertEqual(roads.lightest((1, 2, 3)), [0, 2])
         for _ in range(2):
             with self.assertRaisesRegex(domethyme.NetworkError, r"v\.net: is damaged: arc_weight has another checksum"):

@@ -168,7 +168,7 @@ class ArraysTests(ToolCase):
                     builder.add_node(*node)
                 for arc in osm_to_gr.arcs_in(arrays):
                     builder.add_arc(arc)
-                wanted = builder.done()
+                wanted = builder.build()
                 for name in binary.Arrays._fields:
                     np.testing.assert_array_equal(getattr(arrays, name), getattr(wanted, name), name)
                     self.assertEqual(getattr(arrays, name).dtype, getattr(wanted, name).dtype, name)
@@ -230,13 +230,13 @@ class ThreadTests(unittest.TestCase):
 
     def test_parts_are_in_order(self):
         for row in self.rows:
-            found = threads.by_parts(lambda part: row[part], len(row))
+            found = threads.map_slices(lambda part: row[part], len(row))
             self.assertEqual([value for part in found for value in part], row)
             self.assertTrue(all(len(part) <= 4 for part in found))
 
     def test_the_first_fault_is_raised(self):
         with self.assertRaisesRegex(ValueError, "^8$"):
-            threads.by_parts(lambda part: int(f"{part.start}" if part.start < 8 else self.fail_at(part)), 100)
+            threads.map_slices(lambda part: int(f"{part.start}" if part.start < 8 else self.fail_at(part)), 100)
 
     def fail_at(self, part):
         raise ValueError(part.start)
@@ -244,17 +244,17 @@ class ThreadTests(unittest.TestCase):
     def test_sort(self):
         for row in self.rows:
             values = np.array(row, np.uint64)
-            threads.sort(values)
+            threads.parallel_sort(values)
             self.assertEqual(values.tolist(), sorted(row))
 
     def test_order_of(self):
         for row in self.rows:
             wanted = sorted(range(len(row)), key=lambda place: row[place])
-            self.assertEqual(threads.order_of(np.array(row, np.int32)).tolist(), wanted)
+            self.assertEqual(threads.parallel_argsort(np.array(row, np.int32)).tolist(), wanted)
 
     def test_firsts(self):
-        self.assertEqual(threads.firsts(np.array([3, 3, 1, 3])).tolist(), [True, False, True, True])
-        self.assertEqual(threads.firsts(np.array([])).tolist(), [])
+        self.assertEqual(threads.differs_from_previous(np.array([3, 3, 1, 3])).tolist(), [True, False, True, True])
+        self.assertEqual(threads.differs_from_previous(np.array([])).tolist(), [])
 
 
 class RoundingTests(unittest.TestCase):

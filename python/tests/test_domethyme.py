@@ -407,7 +407,7 @@ print(domethyme.Hierarchy("--help").length(0, 2))
         with self.assertRaisesRegex(domethyme.FileError, "has the keys of another file than .*firm.rch"):
             domethyme.Keys.saved(path)
         domethyme.Hierarchy(path, keys=["b", "a"]).close()
-        self.assertEqual([domethyme.keys.key_of(text) for text in ("7", "-7", "0", "007", "-0", "7a", "")], [7, -7, 0, "007", "-0", "7a", None])
+        self.assertEqual([domethyme.keys.parse_key(text) for text in ("7", "-7", "0", "007", "-0", "7a", "")], [7, -7, 0, "007", "-0", "7a", None])
         for missing in ("nowhere", "firm.rch.keys"):
             with self.assertRaisesRegex(domethyme.FileError, "No such file"):
                 domethyme.Keys.saved(self.folder / missing)

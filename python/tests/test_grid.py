@@ -8,9 +8,9 @@ import numpy as np
 from tool_case import ToolCase
 
 from domethyme.network import binary, grid, own
-from domethyme.network.network import NodePlaces
-from domethyme.network.tables import metres_between, parted
-from domethyme.network.snapping import Roads
+from domethyme.network.network import NodeIndex
+from domethyme.network.tables import metres_between, split_at_antimeridian
+from domethyme.network.snapping import RoadIndex
 from domethyme_service.tiles import Tiles
 
 MIDDLES = [(9.0, 47.0), (180.0, 0.0), (-179.9995, 65.0), (20.0, 90.0), (-60.0, -90.0), (179.9, -89.99)]
@@ -63,14 +63,14 @@ class NearestTests(ToolCase):
             rows.append(f'{start + 1},{end + 1},7,"LINESTRING ({wkt})"\n')
         self.write("a.csv", "from,to,weight,WKT\n" + "".join(rows))
         self.run_tool("to_network", "n.csv", "a.csv", "net")
-        return Roads(str(self.folder / "net"))
+        return RoadIndex(str(self.folder / "net"))
 
     def test_roads_and_nodes(self):
         for number, middle in enumerate(MIDDLES):
             roads = self.network(middle, number)
             lines = [roads.arrays.edge_line(edge) for edge in range(roads.edges)]
             nodes = list(zip(np.asarray(roads.arrays.node_lon) / 1e7, np.asarray(roads.arrays.node_lat) / 1e7))
-            near = NodePlaces.of(roads.arrays)
+            near = NodeIndex.of(roads.arrays)
             draw = random.Random(number)
             for spread in [30, 2000, 2000, 20_000, 3_000_000]:
                 place = place_beside(draw.choice(nodes), draw, spread)
@@ -83,7 +83,7 @@ class NearestTests(ToolCase):
                         self.assertAlmostEqual(metres_between(*place, spot.lon, spot.lat), metres, delta=0.1)
                     self.assertEqual(len(found), 3)
                     metres, node = min((metres_between(*place, *there), node) for node, there in enumerate(nodes))
-                    some = near.at(np.array([place[0]]), np.array([place[1]]), "from")
+                    some = near.nearest(np.array([place[0]]), np.array([place[1]]), "from")
                     self.assertEqual(int(some[0][0]), node)
                     self.assertAlmostEqual(float(some[1][0]), metres, delta=1e-4 + 1e-9 * metres)
 
@@ -97,7 +97,7 @@ class NearestTests(ToolCase):
             self.write("n.csv", "lon,lat\n" + "".join(f"{lon:.7f},{lat:.7f}\n" for line in lines for lon, lat in line))
             self.write("a.csv", "from,to,weight\n" + "".join(f"{2 * row + 1},{2 * row + 2},7\n" for row in range(count)))
             self.run_tool("to_network", "n.csv", "a.csv", "net")
-            roads = Roads(str(self.folder / "net"))
+            roads = RoadIndex(str(self.folder / "net"))
             lines = [roads.arrays.edge_line(edge) for edge in range(roads.edges)]
             for _ in range(60):
                 place = place_beside(middle, draw, spread)
@@ -108,9 +108,9 @@ class NearestTests(ToolCase):
     def test_many_places_at_once_are_as_each_alone(self):
         """More than are looked at together."""
         roads = self.network((180.0, 10.0), 9)
-        draw, near = random.Random(2), NodePlaces.of(roads.arrays)
+        draw, near = random.Random(2), NodeIndex.of(roads.arrays)
         places = np.array([place_beside((180.0, 10.0), draw, draw.choice((100, 5000, 900_000))) for _ in range(1500)])
-        nodes, metres = near.at(places[:, 0], places[:, 1], "to")
+        nodes, metres = near.nearest(places[:, 0], places[:, 1], "to")
         lon, lat = np.asarray(roads.arrays.node_lon) / 1e7, np.asarray(roads.arrays.node_lat) / 1e7
         for place, node, away in zip(places.tolist(), nodes.tolist(), metres.tolist()):
             wanted = min(metres_between(*place, *there) for there in zip(lon, lat))
@@ -122,7 +122,7 @@ class NearestTests(ToolCase):
         self.write("n.csv", "node,lon,lat\nLondon,-0.12,51.5\nNew York,-74,40.7\nTokyo,139.7,35.7\nAuckland,174.8,-36.9\n")
         self.write("a.csv", "from,to,weight\nLondon,New York,1\nNew York,Tokyo,2\nTokyo,Auckland,3\nAuckland,London,4\n")
         self.run_tool("to_network", "n.csv", "a.csv", "net")
-        roads = Roads(str(self.folder / "net"))
+        roads = RoadIndex(str(self.folder / "net"))
         self.assertLess(len(roads.arrays.edge_grid.things), 100)
         for edge in range(roads.edges):
             begin, end = roads.arrays.edge_line(edge)
@@ -146,9 +146,9 @@ class NearestTests(ToolCase):
         self.write("n.csv", "\n".join(rows))
         self.write("a.csv", "\n".join(arcs))
         self.run_tool("to_network", "n.csv", "a.csv", "net")
-        roads, place = Roads(str(self.folder / "net")), (9.0051, 47.0151)
+        roads, place = RoadIndex(str(self.folder / "net")), (9.0051, 47.0151)
         edges = roads.arrays.edge_grid
-        self.assertGreater(len(edges.things), grid.CROWD + 1000)
+        self.assertGreater(len(edges.things), grid.MAX_CANDIDATES + 1000)
         steps = []
         for count in (1, 999, 1001, 1050, 1100):
             found = roads.nearest(place, count, lambda: steps.append(count))
@@ -160,10 +160,10 @@ class NearestTests(ToolCase):
 
     def test_cells_hold_their_places(self):
         """Each cell is at least as wide as its band is high, and a place on the seam is beside its neighbour."""
-        counts = grid.columns_of_bands(0.0025)
+        counts = grid.columns_per_band(0.0025)
         self.assertEqual((len(counts), counts[0], counts[36000], counts.max()), (72000, counts[-1], counts[35999], 143999))
         self.assertLessEqual(int(counts[0]), 6)
-        keys = grid.cells_of(np.array([180.0, -180.0, 179.9999]), np.array([0.001] * 3), 0.0025)
+        keys = grid.cell_keys(np.array([180.0, -180.0, 179.9999]), np.array([0.001] * 3), 0.0025)
         self.assertEqual(keys.tolist(), [(36000 << 32) + 143998, 36000 << 32, (36000 << 32) + 143998])
 
 
@@ -175,7 +175,7 @@ class MeridianTests(ToolCase):
         self.write("n.csv", "node,lon,lat\nwest,179.998,0\neast,-179.998,0\nfar,-179.9,0\n")
         self.write("a.csv", "from,to,kmh,name\nwest,east,50,Date Line\neast,west,50,Date Line\neast,far,50,\n")
         self.run_tool("to_network", "n.csv", "a.csv", "net")
-        self.roads = Roads(str(self.folder / "net"))
+        self.roads = RoadIndex(str(self.folder / "net"))
 
     def test_metres(self):
         arrays = binary.read(str(self.folder / "net.net"))
@@ -210,14 +210,14 @@ class MeridianTests(ToolCase):
         self.write("n.csv", "lon,lat\n179.99,-0.001\n-179.999,-0.001\n")
         self.write("a.csv", "from,to,weight\n1,2,3\n")
         self.run_tool("to_network", "n.csv", "a.csv", "other")
-        roads = json.loads(Tiles(Roads(str(self.folder / "other")).arrays).tile(15, 32767, 16384))["roads"]
+        roads = json.loads(Tiles(RoadIndex(str(self.folder / "other")).arrays).tile(15, 32767, 16384))["roads"]
         self.assertEqual(roads[0]["lines"], [[1117, 93, -1025, 0]])
 
     def test_lines_are_parted(self):
-        self.assertEqual(parted([(179.998, 0), (-179.998, 0)]), [[(179.998, 0), (180.0, 0.0)], [(-180.0, 0.0), (-179.998, 0)]])
-        self.assertEqual(parted([(-179.9, 1), (179.9, 3), (179, 3)]), [[(-179.9, 1), (-180.0, 2.0)], [(180.0, 2.0), (179.9, 3), (179, 3)]])
-        self.assertEqual(parted([(1, 2), (1, 2)]), [[(1, 2), (1, 2)]])
-        self.assertEqual(parted([(180, 0), (-179, 0)]), [[(-180.0, 0.0), (-179, 0)]])
+        self.assertEqual(split_at_antimeridian([(179.998, 0), (-179.998, 0)]), [[(179.998, 0), (180.0, 0.0)], [(-180.0, 0.0), (-179.998, 0)]])
+        self.assertEqual(split_at_antimeridian([(-179.9, 1), (179.9, 3), (179, 3)]), [[(-179.9, 1), (-180.0, 2.0)], [(180.0, 2.0), (179.9, 3), (179, 3)]])
+        self.assertEqual(split_at_antimeridian([(1, 2), (1, 2)]), [[(1, 2), (1, 2)]])
+        self.assertEqual(split_at_antimeridian([(180, 0), (-179, 0)]), [[(-180.0, 0.0), (-179, 0)]])
 
     def test_from_answers_to_a_picture(self):
         lines = self.run_tool("to_geojson", "net", self.write("a", "r 1 2 32024 1 1 2\n")).stdout

@@ -8,7 +8,7 @@ import xml.etree.ElementTree as xml
 import osmium
 from tool_case import PYTHON, VILLAGE, ToolCase
 
-from domethyme.network.tables import ALL_ARC_COLUMNS, attribution_of, lightest, read_arcs, read_nodes
+from domethyme.network.tables import ALL_ARC_COLUMNS, read_attribution, lightest, read_arcs, read_nodes
 from domethyme.texts import read_answers, read_graph, write_pairs
 from domethyme import find_program
 
@@ -210,11 +210,11 @@ class Village(NetworkCase):
 
     def test_attribution_is_a_comment_of_the_graph(self):
         self.convert()
-        self.assertEqual(attribution_of(self.folder / "village"), "© OpenStreetMap contributors (ODbL 1.0)")
+        self.assertEqual(read_attribution(self.folder / "village"), "© OpenStreetMap contributors (ODbL 1.0)")
         self.convert("--attribution", "Drawn\nby hand")
-        self.assertEqual(attribution_of(self.folder / "village"), "Drawn by hand")
+        self.assertEqual(read_attribution(self.folder / "village"), "Drawn by hand")
         self.convert("--attribution", "")
-        self.assertEqual(attribution_of(self.folder / "village"), "")
+        self.assertEqual(read_attribution(self.folder / "village"), "")
         self.assertEqual(self.graph().nodes, 35)
 
     def test_old_files_are_replaced(self):

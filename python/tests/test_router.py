@@ -69,10 +69,10 @@ class RouterTests(ToolCase):
 
     def test_a_seat_is_made_where_all_are_taken(self):
         router = self.ring()._router
-        with concurrent.futures.ThreadPoolExecutor(1) as pool, router.seat() as first:
+        with concurrent.futures.ThreadPoolExecutor(1) as pool, router.searcher() as first:
             self.assertEqual(pool.submit(router.length, 0, 7).result(20), 7)
             self.assertEqual(first.length(0, 8), 8)
-        with router.seat() as first, router.seat() as second:
+        with router.searcher() as first, router.searcher() as second:
             self.assertEqual((first.length(1, 3), second.length(1, 4)), (2, 3))
 
     def test_a_thread_that_asks_again_and_again_leaves_others_their_turn(self):
@@ -115,7 +115,7 @@ class RouterTests(ToolCase):
                     os._exit(2)
             return os.waitstatus_to_exitcode(os.waitpid(child, 0)[1])
 
-        with hierarchy._router.seat():
+        with hierarchy._router.searcher():
             self.assertEqual(child_fails(), 0)
         with hierarchy._router._making:
             self.assertEqual(child_fails(), 2)
@@ -146,9 +146,9 @@ class RouterTests(ToolCase):
 
     def test_a_seat_that_is_lost_in_the_hands_of_an_interrupt(self):
         router = self.ring()._router
-        self.assertIsNotNone(router._take())
+        self.assertIsNotNone(router._acquire())
         self.assertEqual((router.length(0, 7), len(router._seats)), (7, 1))
-        lost = router._take()
+        lost = router._acquire()
         self.assertEqual((router.length(0, 7), len(router._seats)), (7, 2))
         del lost
         self.assertEqual(len(router._seats), 1)
@@ -158,7 +158,7 @@ class RouterTests(ToolCase):
         with unittest.mock.patch.object(type(router._first), "beside", return_value=None):
             with self.assertRaisesRegex(domethyme.OutOfMemory, "ring.rch: "):
                 router.length(0, 7)
-        with router.seat() as seat, unittest.mock.patch.object(type(router._first), "beside", return_value=None):
+        with router.searcher() as seat, unittest.mock.patch.object(type(router._first), "beside", return_value=None):
             with unittest.mock.patch.object(domethyme.router, "PATIENCE", 0.05), self.assertRaises(domethyme.OutOfMemory):
                 router.length(0, 7)
             self.assertEqual(seat.length(0, 8), 8)
@@ -190,7 +190,7 @@ class RouterTests(ToolCase):
             with self.assertRaisesRegex(ValueError, "is closed"):
                 attempt()
         hierarchy.close()
-        with self.ring()._router.seat() as seat:
+        with self.ring()._router.searcher() as seat:
             self.assertEqual(seat.length(0, 1), 1)
 
     def test_another_file_of_its_name_changes_nothing(self):

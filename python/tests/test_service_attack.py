@@ -20,7 +20,7 @@ from service_case import NDJSON, ServiceCase, read_answer, workers_of
 from tool_case import PYTHON, ROOT
 
 import domethyme
-from domethyme.network.binary import UNITS, arrays_of
+from domethyme.network.binary import UNITS, load_network
 from domethyme.network.mapped import HEAD
 from domethyme_service import access, endpoints, osrm_request, parameters, worker, wsgi
 from domethyme_service.budget import Budget
@@ -353,7 +353,7 @@ class WorkTests(ServiceCase):
         long one is held up is compared with the whole time, which a busy machine makes longer too."""
         self.run_program([ROOT / "bench/make_roads.py", 1000, 3, self.folder / "drawn"])
         domethyme.prepare(self.folder / "drawn.gr", self.folder / "v.rch", workers=1).close()
-        arrays = arrays_of(str(self.folder / "drawn"))
+        arrays = load_network(str(self.folder / "drawn"))
         lon, lat = arrays.node_lon[:].astype(np.int64), arrays.node_lat[:]
         corners = [f"{lon[node] / UNITS:.6f},{lat[node] / UNITS:.6f}" for node in ((lon + lat).argmin(), (lon + lat).argmax())]
         self.serve("--network", self.folder / "drawn", "--within", "5000")

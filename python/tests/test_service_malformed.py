@@ -14,7 +14,7 @@ from gunicorn.http.errors import ParseException
 from gunicorn.http.wsgi import create
 from service_case import SECONDS, Answer, ServiceCase, read_answer
 
-from domethyme.network.polyline import encoded
+from domethyme.network.polyline import encode_polylines
 from domethyme_service import endpoints
 from domethyme_service.access import AccessPolicy
 from domethyme_service.dataset import DatasetPaths, open_dataset
@@ -136,7 +136,7 @@ def places_too_few_or_too_many(draw: Draw) -> str:
 
 def line(draw: Draw, count: int) -> str:
     """A right polyline, as a path may have it."""
-    return escaped(encoded([[[draw.uniform(0, 0.008), draw.uniform(0, 0.001)] for _ in range(count)]], 5)[0])
+    return escaped(encode_polylines([[[draw.uniform(0, 0.008), draw.uniform(0, 0.001)] for _ in range(count)]], 5)[0])
 
 
 def escaped(text: str) -> str:

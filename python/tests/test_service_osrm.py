@@ -13,7 +13,7 @@ from test_turns import STEP as CROSSING_STEP
 from test_turns import crossing
 
 from domethyme_service.osrm_tables import FEW_CELLS
-from domethyme.network.tables import points_of, read_arcs, read_nodes
+from domethyme.network.tables import parse_linestring, read_arcs, read_nodes
 
 METRES = math.pi / 180 * 6_371_008.8
 HIGH = "0.0003,0.00001;0.0077,-0.00002"
@@ -25,7 +25,7 @@ class CutGraph:
     def __init__(self, prefix):
         self.arcs = list(read_arcs(f"{prefix}.arcs.csv"))
         self.nodes = read_nodes(f"{prefix}.nodes.csv")
-        self.lines = [points_of(arc.wkt) for arc in self.arcs]
+        self.lines = [parse_linestring(arc.wkt) for arc in self.arcs]
 
     def nearest(self, place):
         """Metres to the nearest point of each arc, and the fraction of the arc before it, as [(metres, fraction)]."""

@@ -12,7 +12,7 @@ from service_case import ServiceCase
 from tool_case import PYTHON
 
 import domethyme
-from domethyme.network.tables import points_of, read_arcs
+from domethyme.network.tables import parse_linestring, read_arcs
 
 PAGE = PYTHON / "domethyme_service/page"
 HIGH = "#0.0003,0.00001;0.0077,-0.00002"
@@ -51,7 +51,7 @@ class FileTests(ServiceCase):
         """At the deepest zoom, and at one where the village is one tile, to the grid."""
         self.serve("--network", self.folder / "v")
         about = self.ask("/map/about")[1]
-        lines = [points_of(arc.wkt) for arc in read_arcs(self.folder / "v.arcs.csv")]
+        lines = [parse_linestring(arc.wkt) for arc in read_arcs(self.folder / "v.arcs.csv")]
         lons, lats = zip(*itertools.chain(*lines))
         for got, wanted in zip(about["box"], (min(lons), min(lats), max(lons), max(lats))):
             self.assertAlmostEqual(got, wanted, places=7)

@@ -4,7 +4,7 @@ import random
 from test_grid import MIDDLES, place_beside
 from tool_case import ToolCase
 
-from domethyme.network.snapping import Roads
+from domethyme.network.snapping import RoadIndex
 
 
 class TogetherTests(ToolCase):
@@ -17,10 +17,10 @@ class TogetherTests(ToolCase):
         self.write("n.csv", "lon,lat\n" + "".join(f"{lon:.7f},{lat:.7f}\n" for lon, lat in rows))
         self.write("a.csv", "from,to,weight\n" + "".join(f"{row},{row + 1},7\n" for row in range(1, 2 * count, 2)))
         self.run_tool("to_network", "n.csv", "a.csv", "net")
-        return Roads(str(self.folder / "net")), rows
+        return RoadIndex(str(self.folder / "net")), rows
 
     def assert_as_alone(self, roads, places):
-        found = list(roads.nearest_of_each(places))
+        found = list(roads.nearest_batch(places))
         self.assertEqual(len(found), len(places))
         for place, spot in zip(places, found):
             alone = roads.nearest(place)[0]
@@ -37,7 +37,7 @@ class TogetherTests(ToolCase):
             draw.shuffle(places)
             self.assert_as_alone(roads, places)
             self.assert_as_alone(roads, places[:1])
-        self.assertEqual(list(roads.nearest_of_each([])), [])
+        self.assertEqual(list(roads.nearest_batch([])), [])
 
     def test_at_ends_of_several_roads(self):
         """Of equally near roads the first of the file is taken."""
@@ -45,7 +45,7 @@ class TogetherTests(ToolCase):
         lines = [roads.arrays.edge_line(edge) for edge in range(roads.edges)]
         places = [(round(lon, 7), round(lat, 7)) for lon, lat in ends]
         self.assert_as_alone(roads, places)
-        for place, spot in zip(places, roads.nearest_of_each(places)):
+        for place, spot in zip(places, roads.nearest_batch(places)):
             self.assertEqual(spot.edge, next(edge for edge, line in enumerate(lines) if place in line))
 
     def test_more_roads_than_are_looked_at_at_once(self):

@@ -7,7 +7,7 @@ from service_case import ServiceCase
 from tool_case import ROOT
 
 import domethyme
-from domethyme.network.binary import UNITS, arrays_of
+from domethyme.network.binary import UNITS, load_network
 from domethyme.sweeps import Sweeps
 from domethyme_service.dataset import DatasetPaths, open_dataset
 from domethyme_service.errors import StartupError
@@ -33,7 +33,7 @@ class TableTests(ServiceCase):
             with self.subTest(seed=seed):
                 self.run_program([ROOT / "bench/make_roads.py", 1500, seed, self.folder / "drawn"])
                 domethyme.prepare(self.folder / "drawn.gr", self.folder / "v.rch", workers=1).close()
-                arrays, draw = arrays_of(str(self.folder / "drawn")), random.Random(seed)
+                arrays, draw = load_network(str(self.folder / "drawn")), random.Random(seed)
                 nodes = [draw.randrange(len(arrays.node_lon)) for _ in range(30)]
                 nodes += [nodes[0], *(node for node in nodes[:9])]
                 lons, lats = arrays.node_lon[:] / UNITS, arrays.node_lat[:] / UNITS

@@ -10,7 +10,7 @@ from tool_case import VILLAGE, ToolCase
 import domethyme
 from domethyme.network import binary
 from domethyme.network.tables import read_arcs, read_nodes
-from domethyme.texts import plain, read_graph, safe
+from domethyme.texts import unescape_formula, read_graph, escape_formula
 
 NODES = "node,lon,lat\ndepot,0,0\nshop,0.001,0\nfarm,0.001,0.002\n"
 ARCS = """\
@@ -164,11 +164,11 @@ class SafeTests(ToolCase):
 
     def test_there_and_back(self):
         for text in self.TEXTS:
-            self.assertEqual(safe(text), "'" + text)
-            self.assertEqual(plain(safe(text)), text)
+            self.assertEqual(escape_formula(text), "'" + text)
+            self.assertEqual(unescape_formula(escape_formula(text)), text)
         for text in ("x", "", "-9.5", "+3", "1e5", "-1e-5", "'x", "x=1", "'-5"):
-            self.assertEqual(plain(safe(text)), text)
-        self.assertEqual([safe(text) for text in ("x", "-9.5", "+3.", "'x")], ["x", "-9.5", "'+3.", "'x"])
+            self.assertEqual(unescape_formula(escape_formula(text)), text)
+        self.assertEqual([escape_formula(text) for text in ("x", "-9.5", "+3.", "'x")], ["x", "-9.5", "'+3.", "'x"])
 
     def test_columns_of_trips(self):
         """A label that begins as a formula is quoted in both tables, and is itself again in a feature; degrees below 0 stay numbers."""

@@ -9,7 +9,7 @@ from unittest import mock
 from tool_case import PYTHON, TAKES_SIGNALS, ToolCase
 
 from domethyme import DomethymeError, files, find_program, texts
-from domethyme.lines import NO_WAY, Answer
+from domethyme.lines import NO_WAY, RouteReply
 from domethyme.network import tables
 
 
@@ -28,7 +28,7 @@ class WholeFiles(SharedCase):
         self.paths = [self.folder / name for name in ("first", "second", "third")]
 
     def write_all(self, text):
-        with files.whole_files(*self.paths) as opened:
+        with files.atomic_write_all(*self.paths) as opened:
             for file in opened:
                 file.write(text)
 
@@ -42,7 +42,7 @@ class WholeFiles(SharedCase):
 
     def test_nothing_is_seen_before_the_end(self):
         self.write_all("old")
-        with files.whole_files(*self.paths) as opened:
+        with files.atomic_write_all(*self.paths) as opened:
             for file in opened:
                 file.write("new")
                 file.flush()
@@ -51,7 +51,7 @@ class WholeFiles(SharedCase):
 
     def test_an_exception_leaves_the_old_files(self):
         self.write_all("old")
-        with self.assertRaises(ZeroDivisionError), files.whole_files(*self.paths) as opened:
+        with self.assertRaises(ZeroDivisionError), files.atomic_write_all(*self.paths) as opened:
             opened[0].write("new")
             raise ZeroDivisionError
         self.assertEqual(self.texts(), ["old"] * 3)
@@ -59,7 +59,7 @@ class WholeFiles(SharedCase):
 
     def test_where_one_can_not_take_its_name_all_are_as_they_were(self):
         self.paths[1].write_text("old", encoding="utf-8")
-        with self.assertRaises(OSError), files.whole_files(*self.paths) as opened:
+        with self.assertRaises(OSError), files.atomic_write_all(*self.paths) as opened:
             opened[0].write("new")
             (self.paths[2] / "folder").mkdir(parents=True)
         self.assertEqual(self.contents(), {self.paths[1]: b"old"})
@@ -81,7 +81,7 @@ class WholeFiles(SharedCase):
         self.assertEqual(stat.S_IMODE(self.paths[0].stat().st_mode), 0o640)
 
     def test_a_device_is_written_straight(self):
-        with files.writing("/dev/null") as file:
+        with files.atomic_write("/dev/null") as file:
             file.write("text")
         self.assertTrue(stat.S_ISCHR(os.stat("/dev/null").st_mode))
 
@@ -143,7 +143,7 @@ class Tables(SharedCase):
     def rows(self, text, needed=("a", "b")):
         path = self.folder / "table.csv"
         path.write_bytes(text)
-        with texts.table(path, needed) as rows:
+        with texts.open_table(path, needed) as rows:
             return rows.columns, list(rows)
 
     def assert_table_fault(self, says, text):
@@ -166,16 +166,16 @@ class Tables(SharedCase):
         self.assert_table_fault(", row 2: isn't CSV: unexpected end of data", b'a,b\n"1,2\n')
 
     def test_numbers(self):
-        self.assertEqual(texts.whole_number("-3", "n", "f", 1, -5, 5), -3)
-        self.assertEqual(texts.whole_number(b"007", "n", "f", 1), 7)
-        self.assertEqual(texts.number("1.5e1", "n", "f", 1), 15.0)
+        self.assertEqual(texts.parse_int("-3", "n", "f", 1, -5, 5), -3)
+        self.assertEqual(texts.parse_int(b"007", "n", "f", 1), 7)
+        self.assertEqual(texts.parse_float("1.5e1", "n", "f", 1), 15.0)
         for text in ("", "1_0", "1.0", "٣", "x" * 50, "9" * 5000):
             shown = repr(text if len(text) <= 40 else text[:40] + "..")
-            self.assert_fault(f"f, row 1: n {shown} isn't an integer", texts.whole_number, text, "n", "f", 1)
-        self.assert_fault("f, row 1: n 6 isn't from 0 to 5", texts.whole_number, "6", "n", "f", 1, 0, 5)
-        self.assert_fault("f, row 1: lon '181' isn't from -180 to 180", texts.number, "181", "lon", "f", 1, -180, 180)
-        self.assert_fault("f, row 1: n 'nan' is no finite number", texts.number, "nan", "n", "f", 1)
-        self.assert_fault("f, row 1: n 'x' is no number", texts.number, "x", "n", "f", 1)
+            self.assert_fault(f"f, row 1: n {shown} is no whole number", texts.parse_int, text, "n", "f", 1)
+        self.assert_fault("f, row 1: n 6 isn't from 0 to 5", texts.parse_int, "6", "n", "f", 1, 0, 5)
+        self.assert_fault("f, row 1: lon '181' isn't from -180 to 180", texts.parse_float, "181", "lon", "f", 1, -180, 180)
+        self.assert_fault("f, row 1: n 'nan' is no finite number", texts.parse_float, "nan", "n", "f", 1)
+        self.assert_fault("f, row 1: n 'x' is no number", texts.parse_float, "x", "n", "f", 1)
 
 
 class Networks(SharedCase):
@@ -201,7 +201,7 @@ class Networks(SharedCase):
 
     def test_nodes_there_and_back(self):
         nodes = tables.Nodes([5, None, -7], [-180.0, 0.1234567, 180.0], [-90.0, 0.0, 90.0], ["", "from", "no"])
-        with files.writing(self.folder / "n.nodes.csv") as file:
+        with files.atomic_write(self.folder / "n.nodes.csv") as file:
             tables.write_nodes(file, nodes)
         self.assertEqual(tables.read_nodes(self.folder / "n.nodes.csv"), nodes)
 
@@ -238,7 +238,7 @@ class Networks(SharedCase):
             tables.Arc(1, 2, 16012, 16.012, 222.39, 101, "tertiary", 'High "Street", N', "LINESTRING (0 0, 1 1)"),
             tables.Arc(2, 1, 1, 0.0, 0.0, -5, "residential", "", "LINESTRING (1 1, 0 0)"),
         ]
-        with files.writing(self.folder / "n.arcs.csv") as file:
+        with files.atomic_write(self.folder / "n.arcs.csv") as file:
             tables.write_arcs(file, arcs)
         self.assertEqual(list(tables.read_arcs(self.folder / "n.arcs.csv")), arcs)
 
@@ -251,18 +251,18 @@ class Networks(SharedCase):
 
     def test_lines(self):
         points = [(-0.0016667, 0.0), (9.5, 47.1878542)]
-        self.assertEqual(tables.wkt_of(points), "LINESTRING (-0.0016667 0.0000000, 9.5000000 47.1878542)")
-        self.assertEqual(tables.points_of(tables.wkt_of(points)), points)
+        self.assertEqual(tables.format_linestring(points), "LINESTRING (-0.0016667 0.0000000, 9.5000000 47.1878542)")
+        self.assertEqual(tables.parse_linestring(tables.format_linestring(points)), points)
         bodies = ("(1 2)", "(1 2, 3)", "(1 2, 3 4", "EMPTY", "(1 2, 3 4) 5", "(1 2, 3 x)")
         for text in ("", "POINT (1 2, 3 4)", *(f"LINESTRING {body}" for body in bodies)):
-            self.assert_fault(f"f, row 7: WKT {text!r} is no line", tables.points_of, text, "f", 7)
+            self.assert_fault(f"f, row 7: WKT {text!r} is no line", tables.parse_linestring, text, "f", 7)
 
     def test_graph_there_and_back(self):
-        with files.writing(self.folder / "n.gr") as file:
+        with files.atomic_write(self.folder / "n.gr") as file:
             texts.write_graph(file, 3, [(1, 2, 7), (1, 2, 8), (3, 3, 1)], ["a comment"])
         text = (self.folder / "n.gr").read_text(encoding="ascii")
         self.assertEqual(text, "c a comment\np sp 3 3\na 1 2 7\na 1 2 8\na 3 3 1\n")
-        self.assertEqual(texts.read_graph(self.folder / "n.gr"), texts.Graph(3, [1, 1, 3], [2, 2, 3], [7, 8, 1]))
+        self.assertEqual(texts.read_graph(self.folder / "n.gr"), texts.GraphLists(3, [1, 1, 3], [2, 2, 3], [7, 8, 1]))
 
     def test_graph_with_faults(self):
         cases = [
@@ -277,13 +277,13 @@ class Networks(SharedCase):
             self.assert_text_fault(texts.read_graph, "n.gr", text, says)
 
     def test_pairs(self):
-        with files.writing(self.folder / "pairs") as file:
+        with files.atomic_write(self.folder / "pairs") as file:
             texts.write_pairs(file, [(1, 2), (3, 3)])
         self.assertEqual((self.folder / "pairs").read_text(encoding="ascii"), "p aux sp p2p 2\nq 1 2\nq 3 3\n")
 
     def test_answers(self):
         answers = self.write_and(texts.read_answers, "answers", "r 1 2 9 2 1 5 2\nn 2 1\nr 3 3 0 0 3\n")
-        expected = [Answer(1, 2, 9, (1, 5, 2)), Answer(2, 1, NO_WAY, ()), Answer(3, 3, 0, (3,))]
+        expected = [RouteReply(1, 2, 9, (1, 5, 2)), RouteReply(2, 1, NO_WAY, ()), RouteReply(3, 3, 0, (3,))]
         self.assertEqual(answers, expected)
 
     def test_answers_with_faults(self):

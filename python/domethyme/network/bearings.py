@@ -1,57 +1,57 @@
 """The nearest point of a road that leads in a wanted direction, as OSRM's `bearings` ask for."""
 from typing import NamedTuple
 
-from .snapping import Arc, Roads, Spot, keep_least
+from .snapping import Arc, RoadIndex, SnappedPoint, keep_lightest
 from .tables import Point, bearing
 
 # Of so many edges the directions are looked at, a few at first.
-FEW, MOST = 8, 4096
+FIRST_CANDIDATES, MAX_CANDIDATES = 8, 4096
 
 
-class Towards(NamedTuple):
-    """Directions from `bearing` - `reach` to `bearing` + `reach`, in degrees from north, clockwise."""
+class BearingRange(NamedTuple):
+    """Directions from `bearing` - `tolerance` to `bearing` + `tolerance`, in degrees from north, clockwise."""
 
     bearing: int
-    reach: int
+    tolerance: int
 
-    def has(self, direction: float) -> bool:
-        return abs((direction - self.bearing + 180) % 360 - 180) <= self.reach
+    def contains(self, direction: float) -> bool:
+        return abs((direction - self.bearing + 180) % 360 - 180) <= self.tolerance
 
 
-def nearest_towards(roads: Roads, place: Point, count: int, towards: Towards, within: float) -> list[Spot]:
-    """The `count` nearest points of roads that lead that way there, no further off than `within` metres. Routes begin there, and
+def nearest_with_bearing(roads: RoadIndex, place: Point, count: int, bearing_range: BearingRange, max_metres: float) -> list[SnappedPoint]:
+    """The `count` nearest points of roads that lead that way there, no further off than `max_metres` metres. Routes begin there, and
     end there, in that direction alone."""
-    looked_at = FEW
+    limit = FIRST_CANDIDATES
     while True:
-        spots = roads.nearest(place, looked_at)
-        found = [turned for spot in spots if (turned := turned_spot(roads, spot, towards)) is not None]
-        if len(found) >= count or len(spots) < looked_at or looked_at >= MOST or spots[-1].metres > within:
+        snapped_points = roads.nearest(place, limit)
+        found = [restricted for snapped in snapped_points if (restricted := restrict_to_bearing(roads, snapped, bearing_range)) is not None]
+        if len(found) >= count or len(snapped_points) < limit or limit >= MAX_CANDIDATES or snapped_points[-1].metres > max_metres:
             return found[:count]
-        looked_at *= 8
+        limit *= 8
 
 
-def turned_spot(roads: Roads, spot: Spot, towards: Towards) -> Spot | None:
+def restrict_to_bearing(roads: RoadIndex, snapped: SnappedPoint, bearing_range: BearingRange) -> SnappedPoint | None:
     """The point with those arcs of its edge that lead that way at it; None where none does."""
-    arcs = roads.edge(spot.edge).arcs.items()
-    kept = [(number, arc) for number, arc in arcs if towards.has(direction_at(roads, number, arc, spot.fraction))]
+    arcs = roads.edge(snapped.edge).arcs.items()
+    kept = [(number, arc) for number, arc in arcs if bearing_range.contains(bearing_at(roads, number, arc, snapped.fraction))]
     if not kept:
         return None
     exits: dict[int, tuple[int, int]] = {}
     entries: dict[int, tuple[int, int]] = {}
     for number, arc in kept:
-        before = roads.before(arc, spot.fraction)
-        keep_least(exits, arc.end, arc.weight - before, number)
-        keep_least(entries, arc.start, before, number)
-    return spot._replace(exits=exits, entries=entries, copies=())
+        before = roads.weight_before(arc, snapped.fraction)
+        keep_lightest(exits, arc.end, arc.weight - before, number)
+        keep_lightest(entries, arc.start, before, number)
+    return snapped._replace(exits=exits, entries=entries, copies=())
 
 
-def direction_at(roads: Roads, number: int, arc: Arc, fraction: float) -> float:
+def bearing_at(roads: RoadIndex, number: int, arc: Arc, fraction: float) -> float:
     """The direction in which an arc leads at the point that is so far along its edge."""
     edge = roads.edge(arc.edge)
     at = fraction * edge.metres
-    steps = [place for place in range(1, len(edge.points)) if edge.along[place] > edge.along[place - 1]]
+    steps = [index for index in range(1, len(edge.points)) if edge.cumulative[index] > edge.cumulative[index - 1]]
     if not steps:
         return 0.0
-    place = next((place for place in steps if edge.along[place] >= at), steps[-1])
-    direction = bearing(edge.points[place - 1], edge.points[place])
+    index = next((index for index in steps if edge.cumulative[index] >= at), steps[-1])
+    direction = bearing(edge.points[index - 1], edge.points[index])
     return direction if arc.is_along else (direction + 180) % 360

@@ -21,15 +21,15 @@ from numpy.typing import NDArray
 from . import index, mapped
 from ..errors import NetworkError, os_reason
 from ..program import StrPath
-from ..texts import HEAVIEST
-from .grid import Grid, ranges
-from .levels import KINDS
-from .mapped import Column, Kind, MappedFile
+from ..texts import MAX_WEIGHT
+from .grid import Grid, concat_ranges
+from .levels import ROAD_CLASSES
+from .mapped import Column, ArraySpec, MappedFile
 from .tables import (
-    ARC_COLUMNS, ENDS, NODE_COLUMNS, Arc, Files, Point, attribution_of, has_columns, need_nodes, points_of, read_node_table,
-    rows_of_arcs,
+    ARC_COLUMNS, ENDS, NODE_COLUMNS, Arc, Files, Point, read_attribution, has_columns, need_nodes, parse_linestring, read_node_table,
+    iter_arc_rows,
 )
-from .threads import by_parts
+from .threads import map_slices
 
 # Of the file, without and with the keys of nodes.
 VERSION, WITH_KEYS = 2, 3
@@ -110,28 +110,28 @@ class Builder:
             known = self._known_rows[texts] = len(self._rows)
             self._rows.append(tuple(self._texts.setdefault(text, len(self._texts) + 1) for text in texts))
         line = LINE.fullmatch(arc.wkt)
-        points = () if line else points_of(arc.wkt, path, row)
+        points = () if line else parse_linestring(arc.wkt, path, row)
         self._lines.append(line[1] if line else ", ".join(f"{lon:.9f} {lat:.9f}" for lon, lat in points))
         self._arcs.append(arc[:6])
         self._row_of_arc.append(known)
 
-    def done(self, sizes: Sequence[int] = (0, 0)) -> Arrays:
+    def build(self, sizes: Sequence[int] = (0, 0)) -> Arrays:
         """The arrays. Raises ValueError for a number that has no room in them."""
         osm, lon, lat, ends = zip(*self._nodes) if self._nodes else ((), (), (), ())
         starts, stops, weights, seconds, metres, ways = zip(*self._arcs) if self._arcs else ((),) * 6
-        arc_osm = whole(ways, "osm")
-        edges = edges_of(self._lines, arc_osm)
+        arc_osm = to_int64(ways, "osm")
+        edges = edges_from_lines(self._lines, arc_osm)
         texts, keys = encoded(self._attribution, self._texts, self._keys)
         rows = np.array(self._rows, dtype=np.int32).reshape(-1, len(TEXTS))
-        rows, row = index.rows_of_texts(rows, np.array(self._row_of_arc, dtype=np.int64))
+        rows, row = index.unique_text_rows(rows, np.array(self._row_of_arc, dtype=np.int64))
         found = Arrays(
-            np.array([VERSION]), np.array(sizes, dtype=np.int64), whole(osm, "osm"), units(lon, 180), units(lat, 90),
-            np.array(ends, dtype=np.uint8), whole(starts, "from").astype(np.int32), whole(stops, "to").astype(np.int32),
-            whole(weights, "weight"), np.array(seconds, dtype=np.float64), np.array(metres, dtype=np.float64), arc_osm,
+            np.array([VERSION]), np.array(sizes, dtype=np.int64), to_int64(osm, "osm"), to_units(lon, 180), to_units(lat, 90),
+            np.array(ends, dtype=np.uint8), to_int64(starts, "from").astype(np.int32), to_int64(stops, "to").astype(np.int32),
+            to_int64(weights, "weight"), np.array(seconds, dtype=np.float64), np.array(metres, dtype=np.float64), arc_osm,
             row, *edges[:2], rows, *edges[2:],
             np.cumsum([0, *map(len, texts)], dtype=np.int64), np.frombuffer(b"".join(texts), dtype=np.uint8), keys,
         )
-        if problem := wrong(found):
+        if problem := find_inconsistency(found):
             raise ValueError(problem)
         return found
 
@@ -143,14 +143,14 @@ def encoded(attribution: str, texts: Iterable[str], keys: Sequence[str]) -> tupl
     return found, np.arange(len(found) - len(keys), len(found), dtype=np.int32)
 
 
-def whole(values: Iterable[int], name: str) -> NDArray[np.int64]:
+def to_int64(values: Iterable[int], name: str) -> NDArray[np.int64]:
     try:
         return np.array(tuple(values), dtype=np.int64)
     except OverflowError:
         raise ValueError(f"a number of {name} is too great") from None
 
 
-def units(degrees: Any, most: int) -> NDArray[np.int32]:
+def to_units(degrees: Any, most: int) -> NDArray[np.int32]:
     """Degrees in units. Raises ValueError for what are none."""
     values = np.array(degrees, dtype=np.float64)
     if not (np.abs(values) <= most).all():
@@ -159,13 +159,13 @@ def units(degrees: Any, most: int) -> NDArray[np.int32]:
     return found
 
 
-def edges_of(
+def edges_from_lines(
     lines: list[str], ways: NDArray[np.int64]
 ) -> tuple[NDArray[np.int32], NDArray[np.bool_], NDArray[np.int64], NDArray[np.int32]]:
     """The edges of arcs with these lines and ways: the edge of each arc and whether it leads along it, and the edges' points."""
     counts = [line.count(",") + 1 for line in lines]
     places = np.fromstring(" ".join(lines).replace(",", " "), dtype=np.float64, sep=" ").reshape(-1, 2)
-    every = np.column_stack((units(places[:, 0], 180), units(places[:, 1], 90)))
+    every = np.column_stack((to_units(places[:, 0], 180), to_units(places[:, 1], 90)))
     edge, along = np.empty(len(lines), dtype=np.int32), np.empty(len(lines), dtype=np.bool_)
     known: dict[tuple[int, bytes], int] = {}
     kept: list[NDArray[np.int32]] = []
@@ -184,12 +184,12 @@ def edges_of(
     return edge, along, offsets, np.concatenate(kept) if kept else np.empty((0, 2), dtype=np.int32)
 
 
-def wrong(arrays: Arrays) -> str | None:
+def find_inconsistency(arrays: Arrays) -> str | None:
     """What is wrong with arrays that don't fit together; None where they do."""
     nodes, arcs, edges = len(arrays.node_osm), len(arrays.arc_from), len(arrays.edge_begin) - 1
     shapes: dict[str, tuple[int, ...]] = {name: (nodes,) for name in ("node_osm", "node_lon", "node_lat", "node_ends")}
     shapes.update((name, (arcs,)) for name in Arrays._fields if name.startswith("arc_"))
-    shapes.update(version=(1,), sizes=(2,), row_texts=(len(arrays.row_texts), index.ROW), points=(len(arrays.points), 2))
+    shapes.update(version=(1,), sizes=(2,), row_texts=(len(arrays.row_texts), index.TEXTS_PER_ROW), points=(len(arrays.points), 2))
     if len(arrays.node_texts):
         shapes["node_texts"] = (nodes,)
     for name, shape in shapes.items():
@@ -209,7 +209,7 @@ def limits_of(nodes: int, edges: int, rows: int, texts: int) -> dict[str, tuple[
     """The least and greatest value of arrays of a network with so many nodes, edges, rows of texts and texts."""
     return {
         "node_lon": (-180 * UNITS, 180 * UNITS), "node_lat": (-90 * UNITS, 90 * UNITS), "node_ends": (0, len(ENDS) - 1),
-        "arc_from": (1, nodes), "arc_to": (1, nodes), "arc_weight": (0, HEAVIEST), "arc_edge": (0, edges - 1),
+        "arc_from": (1, nodes), "arc_to": (1, nodes), "arc_weight": (0, MAX_WEIGHT), "arc_edge": (0, edges - 1),
         "arc_row": (0, rows - 1), "row_texts": (0, texts - 1), "node_texts": (0, texts - 1), "arc_seconds": (0, 1e12), "arc_metres": (0, 1e12),
         "points": (-180 * UNITS, 180 * UNITS),
     }
@@ -218,50 +218,50 @@ def limits_of(nodes: int, edges: int, rows: int, texts: int) -> dict[str, tuple[
 # The arrays of the file. `about` has the numbers of ABOUT. The others are those of Arrays, and of index.py. A text's bytes and offsets come as they are.
 ABOUT = (
     "nodes_size", "arcs_size", "unit", "begins", "ends", "node_height", "edge_height", "west", "south", "east", "north",
-    *(f"shown_{kind}" for kind in range(len(KINDS))),
+    *(f"shown_{kind}" for kind in range(len(ROAD_CLASSES))),
 )
-FORM = {
-    "about": Kind("<i8"),
-    "node_osm": Kind("<i8"), "node_lon": Kind("<i4"), "node_lat": Kind("<i4"), "node_ends": Kind("|u1"),
-    "arc_from": Kind("<i4"), "arc_to": Kind("<i4"), "arc_weight": Kind("<i8"), "arc_seconds": Kind("<f8"),
-    "arc_metres": Kind("<f8"), "arc_osm": Kind("<i8"), "arc_row": Kind("<i4"), "arc_edge": Kind("<i4"), "arc_along": Kind("|b1"),
-    "row_texts": Kind("<i4", index.ROW), "edge_begin": Kind("<i8"), "points": Kind("<i4", 2),
-    "text_begin": Kind("<i8"), "text_bytes": Kind("|u1"),
-    "out_begin": Kind("<i8"), "out_arcs": Kind("<i4"), "edge_first": Kind("<i8"), "edge_arcs": Kind("<i4"), "degrees": Kind("|u1"),
-    "node_keys": Kind("<i8"), "node_cells": Kind("<i8"), "node_things": Kind("<i4"),
-    "edge_keys": Kind("<i8"), "edge_cells": Kind("<i8"), "edge_things": Kind("<i4"),
-    "step_begin": Kind("<i8"), "step_codes": Kind("<u4"), "step_points": Kind("<i4"), "step_edges": Kind("<i4"),
+FILE_SCHEMA = {
+    "about": ArraySpec("<i8"),
+    "node_osm": ArraySpec("<i8"), "node_lon": ArraySpec("<i4"), "node_lat": ArraySpec("<i4"), "node_ends": ArraySpec("|u1"),
+    "arc_from": ArraySpec("<i4"), "arc_to": ArraySpec("<i4"), "arc_weight": ArraySpec("<i8"), "arc_seconds": ArraySpec("<f8"),
+    "arc_metres": ArraySpec("<f8"), "arc_osm": ArraySpec("<i8"), "arc_row": ArraySpec("<i4"), "arc_edge": ArraySpec("<i4"), "arc_along": ArraySpec("|b1"),
+    "row_texts": ArraySpec("<i4", index.TEXTS_PER_ROW), "edge_begin": ArraySpec("<i8"), "points": ArraySpec("<i4", 2),
+    "text_begin": ArraySpec("<i8"), "text_bytes": ArraySpec("|u1"),
+    "out_begin": ArraySpec("<i8"), "out_arcs": ArraySpec("<i4"), "edge_first": ArraySpec("<i8"), "edge_arcs": ArraySpec("<i4"), "degrees": ArraySpec("|u1"),
+    "node_keys": ArraySpec("<i8"), "node_cells": ArraySpec("<i8"), "node_things": ArraySpec("<i4"),
+    "edge_keys": ArraySpec("<i8"), "edge_cells": ArraySpec("<i8"), "edge_things": ArraySpec("<i4"),
+    "step_begin": ArraySpec("<i8"), "step_codes": ArraySpec("<u4"), "step_points": ArraySpec("<i4"), "step_edges": ArraySpec("<i4"),
 }
-FORMS = {VERSION: FORM, WITH_KEYS: FORM | {"node_texts": Kind("<i4")}}
+FORMS = {VERSION: FILE_SCHEMA, WITH_KEYS: FILE_SCHEMA | {"node_texts": ArraySpec("<i4")}}
 
 
 def write(file: IO[bytes], arrays: Arrays) -> None:
     """Writes the file of a network, with all that is derived from the arrays, to an empty file that can seek. Raises ValueError for
     arrays that don't fit together."""
-    if problem := wrong(arrays):
+    if problem := find_inconsistency(arrays):
         raise ValueError(problem)
     version = WITH_KEYS if len(arrays.node_texts) else VERSION
-    mapped.write(file, FORMS[version], version, written(arrays))
+    mapped.write(file, FORMS[version], version, iter_file_arrays(arrays))
 
 
-def written(arrays: Arrays) -> Iterator[tuple[str, NDArray[Any]]]:
+def iter_file_arrays(arrays: Arrays) -> Iterator[tuple[str, NDArray[Any]]]:
     """The arrays of the file in their order."""
-    steps, edges = index.steps_in(arrays.edge_begin)
-    levels = index.levels(arrays, steps, edges)
+    steps, edges = index.edge_segments(arrays.edge_begin)
+    levels = index.build_zoom_levels(arrays, steps, edges)
     edge_grid = index.edge_grid(arrays.points, steps, edges)
     del steps, edges
     node_grid = index.node_grid(arrays.node_lon, arrays.node_lat)
     side = np.bincount(arrays.node_ends, minlength=len(ENDS)).tolist()
     numbers = [
-        *arrays.sizes.tolist(), UNITS_OF_WEIGHTS.index(unit_of(arrays)), side[0] + side[1], side[0] + side[2],
-        round(node_grid.height * UNITS), round(edge_grid.height * UNITS), *index.box_of(arrays.points), *levels.shown_from,
+        *arrays.sizes.tolist(), UNITS_OF_WEIGHTS.index(weight_unit(arrays)), side[0] + side[1], side[0] + side[2],
+        round(node_grid.height * UNITS), round(edge_grid.height * UNITS), *index.bounding_box(arrays.points), *levels.shown_from,
     ]
     yield "about", np.array(numbers, dtype=np.int64)
-    for name in list(FORM)[1 : list(FORM).index("out_begin")]:
+    for name in list(FILE_SCHEMA)[1 : list(FILE_SCHEMA).index("out_begin")]:
         yield name, getattr(arrays, name)
-    yield from zip(("out_begin", "out_arcs"), index.arcs_from(arrays))
-    yield from zip(("edge_first", "edge_arcs"), index.arcs_on(arrays))
-    yield "degrees", index.degrees_of(arrays)
+    yield from zip(("out_begin", "out_arcs"), index.outgoing_arcs(arrays))
+    yield from zip(("edge_first", "edge_arcs"), index.arcs_by_edge(arrays))
+    yield "degrees", index.node_degrees(arrays)
     yield from zip(("node_keys", "node_cells", "node_things"), node_grid[2:])
     yield from zip(("edge_keys", "edge_cells", "edge_things"), edge_grid[2:])
     yield from zip(("step_begin", "step_codes", "step_points", "step_edges"), levels[:4])
@@ -269,13 +269,13 @@ def written(arrays: Arrays) -> Iterator[tuple[str, NDArray[Any]]]:
         yield "node_texts", arrays.node_texts
 
 
-def unit_of(arrays: Arrays) -> str:
+def weight_unit(arrays: Arrays) -> str:
     """What the weights of arcs are: `duration` in milliseconds, `distance` in centimetres, or `weight` for anything else."""
     for name, factor, values in (("duration", 1000.0, arrays.arc_seconds), ("distance", 100.0, arrays.arc_metres)):
         def is_near(part: slice) -> bool:
             return bool((np.abs(arrays.arc_weight[part] - factor * values[part]) <= 1.01).all())
 
-        if values.any() and all(by_parts(is_near, len(values))):
+        if values.any() and all(map_slices(is_near, len(values))):
             return name
     return "weight"
 
@@ -300,7 +300,7 @@ class Texts:
         return str(self._bytes[begin:end].tobytes(), "utf-8", "replace")
 
 
-class TextsOfArcs:
+class ArcTexts:
     """The numbers of texts of each arc, in the order of TEXTS; an index is one of arcs, or of arcs and a column."""
 
     def __init__(self, row: Column, rows: Column) -> None:
@@ -315,7 +315,7 @@ class TextsOfArcs:
         return np.asarray(self[:], dtype)
 
 
-class Mapped:
+class MappedNetwork:
     """The file of a network, mapped: what Arrays has, by the same names, in columns that are verified where they are read. Raises
     NetworkError for a file that is refused, and where it is damaged, in all that reads it.
 
@@ -335,7 +335,7 @@ class Mapped:
         self.arc_seconds, self.arc_metres, self.arc_osm = found["arc_seconds"], found["arc_metres"], found["arc_osm"]
         self.arc_edge, self.arc_along = found["arc_edge"], found["arc_along"]
         self.arc_row, self.row_texts = found["arc_row"], found["row_texts"]
-        self.arc_texts = TextsOfArcs(self.arc_row, self.row_texts)
+        self.arc_texts = ArcTexts(self.arc_row, self.row_texts)
         self.edge_begin, self.points = found["edge_begin"], found["points"]
         self.text_begin, self.text_bytes = found["text_begin"], found["text_bytes"]
         self.texts = Texts(self.text_begin, self.text_bytes)
@@ -344,7 +344,7 @@ class Mapped:
         self.edge_first, self.edge_arcs = found["edge_first"], found["edge_arcs"]
         self.step_begin, self.step_codes = found["step_begin"], found["step_codes"]
         self.step_points, self.step_edges = found["step_points"], found["step_edges"]
-        self._look_at_sizes()
+        self._check_sizes()
         self._set_limits()
         self.about = dict(zip(ABOUT, found["about"][:].tolist()))
         self.node_grid, self.edge_grid = self._grid("node"), self._grid("edge")
@@ -352,27 +352,27 @@ class Mapped:
 
     def _grid(self, name: str) -> Grid:
         found, height = self.file.columns, self.about[f"{name}_height"] / UNITS
-        if not index.HEIGHT <= height <= 2 * index.HIGHEST or not 0 <= self.about["unit"] < len(UNITS_OF_WEIGHTS):
-            raise self.file.damaged("about has wrong numbers")
-        margin = 0.001 if name == "node" else index.margin_of(height)
+        if not index.MIN_BAND_HEIGHT <= height <= 2 * index.MAX_BAND_HEIGHT or not 0 <= self.about["unit"] < len(UNITS_OF_WEIGHTS):
+            raise self.file.damaged_error("about has wrong numbers")
+        margin = 0.001 if name == "node" else index.grid_margin(height)
         return Grid(height, margin, found[f"{name}_keys"], found[f"{name}_cells"], found[f"{name}_things"])
 
-    def _look_at_sizes(self) -> None:
+    def _check_sizes(self) -> None:
         """Raises NetworkError where arrays that belong together differ in their sizes."""
         found = {name: len(column) for name, column in self.file.columns.items()}
         nodes, arcs, edges = found["node_osm"], found["arc_from"], found["edge_begin"] - 1
-        wanted = {name: nodes for name in found if name.startswith("node_") and name not in ("node_keys", "node_cells")}
-        wanted |= {name: arcs for name in FORM if name.startswith("arc_")}
-        wanted |= {
+        expected = {name: nodes for name in found if name.startswith("node_") and name not in ("node_keys", "node_cells")}
+        expected |= {name: arcs for name in FILE_SCHEMA if name.startswith("arc_")}
+        expected |= {
             "about": len(ABOUT), "out_begin": nodes + 1, "out_arcs": arcs, "edge_first": edges + 1, "edge_arcs": arcs,
             "degrees": nodes + 1, "node_cells": found["node_keys"] + 1, "edge_cells": found["edge_keys"] + 1,
-            "step_begin": len(KINDS) + 1, "step_points": found["step_codes"], "step_edges": found["step_codes"],
+            "step_begin": len(ROAD_CLASSES) + 1, "step_points": found["step_codes"], "step_edges": found["step_codes"],
         }
-        for name, size in wanted.items():
+        for name, size in expected.items():
             if found[name] != size:
-                raise self.file.damaged(f"{name} has another size")
+                raise self.file.damaged_error(f"{name} has another size")
         if not found["text_begin"] > 1 or not found["edge_begin"]:
-            raise self.file.damaged("it has no texts or edges")
+            raise self.file.damaged_error("it has no texts or edges")
 
     def _set_limits(self) -> None:
         """Says what each column may have, which is verified with its checksums."""
@@ -392,11 +392,11 @@ class Mapped:
         for name in limits.keys() & found.keys():
             found[name].low, found[name].high = limits[name]
         for name in offsets:
-            found[name].rise = 2 if name == "edge_begin" else 0
+            found[name].min_step = 2 if name == "edge_begin" else 0
 
     @functools.cached_property
     def unit(self) -> str:
-        """What weights are, as `unit_of` has it."""
+        """What weights are, as `weight_unit` has it."""
         unit = UNITS_OF_WEIGHTS[self.about["unit"]]
         return "weight" if unit == "duration" and not self.has_seconds else unit
 
@@ -423,7 +423,7 @@ class Mapped:
         """The lightest arc from each node to another, counted from 1; -1 where there is none."""
         begins = self.out_begin[starts - 1]
         counts = self.out_begin[starts] - begins
-        pair, rows = ranges(begins, counts)
+        pair, rows = concat_ranges(begins, counts)
         arcs = self.out_arcs[rows]
         hits = np.flatnonzero(self.arc_to[arcs] == ends[pair])
         found = np.full(len(starts), -1, dtype=np.int64)
@@ -444,30 +444,30 @@ class Mapped:
 REMEDY = "convert the map anew, or make it of its tables, as `to_network NODES ARCS OUT`"
 
 
-def read(path: StrPath) -> Mapped:
+def read(path: StrPath) -> MappedNetwork:
     """The file of a network. Raises NetworkError for one that can't be read, is damaged where that is looked at when it is opened,
     or is of another version."""
     try:
-        with open(path, "rb", opener=without_waiting) as file:
+        with open(path, "rb", opener=open_nonblocking) as file:
             if not stat.S_ISREG(os.fstat(file.fileno()).st_mode):
                 raise NetworkError("is no regular file, so it can't be mapped", path)
-            return Mapped(file, os.fspath(path))
+            return MappedNetwork(file, os.fspath(path))
     except OSError as error:
         raise NetworkError(os_reason(error), path) from error
 
 
-def without_waiting(path: str, flags: int) -> int:
+def open_nonblocking(path: str, flags: int) -> int:
     """A descriptor, without waiting for a writer where the path is a pipe."""
     return os.open(path, flags | os.O_NONBLOCK)
 
 
-def in_memory(arrays: Arrays, path: str) -> Mapped:
+def map_tempfile(arrays: Arrays, path: str) -> MappedNetwork:
     """Arrays as if they were read from a file of this name. They are in a temporary file, which goes with them. Raises ValueError as
     `write`."""
     with tempfile.TemporaryFile() as file:
         write(file, arrays)
         file.flush()
-        return Mapped(file, path)
+        return MappedNetwork(file, path)
 
 
 def is_current(prefix: str) -> bool:
@@ -498,27 +498,27 @@ def is_current(prefix: str) -> bool:
     return not changed
 
 
-def arrays_of(prefix: str) -> Mapped:
+def load_network(prefix: str) -> MappedNetwork:
     """The network of these files: by NETWORK.net where that is current, else by its tables. Raises NetworkError."""
     if is_current(prefix):
         return read(Files(prefix).binary)
     need_nodes(prefix)
-    arrays = of_tables(prefix)
+    arrays = arrays_from_tables(prefix)
     try:
-        return in_memory(arrays, prefix)
+        return map_tempfile(arrays, prefix)
     except ValueError as error:
         raise NetworkError(str(error), prefix) from error
 
 
-def of_tables(prefix: str) -> Arrays:
+def arrays_from_tables(prefix: str) -> Arrays:
     """The network of NETWORK.nodes.csv and NETWORK.arcs.csv, and of the comment of NETWORK.gr."""
-    files, builder = Files(prefix), Builder(attribution_of(prefix))
+    files, builder = Files(prefix), Builder(read_attribution(prefix))
     nodes = read_node_table(files.nodes)
     for node, key in zip(zip(*nodes[:4]), nodes.keys or itertools.repeat(None)):
         builder.add_node(*node, key)
-    for row, arc in rows_of_arcs(files.arcs, len(nodes.osm)):
+    for row, arc in iter_arc_rows(files.arcs, len(nodes.osm)):
         builder.add_arc(arc, files.arcs, row)
     try:
-        return builder.done([os.stat(table).st_size for table in (files.nodes, files.arcs)])
+        return builder.build([os.stat(table).st_size for table in (files.nodes, files.arcs)])
     except ValueError as error:
         raise NetworkError(str(error), prefix) from error

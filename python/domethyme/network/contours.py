@@ -29,7 +29,7 @@ from shapely.geometry import Polygon, box as rectangle
 from shapely.ops import unary_union
 
 from .contour_shapes import parts_of, rounded
-from .grid import Ints, ranges
+from .grid import Ints, concat_ranges
 from .reach import DECIMALS, Box, Levels, Plane, Reach, Vertices
 from .sphere import Floats
 
@@ -282,7 +282,7 @@ def sampled(vertices: Vertices, spacing: float) -> Vertices:
     more = np.append(np.diff(vertices.shares), 0.0)[: len(vertices.shares)]
     more[vertices.is_last] = 0.0
     counts = np.maximum(1, np.ceil(np.hypot(away[:, 0], away[:, 1]) / spacing)).astype(np.int64)
-    which, number = ranges(np.zeros(len(counts), np.int64), counts)
+    which, number = concat_ranges(np.zeros(len(counts), np.int64), counts)
     part = number / counts[which]
     points = vertices.points[which] + away[which] * part[:, None]
     return Vertices(vertices.rows[which], points, vertices.shares[which] + more[which] * part, vertices.is_last[which])

@@ -19,29 +19,29 @@ from numpy.typing import NDArray
 
 from .sphere import Floats
 from .tables import EARTH_RADIUS
-from .threads import firsts, sort
+from .threads import differs_from_previous, parallel_sort
 
-SHIFT = 32
+BAND_SHIFT = 32
 # Of a cell's column and of a thing, where both are packed in 64 bits with the cell's band. The lowest bands, of 0.0025 degrees, are
 # 72,000 with at most 144,000 cells, and a network has fewer things than 2**29.
 COLUMN_BITS, THING_BITS = 18, 29
 # Things that are looked at together, and from how many on a lesser circle is tried before.
-MOST, CROWD = 1 << 14, 1 << 12
+CHUNK_SIZE, MAX_CANDIDATES = 1 << 14, 1 << 12
 # Places that are looked at together, and how often the circle around them is made wider before they are looked at alone.
-PLACES, ROUNDS = 1 << 10, 4
+BATCH_SIZE, MAX_DOUBLINGS = 1 << 10, 4
 # So few are looked at alone.
-FEW = 3
+SMALL_BATCH = 3
 # The degrees from which on circles are so wide that it is worth while to look how wide they are in each band.
-FAR = 0.5
+WIDE_DEGREES = 0.5
 # How many times as wide as a band is high a circle may be for its cells to be found one by one.
-NEAR = 8
+MAX_SPAN_IN_BANDS = 8
 HALF_WAY_ROUND = math.pi * EARTH_RADIUS
 
 Ints = NDArray[np.int64]
 # By an array of different things the metres to each, or infinity.
-Metres = Callable[[Ints], Floats]
+DistanceFunction = Callable[[Ints], Floats]
 # The same by numbers of places, and for each a thing.
-MetresOfPairs = Callable[[Ints, Ints], Floats]
+PairDistanceFunction = Callable[[Ints, Ints], Floats]
 
 
 class Grid(NamedTuple):
@@ -53,28 +53,28 @@ class Grid(NamedTuple):
     begins: Any
     things: Any
 
-    def slices(self, lon: Floats, lat: Floats, reach: Floats) -> tuple[Ints, Ints, Ints]:
+    def candidate_slices(self, lon: Floats, lat: Floats, reach: Floats) -> tuple[Ints, Ints, Ints]:
         """The slices of `things` that have all things within some metres of places, and others: the number of the place, where the
         slice begins, and where it ends."""
-        which, lows, highs = self._cells(lon, lat, (reach + self.margin) / EARTH_RADIUS)
+        which, lows, highs = self._key_ranges(lon, lat, (reach + self.margin) / EARTH_RADIUS)
         keys = self.keys[:]
         first, last = np.searchsorted(keys, lows), np.searchsorted(keys, highs)
         is_some = first < last
         return which[is_some], self.begins[first[is_some]], self.begins[last[is_some]]
 
-    def _cells(self, lon: Floats, lat: Floats, angle: Floats) -> tuple[Ints, Ints, Ints]:
+    def _key_ranges(self, lon: Floats, lat: Floats, angle: Floats) -> tuple[Ints, Ints, Ints]:
         """The keys between which the cells in circles are: the number of the circle, the first key, and the one behind the last."""
         span = np.degrees(angle)
         keys = self.keys
-        first, last = (int(keys[0]) >> SHIFT, int(keys[len(keys) - 1]) >> SHIFT) if len(keys) else (0, -1)
-        lowest = np.maximum(bands_of(lat - span, self.height), first)
-        highest = np.minimum(bands_of(lat + span, self.height), last)
-        which, bands = ranges(lowest, np.maximum(0, highest - lowest + 1))
-        counts, away = columns(bands, self.height), np.cos(np.radians(lat))
+        first, last = (int(keys[0]) >> BAND_SHIFT, int(keys[len(keys) - 1]) >> BAND_SHIFT) if len(keys) else (0, -1)
+        lowest = np.maximum(band_index(lat - span, self.height), first)
+        highest = np.minimum(band_index(lat + span, self.height), last)
+        which, bands = concat_ranges(lowest, np.maximum(0, highest - lowest + 1))
+        counts, away = column_counts(bands, self.height), np.cos(np.radians(lat))
         has_pole = (np.abs(lat) + span >= 90) | (np.sin(angle) >= away)
         sine = np.where(has_pole, 0, np.sin(angle))
         half = np.where(has_pole, 180.0, np.degrees(np.arcsin(sine / np.maximum(away, 1e-300))))[which]
-        if span.max(initial=0) > FAR:
+        if span.max(initial=0) > WIDE_DEGREES:
             half = np.minimum(half, half_widths(lat[which], angle[which], bands * self.height - 90, self.height))
         west, east = (np.floor((side + 180) / 360 * counts).astype(np.int64) for side in (lon[which] - half, lon[which] + half))
         is_all = east - west >= counts - 1
@@ -84,16 +84,16 @@ class Grid(NamedTuple):
         rows = np.concatenate((np.arange(len(bands)), before, beyond))
         lows = np.concatenate((np.maximum(west, 0), (west + counts)[before], np.zeros(len(beyond), np.int64)))
         highs = np.concatenate((np.minimum(east, counts - 1), (counts - 1)[before], (east - counts)[beyond])) + 1
-        band = bands[rows] << SHIFT
+        band = bands[rows] << BAND_SHIFT
         return which[rows], band + lows, band + highs
 
     @property
-    def first_reach(self) -> float:
+    def initial_radius(self) -> float:
         """The metres within which things are looked for first: a quarter of a band."""
         return self.height * EARTH_RADIUS * math.pi / 720
 
     def nearest(
-        self, place: tuple[float, float], count: int, metres: Metres, step: Callable[[], object] = lambda: None
+        self, place: tuple[float, float], count: int, metres: DistanceFunction, step: Callable[[], object] = lambda: None
     ) -> list[tuple[float, int]]:
         """The metres to the `count` nearest things of those that `metres` gives less than infinity, and their numbers: the nearest
         first, and of equally near ones the lesser number. There are fewer only where there are no more. `step` is called for each
@@ -102,25 +102,25 @@ class Grid(NamedTuple):
         A circle with more things than CROWD, and more than twice as many as the last one, is narrowed, down to a metre beyond what is
         known. So each circle is wider than the last, and few are looked at however many things there are.
         """
-        known, reach, most = 0.0, self.first_reach, CROWD
+        known, reach, most = 0.0, self.initial_radius, MAX_CANDIDATES
         found: list[tuple[float, int]] = []
         while True:
             step()
-            slices = self._slices_of(place, reach)
+            slices = self._slices_around(place, reach)
             wide = reach
             while len(found) < count and size_of(slices) > most and reach - known > 1.0:
                 reach = (known + reach) / 2
-                slices = self._slices_of(place, reach)
-            most = max(CROWD, 2 * size_of(slices))
-            found = self._among(slices, count, metres, step)
+                slices = self._slices_around(place, reach)
+            most = max(MAX_CANDIDATES, 2 * size_of(slices))
+            found = self._nearest_in(slices, count, metres, step)
             is_full = len(found) == count
             if is_full and found[-1][0] <= reach or reach >= HALF_WAY_ROUND:
                 return found
             known = reach
             reach = min(found[-1][0] if is_full else max(wide, 4 * reach), HALF_WAY_ROUND)
 
-    def _among(
-        self, slices: list[tuple[int, int]], count: int, metres: Metres, step: Callable[[], object]
+    def _nearest_in(
+        self, slices: list[tuple[int, int]], count: int, metres: DistanceFunction, step: Callable[[], object]
     ) -> list[tuple[float, int]]:
         """The nearest of the things in slices."""
         found: list[tuple[float, int]] = []
@@ -137,53 +137,53 @@ class Grid(NamedTuple):
         """The things in slices, about MOST at a time."""
         waiting: list[NDArray[Any]] = []
         for begin, end in slices:
-            for low in range(begin, end, MOST):
-                waiting.append(self.things[low : min(end, low + MOST)])
-                if sum(map(len, waiting)) >= MOST:
+            for low in range(begin, end, CHUNK_SIZE):
+                waiting.append(self.things[low : min(end, low + CHUNK_SIZE)])
+                if sum(map(len, waiting)) >= CHUNK_SIZE:
                     yield np.concatenate(waiting)
                     waiting = []
         if waiting:
             yield np.concatenate(waiting)
 
-    def around(self, places: Sequence[tuple[float, float]], reach: float) -> tuple[Ints, Ints]:
+    def candidates_of_each(self, places: Sequence[tuple[float, float]], reach: float) -> tuple[Ints, Ints]:
         """The things within `reach` metres of places, and others: the number of the place, and the thing, which may come several
         times. Those of a place that has very many are left out."""
         found: list[tuple[int, int, int]] = []
         for number, place in enumerate(places):
-            slices = self._slices_of(place, reach)
-            if size_of(slices) <= CROWD:
+            slices = self._slices_around(place, reach)
+            if size_of(slices) <= MAX_CANDIDATES:
                 found += [(number, begin, end) for begin, end in slices]
         which, begins, ends = np.array(found, dtype=np.int64).reshape(-1, 3).T
-        pairs, rows = ranges(begins, ends - begins)
+        pairs, rows = concat_ranges(begins, ends - begins)
         return which[pairs], self.things[rows]
 
-    def near(self, place: tuple[float, float], reach: float) -> Iterator[NDArray[Any]]:
+    def candidates(self, place: tuple[float, float], reach: float) -> Iterator[NDArray[Any]]:
         """The things within `reach` metres of a place, and others, about MOST at a time; one may come several times."""
-        return self._parts(self._slices_of(place, reach))
+        return self._parts(self._slices_around(place, reach))
 
-    def _slices_of(self, place: tuple[float, float], reach: float) -> list[tuple[int, int]]:
-        """The slices of one place, as `slices` has them: by few cells without arrays, since these are what is asked for most."""
-        cells = self._near_cells(*place, (reach + self.margin) / EARTH_RADIUS)
+    def _slices_around(self, place: tuple[float, float], reach: float) -> list[tuple[int, int]]:
+        """The slices of one place, as `candidate_slices` has them: by few cells without arrays, since these are what is asked for most."""
+        cells = self._small_key_ranges(*place, (reach + self.margin) / EARTH_RADIUS)
         if cells is None:
-            _, begins, ends = self.slices(np.array([place[0]]), np.array([place[1]]), np.array([reach]))
+            _, begins, ends = self.candidate_slices(np.array([place[0]]), np.array([place[1]]), np.array([reach]))
             return list(zip(begins.tolist(), ends.tolist()))
         rows = np.searchsorted(self.keys[:], cells)
         bounds = self.begins[rows].tolist()
         return [(begin, end) for begin, end in zip(bounds[::2], bounds[1::2]) if begin < end]
 
-    def _near_cells(self, lon: float, lat: float, angle: float) -> list[int] | None:
+    def _small_key_ranges(self, lon: float, lat: float, angle: float) -> list[int] | None:
         """The keys between which the cells in a circle are, two for each row of cells; None for one that is large or near a pole."""
         span, away = math.degrees(angle), math.cos(math.radians(lat))
-        if span > NEAR * self.height or abs(lat) + span >= 89:
+        if span > MAX_SPAN_IN_BANDS * self.height or abs(lat) + span >= 89:
             return None
         half = math.degrees(math.asin(min(1.0, math.sin(angle) / away)))
         low, high = int((lat - span + 90) / self.height), int((lat + span + 90) / self.height)
         found: list[int] = []
-        for band, count in enumerate(columns_of_bands(self.height)[low : high + 1].tolist(), low):
+        for band, count in enumerate(columns_per_band(self.height)[low : high + 1].tolist(), low):
             west, east = math.floor((lon - half + 180) / 360 * count), math.floor((lon + half + 180) / 360 * count)
             if east - west >= count - 1:
                 west, east = 0, count - 1
-            first = band << SHIFT
+            first = band << BAND_SHIFT
             found += (first + max(west, 0), first + min(east, count - 1) + 1)
             if west < 0:
                 found += (first + west + count, first + count)
@@ -191,14 +191,14 @@ class Grid(NamedTuple):
                 found += (first, first + east - count + 1)
         return found
 
-    def nearest_of_each(self, lon: Floats, lat: Floats, metres: MetresOfPairs) -> tuple[Ints, Floats]:
+    def nearest_batch(self, lon: Floats, lat: Floats, metres: PairDistanceFunction) -> tuple[Ints, Floats]:
         """The thing nearest to each place, and the metres to it, as `nearest` has them; -1 and infinity where there is none."""
         nodes, away = np.full(len(lon), -1, dtype=np.int64), np.full(len(lon), np.inf)
-        for begin in range(0, len(lon), PLACES):
-            part = slice(begin, begin + PLACES)
+        for begin in range(0, len(lon), BATCH_SIZE):
+            part = slice(begin, begin + BATCH_SIZE)
             left = np.arange(len(lon[part]))
-            if len(left) > FEW:
-                left = self._near_ones(lon[part], lat[part], offset(metres, begin), nodes[part], away[part])
+            if len(left) > SMALL_BATCH:
+                left = self._resolve_nearby(lon[part], lat[part], shift_indices(metres, begin), nodes[part], away[part])
             for row in (left + begin).tolist():
                 place = np.array([row])
                 found = self.nearest((float(lon[row]), float(lat[row])), 1, lambda some: metres(np.repeat(place, len(some)), some))
@@ -206,14 +206,14 @@ class Grid(NamedTuple):
                     away[row], nodes[row] = found[0]
         return nodes, away
 
-    def _near_ones(self, lon: Floats, lat: Floats, metres: MetresOfPairs, nodes: Ints, away: Floats) -> Ints:
+    def _resolve_nearby(self, lon: Floats, lat: Floats, metres: PairDistanceFunction, nodes: Ints, away: Floats) -> Ints:
         """Sets the nearest things of the places that have some near by; returns the others."""
-        left, reach = np.arange(len(lon)), np.full(len(lon), self.first_reach)
-        for _ in range(ROUNDS):
-            which, begins, ends = self.slices(lon[left], lat[left], reach[left])
-            is_few = np.bincount(which, ends - begins, len(left)) <= CROWD // 4
+        left, reach = np.arange(len(lon)), np.full(len(lon), self.initial_radius)
+        for _ in range(MAX_DOUBLINGS):
+            which, begins, ends = self.candidate_slices(lon[left], lat[left], reach[left])
+            is_few = np.bincount(which, ends - begins, len(left)) <= MAX_CANDIDATES // 4
             chosen = is_few[which]
-            pairs, rows = ranges(begins[chosen], (ends - begins)[chosen])
+            pairs, rows = concat_ranges(begins[chosen], (ends - begins)[chosen])
             places, things = left[which[chosen][pairs]], self.things[rows]
             far = metres(places, things)
             order = np.lexsort((things, far, places))
@@ -231,12 +231,12 @@ def size_of(slices: list[tuple[int, int]]) -> int:
     return sum(end - begin for begin, end in slices)
 
 
-def offset(metres: MetresOfPairs, begin: int) -> MetresOfPairs:
+def shift_indices(metres: PairDistanceFunction, begin: int) -> PairDistanceFunction:
     """The metres by numbers of places that count from `begin`."""
     return lambda places, things: metres(places + begin, things)
 
 
-def ranges(begins: NDArray[Any], counts: NDArray[Any]) -> tuple[Ints, Ints]:
+def concat_ranges(begins: NDArray[Any], counts: NDArray[Any]) -> tuple[Ints, Ints]:
     """All numbers from begins[k], counts[k] of them, for each k in a row; and k for each of them, which comes first."""
     which = np.arange(len(counts)).repeat(counts)
     return which, np.arange(len(which)) - (counts.cumsum() - counts - begins).repeat(counts)
@@ -256,21 +256,21 @@ def half_widths(lat: Floats, angle: Floats, south: Floats, height: float) -> Flo
     return np.where(is_touched, 180.0, np.minimum(found, 180.0))
 
 
-def bands_of(lat: Floats, height: float) -> Ints:
+def band_index(lat: Floats, height: float) -> Ints:
     """The band of each latitude."""
     last = math.ceil(180 / height) - 1
     found: Ints = np.clip(np.floor((lat + 90) / height), 0, last).astype(np.int64)
     return found
 
 
-def columns(bands: Ints, height: float) -> Ints:
+def column_counts(bands: Ints, height: float) -> Ints:
     """How many cells bands have."""
-    found: Ints = columns_of_bands(height)[bands]
+    found: Ints = columns_per_band(height)[bands]
     return found
 
 
 @functools.lru_cache(4)
-def columns_of_bands(height: float) -> Ints:
+def columns_per_band(height: float) -> Ints:
     """How many cells each band has."""
     south = np.arange(math.ceil(180 / height)) * height - 90
     widest = np.maximum(0, np.maximum(south, -(south + height)))  # (the latitude that is nearest to the equator)
@@ -280,28 +280,28 @@ def columns_of_bands(height: float) -> Ints:
     return found
 
 
-def cells_of(lon: Floats, lat: Floats, height: float) -> Ints:
+def cell_keys(lon: Floats, lat: Floats, height: float) -> Ints:
     """The key of the cell of each place in degrees."""
-    bands = bands_of(lat, height)
-    counts = columns(bands, height)
-    found: Ints = (bands << SHIFT) + np.clip(np.floor((lon + 180) / 360 * counts).astype(np.int64), 0, counts - 1)
+    bands = band_index(lat, height)
+    counts = column_counts(bands, height)
+    found: Ints = (bands << BAND_SHIFT) + np.clip(np.floor((lon + 180) / 360 * counts).astype(np.int64), 0, counts - 1)
     return found
 
 
-def packed(cells: Ints, things: NDArray[Any]) -> NDArray[np.uint64]:
+def pack_keys(cells: Ints, things: NDArray[Any]) -> NDArray[np.uint64]:
     """Things and the cells in which they are listed, each pair a number, in the order of cells and then of things."""
-    bands, mask = cells >> SHIFT, (1 << COLUMN_BITS) - 1
+    bands, mask = cells >> BAND_SHIFT, (1 << COLUMN_BITS) - 1
     found: NDArray[np.uint64] = ((bands << COLUMN_BITS | cells & mask) << THING_BITS | things).view(np.uint64)
     return found
 
 
-def gathered(lists: list[NDArray[np.uint64]], height: float, margin: float) -> Grid:
-    """The grid of things in lists of them, `packed`; one that is in a cell several times is listed once."""
+def build_grid(lists: list[NDArray[np.uint64]], height: float, margin: float) -> Grid:
+    """The grid of things in lists of them, `pack_keys`; one that is in a cell several times is listed once."""
     pairs = np.concatenate(lists)
     lists.clear()
-    sort(pairs)
-    pairs = pairs[firsts(pairs)]
-    begins = np.append(np.flatnonzero(firsts(pairs >> np.uint64(THING_BITS))), len(pairs)).astype(np.int64)
+    parallel_sort(pairs)
+    pairs = pairs[differs_from_previous(pairs)]
+    begins = np.append(np.flatnonzero(differs_from_previous(pairs >> np.uint64(THING_BITS))), len(pairs)).astype(np.int64)
     cells = (pairs[begins[:-1]] >> np.uint64(THING_BITS)).astype(np.int64)
-    keys = (cells >> COLUMN_BITS << SHIFT) + (cells & (1 << COLUMN_BITS) - 1)
+    keys = (cells >> COLUMN_BITS << BAND_SHIFT) + (cells & (1 << COLUMN_BITS) - 1)
     return Grid(height, margin, keys, begins, (pairs & np.uint64((1 << THING_BITS) - 1)).astype(np.int32))

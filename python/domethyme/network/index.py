@@ -7,59 +7,59 @@ from typing import TYPE_CHECKING, Any
 import numpy as np
 from numpy.typing import NDArray
 
-from .grid import Grid, cells_of, gathered, packed
-from .levels import Floats, Levels, codes_of, kind_of, levels_of, plane_of
-from .sphere import angles, on_sphere, points_along
+from .grid import Grid, cell_keys, build_grid, pack_keys
+from .levels import Floats, Levels, morton_codes, road_class, sort_by_cell, to_mercator
+from .sphere import angles, unit_vectors, interpolate
 from .tables import EARTH_RADIUS
-from .threads import by_parts, firsts, order_of
+from .threads import map_slices, differs_from_previous, parallel_argsort
 
 if TYPE_CHECKING:
     from .binary import Arrays
 
 UNITS = 10_000_000
-ROUND = 360 * UNITS
+FULL_CIRCLE = 360 * UNITS
 # The columns of a row of texts, of which the last are 0.
-ROW = 8
+TEXTS_PER_ROW = 8
 # Of the grids' bands in degrees: some 280 metres. Higher ones are taken while lines are in more than twice as many cells as they
 # have steps.
-HEIGHT = 0.0025
-HIGHEST = 80.0
+MIN_BAND_HEIGHT = 0.0025
+MAX_BAND_HEIGHT = 80.0
 
 Ints = NDArray[np.int64]
 
 
-def arcs_from(arrays: "Arrays") -> tuple[Ints, NDArray[np.int32]]:
+def outgoing_arcs(arrays: "Arrays") -> tuple[Ints, NDArray[np.int32]]:
     """The arcs from node n, counted from 1, are arcs[begins[n - 1]:begins[n]]: by the node they lead to, and then by weight."""
     begins = np.cumsum(np.bincount(arrays.arc_from, minlength=len(arrays.node_osm) + 1))
-    arcs = order_of(arrays.arc_from)
+    arcs = parallel_argsort(arrays.arc_from)
 
-    def put_in_order(nodes: slice) -> None:
+    def sort_slice(nodes: slice) -> None:
         part = slice(int(begins[nodes.start]), int(begins[nodes.stop]))
-        some = arcs[part]
-        arcs[part] = some[ordered(arrays.arc_from[some], arrays.arc_to[some], arrays.arc_weight[some])]
+        chunk = arcs[part]
+        arcs[part] = chunk[argsort_arcs(arrays.arc_from[chunk], arrays.arc_to[chunk], arrays.arc_weight[chunk])]
 
-    by_parts(put_in_order, len(begins) - 1)
+    map_slices(sort_slice, len(begins) - 1)
     return begins, arcs
 
 
-def ordered(start: NDArray[np.int32], end: NDArray[np.int32], weight: Ints) -> Ints:
+def argsort_arcs(start: NDArray[np.int32], end: NDArray[np.int32], weight: Ints) -> Ints:
     """The order of arcs by their ends, the lightest of a pair first."""
     keys = start.astype(np.int64) << 32 | end
     order = np.argsort(keys, kind="stable")
-    is_new = firsts(keys[order])
+    is_new = differs_from_previous(keys[order])
     several = np.flatnonzero(~(is_new & np.append(is_new[1:], True)))
     chosen = order[several]
     order[several] = chosen[np.lexsort((weight[chosen], keys[chosen]))]
     return order
 
 
-def arcs_on(arrays: "Arrays") -> tuple[Ints, NDArray[np.int32]]:
+def arcs_by_edge(arrays: "Arrays") -> tuple[Ints, NDArray[np.int32]]:
     """The arcs on edge e are arcs[begins[e]:begins[e + 1]], in their order."""
     counts = np.bincount(arrays.arc_edge, minlength=len(arrays.edge_begin) - 1)
     return np.append(0, np.cumsum(counts)), np.argsort(arrays.arc_edge, kind="stable").astype(np.int32)
 
 
-def degrees_of(arrays: "Arrays") -> NDArray[np.uint8]:
+def node_degrees(arrays: "Arrays") -> NDArray[np.uint8]:
     """How many edges meet at each node, 255 for more; the first figure is of none."""
     of_edge = np.full(len(arrays.edge_begin) - 1, -1, dtype=np.int32)
     of_edge[arrays.arc_edge] = np.arange(len(arrays.arc_edge), dtype=np.int32)
@@ -75,7 +75,7 @@ def degrees_of(arrays: "Arrays") -> NDArray[np.uint8]:
         odd[edge[(low != other_low) | (high != other_high) | (low == high)]] = True
 
     # (most edges have two ends; copies of nodes, which turn restrictions make, give some more, and rings one)
-    by_parts(look, len(arrays.arc_edge))
+    map_slices(look, len(arrays.arc_edge))
     plain = of_edge[~odd & (of_edge >= 0)]
     rows = np.flatnonzero(odd[arrays.arc_edge])
     pairs = np.column_stack((np.concatenate(ends(rows)).astype(np.int64), np.tile(arrays.arc_edge[rows], 2)))
@@ -84,7 +84,7 @@ def degrees_of(arrays: "Arrays") -> NDArray[np.uint8]:
     return np.minimum(found, 255).astype(np.uint8)
 
 
-def rows_of_texts(rows: NDArray[np.int32], row: NDArray[Any]) -> tuple[NDArray[np.int32], NDArray[np.int32]]:
+def unique_text_rows(rows: NDArray[np.int32], row: NDArray[Any]) -> tuple[NDArray[np.int32], NDArray[np.int32]]:
     """The different ones of the rows of texts that arcs have, in the order of their numbers, with zeros behind them as the file has
     them, and the number of each arc's, by the row that each arc has."""
     is_used = np.zeros(len(rows), dtype=bool)
@@ -95,7 +95,7 @@ def rows_of_texts(rows: NDArray[np.int32], row: NDArray[Any]) -> tuple[NDArray[n
     is_new[1:] = (rows[used[1:]] != rows[used[:-1]]).any(axis=1)
     number = np.zeros(len(rows), dtype=np.int32)
     number[used] = np.cumsum(is_new) - 1
-    return np.pad(rows[used[is_new]], ((0, 0), (0, ROW - rows.shape[1]))), number[row]
+    return np.pad(rows[used[is_new]], ((0, 0), (0, TEXTS_PER_ROW - rows.shape[1]))), number[row]
 
 
 # Nodes and edges near a place
@@ -103,13 +103,13 @@ def rows_of_texts(rows: NDArray[np.int32], row: NDArray[Any]) -> tuple[NDArray[n
 
 def node_grid(lon: NDArray[Any], lat: NDArray[Any]) -> Grid:
     """The grid of nodes, counted from 0, by their places in units."""
-    def listed(part: slice) -> NDArray[np.uint64]:
-        return packed(cells_of(lon[part] / UNITS, lat[part] / UNITS, HEIGHT), np.arange(len(lon))[part])
+    def pack_slice(part: slice) -> NDArray[np.uint64]:
+        return pack_keys(cell_keys(lon[part] / UNITS, lat[part] / UNITS, MIN_BAND_HEIGHT), np.arange(len(lon))[part])
 
-    return gathered(by_parts(listed, len(lon)), HEIGHT, 0.001)
+    return build_grid(map_slices(pack_slice, len(lon)), MIN_BAND_HEIGHT, 0.001)
 
 
-def steps_in(edge_begin: NDArray[Any]) -> tuple[NDArray[np.int32], NDArray[np.int32]]:
+def edge_segments(edge_begin: NDArray[Any]) -> tuple[NDArray[np.int32], NDArray[np.int32]]:
     """The first point of each step of the edges, and its edge."""
     counts = np.diff(edge_begin)
     edges = np.repeat(np.arange(len(counts), dtype=np.int32), counts - 1)
@@ -119,53 +119,53 @@ def steps_in(edge_begin: NDArray[Any]) -> tuple[NDArray[np.int32], NDArray[np.in
 
 def edge_grid(points: NDArray[Any], steps: NDArray[np.int32], edges: NDArray[np.int32]) -> Grid:
     """The grid of edges by the middles of pieces of their steps. Raises ValueError where a step leads half round the earth."""
-    lengths = np.concatenate(by_parts(lambda part: angles(*ends_of(points, steps[part])), len(steps)))
+    lengths = np.concatenate(map_slices(lambda part: angles(*segment_ends(points, steps[part])), len(steps)))
     if lengths.max(initial=0) > 3.1:
         raise ValueError("a line leads half round the earth from one point to the next")
-    height = HEIGHT
-    while height < HIGHEST and count_pieces(lengths, height) > 2 * len(steps):
+    height = MIN_BAND_HEIGHT
+    while height < MAX_BAND_HEIGHT and count_pieces(lengths, height) > 2 * len(steps):
         height *= 2
 
-    def listed(part: slice) -> NDArray[np.uint64]:
-        (begins, ends), whole, edge = ends_of(points, steps[part]), lengths[part], edges[part]
-        counts = pieces_of(whole, height)
+    def pack_slice(part: slice) -> NDArray[np.uint64]:
+        (begins, ends), whole, edge = segment_ends(points, steps[part]), lengths[part], edges[part]
+        counts = pieces_per_segment(whole, height)
         shares = np.array([0.5])
         if counts.max(initial=1) > 1:
             row = np.repeat(np.arange(len(counts)), counts)
             place = np.arange(len(row)) - np.repeat(np.cumsum(counts) - counts, counts)
             begins, ends, whole, edge = begins[row], ends[row], whole[row], edge[row]
             shares = (place + 0.5) / counts[row]
-        middles = points_along(begins, ends, shares, whole)
+        middles = interpolate(begins, ends, shares, whole)
         lat = np.degrees(np.arctan2(middles[:, 2], np.hypot(middles[:, 0], middles[:, 1])))
-        found = packed(cells_of(np.degrees(np.arctan2(middles[:, 1], middles[:, 0])), lat, height), edge)
-        different: NDArray[np.uint64] = found[firsts(found)]
+        found = pack_keys(cell_keys(np.degrees(np.arctan2(middles[:, 1], middles[:, 0])), lat, height), edge)
+        different: NDArray[np.uint64] = found[differs_from_previous(found)]
         return different
 
-    return gathered(by_parts(listed, len(steps)), height, margin_of(height))
+    return build_grid(map_slices(pack_slice, len(steps)), height, grid_margin(height))
 
 
-def ends_of(points: NDArray[Any], steps: NDArray[np.int32]) -> tuple[Floats, Floats]:
+def segment_ends(points: NDArray[Any], steps: NDArray[np.int32]) -> tuple[Floats, Floats]:
     """Both ends of steps, which follow one another, on the sphere."""
     if not len(steps):
         return np.empty((0, 3)), np.empty((0, 3))
     first = int(steps[0])
     places = points[first : int(steps[-1]) + 2] / UNITS
-    found = on_sphere(places[:, 0], places[:, 1])
+    found = unit_vectors(places[:, 0], places[:, 1])
     return found[steps - first], found[steps + 1 - first]
 
 
 def count_pieces(lengths: Floats, height: float) -> int:
     """How many pieces there are in all."""
-    return sum(by_parts(lambda part: int(pieces_of(lengths[part], height).sum()), len(lengths)))
+    return sum(map_slices(lambda part: int(pieces_per_segment(lengths[part], height).sum()), len(lengths)))
 
 
-def pieces_of(lengths: Floats, height: float) -> Ints:
+def pieces_per_segment(lengths: Floats, height: float) -> Ints:
     """How many pieces steps of these angles are cut into: each is at most half as long as a band is high."""
     found: Ints = np.maximum(1, np.ceil(lengths / math.radians(height / 2))).astype(np.int64)
     return found
 
 
-def margin_of(height: float) -> float:
+def grid_margin(height: float) -> float:
     """The metres within which an edge's points lie from a middle of its pieces."""
     return EARTH_RADIUS * math.radians(height / 4) + 1.0
 
@@ -173,45 +173,45 @@ def margin_of(height: float) -> float:
 # Maps
 
 
-def wrapped(east: NDArray[Any]) -> NDArray[Any]:
+def wrapped_difference(east: NDArray[Any]) -> NDArray[Any]:
     """Differences of longitudes in units, the shorter way round."""
-    found: NDArray[Any] = (east + ROUND // 2) % ROUND - ROUND // 2
+    found: NDArray[Any] = (east + FULL_CIRCLE // 2) % FULL_CIRCLE - FULL_CIRCLE // 2
     return found
 
 
-def middles_of(points: Any, steps: NDArray[Any]) -> Floats:
+def segment_middles(points: Any, steps: NDArray[Any]) -> Floats:
     """The middles of steps in degrees, in the plane of maps."""
     begins = points[steps].astype(np.int64)
     moves = points[steps + 1] - begins
-    moves[:, 0] = wrapped(moves[:, 0])
+    moves[:, 0] = wrapped_difference(moves[:, 0])
     middles = (begins + moves / 2) / UNITS
     middles[:, 0] = (middles[:, 0] + 180) % 360 - 180
     found: Floats = middles
     return found
 
 
-def levels(arrays: "Arrays", steps: NDArray[np.int32], edges: NDArray[np.int32]) -> Levels:
+def build_zoom_levels(arrays: "Arrays", steps: NDArray[np.int32], edges: NDArray[np.int32]) -> Levels:
     """The levels of all steps; an edge's class is that of one of its arcs."""
     highways, which = np.unique(arrays.row_texts[:, 0], return_inverse=True)
     begins = arrays.text_begin
     texts = [arrays.text_bytes[begins[each] : begins[each + 1]].tobytes().decode() for each in highways.tolist()]
-    kinds = np.array([kind_of(text) for text in texts], dtype=np.uint8)
-    of_edge = np.full(len(arrays.edge_begin) - 1, kind_of(""), dtype=np.uint8)
+    kinds = np.array([road_class(text) for text in texts], dtype=np.uint8)
+    of_edge = np.full(len(arrays.edge_begin) - 1, road_class(""), dtype=np.uint8)
     of_edge[arrays.arc_edge] = kinds[which][arrays.arc_row]
-    return levels_of(lambda part: codes_of(plane_of(middles_of(arrays.points, steps[part]))), of_edge, steps, edges)
+    return sort_by_cell(lambda part: morton_codes(to_mercator(segment_middles(arrays.points, steps[part]))), of_edge, steps, edges)
 
 
-def box_of(points: NDArray[Any]) -> list[int]:
+def bounding_box(points: NDArray[Any]) -> list[int]:
     """West, south, east and north of points in units: the narrowest box, so one across the 180th meridian has its east beyond it."""
     if not len(points):
         return [0, 0, 0, 0]
-    is_there = np.zeros(ROUND // (UNITS // 100) + 1, dtype=bool)
+    is_there = np.zeros(FULL_CIRCLE // (UNITS // 100) + 1, dtype=bool)
     is_there[points[:, 0] // (UNITS // 100) + len(is_there) // 2] = True
     lons = np.flatnonzero(is_there) - len(is_there) // 2
-    gaps = np.diff(np.append(lons, lons[0] + ROUND // (UNITS // 100)))
+    gaps = np.diff(np.append(lons, lons[0] + FULL_CIRCLE // (UNITS // 100)))
     widest = int(np.argmax(gaps))
     south, north = int(points[:, 1].min()), int(points[:, 1].max())
     if widest == len(lons) - 1:
         return [int(points[:, 0].min()), south, int(points[:, 0].max()), north]
     is_east = points[:, 0] >= lons[widest + 1] * (UNITS // 100)
-    return [int(points[is_east, 0].min()), south, int(points[~is_east, 0].max()) + ROUND, north]
+    return [int(points[is_east, 0].min()), south, int(points[~is_east, 0].max()) + FULL_CIRCLE, north]

@@ -8,16 +8,16 @@ import numpy as np
 from numpy.typing import NDArray
 
 from .binary import UNITS
-from .index import wrapped
+from .index import wrapped_difference
 from .legs import Leg
 from .network import Floats
-from .snapping import Roads
+from .snapping import RoadIndex
 from .tables import bearing
 
-SHOWN = 1_000_000
+MICRODEGREES = 1_000_000
 
 # By the unit of weights, how many are a second, or a metre, of an answer.
-UNITS_OF_ANSWERS = {"duration": 1000, "distance": 100}
+UNITS_PER_OUTPUT_UNIT = {"duration": 1000, "distance": 100}
 
 Ints = NDArray[np.int64]
 
@@ -30,10 +30,10 @@ class Figures(TypedDict):
     distance: float
 
 
-class Course:
+class LegGeometry:
     """The points of arc k of the leg are points[begins[k]:begins[k + 1]], in units of a degree. A course has an arc or more."""
 
-    def __init__(self, roads: Roads, leg: Leg) -> None:
+    def __init__(self, roads: RoadIndex, leg: Leg) -> None:
         self.roads, self.leg, arrays = roads, leg, roads.arrays
         self.arcs: Ints = np.array(leg.arcs, dtype=np.int64)
         self.edges = arrays.arc_edge[self.arcs]
@@ -45,33 +45,33 @@ class Course:
         rows = np.arange(self.begins[-1]) * steps.repeat(counts)
         rows += (np.where(is_along, first, behind - 1) - self.begins[:-1] * steps).repeat(counts)
         self.points: Ints = arrays.points[rows].astype(np.int64)
-        self._cut()
+        self._trim_ends()
 
-    def _cut(self) -> None:
+    def _trim_ends(self) -> None:
         """Puts the points of the first and the last arc where the leg has a part of them alone."""
         last = len(self.arcs) - 1
         parts = [(last, 0.0, self.leg.end), (0, self.leg.begin, 1.0)] if last else [(0, self.leg.begin, self.leg.end)]
-        for place, begin, end in parts:
+        for arc_index, begin, end in parts:
             if (begin, end) != (0.0, 1.0):
-                line = self.roads.line(self.leg.arcs[place], begin, end)
+                line = self.roads.line(self.leg.arcs[arc_index], begin, end)
                 units = np.array([(round(lon * UNITS), round(lat * UNITS)) for lon, lat in line])
-                low, high = self.begins[place : place + 2].tolist()
+                low, high = self.begins[arc_index : arc_index + 2].tolist()
                 self.points = np.concatenate((self.points[:low], units, self.points[high:]))
-                self.begins[place + 1 :] += len(line) - (high - low)
+                self.begins[arc_index + 1 :] += len(line) - (high - low)
 
     @functools.cached_property
-    def _shown(self) -> tuple[list[list[float]], list[int], list[int]]:
+    def _rounded_points(self) -> tuple[list[list[float]], list[int], list[int]]:
         """The points to six places, without those that follow themselves, and the places there of the first and last of each arc.
         """
-        shown = (self.points + UNITS // SHOWN // 2) // (UNITS // SHOWN)
+        shown = (self.points + UNITS // MICRODEGREES // 2) // (UNITS // MICRODEGREES)
         is_other = np.ones(len(shown), dtype=bool)
         is_other[1:] = (shown[1:, 0] != shown[:-1, 0]) | (shown[1:, 1] != shown[:-1, 1])
         places = is_other.cumsum() - 1
-        return (shown[is_other] / SHOWN).tolist(), places[self.begins[:-1]].tolist(), places[self.begins[1:] - 1].tolist()
+        return (shown[is_other] / MICRODEGREES).tolist(), places[self.begins[:-1]].tolist(), places[self.begins[1:] - 1].tolist()
 
     def line(self, first: int, last: int) -> list[list[float]]:
         """The points of the arcs from one to before another, to six places, without one that follows itself; two at least."""
-        points, begins, ends = self._shown
+        points, begins, ends = self._rounded_points
         found = points[begins[first] : ends[last - 1] + 1]
         return found if len(found) > 1 else found * 2
 
@@ -81,36 +81,36 @@ class Course:
         begins = np.concatenate((self.begins[:-1], self.begins[1:] - 2))
         places = self.points[begins]
         east, north = (self.points[begins + 1] - places).T
-        ways = wrapped(east) * np.cos(np.radians(places[:, 1] / UNITS))
+        ways = wrapped_difference(east) * np.cos(np.radians(places[:, 1] / UNITS))
         found = (np.rint(np.degrees(np.arctan2(ways, north))) % 360).astype(np.int64)
-        for place in np.flatnonzero((east == 0) & (north == 0)).tolist():
-            found[place] = self._direction(place % len(self.arcs), 1 if place < len(self.arcs) else -1)
+        for index in np.flatnonzero((east == 0) & (north == 0)).tolist():
+            found[index] = self._end_bearing(index % len(self.arcs), 1 if index < len(self.arcs) else -1)
         return found[: len(self.arcs)], found[len(self.arcs) :]
 
-    def _direction(self, place: int, step: int) -> int:
+    def _end_bearing(self, arc_index: int, step: int) -> int:
         """The direction at an end of an arc whose first step there has no length."""
-        line = [(lon / UNITS, lat / UNITS) for lon, lat in self.points[self.begins[place] : self.begins[place + 1]].tolist()]
+        line = [(lon / UNITS, lat / UNITS) for lon, lat in self.points[self.begins[arc_index] : self.begins[arc_index + 1]].tolist()]
         ordered = line[::step]
         other = next((point for point in ordered if point != ordered[0]), ordered[0])
         return bearing(*(ordered[0], other)[::step])
 
     @functools.cached_property
-    def sums(self) -> tuple[list[int], list[float], list[float]]:
+    def prefix_sums(self) -> tuple[list[int], list[float], list[float]]:
         """The weight, seconds and metres before each arc, and of all."""
         weights = list(itertools.accumulate(self.leg.weights, initial=0))
-        seconds, metres = ([0.0, *values.cumsum().tolist()] for values in parts_of(self.roads, self.leg, self.arcs))
+        seconds, metres = ([0.0, *values.cumsum().tolist()] for values in driven_parts(self.roads, self.leg, self.arcs))
         return weights, seconds, metres
 
     def figures(self, first: int, last: int) -> Figures:
         """The weight, seconds and metres of the arcs from one to before another."""
-        weights, seconds, metres = self.sums
-        return figures_of(self.roads, weights[last] - weights[first], seconds[last] - seconds[first], metres[last] - metres[first])
+        weights, seconds, metres = self.prefix_sums
+        return make_totals(self.roads, weights[last] - weights[first], seconds[last] - seconds[first], metres[last] - metres[first])
 
 
-def figures_of(roads: Roads, weight: int, seconds: float, metres: float) -> Figures:
+def make_totals(roads: RoadIndex, weight: int, seconds: float, metres: float) -> Figures:
     """A weight in the unit that answers have, seconds, None where the network has none, and metres; those that weights are follow
     from them."""
-    unit = UNITS_OF_ANSWERS.get(roads.unit, 1)
+    unit = UNITS_PER_OUTPUT_UNIT.get(roads.unit, 1)
     return {
         "weight": weight / unit,
         "duration": round(weight / unit if roads.unit == "duration" else seconds, 3) if roads.has_seconds else None,
@@ -118,20 +118,20 @@ def figures_of(roads: Roads, weight: int, seconds: float, metres: float) -> Figu
     }
 
 
-def course_of(roads: Roads, leg: Leg) -> Course | None:
+def leg_geometry(roads: RoadIndex, leg: Leg) -> LegGeometry | None:
     """The course of a leg; None where it stays at a node."""
-    return Course(roads, leg) if leg.arcs else None
+    return LegGeometry(roads, leg) if leg.arcs else None
 
 
-def leg_figures(roads: Roads, leg: Leg) -> Figures:
+def leg_totals(roads: RoadIndex, leg: Leg) -> Figures:
     """The weight, seconds and metres of a leg."""
     if not leg.arcs:
-        return figures_of(roads, leg.weight, 0.0, 0.0)
-    seconds, metres = (float(values.cumsum()[-1]) for values in parts_of(roads, leg, np.array(leg.arcs)))
-    return figures_of(roads, leg.weight, seconds, metres)
+        return make_totals(roads, leg.weight, 0.0, 0.0)
+    seconds, metres = (float(values.cumsum()[-1]) for values in driven_parts(roads, leg, np.array(leg.arcs)))
+    return make_totals(roads, leg.weight, seconds, metres)
 
 
-def parts_of(roads: Roads, leg: Leg, arcs: Ints) -> tuple[Floats, Floats]:
+def driven_parts(roads: RoadIndex, leg: Leg, arcs: Ints) -> tuple[Floats, Floats]:
     """The seconds and metres of each of the arcs of a leg, as far as it is driven."""
     shares: Floats = np.ones(len(arcs))
     shares[-1] = leg.end

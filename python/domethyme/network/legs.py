@@ -7,8 +7,8 @@ is asked for. So the least of all these is least in the graph that is cut.
 from typing import NamedTuple, Protocol
 
 from ..errors import NetworkError
-from ..lines import Answer
-from .snapping import NONE, Roads, Spot
+from ..lines import RouteReply
+from .snapping import NO_ARC, RoadIndex, SnappedPoint
 
 # Where a way begins or ends: nodes, and the weight and arc that lead there.
 Sides = dict[int, tuple[int, int]]
@@ -17,7 +17,7 @@ Sides = dict[int, tuple[int, int]]
 class Questions(Protocol):
     """What is asked for the ways between nodes, which are numbered from 1."""
 
-    def between(self, exits: Sides, entries: Sides, with_nodes: bool = True) -> Answer | None:
+    def between(self, exits: Sides, entries: Sides, with_nodes: bool = True) -> RouteReply | None:
         """The least way from one of several nodes to one of several, with the weights that lead there, or its length alone."""
 
 
@@ -32,63 +32,63 @@ class Leg(NamedTuple):
     end: float
 
 
-STAYS = Leg(0, [], [], 0.0, 1.0)
+EMPTY_LEG = Leg(0, [], [], 0.0, 1.0)
 
 
-def leg_between(questions: Questions, roads: Roads, start: Spot, end: Spot) -> Leg | None:
+def find_leg(queries: Questions, roads: RoadIndex, start: SnappedPoint, end: SnappedPoint) -> Leg | None:
     """The leg between two points; None where there is no way. Raises NetworkError."""
-    return STAYS if is_at(start, end) else leg_of(roads, start, end, questions.between(start.exits, end.entries))
+    return EMPTY_LEG if is_same_node(start, end) else choose_leg(roads, start, end, queries.between(start.exits, end.entries))
 
 
-def weight_between(questions: Questions, roads: Roads, start: Spot, end: Spot) -> int | None:
+def leg_weight(queries: Questions, roads: RoadIndex, start: SnappedPoint, end: SnappedPoint) -> int | None:
     """The weight of the leg, without its parts; None where there is no way."""
-    if is_at(start, end):
+    if is_same_node(start, end):
         return 0
-    straight, route = along_one_arc(roads, start, end), questions.between(start.exits, end.entries, with_nodes=False)
+    straight, route = leg_on_one_arc(roads, start, end), queries.between(start.exits, end.entries, with_nodes=False)
     weights = [each for each in (straight and straight.weight, route and route.length) if each is not None]
     return min(weights, default=None)
 
 
-def is_at(start: Spot, end: Spot) -> bool:
+def is_same_node(start: SnappedPoint, end: SnappedPoint) -> bool:
     """Whether both are one node, or copies of one."""
     return bool(start.copies) and start.copies == end.copies
 
 
-def leg_of(roads: Roads, start: Spot, end: Spot, route: Answer | None) -> Leg | None:
+def choose_leg(roads: RoadIndex, start: SnappedPoint, end: SnappedPoint, route: RouteReply | None) -> Leg | None:
     """The leg by the least route between the points' nodes, None where there is none; and None where there is no way."""
-    straight = along_one_arc(roads, start, end)
+    straight = leg_on_one_arc(roads, start, end)
     if route is None or straight is not None and straight.weight <= route.length:
         return straight
-    return driven(roads, start, end, route)
+    return leg_via_route(roads, start, end, route)
 
 
-def along_one_arc(roads: Roads, start: Spot, end: Spot) -> Leg | None:
+def leg_on_one_arc(roads: RoadIndex, start: SnappedPoint, end: SnappedPoint) -> Leg | None:
     """The leg on one arc, where both points are on it, and the second not behind the first."""
     if start.copies or end.copies or start.edge != end.edge:
         return None
     found: list[Leg] = []
     for number, arc in roads.edge(start.edge).arcs.items():
-        begin, stop = roads.along(arc, start.fraction), roads.along(arc, end.fraction)
+        begin, stop = roads.arc_fraction(arc, start.fraction), roads.arc_fraction(arc, end.fraction)
         if begin <= stop:
-            weight = roads.before(arc, end.fraction) - roads.before(arc, start.fraction)
+            weight = roads.weight_before(arc, end.fraction) - roads.weight_before(arc, start.fraction)
             found.append(Leg(weight, [number], [weight], begin, stop))
     return min(found, key=lambda leg: leg.weight) if found else None
 
 
-def driven(roads: Roads, start: Spot, end: Spot, route: Answer) -> Leg:
+def leg_via_route(roads: RoadIndex, start: SnappedPoint, end: SnappedPoint, route: RouteReply) -> Leg:
     """The leg of a route between the points' nodes. Raises NetworkError where the network isn't that of the hierarchy."""
     first, last = start.exits[route.source], end.entries[route.target]
     arcs = roads.lightest(route.nodes)
-    if NONE in arcs:
+    if NO_ARC in arcs:
         raise NetworkError("lacks an arc of the hierarchy's graph", roads.arrays.path)
     weights: list[int] = roads.arrays.arc_weight[arcs].tolist() if arcs else []
     begin, stop = 0.0, 1.0
-    if first[1] != NONE:
+    if first[1] != NO_ARC:
         arcs, weights = [first[1], *arcs], [first[0], *weights]
-        begin = roads.along(roads.edge(start.edge).arcs[first[1]], start.fraction)
-    if last[1] != NONE:
+        begin = roads.arc_fraction(roads.edge(start.edge).arcs[first[1]], start.fraction)
+    if last[1] != NO_ARC:
         arcs, weights = [*arcs, last[1]], [*weights, last[0]]
-        stop = roads.along(roads.edge(end.edge).arcs[last[1]], end.fraction)
+        stop = roads.arc_fraction(roads.edge(end.edge).arcs[last[1]], end.fraction)
     if sum(weights) != route.length:
         raise NetworkError("has other weights than the hierarchy's graph", roads.arrays.path)
     return Leg(route.length, arcs, weights, begin, stop)

@@ -9,7 +9,7 @@ Opening looks at the head, the tail and the sizes, whatever the arrays hold: it 
 verified when it is first read in a process, against its checksum and the least and greatest value that its array may have. So no
 byte of a damaged block comes to a caller, and no size in the file takes memory. CRC-32 finds each change of up to 32 bits in a
 row for sure, and others but for one in four milliards; it isn't made against forgery. A file is replaced by a rename: one that is
-written in place is found by its times, where a block is verified and where `unchanged` is called. If it is the same file by its
+written in place is found by its times, where a block is verified and where `check_unchanged` is called. If it is the same file by its
 size and its checksum, as behind `touch` or a backup, all blocks are verified anew as they are read.
 """
 import mmap
@@ -23,7 +23,7 @@ import numpy as np
 from numpy.typing import NDArray
 
 from ..errors import NetworkError, os_reason
-from .threads import by_parts
+from .threads import map_slices
 
 MAGIC = b"\x89DMNET\r\n"
 BLOCK = 1 << 14
@@ -33,7 +33,7 @@ HEAD = np.dtype([
 ])
 
 
-class Kind(NamedTuple):
+class ArraySpec(NamedTuple):
     """What an array of a form has: the kind of its values, and how many are in a row. A row's bytes divide BLOCK."""
 
     values: str
@@ -45,22 +45,22 @@ class Kind(NamedTuple):
         return np.dtype(self.values).itemsize * self.columns
 
 
-Form = Mapping[str, Kind]
+Schema = Mapping[str, ArraySpec]
 
 
-def write(file: IO[bytes], form: Form, version: int, arrays: Iterable[tuple[str, NDArray[Any]]]) -> None:
+def write(file: IO[bytes], form: Schema, version: int, arrays: Iterable[tuple[str, NDArray[Any]]]) -> None:
     """Writes arrays, which come in the form's order, to an empty file that can seek. Each may be dropped when the next is made."""
     file.write(bytes(HEAD.itemsize))
     rows, sums, place = [], [], HEAD.itemsize
-    for (wanted, kind), (name, array) in zip(form.items(), arrays, strict=True):
-        if name != wanted:
-            raise ValueError(f"array {name} comes where {wanted} is next")
+    for (expected, kind), (name, array) in zip(form.items(), arrays, strict=True):
+        if name != expected:
+            raise ValueError(f"array {name} comes where {expected} is next")
         values = np.ascontiguousarray(array, dtype=kind.values)
         if values.shape[1:] != ((kind.columns,) if kind.columns > 1 else ()):
             raise ValueError(f"array {name} has rows of another length")
         rows.append(len(values))
         whole = values.reshape(-1).view(np.uint8)
-        sums += sums_of(whole)
+        sums += checksums(whole)
         place += file.write(whole.data) + file.write(bytes(-len(whole) % ALIGNED))
     tail = np.array(rows, "<u8").tobytes() + np.array(sums, "<u4").tobytes()
     file.write(tail)
@@ -72,34 +72,34 @@ def write(file: IO[bytes], form: Form, version: int, arrays: Iterable[tuple[str,
     file.seek(0, os.SEEK_END)
 
 
-def sums_of(whole: NDArray[np.uint8]) -> list[int]:
+def checksums(whole: NDArray[np.uint8]) -> list[int]:
     """The CRC-32 of each block of bytes."""
     def sums(part: slice) -> list[int]:
         return [zlib.crc32(whole[begin : min(begin + BLOCK, part.stop)].data) for begin in range(part.start, part.stop, BLOCK)]
 
-    return [each for found in by_parts(sums, len(whole), BLOCK << 8) for each in found]
+    return [each for found in map_slices(sums, len(whole), BLOCK << 8) for each in found]
 
 
 class MappedFile:
     """A file of arrays that is mapped. `columns` are by the names of its form, and `sum` changes with what is in them. Raises
     NetworkError for one that can't be read, has another form, or is damaged in its head or tail."""
 
-    def __init__(self, file: IO[bytes], path: str, forms: Mapping[int, Form], remedy: str) -> None:
+    def __init__(self, file: IO[bytes], path: str, forms: Mapping[int, Schema], remedy: str) -> None:
         """`forms` are those of the versions that are read."""
         self.path, self.remedy, self._forms = path, remedy, forms
         # a descriptor of its own, by which `unchanged` looks at the file that is mapped, whatever has its name
         self._file = os.dup(file.fileno())
         weakref.finalize(self, os.close, self._file)
         try:
-            self._state = self._now()
+            self._state = self._stat()
             if self._state[0] < HEAD.itemsize:
-                raise self.damaged("it is too short")
+                raise self.damaged_error("it is too short")
             self._bytes = np.frombuffer(mmap.mmap(self._file, 0, prot=mmap.PROT_READ), np.uint8)
         except OSError as error:
             raise NetworkError(os_reason(error), path) from error
-        self.columns = self._columns(self._tail())
+        self.columns = self._read_columns(self._read_head())
 
-    def _now(self) -> tuple[int, int, int]:
+    def _stat(self) -> tuple[int, int, int]:
         found = os.fstat(self._file)
         return found.st_size, found.st_mtime_ns, found.st_ino
 
@@ -109,10 +109,10 @@ class MappedFile:
             for column in self.columns.values():
                 column.verify()
 
-    def unchanged(self) -> None:
+    def check_unchanged(self) -> None:
         """Raises NetworkError where another file was written into this one after it was opened. Where its times alone differ, blocks
         are verified anew."""
-        now = self._now()
+        now = self._stat()
         if now == self._state:
             return
         if now[0] != self._state[0] or self._sum_now() != self.sum:
@@ -128,10 +128,10 @@ class MappedFile:
         head["sum"] = 0
         return said if zlib.crc32(self._bytes[tail:].data, zlib.crc32(head.tobytes())) == said else -1
 
-    def damaged(self, problem: str) -> NetworkError:
+    def damaged_error(self, problem: str) -> NetworkError:
         return NetworkError(f"is damaged: {problem}; {self.remedy}", self.path)
 
-    def _tail(self) -> int:
+    def _read_head(self) -> int:
         """Looks at the head and the tail's checksum. Returns where the tail begins."""
         head = self._bytes[: HEAD.itemsize].copy().view(HEAD)
         found, size = head[0], len(self._bytes)
@@ -143,13 +143,13 @@ class MappedFile:
         self._form = self._forms[int(found["version"])]
         count, tail = len(self._form), int(found["tail"])
         if found["size"] != size or found["arrays"] != count or not HEAD.itemsize <= tail <= size - 8 * count:
-            raise self.damaged("its size isn't the one that it was written with")
+            raise self.damaged_error("its size isn't the one that it was written with")
         self.sum = int(found["sum"])
         if self._sum_now() != self.sum:
-            raise self.damaged("its head or tail has another checksum")
+            raise self.damaged_error("its head or tail has another checksum")
         return tail
 
-    def _columns(self, tail: int) -> "dict[str, Column]":
+    def _read_columns(self, tail: int) -> "dict[str, Column]":
         """The columns, by the sizes in the tail."""
         count = len(self._form)
         rows = [int(number) for number in self._bytes[tail : tail + 8 * count].copy().view("<u8")]
@@ -158,13 +158,13 @@ class MappedFile:
             size = length * kind.row
             blocks = -(-size // BLOCK)
             if place + size > tail or begin + 4 * blocks > len(self._bytes):
-                raise self.damaged(f"{name} is longer than the file")
+                raise self.damaged_error(f"{name} is longer than the file")
             values = self._bytes[place : place + size].view(kind.values)
             sums = self._bytes[begin : begin + 4 * blocks].view("<u4")
             found[name] = Column(self, name, values.reshape(-1, kind.columns) if kind.columns > 1 else values, sums)
             place, begin = place + size + -size % ALIGNED, begin + 4 * blocks
         if (place, begin) != (tail, len(self._bytes)):
-            raise self.damaged("its arrays don't fill it")
+            raise self.damaged_error("its arrays don't fill it")
         return found
 
 
@@ -179,11 +179,11 @@ class Column:
     def __init__(self, file: MappedFile, name: str, values: NDArray[Any], sums: NDArray[np.uint32]) -> None:
         self.low: float | None = None
         self.high: float | None = None
-        self.rise: int | None = None
+        self.min_step: int | None = None
         self._file, self._name, self._values, self._sums = file, name, values, sums
-        self._good = np.zeros(len(sums), dtype=bool)
+        self._verified = np.zeros(len(sums), dtype=bool)
         self._shift = (BLOCK // (values.itemsize * (values.shape[1] if values.ndim > 1 else 1))).bit_length() - 1
-        self._is_whole = not len(sums)
+        self._all_verified = not len(sums)
 
     def __len__(self) -> int:
         return len(self._values)
@@ -201,21 +201,21 @@ class Column:
 
     def forget(self) -> None:
         """Has all blocks verified anew."""
-        self._good[:], self._is_whole = False, not len(self._sums)
+        self._verified[:], self._all_verified = False, not len(self._sums)
 
     def verify(self) -> None:
         """Verifies all blocks that aren't yet."""
         self._verify_rows(slice(None))
 
     def __getitem__(self, index: Any) -> Any:
-        if not self._is_whole:
+        if not self._all_verified:
             self._verify_rows(index[0] if isinstance(index, tuple) else index)
         return self._values[index]
 
     def _verify_rows(self, rows: Any) -> None:
         """Verifies the blocks of the rows that an index takes."""
         if type(rows) is int and 0 <= rows < len(self._values):
-            if not self._good[rows >> self._shift]:
+            if not self._verified[rows >> self._shift]:
                 self._verify(np.array([rows >> self._shift]))
             return
         if isinstance(rows, slice):
@@ -223,8 +223,8 @@ class Column:
             low, high = (begin, end) if step > 0 else (end + 1, begin + 1)
             if low < high:
                 first, last = low >> self._shift, (high - 1 >> self._shift) + 1
-                self._verify(np.flatnonzero(~self._good[first:last]) + first)
-                self._is_whole = (first, last) == (0, len(self._sums)) or self._is_whole
+                self._verify(np.flatnonzero(~self._verified[first:last]) + first)
+                self._all_verified = (first, last) == (0, len(self._sums)) or self._all_verified
             return
         numbers = np.asarray(rows)
         if numbers.dtype == bool:
@@ -233,21 +233,21 @@ class Column:
             blocks = numbers >> self._shift
             if blocks.min() < 0:
                 raise IndexError(f"{self._name} has no rows below 0")
-            is_good = self._good[blocks]
+            is_good = self._verified[blocks]
             if not is_good.all():
                 self._verify(np.unique(blocks[~is_good]))
 
     def _verify(self, blocks: NDArray[Any]) -> None:
         if len(blocks):
-            self._file.unchanged()
+            self._file.check_unchanged()
         for block in blocks.tolist():
             part = self._values[block << self._shift : block + 1 << self._shift]
             if zlib.crc32(part.data) != self._sums[block]:
-                raise self._file.damaged(f"{self._name} has another checksum")
+                raise self._file.damaged_error(f"{self._name} has another checksum")
             if self.low is not None and not (part.min() >= self.low and part.max() <= self.high):
-                raise self._file.damaged(f"{self._name} isn't from {self.low:g} to {self.high:g}")
-            if self.rise is not None:
+                raise self._file.damaged_error(f"{self._name} isn't from {self.low:g} to {self.high:g}")
+            if self.min_step is not None:
                 more = self._values[block << self._shift : (block + 1 << self._shift) + 1]
-                if (np.diff(more) < self.rise).any():
-                    raise self._file.damaged(f"{self._name} has wrong offsets")
-            self._good[block] = True
+                if (np.diff(more) < self.min_step).any():
+                    raise self._file.damaged_error(f"{self._name} has wrong offsets")
+            self._verified[block] = True

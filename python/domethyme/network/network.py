@@ -12,17 +12,17 @@ from .. import belonging
 from ..errors import NetworkError
 from ..extras import need
 from ..hierarchy import Route, Rows
-from ..keys import Keys, key_of
+from ..keys import Keys, parse_key
 from ..links import Links
 from ..program import StrPath
 from ..routes import Routes
-from ..texts import plain
+from ..texts import unescape_formula
 from . import binary, index, own
 from .binary import NO_OSM, UNITS
 from .grid import Grid
-from .sphere import Floats as Floats, metres, on_sphere
+from .sphere import Floats as Floats, great_circle_metres, unit_vectors
 from .tables import (
-    ALL_ARC_COLUMNS, ARC_COLUMNS, ENDS, KEY, NODE_COLUMNS, Files, Point, Side, arcs_file, arcs_in, arrays_at, geometry_of,
+    ALL_ARC_COLUMNS, ARC_COLUMNS, ENDS, KEY, NODE_COLUMNS, Files, Point, Side, arcs_file, arcs_from_net, mapped_if_current, to_geojson_geometry,
     has_columns, is_coordinates, need_nodes, read_nodes,
 )
 
@@ -61,7 +61,7 @@ class Network:
         if column is not None and column not in ("osm", KEY):
             return Keys.read(self._files.nodes, column)
         if column != "osm" and (keys := self._places.keys()):
-            return Keys([key_of(key) for key in keys])
+            return Keys([parse_key(key) for key in keys])
         osm = [None if each == NO_OSM else each for each in self._places.osm[:].tolist()]
         if all(each is None for each in osm):
             raise NetworkError("its nodes have no keys: they are in the column node, or osm, of the table of nodes", self.prefix)
@@ -81,7 +81,7 @@ class Network:
         ends = np.array(ENDS, dtype=object)[self._arrays.node_ends[:]]
         columns = {"osm": osm, "lon": self.lon, "lat": self.lat, "ends": ends}
         if keys := self._arrays.keys():
-            columns[KEY] = np.array([key_of(key) for key in keys], dtype=object)
+            columns[KEY] = np.array([parse_key(key) for key in keys], dtype=object)
         return pandas.DataFrame(columns).rename_axis("node")
 
     def arcs_frame(self) -> Any:
@@ -92,9 +92,9 @@ class Network:
         if has_columns(self._files.arcs, ARC_COLUMNS) and has_columns(self._files.nodes, NODE_COLUMNS):
             frame = pandas.read_csv(self._files.arcs, keep_default_na=False)
             texts = [name for name in frame.columns if frame[name].dtype == object]
-            frame = frame.assign(**{name: frame[name].map(plain) for name in texts})
+            frame = frame.assign(**{name: frame[name].map(unescape_formula) for name in texts})
         else:
-            rows = [(*arc[:8], *arc[9:], arc.wkt) for arc in arcs_in(self._arrays)]
+            rows = [(*arc[:8], *arc[9:], arc.wkt) for arc in arcs_from_net(self._arrays)]
             frame = pandas.DataFrame(rows, columns=list(ALL_ARC_COLUMNS))
         return frame.assign(**{end: frame[end] - 1 for end in ("from", "to")})
 
@@ -111,8 +111,8 @@ class Network:
         if not (np.isfinite(east).all() and np.isfinite(north).all()):
             raise ValueError("lon and lat have to be numbers of degrees")
         if (np.abs(east) > 180).any() or (np.abs(north) > 90).any():
-            raise ValueError("lon has to be from -180 to 180 and lat from -90 to 90: are they swapped?")
-        nodes, away = self._places.at(east.ravel(), north.ravel(), "to" if end else "from")
+            raise ValueError("lon has to be from -180 to 180 and lat from -90 to 90: are they in each other's place?")
+        nodes, away = self._places.nearest(east.ravel(), north.ravel(), "to" if end else "from")
         if east.ndim == 0:
             return int(nodes[0]), float(away[0])
         return nodes.reshape(east.shape), away.reshape(east.shape)
@@ -124,7 +124,7 @@ class Network:
         geometry, and all but the pair are None. From a node to the next a route takes the lightest arc. Raises NetworkError
         where the network lacks an arc, or where weights don't sum to a length: then it is another network's.
         """
-        return {"type": "FeatureCollection", "features": [self._feature(*each) for each in each_of(routes)]}
+        return {"type": "FeatureCollection", "features": [self._feature(*each) for each in iter_routes(routes)]}
 
     def line(self, nodes: "list[int]") -> list[Point]:
         """The points (lon, lat) along the arcs from each of these nodes, from 0, to the next: two or more."""
@@ -147,7 +147,7 @@ class Network:
             ways = [sum(values[arcs].tolist()) if arcs else 0.0 for values in (arrays.arc_seconds, arrays.arc_metres)]
             seconds = round(ways[0], 3) if arrays.has_seconds else None
             properties.update(length=length, arcs=len(arcs), seconds=seconds, metres=round(ways[1], 2))
-            geometry = geometry_of(self.line(numbers))
+            geometry = to_geojson_geometry(self.line(numbers))
         return {"type": "Feature", "properties": properties, "geometry": geometry}
 
     def _arcs(self, nodes: "list[int]") -> list[int]:
@@ -170,15 +170,15 @@ class Network:
             belonging.need_nodes(name, Links.of(file, name).nodes, self.prefix, len(self._places.lon))
 
     @functools.cached_property
-    def _arrays(self) -> binary.Mapped:
-        return own.network_of(self.prefix)
+    def _arrays(self) -> binary.MappedNetwork:
+        return own.load_network_or_dimacs(self.prefix)
 
     @functools.cached_property
-    def _places(self) -> "NodePlaces":
-        return places_of_nodes(self.prefix)
+    def _places(self) -> "NodeIndex":
+        return load_node_index(self.prefix)
 
 
-class NodePlaces:
+class NodeIndex:
     """Where the nodes of a network lie, for look-ups by place. Nodes are counted from 0.
 
     osm, lon, lat, ends   of each node, as binary.Arrays has them: arrays, or columns of a file
@@ -186,66 +186,66 @@ class NodePlaces:
     """
 
     def __init__(
-        self, osm: Any, lon: Any, lat: Any, ends: Any, grid: Grid, path: StrPath, of: binary.Mapped | Sequence[str] = ()
+        self, osm: Any, lon: Any, lat: Any, ends: Any, grid: Grid, path: StrPath, of: binary.MappedNetwork | Sequence[str] = ()
     ) -> None:
         """`of` is the network's file, or where the nodes are of a table or of a DIMACS file alone the keys that they have."""
         self.osm, self.lon, self.lat, self.ends, self._grid, self._path = osm, lon, lat, ends, grid, path
         self._of = of
 
     @classmethod
-    def of(cls, arrays: binary.Mapped) -> "NodePlaces":
+    def of(cls, arrays: binary.MappedNetwork) -> "NodeIndex":
         """Those of a mapped file."""
         return cls(arrays.node_osm, arrays.node_lon, arrays.node_lat, arrays.node_ends, arrays.node_grid, arrays.path, arrays)
 
     def origin(self, name: str) -> belonging.Origin:
         """What pairs of these nodes say of their network, whose name is given."""
-        return belonging.Origin(name, len(self.lon), len(self._of.arc_from) if isinstance(self._of, binary.Mapped) else None)
+        return belonging.Origin(name, len(self.lon), len(self._of.arc_from) if isinstance(self._of, binary.MappedNetwork) else None)
 
     def keys(self) -> Sequence[str]:
         """The keys of the nodes, none where they have none."""
-        return self._of.keys() if isinstance(self._of, binary.Mapped) else self._of
+        return self._of.keys() if isinstance(self._of, binary.MappedNetwork) else self._of
 
-    def at(self, lon: Floats, lat: Floats, side: Side) -> tuple[NDArray[np.int64], Floats]:
+    def nearest(self, lon: Floats, lat: Floats, side: Side) -> tuple[NDArray[np.int64], Floats]:
         """The nearest node to each place in degrees, from 0, of those where routes may begin (`from`) or end (`to`), and the metres
         to it. Raises NetworkError where there is none."""
-        places = on_sphere(lon, lat)
+        places = unit_vectors(lon, lat)
 
         def away(rows: NDArray[np.int64], nodes: NDArray[np.int64]) -> Floats:
-            there = on_sphere(self.lon[nodes] / UNITS, self.lat[nodes] / UNITS)
+            there = unit_vectors(self.lon[nodes] / UNITS, self.lat[nodes] / UNITS)
             ends = self.ends[nodes]
-            return np.where((ends == 0) | (ends == ENDS.index(side)), metres(places[rows], there), np.inf)
+            return np.where((ends == 0) | (ends == ENDS.index(side)), great_circle_metres(places[rows], there), np.inf)
 
-        nodes, found = self._grid.nearest_of_each(lon, lat, away)
+        nodes, found = self._grid.nearest_batch(lon, lat, away)
         if (nodes < 0).any():
             raise NetworkError("has no nodes", self._path)
         return nodes, found
 
-    def copies(self, node: int) -> tuple[int, ...]:
+    def split_nodes(self, node: int) -> tuple[int, ...]:
         """The nodes that turn restrictions made of the junction of a node: it alone where they made none."""
         if not self.ends[node]:
             return (node,)
         place = int(self.lon[node]), int(self.lat[node])
         found = {node}
-        for part in self._grid.near((place[0] / UNITS, place[1] / UNITS), 0.1):
+        for part in self._grid.candidates((place[0] / UNITS, place[1] / UNITS), 0.1):
             here = part[(self.lon[part] == place[0]) & (self.lat[part] == place[1]) & (self.ends[part] != 0)]
             found.update(here[self.osm[here] == self.osm[node]].tolist())
         return tuple(sorted(found))
 
 
-def places_of_nodes(word: StrPath) -> NodePlaces:
+def load_node_index(word: StrPath) -> NodeIndex:
     """The nodes of a network, of its file or of its table alone, or of a DIMACS .co file."""
     path = need_nodes(word)
-    arrays = None if is_coordinates(word) else arrays_at(os.fspath(word))
+    arrays = None if is_coordinates(word) else mapped_if_current(os.fspath(word))
     if arrays is not None:
-        return NodePlaces.of(arrays)
+        return NodeIndex.of(arrays)
     nodes = read_nodes(path)
-    lon, lat = binary.units(nodes.lon, 180), binary.units(nodes.lat, 90)
+    lon, lat = binary.to_units(nodes.lon, 180), binary.to_units(nodes.lat, 90)
     ends = np.array([ENDS.index(each) for each in nodes.ends], dtype=np.uint8)
     osm = np.array([NO_OSM if each is None else each for each in nodes.osm], dtype=np.int64)
-    return NodePlaces(osm, lon, lat, ends, index.node_grid(lon, lat), path, nodes.keys)
+    return NodeIndex(osm, lon, lat, ends, index.node_grid(lon, lat), path, nodes.keys)
 
 
-def each_of(routes: "Route | Routes") -> Iterator[tuple[tuple[Any, Any], int | None, list[int], bool]]:
+def iter_routes(routes: "Route | Routes") -> Iterator[tuple[tuple[Any, Any], int | None, list[int], bool]]:
     """For each route its ends, its length or None, its nodes from 0, and whether the length is that of its arcs alone."""
     if isinstance(routes, Route):
         yield (routes.source, routes.target), routes.length, routes.numbers, False

@@ -28,12 +28,12 @@ from numpy.typing import NDArray
 
 from ..errors import NetworkError
 from ..program import StrPath
-from ..texts import HEAVIEST, MOST_LINES, MOST_NODES, number, read_graph, reading, shown, table, whole_number
-from .binary import NO_OSM, TEXTS, UNITS, VERSION, Arrays, Mapped, arrays_of, encoded, in_memory, units, wrong
+from ..texts import MAX_WEIGHT, MOST_LINES, MOST_NODES, parse_float, read_graph, open_input, excerpt, open_table, parse_int
+from .binary import NO_OSM, TEXTS, UNITS, VERSION, Arrays, MappedNetwork, load_network, encoded, map_tempfile, to_units, find_inconsistency
 from .columns import OF_ARCS, OF_NODES, Say, take_columns
-from .index import rows_of_texts
-from .sphere import metres, on_sphere
-from .tables import ENDS, graph_of, is_coordinates, points_of, read_coordinates
+from .index import unique_text_rows
+from .sphere import great_circle_metres, unit_vectors
+from .tables import ENDS, graph_of, is_coordinates, parse_linestring, read_coordinates
 
 Ints = NDArray[np.int64]
 BLOCK = 1 << 24
@@ -64,11 +64,11 @@ class Nodes(NamedTuple):
         if self.rows is None:
             if self.columns and not name.lstrip("+-").isdecimal():
                 why = f"{self.path} has no column node, so its nodes are numbered by rows; its columns are {', '.join(self.columns)}"
-                raise NetworkError(f"{column} {shown(name)} is no number, and {why}", path, row)
-            return whole_number(name, column, path, row, 1, len(self.osm))
+                raise NetworkError(f"{column} {excerpt(name)} is no number, and {why}", path, row)
+            return parse_int(name, column, path, row, 1, len(self.osm))
         found = self.rows.get(name)
         if found is None:
-            raise NetworkError(f"{column} {shown(name)} isn't in {self.path}", path, row)
+            raise NetworkError(f"{column} {excerpt(name)} isn't in {self.path}", path, row)
         return found
 
 
@@ -95,29 +95,29 @@ def nothing(_line: str) -> None:
 def read_nodes(path: StrPath, say: Say = nothing) -> Nodes:
     """The nodes of a table, or of a .co file; `say` gets a line for what may be meant otherwise. Raises NetworkError."""
     if is_coordinates(path):
-        places = coordinates(path)
+        places = read_co(path)
         return Nodes(np.full(len(places), NO_OSM), places, np.zeros(len(places), np.uint8), None)
     osm, ends, degrees = array.array("q"), array.array("B"), array.array("d")
     rows: dict[str, int] = {}
     keys: dict[str, int] = {}
-    with table(path, ()) as lines:
+    with open_table(path, ()) as lines:
         take_columns(lines, OF_NODES, ("lon", "lat"), say)
         is_named, columns = "node" in lines.columns, lines.columns
         named = [(name, into) for name, into in (("node", rows), ("key", keys)) if name in columns]
         for row, fields in lines:
             for column, most in (("lon", 180), ("lat", 90)):
-                degrees.append(number(fields[column], column, path, row, -most, most))
-            osm.append(whole_number(fields["osm"], "osm", path, row, LEAST_ID, GREATEST_ID) if fields.get("osm") else NO_OSM)
+                degrees.append(parse_float(fields[column], column, path, row, -most, most))
+            osm.append(parse_int(fields["osm"], "osm", path, row, LEAST_ID, GREATEST_ID) if fields.get("osm") else NO_OSM)
             if (end := fields.get("ends", "")) not in ENDS:
-                raise NetworkError(f"ends {shown(end)} is none of from, to, no", path, row)
+                raise NetworkError(f"ends {excerpt(end)} is none of from, to, no", path, row)
             ends.append(ENDS.index(end))
             for name, into in named:
                 if into.setdefault(fields[name], len(osm)) != len(osm):
-                    raise NetworkError(f"{name} {shown(fields[name])} comes twice", path, row)
+                    raise NetworkError(f"{name} {excerpt(fields[name])} comes twice", path, row)
     if not len(osm) or len(osm) > MOST_NODES:
         raise NetworkError(f"has {len(osm)} nodes, and a network has from 1 to {MOST_NODES}", path)
     lon, lat = np.array(degrees).reshape(-1, 2).T
-    places = np.column_stack((units(lon, 180), units(lat, 90)))
+    places = np.column_stack((to_units(lon, 180), to_units(lat, 90)))
     told = keys or rows
     shown_keys = () if all(name == str(row) for name, row in told.items()) else list(told)
     return Nodes(
@@ -129,19 +129,19 @@ def read_arcs(path: StrPath, nodes: Nodes, weight: str = "time", say: Say = noth
     """The arcs of a table, or of a .gr file. Those without a weight have milliseconds (`time`) or centimetres (`length`). `say` gets a
     line for what may be meant otherwise. Raises NetworkError."""
     if os.fspath(path).endswith((".gr", ".gr.gz")):
-        return straight(*graph(path, len(nodes.osm)), nodes)
+        return straight_arcs(*read_gr(path, len(nodes.osm)), nodes)
     numbers = array.array("q")  # (of an arc five: from, to, way, row of texts, row of the table)
     figures = array.array("d")  # (weight, seconds, metres, km/h, where NaN is none)
-    lines = Lines(nodes)
+    lines = LineBuilder(nodes)
     known: dict[tuple[str, ...], int] = {}
-    with table(path, ()) as rows:
+    with open_table(path, ()) as rows:
         take_columns(rows, OF_ARCS, ("from", "to"), say)
         for row, fields in rows:
             start, end = (nodes.number(fields[side], side, path, row) for side in ("from", "to"))
             texts = tuple(fields.get(name, "") for name in TEXTS)
-            osm = whole_number(fields["osm"], "osm", path, row, LEAST_ID, GREATEST_ID) if fields.get("osm") else 0
+            osm = parse_int(fields["osm"], "osm", path, row, LEAST_ID, GREATEST_ID) if fields.get("osm") else 0
             more = osm, known.setdefault(texts, len(known)), row
-            line, values = lines.of(start, end, fields.get("wkt", ""), path, row), figures_of(fields, weight, path, row)
+            line, values = lines.of(start, end, fields.get("wkt", ""), path, row), arc_values(fields, weight, path, row)
             is_along, is_back = directions_of(fields, path, row)
             for ends, points in [((start, end), line)] * is_along + [((end, start), line[::-1])] * is_back:
                 numbers.extend((*ends, *more))
@@ -150,17 +150,17 @@ def read_arcs(path: StrPath, nodes: Nodes, weight: str = "time", say: Say = noth
     starts, stops, osm_ids, of_texts, of_rows = np.array(numbers, dtype=np.int64).reshape(-1, 5).T.copy()
     if not len(starts) or len(starts) > MOST_LINES:
         raise NetworkError(f"has {len(starts)} arcs, and a network has from 1 to {MOST_LINES}", path)
-    weights, seconds, ways, speeds = np.array(figures).reshape(-1, 4).T.copy()
-    begins, points_of_lines = lines.done()
-    doubt_lengths(ways, nodes.places[starts - 1], nodes.places[stops - 1], path, say)
-    ways = np.where(np.isnan(ways), np.round(lengths_of(begins, points_of_lines), 2), ways)
-    seconds = np.where(np.isnan(seconds), np.nan_to_num(np.round(ways * 3.6 / speeds, 3)), seconds)
-    own = np.maximum(1, np.round(1000 * seconds if weight == "time" else 100 * ways))
-    whole = np.where(np.isnan(weights), own, weights)
-    if whole.max() > HEAVIEST:
-        raise NetworkError(f"would weigh more than {HEAVIEST}", path, int(of_rows[whole.argmax()]))
-    doubt_seconds(weights, seconds, ways, weight, path, say)
-    return Arcs(starts, stops, whole.astype(np.int64), seconds, ways, osm_ids, of_texts, list(known), begins, points_of_lines)
+    weights, seconds, lengths, speeds = np.array(figures).reshape(-1, 4).T.copy()
+    begins, points_of_lines = lines.build()
+    doubt_lengths(lengths, nodes.places[starts - 1], nodes.places[stops - 1], path, say)
+    lengths = np.where(np.isnan(lengths), np.round(line_metres(begins, points_of_lines), 2), lengths)
+    seconds = np.where(np.isnan(seconds), np.nan_to_num(np.round(lengths * 3.6 / speeds, 3)), seconds)
+    derived = np.maximum(1, np.round(1000 * seconds if weight == "time" else 100 * lengths))
+    whole = np.where(np.isnan(weights), derived, weights)
+    if whole.max() > MAX_WEIGHT:
+        raise NetworkError(f"would weigh more than {MAX_WEIGHT}", path, int(of_rows[whole.argmax()]))
+    doubt_seconds(weights, seconds, lengths, weight, path, say)
+    return Arcs(starts, stops, whole.astype(np.int64), seconds, lengths, osm_ids, of_texts, list(known), begins, points_of_lines)
 
 
 def directions_of(fields: dict[str, str], path: StrPath, row: int) -> tuple[bool, bool]:
@@ -169,7 +169,7 @@ def directions_of(fields: dict[str, str], path: StrPath, row: int) -> tuple[bool
         return ALONG
     text = fields["oneway"].strip().lower()
     if text not in ONE_WAY and text not in TWO_WAYS:
-        raise NetworkError(f"oneway {shown(text)} is none of 1, yes, -1, 0, no", path, row)
+        raise NetworkError(f"oneway {excerpt(text)} is none of 1, yes, -1, 0, no", path, row)
     return ONE_WAY.get(text, BOTH)
 
 
@@ -177,7 +177,7 @@ def doubt_lengths(ways: NDArray[np.float64], begins: NDArray[np.int32], ends: ND
     """Says how many of the metres that are given are less than the straight line."""
     given = np.flatnonzero(~np.isnan(ways))
     both = (places[given].T / UNITS for places in (begins, ends))
-    straight_ways = metres(*(on_sphere(lon, lat) for lon, lat in both))
+    straight_ways = great_circle_metres(*(unit_vectors(lon, lat) for lon, lat in both))
     if count := int(np.count_nonzero(ways[given] < SHORTER * straight_ways - 1)):
         say(f"{path}: metres of {count} arcs are less than the straight line: are they km?")
 
@@ -192,21 +192,21 @@ def doubt_seconds(
         say(f"{path}: {count} arcs take 0 seconds, and weigh 1")
 
 
-def figures_of(fields: dict[str, str], weight: str, path: StrPath, row: int) -> tuple[float, float, float, float]:
+def arc_values(fields: dict[str, str], weight: str, path: StrPath, row: int) -> tuple[float, float, float, float]:
     """The weight, seconds, metres and km/h of an arc; NaN where there are none."""
-    own = float(whole_number(fields["weight"], "weight", path, row)) if fields.get("weight") else np.nan
-    seconds, ways, long_ways, speed = (
-        number(fields[name], name, path, row, 0, 1e12) if fields.get(name) else np.nan for name in ("seconds", "metres", "km", "kmh")
+    own = float(parse_int(fields["weight"], "weight", path, row)) if fields.get("weight") else np.nan
+    seconds, length, long_ways, speed = (
+        parse_float(fields[name], name, path, row, 0, 1e12) if fields.get(name) else np.nan for name in ("seconds", "metres", "km", "kmh")
     )
-    ways = 1000 * long_ways if np.isnan(ways) else ways
+    length = 1000 * long_ways if np.isnan(length) else length
     if speed == 0:
         raise NetworkError("kmh is 0", path, row)
     if np.isnan(own) and weight == "time" and np.isnan(seconds) and np.isnan(speed):
         raise NetworkError("has none of weight, seconds and kmh (with --weight length the metres are taken)", path, row)
-    return own, seconds, ways, speed
+    return own, seconds, length, speed
 
 
-class Lines:
+class LineBuilder:
     """The lines of arcs, one after the other."""
 
     def __init__(self, nodes: Nodes) -> None:
@@ -219,10 +219,10 @@ class Lines:
         ends = self._places[[start - 1, end - 1]]
         if not wkt:
             return ends
-        places = np.array(points_of(wkt, path, row))
+        places = np.array(parse_linestring(wkt, path, row))
         if not (np.isfinite(places).all() and (np.abs(places) <= (180, 90)).all()):
-            raise NetworkError(f"WKT {shown(wkt)} has what are no degrees", path, row)
-        away = metres(on_sphere(*places[[0, -1]].T), on_sphere(*(ends / UNITS).T))
+            raise NetworkError(f"WKT {excerpt(wkt)} has what are no degrees", path, row)
+        away = great_circle_metres(unit_vectors(*places[[0, -1]].T), unit_vectors(*(ends / UNITS).T))
         if away.max() > FARTHEST_END:
             raise NetworkError(f"its line ends {away.max():,.0f} m from its node: are from and to swapped?", path, row)
         line: NDArray[np.int32] = np.round(places * UNITS).astype(np.int32)
@@ -233,36 +233,36 @@ class Lines:
         self._points.frombytes(np.ascontiguousarray(line, dtype=np.int32).tobytes())
         self._begins.append(len(self._points) // 2)
 
-    def done(self) -> tuple[Ints, NDArray[np.int32]]:
+    def build(self) -> tuple[Ints, NDArray[np.int32]]:
         """Where each line begins, and the end; and the points."""
         return np.array(self._begins, dtype=np.int64), np.array(self._points, dtype=np.int32).reshape(-1, 2)
 
 
-def lengths_of(begins: Ints, points: NDArray[np.int32]) -> NDArray[np.float64]:
+def line_metres(begins: Ints, points: NDArray[np.int32]) -> NDArray[np.float64]:
     """The metres of lines along great circles."""
-    sphere = on_sphere(points[:, 0] / UNITS, points[:, 1] / UNITS)
-    sums = np.append(0.0, np.cumsum(metres(sphere[:-1], sphere[1:])))
+    sphere = unit_vectors(points[:, 0] / UNITS, points[:, 1] / UNITS)
+    sums = np.append(0.0, np.cumsum(great_circle_metres(sphere[:-1], sphere[1:])))
     # (what leads from a line's end to the next line's beginning is in none of the differences)
     found: NDArray[np.float64] = sums[begins[1:] - 1] - sums[begins[:-1]]
     return found
 
 
-def straight(starts: Ints, ends: Ints, weights: Ints, nodes: Nodes) -> Arcs:
+def straight_arcs(starts: Ints, ends: Ints, weights: Ints, nodes: Nodes) -> Arcs:
     """Arcs that lead straight from node to node, without a way, a name and seconds."""
     points = np.stack((nodes.places[starts - 1], nodes.places[ends - 1]), axis=1).reshape(-1, 2)
-    ways = np.empty(len(starts))
+    lengths = np.empty(len(starts))
     for low in range(0, len(starts), 1 << 20):
         part = points[2 * low : 2 * (low + (1 << 20))] / UNITS
-        sphere = on_sphere(part[:, 0], part[:, 1])
-        ways[low : low + (1 << 20)] = np.round(metres(sphere[::2], sphere[1::2]), 2)
+        sphere = unit_vectors(part[:, 0], part[:, 1])
+        lengths[low : low + (1 << 20)] = np.round(great_circle_metres(sphere[::2], sphere[1::2]), 2)
     nothing = np.zeros(len(starts), np.int64)
     begins = np.arange(0, 2 * len(starts) + 1, 2)
-    return Arcs(starts, ends, weights, np.zeros(len(starts)), ways, nothing, nothing, [("",) * len(TEXTS)], begins, points)
+    return Arcs(starts, ends, weights, np.zeros(len(starts)), lengths, nothing, nothing, [("",) * len(TEXTS)], begins, points)
 
 
-def arrays_by(nodes: Nodes, arcs: Arcs, attribution: str = "", sizes: tuple[int, int] = (0, 0)) -> Arrays:
+def build_arrays(nodes: Nodes, arcs: Arcs, attribution: str = "", sizes: tuple[int, int] = (0, 0)) -> Arrays:
     """The network of nodes and arcs. Raises ValueError where they don't fit together."""
-    edge, is_along, first, backward = edges_of(arcs)
+    edge, is_along, first, backward = edges_from_arcs(arcs)
     counts = np.diff(arcs.begins)[first]
     which = np.repeat(np.arange(len(first)), counts)
     place = np.arange(len(which)) - np.repeat(np.cumsum(counts) - counts, counts)
@@ -270,19 +270,19 @@ def arrays_by(nodes: Nodes, arcs: Arcs, attribution: str = "", sizes: tuple[int,
     names: dict[str, int] = {}
     texts = np.array([[names.setdefault(text, len(names) + 1) for text in row] for row in arcs.texts], dtype=np.int32)
     listed, keys = encoded(attribution, names, nodes.keys)
-    row_texts, row = rows_of_texts(texts, arcs.row)
+    row_texts, row = unique_text_rows(texts, arcs.row)
     found = Arrays(
         np.array([VERSION]), np.array(sizes), nodes.osm, nodes.places[:, 0].copy(), nodes.places[:, 1].copy(), nodes.ends,
         arcs.starts.astype(np.int32), arcs.ends.astype(np.int32), arcs.weights, arcs.seconds, arcs.metres, arcs.osm,
         row, edge, is_along, row_texts, np.append(0, np.cumsum(counts)), arcs.points[rows],
         np.cumsum([0, *map(len, listed)], dtype=np.int64), np.frombuffer(b"".join(listed), dtype=np.uint8), keys,
     )
-    if problem := wrong(found):
+    if problem := find_inconsistency(found):
         raise ValueError(problem)
     return found
 
 
-def edges_of(arcs: Arcs) -> tuple[NDArray[np.int32], NDArray[np.bool_], Ints, NDArray[np.bool_]]:
+def edges_from_arcs(arcs: Arcs) -> tuple[NDArray[np.int32], NDArray[np.bool_], Ints, NDArray[np.bool_]]:
     """The edge of each arc and whether it leads along it; and for each edge its first arc and whether its line is that arc's
     backward. Lines of a way that are equal, in either direction, are one edge."""
     first, last = arcs.begins[:-1], arcs.begins[1:] - 1
@@ -314,21 +314,21 @@ def edges_of(arcs: Arcs) -> tuple[NDArray[np.int32], NDArray[np.bool_], Ints, ND
 # Files of the DIMACS challenge
 
 
-def network_of(word: StrPath) -> Mapped:
+def load_network_or_dimacs(word: StrPath) -> MappedNetwork:
     """The network that a tool's word NETWORK names: its files, or X.gr and X.co where it is X.co. Raises NetworkError."""
     if not is_coordinates(word):
-        return arrays_of(os.fspath(word))
+        return load_network(os.fspath(word))
     nodes = read_nodes(word)
     arcs = read_arcs(graph_of(word), nodes)
     try:
-        return in_memory(arrays_by(nodes, arcs), os.fspath(word))
+        return map_tempfile(build_arrays(nodes, arcs), os.fspath(word))
     except ValueError as error:
         raise NetworkError(str(error), word) from error
 
 
-def coordinates(path: StrPath) -> NDArray[np.int32]:
+def read_co(path: StrPath) -> NDArray[np.int32]:
     """The places of a .co file in units."""
-    found = quick_rows(path, b"p aux sp co ", b"v", 3)
+    found = read_rows_fast(path, b"p aux sp co ", b"v", 3)
     if found is not None:
         count, rows = found
         is_each = len(rows) == count and (np.sort(rows[:, 0]) == np.arange(1, count + 1)).all()
@@ -337,17 +337,17 @@ def coordinates(path: StrPath) -> NDArray[np.int32]:
             places[rows[:, 0] - 1] = rows[:, 1:] * (UNITS // 1_000_000)
             return places
     nodes = read_coordinates(path)
-    return np.column_stack((units(nodes.lon, 180), units(nodes.lat, 90)))
+    return np.column_stack((to_units(nodes.lon, 180), to_units(nodes.lat, 90)))
 
 
-def graph(path: StrPath, nodes: int) -> tuple[Ints, Ints, Ints]:
+def read_gr(path: StrPath, nodes: int) -> tuple[Ints, Ints, Ints]:
     """The arcs of a .gr file with so many nodes: starts, ends and weights."""
-    found = quick_rows(path, b"p sp %d " % nodes, b"a", 3)
+    found = read_rows_fast(path, b"p sp %d " % nodes, b"a", 3)
     if found is not None:
         count, rows = found
         starts, ends, weights = rows.T.copy()
         has_nodes = 1 <= rows[:, :2].min(initial=1) <= rows[:, :2].max(initial=1) <= nodes
-        if len(rows) == count and has_nodes and 0 <= weights.min(initial=0) <= weights.max(initial=0) <= HEAVIEST:
+        if len(rows) == count and has_nodes and 0 <= weights.min(initial=0) <= weights.max(initial=0) <= MAX_WEIGHT:
             return starts, ends, weights
     read = read_graph(path)
     if read.nodes != nodes:
@@ -356,20 +356,20 @@ def graph(path: StrPath, nodes: int) -> tuple[Ints, Ints, Ints]:
     return starts, ends, weights
 
 
-def quick_rows(path: StrPath, problem: bytes, letter: bytes, columns: int) -> tuple[int, Ints] | None:
+def read_rows_fast(path: StrPath, problem: bytes, letter: bytes, columns: int) -> tuple[int, Ints] | None:
     """The number at the end of the problem line, and the numbers of the lines that begin with a letter; None for a file with anything
     else behind its first comments, which is for the reader that knows what is wrong."""
     parts: list[Ints] = []
-    with reading(path) as stream:
+    with open_input(path) as stream:
         line = stream.readline()
         while line.startswith(b"c") or line == b"\n":
             line = stream.readline()
         if not line.startswith(problem) or not line[len(problem) :].strip().isdigit():
             return None
-        for block in blocks_of(stream):
+        for block in iter_blocks(stream):
             lines = block.count(b"\n")
             text = (b"\n" + block).replace(b"\n" + letter + b" ", b"\n")
-            if len(text) != len(block) + 1 - 2 * lines or not has_fields(text, columns):
+            if len(text) != len(block) + 1 - 2 * lines or not rows_are_regular(text, columns):
                 return None
             with warnings.catch_warnings():
                 warnings.simplefilter("error")
@@ -383,7 +383,7 @@ def quick_rows(path: StrPath, problem: bytes, letter: bytes, columns: int) -> tu
     return int(line[len(problem) :]), np.concatenate([np.empty(0, np.int64), *parts]).reshape(-1, columns)
 
 
-def has_fields(text: bytes, count: int) -> bool:
+def rows_are_regular(text: bytes, count: int) -> bool:
     """Whether the lines behind a first line feed are all so many numbers with a blank between any two, as far as their signs show."""
     signs = text.count(b"-") - text.count(b" -") - text.count(b"\n-")
     if signs or text.translate(None, b"-0123456789 \n"):
@@ -394,7 +394,7 @@ def has_fields(text: bytes, count: int) -> bool:
     return len(marks) % count == 0 and bool((marks.reshape(-1, count) == pattern).all())
 
 
-def blocks_of(stream: Any) -> Iterator[bytes]:
+def iter_blocks(stream: Any) -> Iterator[bytes]:
     """The rest of a stream in blocks of whole lines."""
     rest = b""
     while part := stream.read(BLOCK):

@@ -13,15 +13,15 @@ Line = list[list[float]]
 SHIFTS = np.arange(0, 40, 5)
 
 
-def array_of(points: Iterable[list[float]]) -> Floats:
+def points_array(points: Iterable[list[float]]) -> Floats:
     """Points as an array of shape (count, 2)."""
     return np.fromiter(itertools.chain.from_iterable(points), np.float64).reshape(-1, 2)
 
 
-def encoded(lines: Sequence[Line], digits: int) -> list[str]:
+def encode_polylines(lines: Sequence[Line], digits: int) -> list[str]:
     """The polylines of lines of points (lon, lat), with so many digits behind the point. Many short ones take little longer than
     one of all their points."""
-    whole = np.rint(array_of(itertools.chain.from_iterable(lines))[:, ::-1] * 10**digits).astype(np.int64)
+    whole = np.rint(points_array(itertools.chain.from_iterable(lines))[:, ::-1] * 10**digits).astype(np.int64)
     counts = [len(line) for line in lines]
     ends = np.cumsum(counts)
     begins = ends - counts
@@ -30,17 +30,17 @@ def encoded(lines: Sequence[Line], digits: int) -> list[str]:
     steps[begins] = whole[begins]
     values = steps.ravel()
     rest = np.where(values < 0, ~(values << 1), values << 1)[:, None] >> SHIFTS
-    is_sign = rest > 0
-    is_sign[:, 0] = True
-    has_more = np.zeros_like(is_sign)
+    is_character = rest > 0
+    is_character[:, 0] = True
+    has_more = np.zeros_like(is_character)
     has_more[:, :-1] = rest[:, 1:] > 0
-    signs = (rest & 0x1F) + 63 + 0x20 * has_more
-    text = signs[is_sign].astype(np.uint8).tobytes().decode("ascii")
-    cuts = np.cumsum(is_sign.sum(axis=1))[2 * ends - 1].tolist()
+    characters = (rest & 0x1F) + 63 + 0x20 * has_more
+    text = characters[is_character].astype(np.uint8).tobytes().decode("ascii")
+    cuts = np.cumsum(is_character.sum(axis=1))[2 * ends - 1].tolist()
     return [text[begin:end] for begin, end in zip([0, *cuts], cuts)]
 
 
-def decoded(text: str, digits: int) -> list[Point]:
+def decode_polyline(text: str, digits: int) -> list[Point]:
     """The points of a polyline. Raises ValueError for what is none."""
     numbers: list[int] = []
     value = shift = 0

@@ -13,12 +13,12 @@ from typing import NamedTuple, Protocol
 import numpy as np
 from numpy.typing import NDArray
 
-from .binary import UNITS, Mapped
-from .grid import Grid, Ints, ranges
-from .index import wrapped
+from .binary import UNITS, MappedNetwork
+from .grid import Grid, Ints, concat_ranges
+from .index import wrapped_difference
 from .own import FARTHEST_END
-from .sphere import Floats, metres, on_sphere
-from .tables import EARTH_RADIUS, Point, parted
+from .sphere import Floats, great_circle_metres, unit_vectors
+from .tables import EARTH_RADIUS, Point, split_at_antimeridian
 
 METRES_OF_DEGREE = EARTH_RADIUS * np.pi / 180
 # Edges that are worked on together.
@@ -53,7 +53,7 @@ class Plane(NamedTuple):
 
     def of(self, points: NDArray[np.int32]) -> Floats:
         """The points in units, of shape (points, 2), in the plane. The 180th meridian is no border there."""
-        away = wrapped(points[:, 0].astype(np.int64) - self.origin)
+        away = wrapped_difference(points[:, 0].astype(np.int64) - self.origin)
         return np.column_stack((away * (self.east / UNITS), points[:, 1] * (METRES_OF_DEGREE / UNITS)))
 
     def degrees(self, points: Floats) -> Floats:
@@ -171,12 +171,7 @@ class Reach:
     """
 
     def __init__(
-        self,
-        network: Mapped,
-        lengths: Ints,
-        limits: Sequence[int],
-        places: Sequence[PlaceOnRoad] = (),
-        towards: bool = False,
+        self, network: MappedNetwork, lengths: Ints, limits: Sequence[int], places: Sequence[PlaceOnRoad] = (), towards: bool = False,
     ) -> None:
         """Raises ValueError for arguments that don't fit, and NetworkError if the network's file is damaged.
 
@@ -209,8 +204,8 @@ class Reach:
         firsts = network.edge_begin[np.array([place.edge for place in self._places], dtype=np.int64)]
         points = np.concatenate((self._units_of(self._reached), network.points[firsts]))
         first = int(points[0, 0])
-        away = wrapped(points[:, 0].astype(np.int64) - first)
-        middle = int(wrapped(np.array([first + (int(away.min()) + int(away.max())) // 2]))[0])
+        away = wrapped_difference(points[:, 0].astype(np.int64) - first)
+        middle = int(wrapped_difference(np.array([first + (int(away.min()) + int(away.max())) // 2]))[0])
         lat = (int(points[:, 1].min()) + int(points[:, 1].max())) / 2 / UNITS
         self.plane = Plane(middle, METRES_OF_DEGREE * max(float(np.cos(np.radians(lat))), 0.01))
 
@@ -268,8 +263,8 @@ class Reach:
         middle = self.plane.degrees(np.array([[(box.west + box.east) / 2, (box.south + box.north) / 2]]))
         lon, lat = (middle[:, 0] + 180) % 360 - 180, np.clip(middle[:, 1], -90, 90)
         corners = self.plane.degrees(np.array([(x, y) for x in (box.west, box.east) for y in (box.south, box.north)]))
-        far = metres(on_sphere(corners[:, 0], np.clip(corners[:, 1], -90, 90)), on_sphere(lon, lat))
-        _, begins, ends = grid.slices(lon, lat, far.max(keepdims=True) + 1.0)
+        far = great_circle_metres(unit_vectors(corners[:, 0], np.clip(corners[:, 1], -90, 90)), unit_vectors(lon, lat))
+        _, begins, ends = grid.candidate_slices(lon, lat, far.max(keepdims=True) + 1.0)
         is_near = np.zeros(count, dtype=bool)
         for begin, end in zip(begins.tolist(), ends.tolist()):
             is_near[grid.things[begin:end]] = True
@@ -296,7 +291,7 @@ class Reach:
         network = self.network
         begins = network.edge_first[edges]
         counts = network.edge_first[edges + 1] - begins
-        _, places = ranges(begins, counts)
+        _, places = concat_ranges(begins, counts)
         arcs = network.edge_arcs[places]
         lengths = self._lengths[(network.arc_to if self.towards else network.arc_from)[arcs] - 1]
         weights, is_first = network.arc_weight[arcs], network.arc_along[arcs] != self.towards
@@ -331,11 +326,11 @@ class Reach:
     def vertices(self, edges: Ints) -> Vertices:
         """The points of edges."""
         begins = self.network.edge_begin[edges]
-        rows, places = ranges(begins, self.network.edge_begin[edges + 1] - begins)
+        rows, places = concat_ranges(begins, self.network.edge_begin[edges + 1] - begins)
         points = self.network.points[places]
         is_last = np.append(rows[1:] != rows[:-1], True)[: len(rows)]
-        sphere = on_sphere(points[:, 0] / UNITS, points[:, 1] / UNITS)
-        steps = metres(sphere[:-1], sphere[1:])
+        sphere = unit_vectors(points[:, 0] / UNITS, points[:, 1] / UNITS)
+        steps = great_circle_metres(sphere[:-1], sphere[1:])
         steps[is_last[:-1]] = 0.0
         along = np.append(0.0, np.cumsum(steps))[: len(rows)]
         first, last = (np.flatnonzero(each) for each in (np.append(True, is_last[:-1])[: len(rows)], is_last))
@@ -356,7 +351,7 @@ class Reach:
         chosen = np.unique(rows)
         vertices, rows = self.vertices(edges[chosen]), np.searchsorted(chosen, rows)
         counts = np.bincount(vertices.rows)
-        which, places = ranges((counts.cumsum() - counts)[rows], counts[rows])
+        which, places = concat_ranges((counts.cumsum() - counts)[rows], counts[rows])
         is_inner = (lows[which] < vertices.shares[places]) & (vertices.shares[places] < highs[which])
         which, places = which[is_inner], places[is_inner]
         lines, every = np.arange(len(rows)), np.concatenate((lows, vertices.shares[places], highs))
@@ -369,5 +364,5 @@ class Reach:
         shown[:, 0] = ((shown[:, 0] + 180) % 360 - 180).round(DECIMALS)
         for each in np.split(shown, np.flatnonzero(np.diff(line)) + 1):
             if len(each) > 1:
-                for part in parted([(lon, lat) for lon, lat in each.tolist()]):
+                for part in split_at_antimeridian([(lon, lat) for lon, lat in each.tolist()]):
                     yield [(lon, round(lat, DECIMALS)) for lon, lat in part]

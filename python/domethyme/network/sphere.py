@@ -11,10 +11,10 @@ from .tables import EARTH_RADIUS, Point
 
 Floats = NDArray[np.float64]
 # The cosine of the angle, of some 12 km, within which a plane stands for the earth.
-NEAR = math.cos(0.002)
+COS_FLAT = math.cos(0.002)
 
 
-def on_sphere(lon: ArrayLike, lat: ArrayLike) -> Floats:
+def unit_vectors(lon: ArrayLike, lat: ArrayLike) -> Floats:
     """The point of each place in degrees, of shape (places, 3)."""
     east, north = np.radians(lon), np.radians(lat)
     away = np.cos(north)
@@ -30,12 +30,12 @@ def angles(begins: Floats, ends: Floats) -> Floats:
     return found
 
 
-def metres(begins: Floats, ends: Floats) -> Floats:
+def great_circle_metres(begins: Floats, ends: Floats) -> Floats:
     """The metres between points along the earth."""
     return EARTH_RADIUS * angles(begins, ends)
 
 
-def points_along(begins: Floats, ends: Floats, shares: Floats, whole: Floats | None = None) -> Floats:
+def interpolate(begins: Floats, ends: Floats, shares: Floats, whole: Floats | None = None) -> Floats:
     """The points at shares, from 0 to 1, of the ways from points to others; `whole` are the angles between these, where they are
     known."""
     whole = angles(begins, ends) if whole is None else whole
@@ -46,13 +46,13 @@ def points_along(begins: Floats, ends: Floats, shares: Floats, whole: Floats | N
     return found
 
 
-def between(begin: Point, end: Point, share: float) -> Point:
+def interpolate_one(begin: Point, end: Point, share: float) -> Point:
     """The place at a share of the way from a place to another."""
     if share <= 0.0 or begin == end:
         return begin
     if share >= 1.0:
         return end
-    one, other = point_of(*begin), point_of(*end)
+    one, other = unit_vector(*begin), unit_vector(*end)
     whole = 2 * math.asin(min(1.0, math.dist(one, other) / 2))
     least = max(math.sin(whole), 1e-300)
     before = math.sin((1 - share) * whole) / least if whole else 1 - share
@@ -61,14 +61,14 @@ def between(begin: Point, end: Point, share: float) -> Point:
     return math.degrees(math.atan2(y, x)), math.degrees(math.atan2(z, math.hypot(x, y)))
 
 
-def point_of(lon: float, lat: float) -> tuple[float, float, float]:
+def unit_vector(lon: float, lat: float) -> tuple[float, float, float]:
     """The point of one place in degrees. For a single one it takes a tenth of what arrays do."""
     east, north = math.radians(lon), math.radians(lat)
     away = math.cos(north)
     return away * math.cos(east), away * math.sin(east), math.sin(north)
 
 
-def seen_from(place: Floats, points: Floats) -> tuple[Floats, Floats, Floats]:
+def local_components(place: Floats, points: Floats) -> tuple[Floats, Floats, Floats]:
     """How far to the east, to the north and up points lie from the earth's centre, by the directions at a place. They have the shape
     (.., 2), in degrees; the place is one, or one for each of the last axis of points."""
     here, there = np.radians(place), np.radians(points)
@@ -79,16 +79,16 @@ def seen_from(place: Floats, points: Floats) -> tuple[Floats, Floats, Floats]:
     return cosine[..., 1] * sine[..., 0], away * sine[..., 1] - up * ahead, up * sine[..., 1] + away * ahead
 
 
-def nearest_on(place: Floats, ways: Floats) -> tuple[Floats, Floats]:
+def nearest_on_segments(place: Floats, ways: Floats) -> tuple[Floats, Floats]:
     """The nearest point on each way from a point to another: the metres to it from a place, or from one for each way, and the share of
     the way that lies before it. Ways have the shape (2, ways, 2): beginnings and ends, in degrees.
 
     Near the place that is looked for in the plane that touches the earth there, to which points come along lines from its centre: ways
     are straight there, and the nearest point is the nearest on the earth. A share is right to 4 millionths then.
     """
-    east, north, up = seen_from(place, ways)
-    if up.min() < NEAR:
-        return nearest_on_far(on_sphere(place[..., 0], place[..., 1]), *on_sphere(ways[..., 0], ways[..., 1]))
+    east, north, up = local_components(place, ways)
+    if up.min() < COS_FLAT:
+        return nearest_on_segments_far(unit_vectors(place[..., 0], place[..., 1]), *unit_vectors(ways[..., 0], ways[..., 1]))
     (x, other_x), (y, other_y) = east / up, north / up
     step_x, step_y = other_x - x, other_y - y
     squares = np.maximum(step_x * step_x + step_y * step_y, 1e-300)
@@ -96,7 +96,7 @@ def nearest_on(place: Floats, ways: Floats) -> tuple[Floats, Floats]:
     return EARTH_RADIUS * np.arctan(np.hypot(x + step_x * shares, y + step_y * shares)), shares
 
 
-def nearest_on_far(point: Floats, begins: Floats, ends: Floats) -> tuple[Floats, Floats]:
+def nearest_on_segments_far(point: Floats, begins: Floats, ends: Floats) -> tuple[Floats, Floats]:
     """The same for ways anywhere. All is reckoned from differences to the ways' beginnings, which are exact to nanometres."""
     steps, aside = ends - begins, point - begins
     # the direction at the beginning: the step without its part towards the centre

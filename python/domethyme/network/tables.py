@@ -44,7 +44,7 @@ from typing import IO, TYPE_CHECKING, Any, Literal, NamedTuple
 from ..errors import NetworkError
 from ..program import StrPath
 from ..texts import (
-    MOST_NODES, dimacs_lines, number, problem_number, read_graph, reading, safe, shown, table, whole_number
+    MOST_NODES, dimacs_lines, parse_float, parse_problem_line, read_graph, open_input, escape_formula, excerpt, open_table, parse_int
 )
 
 if TYPE_CHECKING:
@@ -66,7 +66,7 @@ WGS_84 = (
     'GEOGCS["WGS 84",DATUM["WGS_1984",SPHEROID["WGS 84",6378137,298.257223563]],PRIMEM["Greenwich",0],'
     'UNIT["degree",0.0174532925199433],AUTHORITY["EPSG","4326"]]'
 )
-WRONG_ENDINGS = {
+WRONG_SUFFIXES = {
     ".gr": "is a graph: name the network by the beginning of its files' names, {0}, or a file of coordinates, {0}.co",
     ".rch": "is a hierarchy: name the network by the beginning of its files' names",
     ".nodes.csv": "name the network by the beginning of its files' names, {0}",
@@ -163,16 +163,16 @@ class Arc(NamedTuple):
     structure: str = ""
 
 
-def refuse_wrong_endings(word: StrPath) -> None:
+def reject_wrong_suffix(word: StrPath) -> None:
     """Raises NetworkError where a tool's word NETWORK is one of the files of a network, or another file."""
-    for ending, says in WRONG_ENDINGS.items():
+    for ending, says in WRONG_SUFFIXES.items():
         if os.fspath(word).endswith(ending):
             raise NetworkError(says.format(os.fspath(word).removesuffix(ending)), word)
 
 
 def nodes_file(word: StrPath) -> str:
     """The path of the nodes that a tool's word NETWORK names: a DIMACS .co file, or else the network's .nodes.csv."""
-    refuse_wrong_endings(word)
+    reject_wrong_suffix(word)
     return os.fspath(word) if is_coordinates(word) else Files(word).nodes
 
 
@@ -189,11 +189,11 @@ def read_nodes(path: StrPath) -> Nodes:
     ending."""
     if is_coordinates(path):
         return read_coordinates(path)
-    arrays = arrays_at(os.fspath(path).removesuffix(".nodes.csv")) if str(path).endswith(".nodes.csv") else None
-    return read_node_table(path) if arrays is None else nodes_of(arrays)
+    arrays = mapped_if_current(os.fspath(path).removesuffix(".nodes.csv")) if str(path).endswith(".nodes.csv") else None
+    return read_node_table(path) if arrays is None else nodes_from_net(arrays)
 
 
-def arrays_at(prefix: str) -> "binary.Mapped | None":
+def mapped_if_current(prefix: str) -> "binary.MappedNetwork | None":
     """A network's mapped file, where it is current and there is numpy."""
     try:
         from . import binary
@@ -202,7 +202,7 @@ def arrays_at(prefix: str) -> "binary.Mapped | None":
     return binary.read(Files(prefix).binary) if binary.is_current(prefix) else None
 
 
-def nodes_of(arrays: "binary.Mapped") -> Nodes:
+def nodes_from_net(arrays: "binary.MappedNetwork") -> Nodes:
     """The nodes of a mapped file, as those of the table."""
     from .binary import NO_OSM, UNITS
 
@@ -211,7 +211,7 @@ def nodes_of(arrays: "binary.Mapped") -> Nodes:
     return Nodes(osm, lon, lat, [ENDS[place] for place in arrays.node_ends[:].tolist()], arrays.keys() or ())
 
 
-def arcs_in(arrays: "binary.Mapped") -> Iterator[Arc]:
+def arcs_from_net(arrays: "binary.MappedNetwork") -> Iterator[Arc]:
     """The arcs of a mapped file, as those of the table."""
     for begin in range(0, len(arrays.arc_from), CHUNK):
         part = slice(begin, begin + CHUNK)
@@ -221,25 +221,25 @@ def arcs_in(arrays: "binary.Mapped") -> Iterator[Arc]:
         rows = zip(*(values[part].tolist() for values in figures))
         for place, (start, end, weight, seconds, metres, osm, row) in enumerate(rows, begin):
             highway, name, ref, junction, destination, structure = (arrays.texts[text] for text in row)
-            line = wkt_of(arrays.line(place))
+            line = format_linestring(arrays.line(place))
             yield Arc(start, end, weight, seconds, metres, osm, highway, name, line, ref, junction, destination, structure)
 
 
 def read_node_table(path: StrPath) -> Nodes:
     keys: list[str] = []
     nodes = Nodes([], [], [], [])
-    with table(path, NODE_COLUMNS) as rows:
+    with open_table(path, NODE_COLUMNS) as rows:
         for row, fields in rows:
             expected = len(nodes.lon) + 1
             if fields["node"] != str(expected):
-                raise NetworkError(f"has node {shown(fields['node'])} where node {expected} comes next", path, row)
+                raise NetworkError(f"has node {excerpt(fields['node'])} where node {expected} comes next", path, row)
             osm = fields["osm"]
-            nodes.osm.append(whole_number(osm, "osm", path, row, -(1 << 63), (1 << 63) - 1) if osm else None)
-            nodes.lon.append(number(fields["lon"], "lon", path, row, -180, 180))
-            nodes.lat.append(number(fields["lat"], "lat", path, row, -90, 90))
+            nodes.osm.append(parse_int(osm, "osm", path, row, -(1 << 63), (1 << 63) - 1) if osm else None)
+            nodes.lon.append(parse_float(fields["lon"], "lon", path, row, -180, 180))
+            nodes.lat.append(parse_float(fields["lat"], "lat", path, row, -90, 90))
             nodes.ends.append(fields.get("ends", ""))
             if nodes.ends[-1] not in ENDS:
-                raise NetworkError(f"ends {shown(nodes.ends[-1])} is none of from, to, no", path, row)
+                raise NetworkError(f"ends {excerpt(nodes.ends[-1])} is none of from, to, no", path, row)
             if KEY in fields:
                 keys.append(fields[KEY])
     return nodes._replace(keys=keys or ())
@@ -249,15 +249,15 @@ def read_coordinates(path: StrPath) -> Nodes:
     """The nodes of a DIMACS .co file: `p aux sp co N`, and `v NODE X Y` in millionths of a degree, in any order."""
     lon: list[float | None] | None = None
     lat: list[float | None] = []
-    with reading(path) as stream:
+    with open_input(path) as stream:
         for row, fields in dimacs_lines(path, stream):
             if fields[0] == b"p" and lon is None:
-                count = problem_number(fields, (b"aux", b"sp", b"co"), path, row, MOST_NODES)
+                count = parse_problem_line(fields, (b"aux", b"sp", b"co"), path, row, MOST_NODES)
                 lon, lat = [None] * count, [None] * count
             elif fields[0] == b"v" and lon is not None and len(fields) == 4:
-                place = whole_number(fields[1], "node", path, row, 1, len(lon)) - 1
-                lon[place] = whole_number(fields[2], "x", path, row, -180_000_000, 180_000_000) / 1e6
-                lat[place] = whole_number(fields[3], "y", path, row, -90_000_000, 90_000_000) / 1e6
+                place = parse_int(fields[1], "node", path, row, 1, len(lon)) - 1
+                lon[place] = parse_int(fields[2], "x", path, row, -180_000_000, 180_000_000) / 1e6
+                lat[place] = parse_int(fields[3], "y", path, row, -90_000_000, 90_000_000) / 1e6
             else:
                 missing = " before the line `p aux sp co N`" if lon is None else ""
                 raise NetworkError(f"is no line of coordinates{missing}", path, row)
@@ -274,27 +274,27 @@ def write_nodes(file: IO[str], nodes: Nodes) -> None:
     """Writes a .nodes.csv file: degrees to the seventh place, as OpenStreetMap has them."""
     rows = csv.writer(file, lineterminator="\n")
     rows.writerow((*ALL_NODE_COLUMNS, KEY) if nodes.keys else ALL_NODE_COLUMNS)
-    keys = ((safe(key),) for key in nodes.keys) if nodes.keys else itertools.repeat(())
+    keys = ((escape_formula(key),) for key in nodes.keys) if nodes.keys else itertools.repeat(())
     for node, ((osm, lon, lat, ends), key) in enumerate(zip(zip(*nodes[:4]), keys), 1):
         rows.writerow((node, "" if osm is None else osm, f"{lon:.7f}", f"{lat:.7f}", ends, *key))
 
 
 def read_arcs(path: StrPath) -> Iterator[Arc]:
     """The arcs of a .arcs.csv file, one after the other."""
-    return (arc for _, arc in rows_of_arcs(path))
+    return (arc for _, arc in iter_arc_rows(path))
 
 
-def rows_of_arcs(path: StrPath, nodes: int = MOST_NODES) -> Iterator[tuple[int, Arc]]:
+def iter_arc_rows(path: StrPath, nodes: int = MOST_NODES) -> Iterator[tuple[int, Arc]]:
     """The arcs of a .arcs.csv file between nodes from 1 to `nodes`, with their rows."""
-    with table(path, ARC_COLUMNS) as rows:
+    with open_table(path, ARC_COLUMNS) as rows:
         for row, fields in rows:
             yield row, Arc(
-                whole_number(fields["from"], "from", path, row, 1, nodes),
-                whole_number(fields["to"], "to", path, row, 1, nodes),
-                whole_number(fields["weight"], "weight", path, row),
-                number(fields["seconds"], "seconds", path, row, 0),
-                number(fields["metres"], "metres", path, row, 0),
-                whole_number(fields["osm"], "osm", path, row, -(1 << 63), (1 << 63) - 1),
+                parse_int(fields["from"], "from", path, row, 1, nodes),
+                parse_int(fields["to"], "to", path, row, 1, nodes),
+                parse_int(fields["weight"], "weight", path, row),
+                parse_float(fields["seconds"], "seconds", path, row, 0),
+                parse_float(fields["metres"], "metres", path, row, 0),
+                parse_int(fields["osm"], "osm", path, row, -(1 << 63), (1 << 63) - 1),
                 fields["highway"],
                 fields["name"],
                 fields["WKT"],
@@ -307,8 +307,8 @@ def arcs_of(word: StrPath) -> Iterator[Arc]:
     lines, without a way, a name and seconds."""
     if not is_coordinates(word):
         path = arcs_file(word)
-        arrays = arrays_at(os.fspath(word))
-        yield from read_arcs(path) if arrays is None else arcs_in(arrays)
+        arrays = mapped_if_current(os.fspath(word))
+        yield from read_arcs(path) if arrays is None else arcs_from_net(arrays)
         return
     nodes, graph = read_nodes(word), read_graph(graph_of(word))
     if len(nodes.lon) != graph.nodes:
@@ -316,12 +316,12 @@ def arcs_of(word: StrPath) -> Iterator[Arc]:
     places = list(zip(nodes.lon, nodes.lat))
     for start, end, weight in zip(graph.starts, graph.ends, graph.weights):
         line = [places[start - 1], places[end - 1]]
-        yield Arc(start, end, weight, 0.0, metres_between(*line[0], *line[1]), 0, "", "", wkt_of(line))
+        yield Arc(start, end, weight, 0.0, metres_between(*line[0], *line[1]), 0, "", "", format_linestring(line))
 
 
 def arcs_file(word: StrPath) -> str:
     """The file that the arcs of a tool's word NETWORK are read from."""
-    refuse_wrong_endings(word)
+    reject_wrong_suffix(word)
     return graph_of(word) if is_coordinates(word) else Files(word).arcs
 
 
@@ -331,7 +331,7 @@ def write_arcs(file: IO[str], arcs: Iterable[Arc]) -> None:
     rows.writerow(ALL_ARC_COLUMNS)
     for arc in arcs:
         figures = f"{arc.seconds:.3f}", f"{arc.metres:.2f}"
-        rows.writerow((*arc[:3], *figures, arc.osm, *map(safe, (arc.highway, arc.name, *arc[9:])), arc.wkt))
+        rows.writerow((*arc[:3], *figures, arc.osm, *map(escape_formula, (arc.highway, arc.name, *arc[9:])), arc.wkt))
 
 
 def lightest(arcs: Iterable[Arc]) -> dict[tuple[int, int], Arc]:
@@ -344,7 +344,7 @@ def lightest(arcs: Iterable[Arc]) -> dict[tuple[int, int], Arc]:
     return best
 
 
-def points_of(wkt: str, path: StrPath | None = None, row: int | None = None) -> list[Point]:
+def parse_linestring(wkt: str, path: StrPath | None = None, row: int | None = None) -> list[Point]:
     """The points of a text `LINESTRING (LON LAT, LON LAT, ..)`: two or more pairs of degrees."""
     head, _, rest = wkt.partition("(")
     body, closed, tail = rest.partition(")")
@@ -353,16 +353,16 @@ def points_of(wkt: str, path: StrPath | None = None, row: int | None = None) -> 
     except ValueError:
         points = []
     if head.strip().upper() != "LINESTRING" or not closed or tail.strip() or len(points) < 2:
-        raise NetworkError(f"WKT {shown(wkt)} is no line", path, row)
+        raise NetworkError(f"WKT {excerpt(wkt)} is no line", path, row)
     return points
 
 
-def wkt_of(points: Iterable[Point]) -> str:
+def format_linestring(points: Iterable[Point]) -> str:
     """The text of a line through two or more points (lon, lat), to the seventh place."""
     return "LINESTRING (" + ", ".join(f"{lon:.7f} {lat:.7f}" for lon, lat in points) + ")"
 
 
-def parted(line: Sequence[Point]) -> list[list[Point]]:
+def split_at_antimeridian(line: Sequence[Point]) -> list[list[Point]]:
     """A line in parts none of which crosses the 180th meridian, as GeoJSON wants them (RFC 7946, 3.1.9): where it does, one part ends
     there and the next begins on the other side. There is one of two points at least."""
     parts = [[line[0]]]
@@ -378,24 +378,24 @@ def parted(line: Sequence[Point]) -> list[list[Point]]:
     return found or [list(line)]
 
 
-def geometry_of(line: Sequence[Point]) -> dict[str, Any]:
+def to_geojson_geometry(line: Sequence[Point]) -> dict[str, Any]:
     """A line as GeoJSON: a LineString, or where it crosses the 180th meridian a MultiLineString."""
-    parts = [[list(point) for point in part] for part in parted(line)]
+    parts = [[list(point) for point in part] for part in split_at_antimeridian(line)]
     return {"type": "LineString", "coordinates": parts[0]} if len(parts) == 1 else {"type": "MultiLineString", "coordinates": parts}
 
 
-def parted_wkt(line: Sequence[Point]) -> str:
+def to_multilinestring(line: Sequence[Point]) -> str:
     """A line as WKT: a LINESTRING, or where it crosses the 180th meridian a MULTILINESTRING."""
-    parts = [wkt_of(part) for part in parted(line)]
+    parts = [format_linestring(part) for part in split_at_antimeridian(line)]
     return parts[0] if len(parts) == 1 else f"MULTILINESTRING ({', '.join(part.removeprefix('LINESTRING ') for part in parts)})"
 
 
-def attribution_of(network: StrPath) -> str:
+def read_attribution(network: StrPath) -> str:
     """What the comment at the beginning of the network's graph asks to be said; "" where it asks for nothing."""
     graph = graph_of(network)
     if not os.path.exists(graph):
         return ""
-    with reading(graph) as file:
+    with open_input(graph) as file:
         comments = itertools.takewhile(lambda line: line.startswith("c"), (line.decode("utf-8", "replace") for line in file))
         return next((line[len(ATTRIBUTION_COMMENT) :].strip() for line in comments if line.startswith(ATTRIBUTION_COMMENT)), "")
 

@@ -22,8 +22,8 @@ feature; 2 for arguments that are refused.
 """
 import argparse
 
-from domethyme.files import writing
-from domethyme.network.tables import attribution_of, paths_of
+from domethyme.files import atomic_write
+from domethyme.network.tables import read_attribution, paths_of
 
 from ..geometry import Box, View
 from ..tool import refuse_overwriting, spoken, warn, words
@@ -82,11 +82,11 @@ def main() -> None:
         warn(f"{spoken(options.routes)} has no route: the roads alone are drawn")
     is_picture = options.output.endswith(PICTURE)
     box, roads = scene_of(options.network, routes, options.whole, is_picture, options.routes)
-    of_all = [attribution_of(options.network), *said, options.attribution]
+    of_all = [read_attribution(options.network), *said, options.attribution]
     attribution = ", ".join(dict.fromkeys(filter(None, of_all)))
     if is_picture:
         text = picture_of(routes, roads, View(box, options.width or width_of(box)), attribution)
     else:
         text = page_of(routes, roads, attribution, options.tiles)
-    with writing(options.output) as file:
+    with atomic_write(options.output) as file:
         file.write(text)

@@ -6,8 +6,8 @@ from collections.abc import Iterator
 
 import numpy
 
-from domethyme.network.binary import TEXTS, UNITS, Mapped
-from domethyme.network.own import network_of
+from domethyme.network.binary import TEXTS, UNITS, MappedNetwork
+from domethyme.network.own import load_network_or_dimacs
 from domethyme.network.tables import EARTH_RADIUS, Point, arcs_file, metres_between
 
 from ..geometry import Box, box_of, place_at, plane_of, unwrapped
@@ -45,7 +45,7 @@ def kind_of(highway: str) -> int:
     return next((number for number, kind in enumerate(KINDS) if plain in kind.highways), 0)
 
 
-def read_roads(arrays: Mapped, box: Box | None) -> Lines:
+def read_roads(arrays: MappedNetwork, box: Box | None) -> Lines:
     """For each of KINDS the lines of its roads, and then for each those of its tunnels; a road of two directions comes
     once, and with a box only those that meet it."""
     roads: list[list[list[Point]]] = [[] for _ in (*KINDS, *KINDS)]
@@ -59,7 +59,7 @@ def read_roads(arrays: Mapped, box: Box | None) -> Lines:
     return roads
 
 
-def edges_in(arrays: Mapped, box: Box | None) -> Iterator[tuple[int, str, str]]:
+def edges_in(arrays: MappedNetwork, box: Box | None) -> Iterator[tuple[int, str, str]]:
     """The edges in a box, and others, or all, in their order, with the classes and structures of their roads."""
     for edges in ([*each] for each in parts_of(arrays, box)):
         arcs = arrays.edge_arcs[numpy.minimum(arrays.edge_first[edges], len(arrays.edge_arcs) - 1)]
@@ -68,7 +68,7 @@ def edges_in(arrays: Mapped, box: Box | None) -> Iterator[tuple[int, str, str]]:
             yield edge, arrays.texts[highway], arrays.texts[structure]
 
 
-def parts_of(arrays: Mapped, box: Box | None) -> Iterator[list[int]]:
+def parts_of(arrays: MappedNetwork, box: Box | None) -> Iterator[list[int]]:
     """The numbers of these edges, PART at a time."""
     count = len(arrays.edge_begin) - 1
     if box is None or box.width >= WIDE:
@@ -77,7 +77,7 @@ def parts_of(arrays: Mapped, box: Box | None) -> Iterator[list[int]]:
     middle = place_at(box.middle)
     corners = [place_at((x, y)) for x in (box.left, box.right) for y in (box.top, box.bottom)]
     reach = max(metres_between(*middle, *corner) for corner in corners)
-    found = numpy.unique(numpy.concatenate([[], *arrays.edge_grid.near((wrapped_lon(middle[0]), middle[1]), reach)])).astype(int)
+    found = numpy.unique(numpy.concatenate([[], *arrays.edge_grid.candidates((wrapped_lon(middle[0]), middle[1]), reach)])).astype(int)
     yield from (found[low : low + PART].tolist() for low in range(0, len(found), PART))
 
 
@@ -105,7 +105,7 @@ def all_places(roads: Lines) -> list[Point]:
 
 def scene_of(network: str, routes: list[Drawn], is_whole: bool, is_picture: bool, path: str) -> tuple[Box, Lines]:
     """The box to show and its roads. Raises a Fault where the routes, which come from the file at the path, are another network's."""
-    arrays = network_of(network)
+    arrays = load_network_or_dimacs(network)
     need_inside(arrays, routes, network, path)
     around = None if is_whole else box_around(routes)
     if around is not None:
@@ -118,7 +118,7 @@ def scene_of(network: str, routes: list[Drawn], is_whole: bool, is_picture: bool
     return shape_for(is_picture, roomy_box(places)), roads
 
 
-def need_inside(arrays: Mapped, routes: list[Drawn], network: str, path: str) -> None:
+def need_inside(arrays: MappedNetwork, routes: list[Drawn], network: str, path: str) -> None:
     """A Fault where a route isn't in the box of the network's roads."""
     west, south, east, north = (arrays.about[side] / UNITS for side in ("west", "south", "east", "north"))
     for number, route in enumerate(routes, 1):

@@ -7,7 +7,7 @@ from collections.abc import Iterator
 from typing import Any
 
 from domethyme.network.tables import Point
-from domethyme.texts import reading
+from domethyme.texts import open_input
 
 from ..geometry import nested, share_of, unwrapped
 from ..tool import Fault
@@ -35,7 +35,7 @@ class Drawn(typing.NamedTuple):
 
 def read_routes(path: str, label: str | None) -> tuple[list[Drawn], list[str]]:
     """The routes of a file of GeoJSON, and what its collections ask to be said."""
-    with reading(path) as stream:
+    with open_input(path) as stream:
         try:
             text = stream.read().decode("utf-8-sig")
         except UnicodeDecodeError as error:
