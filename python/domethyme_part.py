@@ -28,7 +28,7 @@ Task = dict[str, Any]
 Result = tuple[int, Union[str, None], int]
 
 ATTEMPTS = 3
-PATIENCE = 120
+WAIT_SECONDS = 120
 
 
 def task(program: str, hierarchy: str, drafts: str, pairs: str) -> Task:
@@ -52,19 +52,19 @@ def digest_of(path: str, _signature: object) -> str:
 # What has to be so on a worker's machine
 
 
-def trouble_here(task: Task) -> str | None:
+def check_machine(task: Task) -> str | None:
     """Why this machine can't take part in the run, as one line, or None."""
-    if not comes_true(lambda: os.path.isdir(task["drafts"])):
+    if not wait_until(lambda: os.path.isdir(task["drafts"])):
         return f"{task['drafts']} isn't there: the folder of OUT has to be one that all machines share"
-    return wrong_file(task)
+    return file_mismatch(task)
 
 
-async def trouble_apart(task: Task) -> str | None:
-    """As `trouble_here`, for a Dask worker, whose loop goes on meanwhile."""
-    return await asyncio.to_thread(trouble_here, task)
+async def check_machine_async(task: Task) -> str | None:
+    """As `check_machine`, for a Dask worker, whose loop goes on meanwhile."""
+    return await asyncio.to_thread(check_machine, task)
 
 
-def wrong_file(task: Task) -> str | None:
+def file_mismatch(task: Task) -> str | None:
     """Which of the task's files is missing here, or another one, as one line, or None."""
     for path, wanted in task["digests"].items():
         try:
@@ -77,16 +77,16 @@ def wrong_file(task: Task) -> str | None:
     return None
 
 
-def missing_text(path: str, size: int) -> str | None:
+def missing_part(path: str, size: int) -> str | None:
     """Why no file of this number of bytes comes to the path, as one line, or None."""
-    if comes_true(lambda: has_size(path, size)):
+    if wait_until(lambda: has_size(path, size)):
         return None
     return f"{path} isn't there with its {size} bytes"
 
 
-def comes_true(is_so: Callable[[], bool]) -> bool:
+def wait_until(is_so: Callable[[], bool]) -> bool:
     """Whether it is so now or soon: what another machine wrote may be seen only a minute later."""
-    end, pause = time.monotonic() + PATIENCE, 0.01
+    end, pause = time.monotonic() + WAIT_SECONDS, 0.01
     while not is_so():
         if time.monotonic() > end or stopping.is_set():
             return False
@@ -116,22 +116,22 @@ def answer(task: Task, text: str, size: int, answers: str) -> Result:
     and but for the first leaves what is at `answers`. A program that is killed is begun again, ATTEMPTS times in all.
     """
     try:
-        trouble = wrong_file(task) or missing_text(text, size)
+        trouble = file_mismatch(task) or missing_part(text, size)
         if trouble is not None:
             return 1, trouble, 0
         for _ in range(ATTEMPTS):
             with draft_in(task["drafts"]) as draft:
-                status, said = run_program(task, text, draft)
+                status, stderr = run_program(task, text, draft)
                 if status == 0:
                     return finish(task, draft, answers)
             if status > 0 or stopping.is_set():
                 break
-        return refusal(task["program"], status, said)
+        return refusal(task["program"], status, stderr)
     except OSError as error:
         return 1, f"{error.filename}: {error.strerror}" if error.filename else str(error), 0
 
 
-def answer_apart(task: Task, text: str, size: int, answers: str) -> Result:
+def answer_on_worker(task: Task, text: str, size: int, answers: str) -> Result:
     """As `answer`, by a Dask worker, whose name is then put before a line that isn't the program's."""
     from distributed import get_worker
 
@@ -152,17 +152,17 @@ def draft_in(folder: str) -> Iterator[str]:
 
 def run_program(task: Task, text: str, draft: str) -> tuple[int, str]:
     """Runs the program, its output into a new file: the status, negative for a signal, and what it said, a line or more."""
-    words = [task["program"], "route", task["hierarchy"], text, "--explain"]
+    command = [task["program"], "route", task["hierarchy"], text, "--explain"]
     with open(draft, "xb") as output:
-        with child_of(words, stdin=subprocess.DEVNULL, stdout=output, stderr=subprocess.PIPE) as child:
-            said = child.communicate()[1].decode("utf-8", "replace")
+        with child_of(command, stdin=subprocess.DEVNULL, stdout=output, stderr=subprocess.PIPE) as child:
+            stderr = child.communicate()[1].decode("utf-8", "replace")
         os.fsync(output.fileno())
-    return child.returncode, "\n".join(line.rstrip() for line in said.replace(text, task["pairs"]).splitlines())
+    return child.returncode, "\n".join(line.rstrip() for line in stderr.replace(text, task["pairs"]).splitlines())
 
 
 def finish(task: Task, draft: str, answers: str) -> Result:
     """Gives the draft its name, unless the files of the task have changed meanwhile; what `answer` gives then."""
-    trouble = wrong_file(task)
+    trouble = file_mismatch(task)
     if trouble is not None:
         return 1, trouble, 0
     count = os.stat(draft).st_size
@@ -170,13 +170,13 @@ def finish(task: Task, draft: str, answers: str) -> Result:
     return 0, None, count
 
 
-def refusal(program: str, status: int, said: str) -> Result:
+def refusal(program: str, status: int, stderr: str) -> Result:
     """What `answer` gives for a program that ended with a status other than 0."""
     if status < 0:
         return 1, f"{program} was ended by signal {-status}", 0
     if 3 <= status <= 8:
-        return status, said, 0
-    return 1, f"{program} ended with status {status}: {' '.join(said.split())}", 0
+        return status, stderr, 0
+    return 1, f"{program} ended with status {status}: {' '.join(stderr.split())}", 0
 
 
 # The programs that run in this process

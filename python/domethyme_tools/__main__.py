@@ -9,7 +9,7 @@ HERE = str(pathlib.Path(__file__).resolve().parent.parent)
 if HERE not in sys.path:
     sys.path.insert(0, HERE)
 
-from domethyme_tools.tool import packages, run  # found by the path above
+from domethyme_tools.tool import require_packages, run  # found by the path above
 
 COMMANDS = (
     "build_converter", "check_page", "compare_converters", "compare_turns", "draw", "fetch_extract", "nearest", "osm_to_gr",
@@ -25,7 +25,7 @@ def main() -> None:
     if name not in COMMANDS:
         print(f"domethyme_tools: no command {name!r}: there are {', '.join(COMMANDS)}", file=sys.stderr)
         sys.exit(2)
-    with packages():
+    with require_packages():
         command = importlib.import_module("domethyme_service.command" if name == "serve" else f"domethyme_tools.{name}")
     if name == "serve":
         command.main()

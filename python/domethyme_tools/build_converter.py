@@ -5,10 +5,10 @@ It is in C++ over libosmium, and is built once, in half a minute: osm_to_gr does
 
 Status 0: it is there. 1: it can't be built, and one line says why. 2: the arguments were refused.
 """
-from .map_arrays import built
-from .tool import words
+from .map_arrays import ensure_built
+from .tool import argument_parser
 
 
 def main() -> None:
-    words(__doc__, "%(prog)s").parse_args()
-    print(built())
+    argument_parser(__doc__, "%(prog)s").parse_args()
+    print(ensure_built())

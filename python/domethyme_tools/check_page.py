@@ -27,7 +27,7 @@ from typing import Any
 
 from domethyme.program import StrPath, find_program
 
-from .tool import Fault, tool, words
+from .tool import ToolError, tool_command, argument_parser
 
 try:
     from selenium import webdriver
@@ -104,8 +104,8 @@ WAIT = 10
 SETTLING = 0.6
 
 
-def read_words() -> argparse.Namespace:
-    parser = words(__doc__, "%(prog)s out/pages --extract out/liechtenstein-2013-08-03.osm.pbf")
+def parse_args() -> argparse.Namespace:
+    parser = argument_parser(__doc__, "%(prog)s out/pages --extract out/liechtenstein-2013-08-03.osm.pbf")
     parser.add_argument("folder", metavar="FOLDER", help="where pages and pictures are left")
     parser.add_argument("--extract", metavar="MAP", help="the extract of Liechtenstein")
     return parser.parse_args()
@@ -116,12 +116,12 @@ def make(name: str, map_file: StrPath, trips: str, folder: pathlib.Path, *option
     with tempfile.TemporaryDirectory() as scratch:
         network, table, routes = (pathlib.Path(scratch) / file for file in ("network", "trips.csv", "routes.geojson"))
         table.write_text(COLUMNS + trips)
-        call(*tool("osm_to_gr"), map_file, network, *options)
-        call(*tool("nearest"), network, table, "-o", f"{network}.pairs")
+        call(*tool_command("osm_to_gr"), map_file, network, *options)
+        call(*tool_command("nearest"), network, table, "-o", f"{network}.pairs")
         answers = call(find_program(), "answer", "--explain", f"{network}.gr", f"{network}.pairs")
-        call(*tool("to_geojson"), network, "-", "--trips", table, "-o", routes, given=answers)
+        call(*tool_command("to_geojson"), network, "-", "--trips", table, "-o", routes, given=answers)
         for ending in ("html", "svg"):
-            call(*tool("draw"), network, routes, folder / f"{name}.{ending}", "--label", "trip")
+            call(*tool_command("draw"), network, routes, folder / f"{name}.{ending}", "--label", "trip")
         features: list[dict[str, Any]] = json.loads(routes.read_text())["features"]
         return features
 
@@ -130,7 +130,7 @@ def call(*command: Any, given: bytes = b"") -> bytes:
     """What a program that has to succeed prints."""
     done = subprocess.run([str(word) for word in command], input=given, capture_output=True)
     if done.returncode != 0:
-        raise Fault(f"{command[0]} failed: {done.stderr.decode()}")
+        raise ToolError(f"{command[0]} failed: {done.stderr.decode()}")
     return done.stdout
 
 
@@ -155,7 +155,7 @@ def check(driver: webdriver.Chrome, page: pathlib.Path, legend: list[list[str]],
     driver.get(page.as_uri())
     want_quiet(driver, page)
     if not driver.execute_script(ARE_ROADS_SHOWN):
-        raise Fault("the roads aren't shown", page)
+        raise ToolError("the roads aren't shown", page)
     found = [row.text.split("\n") for row in driver.find_elements(By.CSS_SELECTOR, ".legend button")]
     compare(page, "the legend", found, legend)
     for number, expected in enumerate(popups):
@@ -182,10 +182,10 @@ def click_in_legend(driver: webdriver.Chrome, page: pathlib.Path, number: int, e
     left, top, right, bottom, width, height = driver.execute_script(RECTANGLE, ".leaflet-popup")
     if left < 0 or top < 0 or right > width or bottom > height:
         place = f"{left}, {top}, {right}, {bottom}"
-        raise Fault(f"the popup of {expected[0]} is at {place} in a window of {width}, {height}", page)
+        raise ToolError(f"the popup of {expected[0]} is at {place} in a window of {width}, {height}", page)
     for other in driver.execute_script(RECTANGLES, ".leaflet-control"):
         if other[0] < right and left < other[2] and other[1] < bottom and top < other[3]:
-            raise Fault(f"the popup of {expected[0]} at {left}, {top}, {right}, {bottom} lies under what is at {other}", page)
+            raise ToolError(f"the popup of {expected[0]} at {left}, {top}, {right}, {bottom} lies under what is at {other}", page)
 
 
 def check_lift(driver: webdriver.Chrome, page: pathlib.Path, count: int) -> None:
@@ -212,9 +212,9 @@ def check_show_all(driver: webdriver.Chrome, page: pathlib.Path) -> None:
     width, height = driver.execute_script("return [window.innerWidth, window.innerHeight]")
     for left, top, right, bottom in driver.execute_script(RECTANGLES, "#map path.ring, #map path.dot"):
         if left < 0 or top < 0 or right > width or bottom > height:
-            raise Fault(f"an end of a route is at {left}, {top} in a window of {width}, {height} that shows all", page)
+            raise ToolError(f"an end of a route is at {left}, {top} in a window of {width}, {height} that shows all", page)
     if not driver.execute_script(RECTANGLES, "#map path.arrow"):
-        raise Fault("no route has an arrow", page)
+        raise ToolError("no route has an arrow", page)
     check_labels(driver, page)
 
 
@@ -222,15 +222,15 @@ def check_labels(driver: webdriver.Chrome, page: pathlib.Path) -> None:
     """Some labels are there, inside the window, and none lies on another, on an end of a route, or on a box at the edge."""
     labels = driver.execute_script(RECTANGLES, ".name span")
     if not labels:
-        raise Fault("no route has its label on the map", page)
+        raise ToolError("no route has its label on the map", page)
     width, height = driver.execute_script("return [window.innerWidth, window.innerHeight]")
     others = driver.execute_script(RECTANGLES, "#map path.ring, #map path.dot, .leaflet-control")
     for number, (left, top, right, bottom) in enumerate(labels):
         if left < 0 or top < 0 or right > width or bottom > height:
-            raise Fault(f"a label is at {left}, {top}, {right}, {bottom} in a window of {width}, {height}", page)
+            raise ToolError(f"a label is at {left}, {top}, {right}, {bottom} in a window of {width}, {height}", page)
         for other in [*labels[number + 1 :], *others]:
             if other[0] < right and left < other[2] and other[1] < bottom and top < other[3]:
-                raise Fault(f"a label at {left}, {top}, {right}, {bottom} lies on what is at {other}", page)
+                raise ToolError(f"a label at {left}, {top}, {right}, {bottom} lies on what is at {other}", page)
 
 
 def check_dark(driver: webdriver.Chrome, page: pathlib.Path) -> None:
@@ -242,7 +242,7 @@ def check_dark(driver: webdriver.Chrome, page: pathlib.Path) -> None:
         driver.get(page.as_uri())
         time.sleep(SETTLING)
         if (driver.execute_script(BACKGROUND) == bright) != (scheme == "light"):
-            raise Fault(f"the background is {bright} where the system is {scheme}", page)
+            raise ToolError(f"the background is {bright} where the system is {scheme}", page)
         if scheme == "dark":
             driver.save_screenshot(f"{page}.dark.png")
 
@@ -253,7 +253,7 @@ def check_window(driver: webdriver.Chrome, page: pathlib.Path, popups: list[list
     driver.get(page.as_uri())
     left, top, right, bottom, inner_width, inner_height = driver.execute_script(RECTANGLE, ".legend")
     if left < 0 or right > inner_width or (right - left) * (bottom - top) > inner_width * inner_height / 2:
-        raise Fault(f"the legend is at {left}, {top}, {right}, {bottom} in a window of {inner_width}, {inner_height}", page)
+        raise ToolError(f"the legend is at {left}, {top}, {right}, {bottom} in a window of {inner_width}, {inner_height}", page)
     check_labels(driver, page)
     driver.save_screenshot(f"{page}.{width}.all.png")
     for number, expected in enumerate(popups):
@@ -265,7 +265,7 @@ def want_quiet(driver: webdriver.Chrome, page: pathlib.Path) -> None:
     """Wants the page's console to be empty."""
     messages = driver.get_log("browser")
     if messages:
-        raise Fault(f"the console has {messages}", page)
+        raise ToolError(f"the console has {messages}", page)
 
 
 def popup_of(driver: webdriver.Chrome, page: pathlib.Path, number: int, label: str) -> list[str]:
@@ -274,7 +274,7 @@ def popup_of(driver: webdriver.Chrome, page: pathlib.Path, number: int, label: s
     time.sleep(SETTLING)
     point = driver.execute_script(POINT_ON_ROUTE, number)
     if point is None:
-        raise Fault(f"route {number + 1} can't be clicked", page)
+        raise ToolError(f"route {number + 1} can't be clicked", page)
     actions = ActionBuilder(driver)
     actions.pointer_action.move_to_location(*point)
     actions.perform()
@@ -297,7 +297,7 @@ def popup_texts(driver: webdriver.Chrome) -> list[str]:
 
 def compare(page: pathlib.Path, what: str, found: Any, expected: Any) -> None:
     if found != expected:
-        raise Fault(f"{what} is {found} where {expected} is expected", page)
+        raise ToolError(f"{what} is {found} where {expected} is expected", page)
 
 
 def look_at_picture(driver: webdriver.Chrome, picture: pathlib.Path) -> None:
@@ -340,10 +340,10 @@ def check_all(folder: pathlib.Path, extract: str | None) -> None:
 
 
 def main() -> None:
-    options = read_words()
+    options = parse_args()
     try:
         folder = pathlib.Path(options.folder).resolve()
         folder.mkdir(parents=True, exist_ok=True)
         check_all(folder, options.extract)
     except WebDriverException as error:
-        raise Fault(f"the browser failed: {error.msg}") from error
+        raise ToolError(f"the browser failed: {error.msg}") from error

@@ -30,7 +30,7 @@ from tqdm import tqdm
 from domethyme.network.tables import Files, metres_between, read_nodes
 from domethyme.texts import read_graph, open_input
 
-from .tool import Fault, words
+from .tool import ToolError, argument_parser
 
 PROFILES = pathlib.Path(__file__).resolve().parent / "profiles"
 # The members of a profile that are known here
@@ -158,7 +158,7 @@ def plain_graph(path: str, profile: dict[str, Any], by_time: bool) -> PlainGraph
     try:
         read.apply_file(str(path))
     except (RuntimeError, ValueError, osmium.InvalidLocationError) as error:
-        raise Fault(str(error), path) from error
+        raise ToolError(str(error), path) from error
     graph = PlainGraph(profile, by_time)
     for nodes, tags in read.highways:
         graph.add(nodes, tags, read)
@@ -175,7 +175,7 @@ def network_costs(network: Files) -> tuple[list[int | None], dict[tuple[int, int
     """The nodes' ids, the least weights of a network as {(start, end): weight} over nodes from 0, and its arcs of 1."""
     nodes, graph = read_nodes(network.nodes), read_graph(network.graph)
     if len(nodes.osm) != graph.nodes:
-        raise Fault(f"has {len(nodes.osm)} nodes, and the graph has {graph.nodes}", network.nodes)
+        raise ToolError(f"has {len(nodes.osm)} nodes, and the graph has {graph.nodes}", network.nodes)
     costs: dict[tuple[int, int], float] = {}
     for start, end, weight in zip(graph.starts, graph.ends, graph.weights):
         pair = start - 1, end - 1
@@ -223,7 +223,7 @@ class Comparison:
         for node, plain_node in self.shared:
             self.pairs += 1
             if math.isfinite(ours[node]) != math.isfinite(theirs[plain_node]):
-                raise Fault(f"only one of the two reaches node {self.osm[node]} from {self.osm[source]} of the map")
+                raise ToolError(f"only one of the two reaches node {self.osm[node]} from {self.osm[source]} of the map")
             if math.isfinite(ours[node]):
                 self.ways += 1
                 may_differ = (max(arcs[node], most_arcs[plain_node]) + self.ones) / 2 + TINY * (1 + theirs[plain_node])
@@ -233,12 +233,12 @@ class Comparison:
         if abs(difference) > may_differ:
             pair = f"from node {self.osm[source]} to {self.osm[node]} of the map"
             doubt = "are --weight, --profile and --longest-arc those of osm_to_gr, and was --free-turns given to it?"
-            raise Fault(f"the lengths {pair} differ by {difference:.1f}, and may by {may_differ:.1f}: {doubt}")
+            raise ToolError(f"the lengths {pair} differ by {difference:.1f}, and may by {may_differ:.1f}: {doubt}")
         self.greatest = max(self.greatest, abs(difference))
 
 
-def read_words() -> argparse.Namespace:
-    parser = words(__doc__, "%(prog)s map.osm.pbf out/map")
+def parse_args() -> argparse.Namespace:
+    parser = argument_parser(__doc__, "%(prog)s map.osm.pbf out/map")
     parser.add_argument("map", metavar="MAP", help="the map that osm_to_gr has read")
     parser.add_argument("network", metavar="NETWORK", help="what it has written: the OUT of that call")
     parser.add_argument("--profile", default="car", metavar="car|FILE.json", help="the rules of the vehicle (car)")
@@ -250,16 +250,16 @@ def read_words() -> argparse.Namespace:
 
 
 def main() -> None:
-    options = read_words()
+    options = parse_args()
     profile_path = options.profile if options.profile.endswith(".json") else PROFILES / f"{options.profile}.json"
     with open_input(profile_path) as stream:
         profile = json.load(stream)
     if unknown := sorted(set(profile) - KNOWN):
-        raise Fault(f"has members that the second conversion doesn't know: {', '.join(unknown)}", profile_path)
+        raise ToolError(f"has members that the second conversion doesn't know: {', '.join(unknown)}", profile_path)
     plain = plain_graph(options.map, profile, options.weight == "time")
     comparison = Comparison(Files(options.network), plain, options.longest_arc)
     if not comparison.shared:
-        raise Fault("has no node that the map has too", Files(options.network).nodes)
+        raise ToolError("has no node that the map has too", Files(options.network).nodes)
     drawn = random.Random(options.seed).sample(comparison.shared, min(options.sources, len(comparison.shared)))
     for source, plain_source in tqdm(drawn, desc="sources", disable=None):
         comparison.compare_from(source, plain_source)

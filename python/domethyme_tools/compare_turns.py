@@ -29,7 +29,7 @@ from scipy.sparse.csgraph import dijkstra
 from domethyme.network.tables import Arc, Files, Point, parse_linestring, read_arcs, read_nodes
 from domethyme.texts import open_input
 
-from .tool import Fault, tool, words
+from .tool import ToolError, tool_command, argument_parser
 
 Place = tuple[int | None, float, float]
 PROFILE = pathlib.Path(__file__).resolve().parent / "profiles/car.json"
@@ -71,7 +71,7 @@ def read_map(path: pathlib.Path) -> Map:
     try:
         found.apply_file(str(path))
     except (RuntimeError, ValueError) as error:
-        raise Fault(str(error), path) from error
+        raise ToolError(str(error), path) from error
     return found
 
 
@@ -176,9 +176,9 @@ def bearing(here: Point, there: Point) -> float:
 
 
 def converted(path: pathlib.Path, out: pathlib.Path, *options: Any) -> Files:
-    done = subprocess.run([*tool("osm_to_gr"), path, out, "--islands", "--tables", *options], capture_output=True, text=True)
+    done = subprocess.run([*tool_command("osm_to_gr"), path, out, "--islands", "--tables", *options], capture_output=True, text=True)
     if done.returncode != 0:
-        raise Fault(f"osm_to_gr failed: {done.stderr}")
+        raise ToolError(f"osm_to_gr failed: {done.stderr}")
     return Files(out)
 
 
@@ -224,14 +224,14 @@ def compare(path: pathlib.Path, folder: pathlib.Path, sources: int, seed: int, p
         if not numpy.array_equal(found, wanted[alone]):
             node = alone[int(numpy.flatnonzero(found != wanted[alone])[0])]
             problem = f"from node {nodes.osm[source]} to {nodes.osm[node]} of the map"
-            raise Fault(f"the lengths {problem} are {found[alone.index(node)]:.0f} and by turns {wanted[node]:.0f}")
+            raise ToolError(f"the lengths {problem} are {found[alone.index(node)]:.0f} and by turns {wanted[node]:.0f}")
         differing += int((dijkstra(plain.links, indices=source)[alone] != wanted[alone]).sum())
     pairs = len(drawn) * len(alone)
     return f"restrictions: {len(read.restrictions)}; pairs: {pairs}, all equal; {differing} longer than with free turns"
 
 
-def read_words() -> argparse.Namespace:
-    parser = words(__doc__, "%(prog)s map.osm.pbf --sources 40 --draw 400 --seed 3")
+def parse_args() -> argparse.Namespace:
+    parser = argument_parser(__doc__, "%(prog)s map.osm.pbf --sources 40 --draw 400 --seed 3")
     parser.add_argument("map", metavar="MAP", help="a .osm, .osm.bz2 or .osm.pbf file")
     parser.add_argument("--draw", type=int, default=0, metavar="N", help="add N restrictions (0)")
     parser.add_argument("--penalties", action="store_true", help="give turns penalties")
@@ -241,7 +241,7 @@ def read_words() -> argparse.Namespace:
 
 
 def main() -> None:
-    options = read_words()
+    options = parse_args()
     with tempfile.TemporaryDirectory(prefix="compare-turns-") as folder:
         path = pathlib.Path(options.map)
         if options.draw:

@@ -17,7 +17,7 @@ import tempfile
 
 from domethyme.files import atomic_write
 
-from .tool import Fault, warn, words
+from .tool import ToolError, warn, argument_parser
 
 NAME = "liechtenstein-2013-08-03.osm.pbf"
 SHA256 = "edb2b075be057662691fc343abed4ed58f139dd7c501c243197640fcb3ea82d4"
@@ -30,7 +30,7 @@ def is_extract(data: bytes) -> bool:
     return hashlib.sha256(data).hexdigest() == SHA256
 
 
-def fetched(folder: pathlib.Path) -> bytes:
+def fetch(folder: pathlib.Path) -> bytes:
     """The bytes of the extract, by way of an empty folder."""
     sources = folder / "sources.list"
     sources.write_text(SOURCES, encoding="ascii")
@@ -49,7 +49,7 @@ def fetched(folder: pathlib.Path) -> bytes:
     options = [word for name, value in settings.items() for word in ("-o", f"{name}={value}")]
     apt_get(folder, *options, "update")
     apt_get(folder, *options, "source", "--download-only", "--tar-only", PACKAGE)
-    return taken_out(folder)
+    return extract_member(folder)
 
 
 def apt_get(folder: pathlib.Path, *words: str) -> None:
@@ -57,14 +57,14 @@ def apt_get(folder: pathlib.Path, *words: str) -> None:
     try:
         subprocess.run(["apt-get", "-qq", *words], cwd=folder, stdin=subprocess.DEVNULL, capture_output=True, check=True)
     except FileNotFoundError as error:
-        raise Fault(f"{NAME} can't be had: there is no apt-get on this machine") from error
+        raise ToolError(f"{NAME} can't be had: there is no apt-get on this machine") from error
     except subprocess.CalledProcessError as error:
-        said = error.stderr.decode("utf-8", "replace").splitlines()
-        reason = next((line.removeprefix("E: ") for line in said if line.startswith("E: ")), "nothing")
-        raise Fault(f"{NAME} can't be had: apt-get says: {reason}") from error
+        errors = error.stderr.decode("utf-8", "replace").splitlines()
+        reason = next((line.removeprefix("E: ") for line in errors if line.startswith("E: ")), "nothing")
+        raise ToolError(f"{NAME} can't be had: apt-get says: {reason}") from error
 
 
-def taken_out(folder: pathlib.Path) -> bytes:
+def extract_member(folder: pathlib.Path) -> bytes:
     """The bytes of the extract in the source package that lies in the folder."""
     for package in folder.glob("osm2pgsql_*.tar.*"):
         with tarfile.open(package) as archive:
@@ -72,24 +72,24 @@ def taken_out(folder: pathlib.Path) -> bytes:
                 is_it = pathlib.PurePath(member.name).name == NAME and member.isfile()
                 if is_it and (found := archive.extractfile(member)) is not None:
                     return found.read()
-    raise Fault(f"{NAME} can't be had: Debian's source package hasn't got it")
+    raise ToolError(f"{NAME} can't be had: Debian's source package hasn't got it")
 
 
-def read_words() -> argparse.Namespace:
-    parser = words(__doc__, "%(prog)s out")
+def parse_args() -> argparse.Namespace:
+    parser = argument_parser(__doc__, "%(prog)s out")
     parser.add_argument("folder", metavar="FOLDER", nargs="?", default=".", help="where the extract goes, which is made if it isn't there (.)")
     return parser.parse_args()
 
 
 def main() -> None:
-    target = pathlib.Path(read_words().folder) / NAME
+    target = pathlib.Path(parse_args().folder) / NAME
     target.parent.mkdir(parents=True, exist_ok=True)
     if target.is_file() and is_extract(target.read_bytes()):
         warn(f"{target} is there already")
         return
     with atomic_write(target, "wb") as file, tempfile.TemporaryDirectory(prefix="fetch-extract-") as folder:
-        data = fetched(pathlib.Path(folder))
+        data = fetch(pathlib.Path(folder))
         if not is_extract(data):
-            raise Fault(f"{NAME} can't be had: Debian's source package has another file of that name")
+            raise ToolError(f"{NAME} can't be had: Debian's source package has another file of that name")
         file.write(data)
     warn(f"{target}: {len(data)} bytes")

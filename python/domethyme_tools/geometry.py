@@ -34,7 +34,7 @@ Value = TypeVar("Value")
 Edges = collections.Counter[tuple[Point, Point]]
 
 
-def plane_of(places: Iterable[Point]) -> list[Point]:
+def to_mercator(places: Iterable[Point]) -> list[Point]:
     """The points of places on the plane. Latitudes beyond 85.05 degrees are taken as 85.05, as web maps do."""
     return [(0.5 + lon / 360, 0.5 - height_of(lat)) for lon, lat in places]
 
@@ -45,7 +45,7 @@ def height_of(latitude: float) -> float:
     return math.asinh(math.tan(phi)) / (2 * math.pi)
 
 
-def place_at(point: Point) -> Point:
+def from_mercator(point: Point) -> Point:
     """The place of a point of the plane."""
     return (point[0] - 0.5) * 360, math.degrees(math.atan(math.sinh((0.5 - point[1]) * 2 * math.pi)))
 
@@ -60,7 +60,7 @@ def unwrapped(line: Iterable[Point], near: float = 0.0) -> list[Point]:
     return without_repeats(found)
 
 
-def joined(lines: Iterable[Iterable[Point]]) -> list[Point]:
+def join_lines(lines: Iterable[Iterable[Point]]) -> list[Point]:
     """One line through all places of several lines, in order, without a place that is the one before it again."""
     return without_repeats(itertools.chain.from_iterable(lines))
 
@@ -70,7 +70,7 @@ def without_repeats(values: Iterable[Value]) -> list[Value]:
     return [value for value, _ in itertools.groupby(values)]
 
 
-def nested(lines: Sequence[Line], most: int) -> list[list[Piece]]:
+def overlap_pieces(lines: Sequence[Line], most: int) -> list[list[Piece]]:
     """For each line its pieces in order, (depth, places): along a piece go `depth` of the later lines, or `most` where
     there are more, in either direction."""
     later: Edges = collections.Counter()
@@ -104,7 +104,7 @@ def arrows(pixels: Line, every: float) -> list[tuple[Point, Point]]:
     return found
 
 
-def share_of(places: Line, share: float) -> Point:
+def point_at_fraction(places: Line, share: float) -> Point:
     """The place at which a share of the line's way, from 0 to 1, is behind. For lines that are short beside the earth."""
     narrow = math.cos(math.radians(places[0][1]))
     steps = itertools.pairwise(places)
@@ -201,7 +201,7 @@ def tenths(number: int) -> str:
     return f"{number / TENTHS:g}"
 
 
-def differences(places: Iterable[Point]) -> list[int]:
+def delta_encode(places: Iterable[Point]) -> list[int]:
     """A line as a flat list of whole millionths of a degree: the first place, and each other as its difference from the
     one before, longitude first."""
     whole = [(round(lon * MILLIONTHS), round(lat * MILLIONTHS)) for lon, lat in places]
@@ -211,7 +211,7 @@ def differences(places: Iterable[Point]) -> list[int]:
     return numbers
 
 
-def bar_for(metres: float) -> float:
+def scale_bar_metres(metres: float) -> float:
     """The greatest of .., 0.5, 1, 2, 5, 10, 20, .. that is at most a number of metres above 0."""
     below = math.floor(math.log10(metres)) - 1
     bars = [step * 10.0**power for power in (below, below + 1) for step in (1, 2, 5)]

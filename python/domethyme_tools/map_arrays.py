@@ -31,7 +31,7 @@ from domethyme.program import StrPath
 
 from . import turns
 from .rules import Tags
-from .tool import Fault
+from .tool import ToolError
 
 SOURCE = pathlib.Path(__file__).resolve().parent / "converter" / "map_arrays.cpp"
 PACKAGES, PACKAGED = "/usr/lib/python3/dist-packages/", "/usr/libexec/domethyme/map_arrays"
@@ -48,7 +48,7 @@ DISK_IS_FULL = os.strerror(errno.ENOSPC)
 # The program
 
 
-def built() -> str:
+def ensure_built() -> str:
     """The path of the program. Where it is missing it is built, and a Fault says why that can't be done."""
     if str(SOURCE).startswith(PACKAGES) and os.path.exists(PACKAGED):
         return PACKAGED
@@ -70,31 +70,31 @@ def build_folder() -> pathlib.Path:
             folder.mkdir(parents=True, exist_ok=True)
             if os.access(folder, os.W_OK):
                 return folder
-    raise Fault("can't be written, and the converter has to be built there", cache)
+    raise ToolError("can't be written, and the converter has to be built there", cache)
 
 
 def build(path: StrPath) -> None:
     """Builds the program at the path."""
     compiler = shutil.which("g++")
     if compiler is None:
-        raise Fault(f"the converter has to be built, and g++ is missing: {TO_INSTALL}")
+        raise ToolError(f"the converter has to be built, and g++ is missing: {TO_INSTALL}")
     beside = f"{os.fspath(path)}.{os.getpid()}"
     try:
-        with step("building the converter, once"):
+        with progress("building the converter, once"):
             ended = subprocess.run(
                 [compiler, *OPTIONS, "-o", beside, str(SOURCE), *LIBRARIES],
                 stdin=subprocess.DEVNULL, capture_output=True, encoding="utf-8", errors="replace",
             )
         if ended.returncode != 0:
             wrong = next((line for line in ended.stderr.splitlines() if "error" in line), "g++ failed")
-            raise Fault(f"the converter can't be built: {wrong}: {TO_INSTALL}")
+            raise ToolError(f"the converter can't be built: {wrong}: {TO_INSTALL}")
         os.replace(beside, path)
     finally:
         with contextlib.suppress(FileNotFoundError):
             os.unlink(beside)
 
 
-def step(what: str) -> Any:
+def progress(what: str) -> Any:
     """A with-block that a terminal shows by these words, and how long it took."""
     return tqdm(desc=what, bar_format="{desc} [{elapsed}]", disable=None)
 
@@ -103,7 +103,7 @@ class Folder:
     """A folder of arrays, and the program's commands over it. `array` maps one, and `tags` reads combinations of tags."""
 
     def __init__(self, path: str) -> None:
-        self.path, self.program = path, built()
+        self.path, self.program = path, ensure_built()
 
     def array(self, name: str, kind: str, width: int = 1) -> NDArray[Any]:
         """An array of a kind, of shape (n,), or (n, width) for a greater width."""
@@ -159,19 +159,19 @@ class Folder:
         with subprocess.Popen(command, stdin=subprocess.DEVNULL, stdout=out, stderr=subprocess.PIPE) as process:
             try:
                 yield process
-                said = process.stderr.read().decode("utf-8", "replace") if process.stderr else ""
+                stderr = process.stderr.read().decode("utf-8", "replace") if process.stderr else ""
                 status = process.wait()
             except BaseException:
                 process.kill()
                 raise
         if status == 1:
-            raise Fault(f"{said.strip()}{gzip_hint(path)}", path)
+            raise ToolError(f"{stderr.strip()}{gzip_hint(path)}", path)
         if status == 3:
             raise MemoryError
-        if said.strip().endswith(DISK_IS_FULL):
+        if stderr.strip().endswith(DISK_IS_FULL):
             raise OSError(errno.ENOSPC, DISK_IS_FULL)
         if status != 0:
-            raise Fault(said.strip() or f"the converter's {words[0]} ended with status {status}")
+            raise ToolError(stderr.strip() or f"the converter's {words[0]} ended with status {status}")
 
 
 def gzip_hint(path: StrPath) -> str:
@@ -183,7 +183,7 @@ def gzip_hint(path: StrPath) -> str:
 # The ways
 
 
-class Ways(NamedTuple):
+class WayArrays(NamedTuple):
     """The ways with the first key, in the map's order: their ids, labels, and counts of `nodes`. A label is a row of `labels`:
     the number of its tags, and of each of TEXTS the number of its text, from 1, or 0. And the tags and members of the relations
     of turn restrictions."""
@@ -197,7 +197,7 @@ class Ways(NamedTuple):
     relations: list[tuple[Tags, list[turns.Member]]]
 
 
-def read_ways(folder: Folder, path: StrPath, keys: Sequence[str], conditional: Sequence[str]) -> Ways:
+def read_ways(folder: Folder, path: StrPath, keys: Sequence[str], conditional: Sequence[str]) -> WayArrays:
     """The ways of a map that have the first of the keys. Tags are those with one of the keys, or whose key begins with one of
     `conditional` and ends with `:conditional`."""
     words = ["s::conditional"]
@@ -208,10 +208,10 @@ def read_ways(folder: Folder, path: StrPath, keys: Sequence[str], conditional: S
         tags, texts = folder.tags("way_tags"), ["", *folder.fields("texts")]
         relations = list(relations_of(folder))
     except UnicodeDecodeError as error:
-        raise Fault(str(error), path) from error
+        raise ToolError(str(error), path) from error
     labels = folder.array("labels", "u4", 1 + len(TEXTS))
     osm, label, nodes = folder.array("way_osm", "i8"), folder.array("way_label", "u4"), folder.array("way_count", "u4")
-    return Ways(osm, label, nodes, labels, tags, texts, relations)
+    return WayArrays(osm, label, nodes, labels, tags, texts, relations)
 
 
 def relations_of(folder: Folder) -> Iterator[tuple[Tags, list[turns.Member]]]:
@@ -227,7 +227,7 @@ def relations_of(folder: Folder) -> Iterator[tuple[Tags, list[turns.Member]]]:
 # The places
 
 
-class Places(NamedTuple):
+class NodeArrays(NamedTuple):
     """The nodes of the roads by their ids, in order: their ids, whether the map has them, whether a road passes once more, and
     whether they are barriers, by tags."""
 
@@ -242,7 +242,7 @@ class Places(NamedTuple):
 UNDEFINED = (1 << 31) - 1
 
 
-def read_places(folder: Folder, path: StrPath, taken: NDArray[np.bool_], keys: Sequence[str]) -> Places:
+def read_places(folder: Folder, path: StrPath, taken: NDArray[np.bool_], keys: Sequence[str]) -> NodeArrays:
     """The nodes of the ways that are taken, and the tags of those that have the first of the keys."""
     folder.write("way_taken", taken.astype(np.uint8))
     folder.read_map("places", path, [f"k:{key}" for key in keys])
@@ -250,10 +250,10 @@ def read_places(folder: Folder, path: StrPath, taken: NDArray[np.bool_], keys: S
     try:
         tags = folder.tags("barrier_tags")
     except UnicodeDecodeError as error:
-        raise Fault(str(error), path) from error
+        raise ToolError(str(error), path) from error
     place = folder.array("node_place", "i4", 2).reshape(-1, 2)
     uses = folder.array("node_uses", "u1")
-    return Places(
+    return NodeArrays(
         folder.array("node_osm", "i8"), place, place[:, 0] != UNDEFINED, uses > 1, folder.array("barrier", "u4", 2), tags
     )
 
@@ -275,7 +275,7 @@ class Runs(NamedTuple):
     end: NDArray[np.uint64]
 
 
-def cut(
+def cut_runs(
     folder: Folder, counts: NDArray[np.uint32], is_junction: NDArray[np.bool_], is_barrier: NDArray[np.bool_], longest: float
 ) -> Runs:
     """The runs of roads, which have these counts of nodes, cut to parts of at most `longest` metres, as few as can be. A run that

@@ -44,16 +44,16 @@ from domethyme.network.network import load_node_index
 from domethyme.network.tables import ENDS, KEY, Point, Side, is_coordinates, paths_of, read_nodes
 from domethyme.texts import MOST_LINES, parse_float, escape_formula, excerpt, open_table, write_pairs
 
-from .tool import Fault, add_hierarchy, need_hierarchy, refuse_overwriting, words
+from .tool import ToolError, add_hierarchy, need_hierarchy, refuse_overwriting, argument_parser
 
 SIDES: tuple[Side, Side] = ("from", "to")
-ENDS_OF_TRIP = ("from_", "to_")
-ONE_PLACE = ("",)
-SWAPPED = "are longitude and latitude swapped?"
+PREFIXES = ("from_", "to_")
+NO_PREFIX = ("",)
+SWAPPED = "are longitude and latitude in each other's place?"
 
 
-def read_words() -> argparse.Namespace:
-    parser = words(
+def parse_args() -> argparse.Namespace:
+    parser = argument_parser(
         __doc__,
         "%(prog)s out/li trips.csv > out/li.pairs",
         "%(prog)s out/li places.csv --matrix -o out/li.pairs",
@@ -111,19 +111,19 @@ def read_trips(path: str, beginnings: Sequence[str]) -> Trips:
         trips = Trips(path, records.columns, [], [], {beginning: [] for beginning in beginnings})
         for row, fields in records:
             for beginning in beginnings:
-                lon = degrees(fields, f"{beginning}lon", 180, path, row)
-                trips.ends[beginning].append((lon, degrees(fields, f"{beginning}lat", 90, path, row)))
+                lon = parse_degrees(fields, f"{beginning}lon", 180, path, row)
+                trips.ends[beginning].append((lon, parse_degrees(fields, f"{beginning}lat", 90, path, row)))
             trips.rows.append(row)
             trips.fields.append(list(fields.values()))
     return trips
 
 
-def degrees(fields: dict[str, str], column: str, most: float, path: str, row: int) -> float:
+def parse_degrees(fields: dict[str, str], column: str, most: float, path: str, row: int) -> float:
     """The number in a column of a row, from -most to most."""
     value = parse_float(fields[column], column, path, row)
     if abs(value) > most:
         doubt = SWAPPED if abs(value) <= 180 else "are these degrees?"
-        raise Fault(f"{column} {excerpt(fields[column])} isn't from -{most} to {most}: {doubt}", path, row)
+        raise ToolError(f"{column} {excerpt(fields[column])} isn't from -{most} to {most}: {doubt}", path, row)
     return value
 
 
@@ -136,7 +136,7 @@ def places_of_coordinates(path: str) -> Trips:
     return Trips(path, ["place", "lon", "lat"], [None] * len(places), fields, {"": places})
 
 
-class Places:
+class NodeLookup:
     """The nodes of a network, for look-ups by place."""
 
     def __init__(self, network: str) -> None:
@@ -158,7 +158,7 @@ class Places:
         return next((each for each in self.nodes.split_nodes(node) if self.nodes.ends[each] == ENDS.index("from")), node)
 
 
-def met(starts: Any, ends: Any, begins: Any) -> Any:
+def end_nodes(starts: Any, ends: Any, begins: Any) -> Any:
     """The nodes at the ends of routes, where one that ends at the junction where it begins stays there."""
     return numpy.where(begins == starts, starts, ends)
 
@@ -171,13 +171,13 @@ class Snapped(typing.NamedTuple):
     metres: dict[str, Any]
 
 
-def snap(trips: Trips, nearest: Places, within: float, skip_far: bool) -> Snapped:
+def snap(trips: Trips, nearest: NodeLookup, within: float, skip_far: bool) -> Snapped:
     """Snaps each trip. One with a place that is too far is left out, or refused."""
     found = {side: nearest.nodes_at(trips.ends[f"{side}_" if f"{side}_" in trips.ends else ""], side) for side in SIDES}
     far = numpy.logical_or.reduce([distances > within for _, distances in found.values()])
     if far.any():
         if not skip_far:
-            raise far_fault(trips, int(far.argmax()), found, nearest, within)
+            raise too_far_error(trips, int(far.argmax()), found, nearest, within)
         print(f"nearest: left out {far.sum()} of {len(far)} rows, which are too far from each node", file=sys.stderr)
     return Snapped(
         [fields for fields, is_far in zip(trips.fields, far) if not is_far],
@@ -186,7 +186,7 @@ def snap(trips: Trips, nearest: Places, within: float, skip_far: bool) -> Snappe
     )
 
 
-def far_fault(trips: Trips, trip: int, found: dict[Side, Any], nearest: Places, within: float) -> Fault:
+def too_far_error(trips: Trips, trip: int, found: dict[Side, Any], nearest: NodeLookup, within: float) -> ToolError:
     """What to report of a trip with a place that is too far."""
     side = next(side for side, (_, distances) in found.items() if distances[trip] > within)
     beginning = "" if "" in trips.ends else f"{side}_"
@@ -196,13 +196,13 @@ def far_fault(trips: Trips, trip: int, found: dict[Side, Any], nearest: Places, 
         message += f": {SWAPPED}"
     else:
         message += f", and --within is {within:g} m"
-    return Fault(message, trips.path, trips.rows[trip])
+    return ToolError(message, trips.path, trips.rows[trip])
 
 
 class Matrix(Collection[tuple[int, int]]):
     """The pairs from each place to each, in order, without room for all of them at once."""
 
-    def __init__(self, snapped: Snapped, nearest: Places) -> None:
+    def __init__(self, snapped: Snapped, nearest: NodeLookup) -> None:
         self.starts, self.ends = snapped.nodes["from"], snapped.nodes["to"]
         self.begins = nearest.begins_of(self.ends)
 
@@ -214,27 +214,27 @@ class Matrix(Collection[tuple[int, int]]):
 
     def __iter__(self) -> Iterator[tuple[int, int]]:
         for start in self.starts.tolist():
-            yield from zip(itertools.repeat(start), met(start, self.ends, self.begins).tolist())
+            yield from zip(itertools.repeat(start), end_nodes(start, self.ends, self.begins).tolist())
 
 
-def pairs_of(snapped: Snapped, nearest: Places, is_matrix: bool) -> Collection[tuple[int, int]]:
+def pairs_of(snapped: Snapped, nearest: NodeLookup, is_matrix: bool) -> Collection[tuple[int, int]]:
     """The pairs of nodes, in order."""
     if is_matrix:
         return Matrix(snapped, nearest)
     starts, ends = snapped.nodes["from"], snapped.nodes["to"]
-    return list(zip(starts.tolist(), met(starts, ends, nearest.begins_of(ends)).tolist()))
+    return list(zip(starts.tolist(), end_nodes(starts, ends, nearest.begins_of(ends)).tolist()))
 
 
 def snapped_columns(trips: Trips, is_matrix: bool, has_keys: bool) -> list[str]:
     """The names of the columns of --snapped, which are all different."""
     users = trips.columns
     if is_matrix:
-        users = [beginning + column for beginning in ENDS_OF_TRIP for column in trips.columns]
-    columns = users + [beginning + column for beginning in ENDS_OF_TRIP for column in ("node", "metres")]
-    columns += [f"{beginning}{KEY}" for beginning in ENDS_OF_TRIP] if has_keys else []
+        users = [beginning + column for beginning in PREFIXES for column in trips.columns]
+    columns = users + [beginning + column for beginning in PREFIXES for column in ("node", "metres")]
+    columns += [f"{beginning}{KEY}" for beginning in PREFIXES] if has_keys else []
     for name in users:
         if columns.count(name) > 1:
-            raise Fault(f"--snapped would have two columns {name}: rename one", trips.path, 1)
+            raise ToolError(f"--snapped would have two columns {name}: rename one", trips.path, 1)
     return columns
 
 
@@ -272,29 +272,29 @@ def write_requests(options: argparse.Namespace) -> None:
     """Writes a line for `routecli serve` for each trip, with its places on roads."""
     from .on_roads import request_lines
 
-    trips = read_trips(options.trips, ENDS_OF_TRIP)
+    trips = read_trips(options.trips, PREFIXES)
     rows = zip(trips.rows, trips.ends["from_"], trips.ends["to_"])
     with atomic_write(options.output) as file:
         file.writelines(f"{line}\n" for line in request_lines(options.network, rows, options.within, trips.path))
 
 
 def main() -> None:
-    options = read_words()
+    options = parse_args()
     need_hierarchy(options)
     if options.on_roads:
         write_requests(options)
         return
-    nearest = Places(options.network)
+    nearest = NodeLookup(options.network)
     if is_coordinates(options.trips):
         trips = places_of_coordinates(options.trips)
     else:
-        trips = read_trips(options.trips, ONE_PLACE if options.matrix else ENDS_OF_TRIP)
+        trips = read_trips(options.trips, NO_PREFIX if options.matrix else PREFIXES)
     keys = nearest.nodes.keys() if options.snapped else ()
     columns = snapped_columns(trips, options.matrix, len(keys) > 0) if options.snapped else []
     snapped = snap(trips, nearest, options.within, options.skip_far)
     pairs = pairs_of(snapped, nearest, options.matrix)
     if len(pairs) > MOST_LINES:
-        raise Fault(f"has {len(snapped.fields)} places, which make more than {MOST_LINES} pairs", options.trips)
+        raise ToolError(f"has {len(snapped.fields)} places, which make more than {MOST_LINES} pairs", options.trips)
     if options.snapped:
         write_snapped(options.snapped, columns, snapped_rows(snapped, pairs, options.matrix, keys))
     with atomic_write(options.output) as file:

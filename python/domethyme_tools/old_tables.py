@@ -5,7 +5,7 @@ from domethyme.errors import NetworkError
 from domethyme.network import binary
 from domethyme.network.tables import ALL_ARC_COLUMNS, ALL_NODE_COLUMNS, Files, is_written_by_tools
 
-from .tool import Fault
+from .tool import ToolError
 
 
 def tables_there(names: Files, are_written: bool) -> list[str]:
@@ -18,9 +18,9 @@ def tables_there(names: Files, are_written: bool) -> list[str]:
     found = [path for path, columns in kinds.items() if is_written_by_tools(path, columns)]
     for path in kinds:
         if are_written and os.path.isfile(path) and path not in found:
-            raise Fault("is there, and no tool has written it: move it, or choose another OUT", path)
+            raise ToolError("is there, and no tool has written it: move it, or choose another OUT", path)
     if found and os.path.exists(names.binary) and not is_current(names.path):
-        raise Fault(f"has changed since {names.binary} was made of it: move it, or choose another OUT", found[0])
+        raise ToolError(f"has changed since {names.binary} was made of it: move it, or choose another OUT", found[0])
     texts = [{f"{text}\n" for text in both} for both in zip(names.forms.values(), names.forms_of(has_keys=True).values())]
     forms = [path for path, known in zip(names.forms, texts) if os.path.isfile(path) and text_at(path) in known]
     return [*found, *forms] if found else []

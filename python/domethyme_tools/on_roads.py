@@ -15,16 +15,16 @@ from domethyme.network.tables import Point, is_coordinates, reject_wrong_suffix
 from domethyme.program import StrPath
 from domethyme.texts import open_input
 
-from .tool import Fault, packages
+from .tool import ToolError, require_packages
 
-with packages():
+with require_packages():
     from domethyme.network.leg_geometry import leg_geometry, leg_totals
     from domethyme.network.legs import EMPTY_LEG, is_same_node, choose_leg
     from domethyme.network.snapping import RoadIndex, SnappedPoint
 
 Trip = tuple[int | None, Point, Point]
 # How many starts, and ends, a request has at most.
-SIDES = 8
+MAX_SEEDS = 8
 
 
 class RoadRoute(NamedTuple):
@@ -40,88 +40,88 @@ class RoadRoute(NamedTuple):
     line: list[list[float]] | None
 
 
-def roads_of(network: StrPath) -> RoadIndex:
+def open_road_index(network: StrPath) -> RoadIndex:
     """The network's roads. Those of a DIMACS file have no lines."""
     reject_wrong_suffix(network)
     if is_coordinates(network):
-        raise Fault("has no roads but nodes: --on-roads is for networks of osm_to_gr", network)
+        raise ToolError("has no roads but nodes: --on-roads is for networks of osm_to_gr", network)
     return RoadIndex(str(network))
 
 
-def spots_of(roads: RoadIndex, trip: Trip, within: float, path: str) -> tuple[SnappedPoint, SnappedPoint]:
+def snap_trip(roads: RoadIndex, trip: Trip, within: float, path: str) -> tuple[SnappedPoint, SnappedPoint]:
     """The points of roads that are nearest to a trip's places. Raises Fault for one that is too far."""
     row, *places = trip
     found = []
     for side, place in zip(("from", "to"), places):
-        spot = roads.nearest(place)[0]
-        if spot.metres > within:
+        snapped = roads.nearest(place)[0]
+        if snapped.metres > within:
             where = f"{side}_lon {place[0]}, {side}_lat {place[1]}"
-            raise Fault(f"{where} is {spot.metres:,.0f} m from the nearest road, and --within is {within:g} m", path, row)
-        found.append(spot)
+            raise ToolError(f"{where} is {snapped.metres:,.0f} m from the nearest road, and --within is {within:g} m", path, row)
+        found.append(snapped)
     return found[0], found[1]
 
 
-def request_of(start: SnappedPoint, end: SnappedPoint, path: str, row: int | None) -> bytes:
+def format_request(start: SnappedPoint, end: SnappedPoint, path: str, row: int | None) -> bytes:
     """The one line that asks for a trip; where nothing has to be asked, one that any reply will do for."""
     if is_same_node(start, end):
         node = start.copies[0]
         return b"b %d 0 : %d 0" % (node, node)
-    if max(len(start.exits), len(end.entries)) > SIDES:
-        raise Fault(f"begins or ends at a junction with more than {SIDES} nodes, which one line can't ask for", path, row)
-    return b"b %b : %b" % (seeds_of(start.exits), seeds_of(end.entries))
+    if max(len(start.exits), len(end.entries)) > MAX_SEEDS:
+        raise ToolError(f"begins or ends at a junction with more than {MAX_SEEDS} nodes, which one line can't ask for", path, row)
+    return b"b %b : %b" % (format_seeds(start.exits), format_seeds(end.entries))
 
 
-def seeds_of(sides: dict[int, tuple[int, int]]) -> bytes:
+def format_seeds(sides: dict[int, tuple[int, int]]) -> bytes:
     """Exits or entries as a request has them."""
     return b" ".join(b"%d %d" % (node, sides[node][0]) for node in sorted(sides))
 
 
 def request_lines(network: StrPath, trips: Iterable[Trip], within: float, path: str) -> Iterator[str]:
-    roads = roads_of(network)
+    roads = open_road_index(network)
     for trip in trips:
-        yield request_of(*spots_of(roads, trip, within, path), path, trip[0]).decode()
+        yield format_request(*snap_trip(roads, trip, within, path), path, trip[0]).decode()
 
 
 def routes_on_roads(network: StrPath, replies: str, path: str, trips: Iterable[Trip]) -> Iterator[RoadRoute]:
     """The routes by the replies in a file, of which the first line is `ready NODES LINKS 2`."""
-    roads, others = roads_of(network), iter(trips)
+    roads, trips_left = open_road_index(network), iter(trips)
     with open_input(replies) as stream:
         lines = enumerate(stream, 1)
         _, first = next(lines, (1, b""))
         ready = parse_ready(first)
         if ready is None or ready[0] != roads.nodes:
-            raise Fault(f"is no reply of routecli serve with {roads.nodes} nodes", replies, 1)
+            raise ToolError(f"is no reply of routecli serve with {roads.nodes} nodes", replies, 1)
         for row, line in lines:
-            trip = next(others, None)
+            trip = next(trips_left, None)
             if trip is None:
-                raise Fault(f"is a reply more than {path} has rows", replies, row)
+                raise ToolError(f"is a reply more than {path} has rows", replies, row)
             yield route_of(roads, trip, line.rstrip(b"\n"), path, replies, row)
-        if (more := next(others, None)) is not None:
-            raise Fault("is a row more than there are replies", path, more[0])
+        if (more := next(trips_left, None)) is not None:
+            raise ToolError("is a row more than there are replies", path, more[0])
 
 
 def route_of(roads: RoadIndex, trip: Trip, reply: bytes, path: str, replies: str, row: int) -> RoadRoute:
     """A trip's route by its reply, whose weights have to sum to its length."""
-    start, end = spots_of(roads, trip, float("inf"), path)
-    request = request_of(start, end, path, trip[0])
+    start, end = snap_trip(roads, trip, float("inf"), path)
+    request = format_request(start, end, path, trip[0])
     if not matches_request(request, reply):
-        raise Fault(f"is no reply to the request of row {trip[0]}", replies, row)
+        raise ToolError(f"is no reply to the request of row {trip[0]}", replies, row)
     try:
         route = parse_reply_to(request, reply)
         leg = EMPTY_LEG if is_same_node(start, end) else choose_leg(roads, start, end, route)
     except (DomethymeError, ValueError) as error:
-        raise Fault(f"{error}: is it of another network?", replies, row) from error
+        raise ToolError(f"{error}: is it of another network?", replies, row) from error
     if leg is None:
         return RoadRoute(trip[0], None, None, None, None, None, None)
-    course = leg_geometry(roads, leg)
+    geometry = leg_geometry(roads, leg)
     figures = leg_totals(roads, leg)
-    if course is None:
+    if geometry is None:
         return RoadRoute(trip[0], 0, 0, 0.0, 0.0, [], [[start.lon, start.lat], [end.lon, end.lat]])
     names = [roads.arc(arc).name for arc in leg.arcs]
-    begins = [place for place, name in enumerate(names) if not place or names[place - 1] != name]
+    begins = [index for index, name in enumerate(names) if not index or names[index - 1] != name]
     steps = []
     for low, high in itertools.pairwise([*begins, len(names)]):
-        part = course.figures(low, high)
+        part = geometry.figures(low, high)
         steps.append({"name": names[low], "metres": part["distance"], "seconds": part["duration"]})
-    line = course.line(0, len(names))
+    line = geometry.line(0, len(names))
     return RoadRoute(trip[0], leg.weight, len(names), figures["duration"], figures["distance"], steps, line)

@@ -58,15 +58,15 @@ from domethyme.program import StrPath
 from domethyme.texts import MOST_LINES, MOST_NODES, open_input
 
 from . import turns
-from .map_arrays import Folder, Places, Ways, cut, folder_beside, read_places, read_ways, step
+from .map_arrays import Folder, NodeArrays, WayArrays, cut_runs, folder_beside, read_places, read_ways, progress
 from .old_tables import tables_there
 from .road_network import (
-    WEIGHTS, RoadNetwork, Roads, RowsOf, arrays_of, keep_largest, metres_of_roads, network_of, split,
+    WEIGHTS, RoadNetwork, RoadTable, RowsOf, to_arrays, keep_largest, metres_of_roads, build_network, split_junctions,
 )
 from .rules import (
-    Profile, Tags, barrier_keys, conditional_keys, doubts, judged, parts_a_way, read_profile, structure_of, way_keys,
+    Profile, Tags, barrier_keys, conditional_keys, unsupported_tags, judge, blocks_way, read_profile, structure_of, way_keys,
 )
-from .tool import Fault, refuse_overwriting, words
+from .tool import ToolError, refuse_overwriting, argument_parser
 
 Report = turns.Report
 
@@ -83,9 +83,9 @@ class Map(NamedTuple):
     """The roads that the vehicle may take, in the map's order, their counts of nodes, these nodes and which are barriers, and the
     turn restrictions. `rows_of` gives the rows of texts of roads by their numbers, as Rows."""
 
-    roads: Roads
+    roads: RoadTable
     counts: NDArray[np.uint32]
-    places: Places
+    places: NodeArrays
     is_barrier: NDArray[np.bool_]
     restrictions: list[turns.Restriction]
     rows_of: RowsOf
@@ -94,7 +94,7 @@ class Map(NamedTuple):
 def read_map(path: StrPath, profile: Profile, folder: Folder, report: Report) -> Map:
     """The roads of the map, and the nodes that they name: which are junctions, where they lie, which are barriers."""
     ways = read_ways(folder, path, way_keys(profile), conditional_keys(profile))
-    is_taken, speeds, unknown = judged_tags(ways, profile, report)
+    is_taken, speeds, unknown = judge_tags(ways, profile, report)
     restrictions = read_restrictions(ways, profile, report)
     for what, values in unknown.items():
         if values:
@@ -102,24 +102,24 @@ def read_map(path: StrPath, profile: Profile, folder: Folder, report: Report) ->
     taken = is_taken[ways.labels[:, 0]][ways.label]
     label = ways.label[taken]
     forward, backward = speeds[:, ways.labels[:, 0][label]]
-    roads = Roads(ways.osm[taken], forward, backward, label)
+    roads = RoadTable(ways.osm[taken], forward, backward, label)
     places = read_places(folder, path, taken, barrier_keys(profile))
     is_barrier = np.zeros(len(places.osm), np.bool_)
-    parts = np.array([parts_a_way(tags, profile) for tags in places.barrier_tags], np.bool_)
+    parts = np.array([blocks_way(tags, profile) for tags in places.barrier_tags], np.bool_)
     is_barrier[places.barriers[:, 0][parts[places.barriers[:, 1]]]] = True
     report["nodes that the map lacks"] = len(places.osm) - int(places.is_there.sum())
     report["barriers that part roads"] = int(is_barrier.sum())
-    return Map(roads, ways.nodes[taken], places, is_barrier, restrictions, Rows(ways))
+    return Map(roads, ways.nodes[taken], places, is_barrier, restrictions, TextRows(ways))
 
 
-def judged_tags(ways: Ways, profile: Profile, report: Report) -> tuple[NDArray[np.bool_], NDArray[np.float64], dict[str, Report]]:
+def judge_tags(ways: WayArrays, profile: Profile, report: Report) -> tuple[NDArray[np.bool_], NDArray[np.float64], dict[str, Report]]:
     """For each combination of tags whether such ways are taken, and their km/h in both directions, NaN for none, of shape (2,
     combinations); and the values that weren't understood, by what they are of. The rules are asked once for each combination."""
     counts = np.bincount(ways.labels[:, 0][ways.label], minlength=len(ways.tags)).tolist()
     is_taken, speeds = np.zeros(len(ways.tags), np.bool_), np.full((2, len(ways.tags)), np.nan)
     unknown: dict[str, Report] = {"maxspeeds": collections.Counter(), "limits": collections.Counter()}
     for number, (tags, count) in enumerate(zip(ways.tags, counts)):
-        found = judged(tags, profile)
+        found = judge(tags, profile)
         if found.refusal is not None:
             report[found.refusal] += count
             continue
@@ -128,12 +128,12 @@ def judged_tags(ways: Ways, profile: Profile, report: Report) -> tuple[NDArray[n
         for what, value in zip(unknown, (found.unknown_speed, found.unknown_limit)):
             if value is not None:
                 unknown[what][value] += count
-        for what, is_so in doubts(tags, profile):
+        for what, is_so in unsupported_tags(tags, profile):
             report[what] += is_so * count
     return is_taken, speeds, unknown
 
 
-def read_restrictions(ways: Ways, profile: Profile, report: Report) -> list[turns.Restriction]:
+def read_restrictions(ways: WayArrays, profile: Profile, report: Report) -> list[turns.Restriction]:
     """The turn restrictions of the map for the vehicle."""
     restrictions = []
     for tags, members in ways.relations:
@@ -144,11 +144,11 @@ def read_restrictions(ways: Ways, profile: Profile, report: Report) -> list[turn
     return restrictions
 
 
-class Rows:
+class TextRows:
     """The rows of texts of labels of ways: a list of texts, and for each label the numbers of its texts, in the order of
     binary.TEXTS."""
 
-    def __init__(self, ways: Ways) -> None:
+    def __init__(self, ways: WayArrays) -> None:
         self._labels, self._tags = ways.labels, ways.tags
         self._texts = [" ".join(text.split()) for text in ways.texts]
         self._is_set = np.array([bool(text) for text in ways.texts], np.bool_)
@@ -181,41 +181,41 @@ def most_common(counted: Report) -> str:
 def convert(options: argparse.Namespace, profile: Profile, folder: Folder, report: Report) -> tuple[RoadNetwork, RowsOf]:
     """The network of the map that the arguments name, and the rows of texts of its roads."""
     read = read_map(options.map, profile, folder, report)
-    with step("roads"):
-        runs = cut(folder, read.counts, read.places.is_junction, read.is_barrier, options.longest_arc)
+    with progress("roads"):
+        runs = cut_runs(folder, read.counts, read.places.is_junction, read.is_barrier, options.longest_arc)
     report["ways left out with fewer than two nodes in the map"] = len(read.counts) - len(np.unique(runs.road))
     if not len(runs.road):
-        raise Fault("has no road that the profile takes", options.map)
-    with step("junctions"):
-        network, node_at = network_of(runs, read.roads, read.places, read.is_barrier)
+        raise ToolError("has no road that the profile takes", options.map)
+    with progress("junctions"):
+        network, node_at = build_network(runs, read.roads, read.places, read.is_barrier)
     if not options.free_turns:
-        with step("turns"):
-            network = split(network, rules_at(read, folder, node_at, report), profile.turns, report)
+        with progress("turns"):
+            network = split_junctions(network, turn_rules(read, folder, node_at, report), profile.turns, report)
     del node_at
     if not options.islands:
-        with step("islands"):
+        with progress("islands"):
             network = keep_largest(network, report)
-    need_room(len(network.node_osm), len(network.start), options.map)
+    check_limits(len(network.node_osm), len(network.start), options.map)
     return network, read.rows_of
 
 
-def need_room(nodes: int, arcs: int, path: StrPath) -> None:
+def check_limits(nodes: int, arcs: int, path: StrPath) -> None:
     """Raises a Fault where a graph can't have as many nodes or arcs."""
     for count, most, what in ((nodes, MOST_NODES, "nodes"), (arcs, MOST_LINES, "arcs")):
         if count > most:
-            raise Fault(f"makes a network of {count} {what}, and there may be {most}: take a part of it, or longer arcs", path)
+            raise ToolError(f"makes a network of {count} {what}, and there may be {most}: take a part of it, or longer arcs", path)
 
 
-def rules_at(
+def turn_rules(
     read: Map, folder: Folder, node_at: Callable[[int], int], report: Report
 ) -> dict[int, turns.Rules]:
     """What is forbidden at nodes of the network."""
     named = {way for restriction in read.restrictions for way in (restriction.start, restriction.end)}
-    nodes, begin = folder.array("road_node", "u4"), turns.begins(read.counts)
+    nodes, begin = folder.array("road_node", "u4"), turns.offsets(read.counts)
     chosen = np.flatnonzero(np.isin(read.roads.osm, list(named)) & (read.counts > 1))
     firsts, lasts = (read.places.osm[nodes[place]].tolist() for place in (begin[chosen], begin[chosen + 1] - 1))
     ends = dict(zip(read.roads.osm[chosen].tolist(), zip(firsts, lasts)))
-    by_osm = turns.fitting(read.restrictions, ends.get, report)
+    by_osm = turns.applicable_rules(read.restrictions, ends.get, report)
     at = ((node_at(int(place)), rule) for place, rule in zip(np.searchsorted(read.places.osm, list(by_osm)), by_osm.values()))
     return {node: rule for node, rule in at if node >= 0}
 
@@ -284,8 +284,8 @@ def longest_arc(text: str) -> float:
     raise argparse.ArgumentTypeError(f"{text} isn't from 1 to {MOST_METRES}")
 
 
-def read_words() -> argparse.Namespace:
-    parser = words(__doc__, "%(prog)s country.osm.pbf out/country", "%(prog)s country.osm.pbf out/bicycle --profile bicycle")
+def parse_args() -> argparse.Namespace:
+    parser = argument_parser(__doc__, "%(prog)s country.osm.pbf out/country", "%(prog)s country.osm.pbf out/bicycle --profile bicycle")
     parser.add_argument("map", metavar="MAP", help="a .osm, .osm.bz2 or .osm.pbf file")
     parser.add_argument("out", metavar="OUT", help="the beginning of the names of the files")
     parser.add_argument(
@@ -319,7 +319,7 @@ def read_words() -> argparse.Namespace:
 
 
 def main() -> None:
-    options = read_words()
+    options = parse_args()
     profile = read_profile(options.profile)
     names = Files(options.out)
     for_tables = [names.nodes, names.arcs, *names.forms]
@@ -327,16 +327,16 @@ def main() -> None:
     report: Report = collections.Counter()
     with open_input(options.map):
         if not os.path.isfile(options.map):
-            raise Fault("is no regular file; a map is read twice", options.map)
+            raise ToolError("is no regular file; a map is read twice", options.map)
     with atomic_write_all(names.graph, names.binary, *(for_tables if options.tables else ())) as files:
         with folder_beside(options.out) as folder:
             network, rows_of = convert(options, profile, folder, report)
             attribution = " ".join(options.attribution.split())
-            with step("arcs"):
-                arrays = arrays_of(network, options.weight, rows_of, attribution, report)
+            with progress("arcs"):
+                arrays = to_arrays(network, options.weight, rows_of, attribution, report)
                 kilometres = metres_of_roads(network) / 1000
             del network, rows_of
-            with step("files"):
+            with progress("files"):
                 write_network(files[:2], files[2:4], arrays, folder, attribution)
         for file, text in zip(files[4:], names.forms.values()):
             print(text, file=file)

@@ -35,7 +35,7 @@ from domethyme.belonging import Origin
 from domethyme.files import unlink_missing_ok, atomic_write
 from domethyme.texts import MOST_LINES, open_input
 
-from .tool import Fault
+from .tool import ToolError
 
 BLOCK = 1 << 20
 PROBLEM_WORDS = [b"p", b"aux", b"sp", b"p2p"]
@@ -58,7 +58,7 @@ class Survey(typing.NamedTuple):
 
 def spool(path: str, to: str) -> Survey:
     """Copies the query file (`-` is standard input) to the new file `to`, and gives its Survey."""
-    digest, kinds = hashlib.sha256(), KindsOfLines()
+    digest, kinds = hashlib.sha256(), LineCounter()
     with open_input(path) as text, open(to, "xb") as copy:
         for line in text:
             digest.update(line)
@@ -67,7 +67,7 @@ def spool(path: str, to: str) -> Survey:
     return Survey(digest.hexdigest(), kinds.pairs(), kinds.origin)
 
 
-class KindsOfLines:
+class LineCounter:
     """Counts the lines of a query file by their kinds."""
 
     def __init__(self) -> None:
@@ -113,7 +113,7 @@ def fields_of(line: bytes) -> list[bytes]:
     return [field for field in BLANKS.split(line) if field]
 
 
-def texts_of_parts(lines: Iterable[bytes], size: int) -> Iterator[tuple[int, bytes]]:
+def iter_parts(lines: Iterable[bytes], size: int) -> Iterator[tuple[int, bytes]]:
     """Of a query file that is in order: the number of pairs and the text of each part."""
     pairs = filter(is_pair, lines)
     part = list(itertools.islice(pairs, size))
@@ -187,7 +187,7 @@ class Folder:
                 self.remove(name)
         os.mkdir(self.drafts)
 
-    def forget(self) -> None:
+    def delete_plan(self) -> None:
         """Drops the plan, and with it all that `end` then finds here."""
         unlink_missing_ok(self.plan_file)
 
@@ -201,7 +201,7 @@ class Folder:
             with contextlib.suppress(OSError):
                 os.rmdir(self.path)
 
-    def kept_plan(self) -> Plan | None:
+    def load_plan(self) -> Plan | None:
         """The plan of an earlier call, or None."""
         try:
             with open(self.plan_file, encoding="utf-8") as file:
@@ -209,14 +209,14 @@ class Folder:
         except FileNotFoundError:
             return None
         except (ValueError, TypeError) as error:
-            raise Fault("is no plan of route_many: --anew drops it", self.plan_file) from error
+            raise ToolError("is no plan of route_many: --anew drops it", self.plan_file) from error
 
     def cut(self, plan: Plan, spooled: str) -> Plan:
         """Cuts the spooled text by the plan; gives the plan with its parts, which is then kept."""
         os.replace(spooled, self.whole)
         parts = []
         with open(self.whole, "rb") as lines:
-            for number, (pairs, text) in enumerate(texts_of_parts(lines, plan.part)):
+            for number, (pairs, text) in enumerate(iter_parts(lines, plan.part)):
                 with open(self.text(number), "wb") as file:
                     file.write(text)
                 parts.append((pairs, len(text)))
@@ -236,14 +236,14 @@ class Folder:
                     progress(len(block))
             if lines != pairs:
                 problem = f"has {lines} lines for {pairs} pairs: remove it and give the same call again"
-                raise Fault(problem, self.answers(number))
+                raise ToolError(problem, self.answers(number))
 
 
 @contextlib.contextmanager
-def opened(out: str, anew: bool) -> Iterator[Folder]:
+def open_folder(out: str, anew: bool) -> Iterator[Folder]:
     """The Folder of OUT, locked; a Fault where another run has it. If it starts over, nothing is left in it."""
     folder = Folder(out)
-    with locked(folder, out):
+    with lock_folder(folder, out):
         folder.begin(anew)
         try:
             yield folder
@@ -252,36 +252,36 @@ def opened(out: str, anew: bool) -> Iterator[Folder]:
 
 
 @contextlib.contextmanager
-def locked(folder: Folder, out: str) -> Iterator[None]:
+def lock_folder(folder: Folder, out: str) -> Iterator[None]:
     """Holds the folder's lock, which says who has it, and makes the folder where it isn't there."""
     while True:
         with contextlib.suppress(FileExistsError):
             os.mkdir(folder.path)
         try:
-            refuse_if_foreign(folder.path)
-            lock = open(folder.lock, "a+", encoding="utf-8", opener=without_links)
+            check_ownership(folder.path)
+            lock = open(folder.lock, "a+", encoding="utf-8", opener=open_nofollow)
         except FileNotFoundError:
             continue
         with lock:
             take_lock(lock, out)
-            if is_at(lock, folder.lock):
+            if is_same_file(lock, folder.lock):
                 lock.truncate(0)
                 print(f"process {os.getpid()} on {socket.gethostname()}", file=lock, flush=True)
                 yield
                 return
 
 
-def refuse_if_foreign(path: str) -> None:
+def check_ownership(path: str) -> None:
     """A Fault where another user may have put something into the folder, or it has a link: files would be written elsewhere."""
     found = os.lstat(path)
     if not stat.S_ISDIR(found.st_mode) or found.st_uid != os.geteuid() or found.st_mode & stat.S_IWOTH:
-        raise Fault("isn't a folder that you alone may write to: remove it, or give another OUT", path)
+        raise ToolError("isn't a folder that you alone may write to: remove it, or give another OUT", path)
     for entry in os.scandir(path):
         if entry.is_symlink():
-            raise Fault("is a link, and nothing is written by way of one: remove it", entry.path)
+            raise ToolError("is a link, and nothing is written by way of one: remove it", entry.path)
 
 
-def without_links(path: str, flags: int) -> int:
+def open_nofollow(path: str, flags: int) -> int:
     """Opens a file, which may be no link."""
     return os.open(path, flags | os.O_NOFOLLOW, 0o666)
 
@@ -294,10 +294,10 @@ def take_lock(lock: IO[str], out: str) -> None:
         if error.errno not in (errno.EAGAIN, errno.EACCES):
             raise
         lock.seek(0)
-        raise Fault(f"another run works on it: {lock.read().strip()}", out) from error
+        raise ToolError(f"another run works on it: {lock.read().strip()}", out) from error
 
 
-def is_at(file: IO[str], path: str) -> bool:
+def is_same_file(file: IO[str], path: str) -> bool:
     """Whether the open file is still the one at the path: a run that ends removes its lock."""
     try:
         return os.path.samestat(os.fstat(file.fileno()), os.stat(path))

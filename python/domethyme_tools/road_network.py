@@ -19,8 +19,8 @@ from domethyme.network.tables import ENDS
 from domethyme.network.threads import map_slices, differs_from_previous as differs, parallel_sort
 
 from . import turns
-from .map_arrays import Places, Runs
-from .turns import begins
+from .map_arrays import NodeArrays, Runs
+from .turns import offsets
 
 Ints = NDArray[np.int64]
 Floats = NDArray[np.float64]
@@ -31,7 +31,7 @@ RowsOf = Callable[[Ints], tuple[list[str], NDArray[np.int32]]]
 STRAIGHT, BACK = 45, 15
 
 
-class Roads(NamedTuple):
+class RoadTable(NamedTuple):
     """The roads of the vehicle, in the map's order: the ids of their ways, km/h in each direction, NaN where they may not be
     taken, and numbers of rows of texts."""
 
@@ -63,7 +63,7 @@ class RoadNetwork(NamedTuple):
     penalty: NDArray[np.int32]
     piece_run: NDArray[np.int32]
     runs: Runs
-    roads: Roads
+    roads: RoadTable
 
     def road(self) -> NDArray[np.uint32]:
         """The road of each arc."""
@@ -86,7 +86,7 @@ class RoadNetwork(NamedTuple):
         return self._replace(**{name: getattr(self, name)[chosen] for name in names})
 
 
-def firsts(values: NDArray[Any], size: int) -> NDArray[Any]:
+def first_index(values: NDArray[Any], size: int) -> NDArray[Any]:
     """For each value from 0 up to `size` the first place where it comes, -1 where it doesn't come."""
     found = np.full(size, -1, np.int32 if len(values) < 1 << 31 else np.int64)
     found[values[::-1]] = np.arange(len(values) - 1, -1, -1, dtype=found.dtype)
@@ -96,19 +96,19 @@ def firsts(values: NDArray[Any], size: int) -> NDArray[Any]:
 # Nodes and arcs
 
 
-def network_of(
-    runs: Runs, roads: Roads, places: Places, is_barrier: NDArray[np.bool_]
+def build_network(
+    runs: Runs, roads: RoadTable, places: NodeArrays, is_barrier: NDArray[np.bool_]
 ) -> tuple[RoadNetwork, Callable[[int], int]]:
     """The network of the runs, and a function to the node for a node of the map, -1 where there is none or it is a barrier."""
     ends = runs.ends.reshape(-1)
-    first = firsts(ends, len(places.osm))
+    first = first_index(ends, len(places.osm))
     apart = np.flatnonzero(is_barrier[ends])
     is_new = np.zeros(len(ends), np.bool_)
     is_new[first[first >= 0]] = True
     is_new[apart] = True
     new = is_new.reshape(-1, 2)
     cuts = runs.parts.astype(np.int32) - np.int32(1)
-    begin = begins(new[:, 0].astype(np.int8) + new[:, 1] + cuts).astype(np.int32)
+    begin = offsets(new[:, 0].astype(np.int8) + new[:, 1] + cuts).astype(np.int32)
     of_end = np.repeat(begin[:-1], 2)
     of_end[1::2] += new[:, 0]
     node = np.empty(len(ends), np.int32)
@@ -119,7 +119,7 @@ def network_of(
     map_slices(number, len(ends))
     node[apart] = of_end[apart]
     # the pieces: each begins where the one before ends, but for the first of a run
-    piece_begin = begins(runs.parts)
+    piece_begin = offsets(runs.parts)
     run = np.repeat(np.arange(len(runs.parts), dtype=np.int32), runs.parts)
     start = np.arange(len(run), dtype=np.int32) + (begin[1:] - cuts - piece_begin[:-1] - 1).astype(np.int32)[run]
     start[piece_begin[:-1]] = node[0::2]
@@ -139,7 +139,7 @@ def network_of(
 
 
 def arcs_along(
-    start: NDArray[np.int32], end: NDArray[np.int32], run: NDArray[np.int32], runs: Runs, roads: Roads
+    start: NDArray[np.int32], end: NDArray[np.int32], run: NDArray[np.int32], runs: Runs, roads: RoadTable
 ) -> tuple[
     NDArray[np.int32], NDArray[np.int32], NDArray[np.int32], NDArray[np.bool_], NDArray[np.bool_], NDArray[np.int32]
 ]:
@@ -151,20 +151,20 @@ def arcs_along(
     is_back[1:] = piece[1:] == piece[:-1]
     ends = np.empty(len(piece), np.int32), np.empty(len(piece), np.int32)
 
-    def turn(part: slice) -> None:
-        some, back = piece[part], is_back[part]
-        back |= ~forward[runs.road[run[some]]]
-        here, there = start[some], end[some]
+    def orient(part: slice) -> None:
+        pieces, back = piece[part], is_back[part]
+        back |= ~forward[runs.road[run[pieces]]]
+        here, there = start[pieces], end[pieces]
         ends[0][part], ends[1][part] = np.where(back, there, here), np.where(back, here, there)
 
-    map_slices(turn, len(piece))
+    map_slices(orient, len(piece))
     return *ends, piece, is_back, np.zeros(len(piece), np.bool_), np.zeros(len(piece), np.int32)
 
 
 # Turn restrictions
 
 
-def split(network: RoadNetwork, rules: dict[int, turns.Rules], penalties: dict[str, int], report: Report) -> RoadNetwork:
+def split_junctions(network: RoadNetwork, rules: dict[int, turns.Rules], penalties: dict[str, int], report: Report) -> RoadNetwork:
     """The network with the junctions split where a turn is forbidden, by the rules of nodes, or has a penalty, in hundredths of a
     second by the words left, right and back."""
     count = len(network.node_osm)
@@ -172,7 +172,7 @@ def split(network: RoadNetwork, rules: dict[int, turns.Rules], penalties: dict[s
     pairs = turns.pairs_at(nodes, network.start, network.end, count)
     cost = penalties_of(network, pairs, penalties)
     forbid(network, pairs, rules, cost)
-    found = turns.split(nodes, pairs, cost, network.start, network.end, count)
+    found = turns.split_nodes(nodes, pairs, cost, network.start, network.end, count)
     report["junctions split by turn restrictions" if not any(penalties.values()) else "nodes split by turns"] = len(found.begin)
     ends = network.node_ends.copy()
     ends[found.begin] = ENDS.index(turns.START)
@@ -186,7 +186,7 @@ def split(network: RoadNetwork, rules: dict[int, turns.Rules], penalties: dict[s
     )
 
 
-def forbid(network: RoadNetwork, pairs: turns.Pairs, rules: dict[int, turns.Rules], cost: NDArray[np.int32]) -> None:
+def forbid(network: RoadNetwork, pairs: turns.TurnPairs, rules: dict[int, turns.Rules], cost: NDArray[np.int32]) -> None:
     """Sets the cost of the turns that the rules of their nodes don't allow to FORBIDDEN."""
     into, out = pairs.into[pairs.turn_into], pairs.out[pairs.turn_out]
     has_rules = np.zeros(len(network.node_osm), np.bool_)
@@ -199,7 +199,7 @@ def forbid(network: RoadNetwork, pairs: turns.Pairs, rules: dict[int, turns.Rule
     cost[there[~allowed]] = turns.FORBIDDEN
 
 
-def penalties_of(network: RoadNetwork, pairs: turns.Pairs, penalties: dict[str, int]) -> NDArray[np.int32]:
+def penalties_of(network: RoadNetwork, pairs: turns.TurnPairs, penalties: dict[str, int]) -> NDArray[np.int32]:
     """The penalty of each turn, by its angle: straight on is within STRAIGHT degrees of the line of the road; back is the piece
     of road by which one came, or within BACK degrees of it."""
     found = np.zeros(len(pairs.turn_into), np.int32)
@@ -272,10 +272,10 @@ def metres_of_roads(network: RoadNetwork) -> float:
     """The metres of the road that the pieces are of; what turn restrictions have taken apart counts once."""
     whole, apart = network.piece[is_first(network) & ~network.is_split], np.unique(network.piece[network.is_split])
     metres = (network.runs.metres[network.piece_run[pieces]] for pieces in (whole, apart))
-    return sum(map(in_order, metres))
+    return sum(map(sequential_sum, metres))
 
 
-def in_order(values: Floats) -> float:
+def sequential_sum(values: Floats) -> float:
     """The sum of the values, one after the other."""
     return float(np.cumsum(values)[-1]) if len(values) else 0.0
 
@@ -283,7 +283,7 @@ def in_order(values: Floats) -> float:
 # As it is written
 
 
-def rounded(values: Floats, digits: int) -> Floats:
+def rounded_exactly(values: Floats, digits: int) -> Floats:
     """The values as Python's `round` rounds them: by their exact value, a tie to the even digit."""
     scaled = values * 10.0**digits
     found: Floats = np.rint(scaled)
@@ -303,16 +303,16 @@ def centimetres(metres: Floats, _speed: Floats) -> Floats:
 
 WEIGHTS: dict[str, Unit] = {"time": milliseconds, "length": centimetres}
 # How much of it a hundredth of a second is, where turns have penalties
-OF_PENALTY = {"time": 10, "length": 0}
+UNITS_PER_PENALTY = {"time": 10, "length": 0}
 
 
-def arrays_of(
+def to_arrays(
     network: RoadNetwork, kind: str, rows_of: RowsOf, attribution: str, report: Report
 ) -> binary.Arrays:
     """The network in arrays; `rows_of` gives texts, and the rows of their numbers that roads name, in the order of
     binary.TEXTS."""
-    edge, along, edge_begin, points = edges_of(network)
-    weight, seconds, metres, osm, row = figures_of(network, kind, report)
+    edge, along, edge_begin, points = edges_from_pieces(network)
+    weight, seconds, metres, osm, row = arc_columns(network, kind, report)
     texts, row_texts, arc_row = texts_of(row, rows_of, attribution)
     del row
     encoded = [text.encode("utf-8", "replace") for text in texts]
@@ -321,23 +321,23 @@ def arrays_of(
         np.ascontiguousarray(network.node_place[:, 0]), np.ascontiguousarray(network.node_place[:, 1]), network.node_ends,
         network.start + np.int32(1), network.end + np.int32(1), weight, seconds, metres, osm, arc_row,
         edge, along, row_texts, edge_begin, points,
-        begins(np.array([len(text) for text in encoded], np.int64)), np.frombuffer(b"".join(encoded), np.uint8),
+        offsets(np.array([len(text) for text in encoded], np.int64)), np.frombuffer(b"".join(encoded), np.uint8),
     )
 
 
-def figures_of(network: RoadNetwork, kind: str, report: Report) -> tuple[Ints, Floats, Floats, Ints, NDArray[np.uint32]]:
+def arc_columns(network: RoadNetwork, kind: str, report: Report) -> tuple[Ints, Floats, Floats, Ints, NDArray[np.uint32]]:
     """The weights, seconds, metres, ways and rows of texts of the arcs."""
     count = len(network.start)
     weight, seconds, metres, osm = np.empty(count, np.int64), np.empty(count), np.empty(count), np.empty(count, np.int64)
     row = np.empty(count, np.uint32)
 
     def fill(part: slice) -> int:
-        some = network.with_arcs(part)
-        road, ways, speed = some.road(), some.metres(), some.speed()
-        weights = np.rint(WEIGHTS[kind](ways, speed)).astype(np.int64)
-        weight[part] = np.maximum(weights, 1) + some.penalty * np.int64(OF_PENALTY[kind])
-        seconds[part] = rounded(milliseconds(ways, speed) / 1000 + some.penalty / 100, 3)
-        metres[part], osm[part], row[part] = rounded(ways, 2), network.roads.osm[road], network.roads.row[road]
+        chunk = network.with_arcs(part)
+        road, lengths, speed = chunk.road(), chunk.metres(), chunk.speed()
+        weights = np.rint(WEIGHTS[kind](lengths, speed)).astype(np.int64)
+        weight[part] = np.maximum(weights, 1) + chunk.penalty * np.int64(UNITS_PER_PENALTY[kind])
+        seconds[part] = rounded_exactly(milliseconds(lengths, speed) / 1000 + chunk.penalty / 100, 3)
+        metres[part], osm[part], row[part] = rounded_exactly(lengths, 2), network.roads.osm[road], network.roads.row[road]
         return int((weights == 0).sum())
 
     report["weights raised to 1"] = sum(map_slices(fill, count))
@@ -349,10 +349,10 @@ def texts_of(
 ) -> tuple[list[str], NDArray[np.int32], NDArray[np.int32]]:
     """The list of texts, in the order in which arcs have them, and rows of texts and the row of each arc, as binary.Arrays has
     them."""
-    first = firsts(row_of_arc, int(row_of_arc.max(initial=0)) + 1)
-    used = in_order_of(first)
+    first = first_index(row_of_arc, int(row_of_arc.max(initial=0)) + 1)
+    used = order_of_first_use(first)
     texts, rows = rows_of(used)
-    come = in_order_of(firsts(rows.reshape(-1), len(texts)))
+    come = order_of_first_use(first_index(rows.reshape(-1), len(texts)))
     number = np.zeros(len(texts), np.int32)
     number[come] = np.arange(1, len(come) + 1, dtype=np.int32)
     of_row = np.zeros((len(first), len(binary.TEXTS)), np.int32)
@@ -360,19 +360,19 @@ def texts_of(
     return [attribution, *(texts[place] for place in come.tolist())], *unique_text_rows(of_row, row_of_arc)
 
 
-def in_order_of(first: NDArray[Any]) -> Ints:
+def order_of_first_use(first: NDArray[Any]) -> Ints:
     """The numbers of what comes anywhere, by the place of each where it comes first, or -1."""
     used = np.flatnonzero(first >= 0)
     return used[np.argsort(first[used])]
 
 
-def edges_of(network: RoadNetwork) -> tuple[NDArray[np.int32], NDArray[np.bool_], Ints, NDArray[np.int32]]:
+def edges_from_pieces(network: RoadNetwork) -> tuple[NDArray[np.int32], NDArray[np.bool_], Ints, NDArray[np.int32]]:
     """The edge of each arc and whether it leads along it, and the edges' points, as binary.Arrays has them."""
     used = np.zeros(len(network.piece_run), np.bool_)
     used[network.piece] = True
     pieces = Pieces(network, np.flatnonzero(used).astype(np.int32))
     del used
-    is_along, is_ring, keys = pieces.looked_at()
+    is_along, is_ring, keys = pieces.classify()
     is_same = np.zeros(len(keys), np.bool_)
     for row in np.flatnonzero(is_ring).tolist():
         line = pieces.line(row).tolist()
@@ -380,7 +380,7 @@ def edges_of(network: RoadNetwork) -> tuple[NDArray[np.int32], NDArray[np.bool_]
     is_edge = np.ones(len(keys), np.bool_)
     first_of: dict[int, int] = {}
     known: dict[tuple[int, bytes], int] = {}
-    for row in maybe_equal(keys):
+    for row in candidate_duplicates(keys):
         line = pieces.line(row) if is_along[row] else pieces.line(row)[::-1]
         first = known.setdefault((pieces.way(row), line.tobytes()), row)
         if first != row:
@@ -416,7 +416,7 @@ class Pieces:
         pieces = self._pieces[part]
         return self._runs.begin[pieces].astype(np.int64), self._runs.end[pieces].astype(np.int64)
 
-    def looked_at(self) -> tuple[NDArray[np.bool_], NDArray[np.bool_], NDArray[np.uint64]]:
+    def classify(self) -> tuple[NDArray[np.bool_], NDArray[np.bool_], NDArray[np.uint64]]:
         """Whether each piece leads to the greater of its ends, whether both are one place, and a mix of 64 bits that pieces of one way
         have in common that lie on one line."""
         count = len(self._pieces)
@@ -426,7 +426,7 @@ class Pieces:
             begin, end = self._bounds(part)
             head, tail = place_keys(self._runs.points[begin]), place_keys(self._runs.points[end - 1])
             is_along[part], is_ring[part] = head < tail, head == tail
-            keys[part] = mixed(self._ways(part), np.minimum(head, tail), np.maximum(head, tail), end - begin)
+            keys[part] = hash_rows(self._ways(part), np.minimum(head, tail), np.maximum(head, tail), end - begin)
 
         map_slices(look, count)
         return is_along, is_ring, keys
@@ -449,7 +449,7 @@ class Pieces:
     def points(self, chosen: NDArray[np.bool_], is_along: NDArray[np.bool_]) -> tuple[Ints, NDArray[np.int32]]:
         """The lines of chosen pieces one after the other, each along or against its points; and where they begin."""
         begin, end = (bounds[chosen] for bounds in self._bounds(slice(None)))
-        line_begin = begins(end - begin)
+        line_begin = offsets(end - begin)
         found = np.empty((int(line_begin[-1]), 2), np.int32)
         step = np.where(is_along[chosen], 1, -1).astype(np.int8)
         first = np.where(is_along[chosen], begin, end - 1)
@@ -469,7 +469,7 @@ def place_keys(places: NDArray[np.int32]) -> Ints:
     return (places[:, 0].astype(np.int64) << 32) + places[:, 1]
 
 
-def mixed(*values: Ints) -> NDArray[np.uint64]:
+def hash_rows(*values: Ints) -> NDArray[np.uint64]:
     """A mix of 64 bits of the values of each row."""
     found = np.zeros(len(values[0]), np.uint64)
     for column in values:
@@ -478,7 +478,7 @@ def mixed(*values: Ints) -> NDArray[np.uint64]:
     return found
 
 
-def maybe_equal(keys: NDArray[np.uint64]) -> list[int]:
+def candidate_duplicates(keys: NDArray[np.uint64]) -> list[int]:
     """The rows, in order, that have the upper half of their key in common with another row; the lower one is lost."""
     half = np.uint64((1 << 32) - 1)
     keys &= ~half

@@ -35,30 +35,30 @@ from domethyme.opening import read_header, open_hierarchy_file
 from domethyme.program import find_program
 
 from . import parts
-from .tool import Fault, add_hierarchy, need_hierarchy, packages, spoken, warn, words
+from .tool import ToolError, add_hierarchy, need_hierarchy, require_packages, display_name, warn, argument_parser
 
 BAD_INPUT = (3, 4, 5)
 LOOK_AGAIN_SECONDS = 2
 SILENT_SECONDS = 3
 
 
-def read_words() -> argparse.Namespace:
-    parser = words(__doc__, "%(prog)s --jobs 3 net.rch net.pairs net.answers")
+def parse_args() -> argparse.Namespace:
+    parser = argument_parser(__doc__, "%(prog)s --jobs 3 net.rch net.pairs net.answers")
     parser.add_argument("hierarchy", metavar="HIERARCHY", help="a file that `routecli prepare` wrote")
     parser.add_argument("pairs", metavar="PAIRS", help="a query file; `-` is standard input")
     parser.add_argument("out", metavar="OUT", help="the file of the answers")
     workers = parser.add_mutually_exclusive_group()
-    workers.add_argument("--jobs", type=count, metavar="N", help="programs at a time here (one for each processor)")
+    workers.add_argument("--jobs", type=positive_int, metavar="N", help="programs at a time here (one for each processor)")
     workers.add_argument("--dask", metavar="SCHEDULER", help="the address of a Dask scheduler, or its scheduler file")
     workers.add_argument("--cut", action="store_true", help="only cut; once all parts are answered, only join them")
-    parser.add_argument("--part", type=count, default=10_000, metavar="PAIRS", help="pairs in a part (10000)")
+    parser.add_argument("--part", type=positive_int, default=10_000, metavar="PAIRS", help="pairs in a part (10000)")
     parser.add_argument("--program", metavar="FILE", help="routecli, where it isn't on PATH, in ROUTECLI or built here")
     parser.add_argument("--anew", action="store_true", help="drop what an earlier call has left for OUT")
     add_hierarchy(parser, "--network", "the network of the pairs")
     return parser.parse_args()
 
 
-def count(text: str) -> int:
+def positive_int(text: str) -> int:
     """A number of workers or pairs among the arguments."""
     if re.fullmatch("[1-9][0-9]{0,8}", text) is None:
         raise argparse.ArgumentTypeError("has to be a whole number from 1 to 999999999")
@@ -66,7 +66,7 @@ def count(text: str) -> int:
 
 
 def main() -> None:
-    options = read_words()
+    options = parse_args()
     check_out(options)
     if options.network is not None:
         need_hierarchy(options)
@@ -84,17 +84,17 @@ def run_all(options: argparse.Namespace) -> None:
     """Cuts the pairs, has the parts answered, and joins them, as far as the arguments say."""
     program = find_program(options.program)
     hierarchy = os.path.join(os.getcwd(), options.hierarchy)
-    with parts.opened(options.out, options.anew) as folder:
-        task = domethyme_part.task(program, hierarchy, folder.drafts, spoken(options.pairs))
+    with parts.open_folder(options.out, options.anew) as folder:
+        task = domethyme_part.task(program, hierarchy, folder.drafts, display_name(options.pairs))
         with workers_of(options, task) as workers:
-            plan, is_new = planned(options, task, folder, workers)
+            plan, is_new = make_plan(options, task, folder, workers)
             if options.cut and is_new:
                 print(f"{len(plan.parts)} parts in {folder.path}")
                 return
             missing = [number for number in range(len(plan.parts)) if not folder.is_answered(number)]
             if options.cut and missing:
                 problem = f"{len(missing)} of {len(plan.parts)} parts have no answers yet, the first is"
-                raise Fault(f"{problem} {folder.text(missing[0])}")
+                raise ToolError(f"{problem} {folder.text(missing[0])}")
             answer_all(workers, task, folder, plan, missing)
         join(folder, plan, options.out)
 
@@ -103,18 +103,18 @@ def check_out(options: argparse.Namespace) -> None:
     """A Fault where OUT can't be a file with a folder of parts beside it, or is an input too."""
     out = options.out
     if out == "-" or not os.path.basename(out) or os.path.exists(out) and not os.path.isfile(out):
-        raise Fault(f"OUT has to be a file, and {out!r} is none", status=2)
+        raise ToolError(f"OUT has to be a file, and {out!r} is none", status=2)
     for path in (options.hierarchy, options.pairs, *(() if options.network is None else paths_of(options.network))):
         if os.path.exists(out) and os.path.exists(path) and os.path.samefile(out, path):
-            raise Fault(f"OUT and {path} are one file", status=2)
+            raise ToolError(f"OUT and {path} are one file", status=2)
     if os.path.exists(out) and not os.access(out, os.W_OK):
-        raise Fault("may not be written", out)
+        raise ToolError("may not be written", out)
 
 
 # The parts
 
 
-def planned(
+def make_plan(
     options: argparse.Namespace, task: domethyme_part.Task, folder: parts.Folder, workers: Any
 ) -> tuple[parts.Plan, bool]:
     """The plan of the parts, and whether it is new: where an earlier call has kept none, the pairs are cut."""
@@ -125,13 +125,13 @@ def planned(
             survey.origin.need(options.hierarchy, read_header(file.fileno(), options.hierarchy)[0], options.pairs)
     digests = task["digests"]
     plan = parts.Plan(digests[task["hierarchy"]], digests[task["program"]], survey.sha256, options.part, [])
-    kept = folder.kept_plan()
+    kept = folder.load_plan()
     if kept is not None:
         if (word := kept.difference(plan)) is not None:
-            raise Fault(f"is of a call with another {word}: --anew drops it", folder.path)
+            raise ToolError(f"is of a call with another {word}: --anew drops it", folder.path)
         return kept, False
     if survey.pairs is None:
-        refuse(folder, *whole_refusal(workers, task, spooled))
+        exit_with(folder, *refusal_of_whole(workers, task, spooled))
     return folder.cut(plan, spooled), True
 
 
@@ -142,9 +142,9 @@ def answer_all(workers: Any, task: domethyme_part.Task, folder: parts.Folder, pl
     with tqdm.tqdm(total=pairs, initial=done, unit="pair", unit_scale=True, disable=None) as bar:
         failed = answer_parts(workers, task, folder, plan, missing, bar)
     if failed is not None and failed[0] in BAD_INPUT:
-        failed = whole_refusal(workers, task, folder.whole)
+        failed = refusal_of_whole(workers, task, folder.whole)
     if failed is not None:
-        refuse(folder, *failed)
+        exit_with(folder, *failed)
 
 
 def answer_parts(
@@ -156,12 +156,12 @@ def answer_parts(
     under_way: dict[Any, int] = {}
     failed: dict[int, tuple[int, str]] = {}
     while under_way or waiting and not failed:
-        room = 0 if failed else workers.room() - len(under_way)
+        room = 0 if failed else workers.capacity() - len(under_way)
         for _ in range(min(room, len(waiting))):
             number = waiting.popleft()
             words = (folder.text(number), plan.parts[number][1], folder.answers(number))
             under_way[workers.begin(task, *words)] = number
-        for done in workers.some_done(list(under_way)):
+        for done in workers.wait_any(list(under_way)):
             number = under_way.pop(done)
             failure = failure_of(workers.result(done), folder.answers(number))
             if failure is not None:
@@ -176,28 +176,28 @@ def failure_of(result: domethyme_part.Result, answers: str) -> tuple[int, str] |
     status, line, size = result
     if status != 0:
         return status, line or ""
-    if not domethyme_part.comes_true(lambda: domethyme_part.has_size(answers, size)):
+    if not domethyme_part.wait_until(lambda: domethyme_part.has_size(answers, size)):
         return 1, f"{answers} isn't seen here with the {size} bytes that a worker wrote"
     return None
 
 
-def whole_refusal(workers: Any, task: domethyme_part.Task, text: str) -> tuple[int, str]:
+def refusal_of_whole(workers: Any, task: domethyme_part.Task, text: str) -> tuple[int, str]:
     """Status and line of one process for the whole of a text that is known to be refused: its lines count from the text's
     first one, and of several faults it reports the first. It reads all pairs before it answers any."""
     refused = os.path.join(task["drafts"], "refused")
     begun = workers.begin(task, text, os.stat(text).st_size, refused)
-    while not workers.some_done([begun]):
+    while not workers.wait_any([begun]):
         pass
     status, line, _ = workers.result(begun)
     return (status, line) if status != 0 else (1, "routecli refuses a part of the pairs, and takes them as a whole")
 
 
-def refuse(folder: parts.Folder, status: int, line: str) -> NoReturn:
+def exit_with(folder: parts.Folder, status: int, line: str) -> NoReturn:
     """Ends this program with the status and the line. For bad input nothing is kept."""
     if status == 1:
-        raise Fault(line)
+        raise ToolError(line)
     if status in BAD_INPUT:
-        folder.forget()
+        folder.delete_plan()
     print(line, file=sys.stderr)
     sys.exit(status)
 
@@ -208,7 +208,7 @@ def join(folder: parts.Folder, plan: parts.Plan, out: str) -> None:
     with atomic_write(out, "wb") as file:
         with tqdm.tqdm(total=size, unit="B", unit_scale=True, desc="joining", disable=None) as bar:
             folder.join(plan, file, bar.update)
-    folder.forget()
+    folder.delete_plan()
 
 
 # Workers
@@ -227,7 +227,7 @@ class Threads:
     def __init__(self, pool: concurrent.futures.Executor, jobs: int) -> None:
         self.pool, self.jobs = pool, jobs
 
-    def room(self) -> int:
+    def capacity(self) -> int:
         """How many parts may be under way at a time."""
         return self.jobs
 
@@ -235,7 +235,7 @@ class Threads:
         """Has a worker do domethyme_part.answer with these words: the run, of which `result` gives what it gave."""
         return self.pool.submit(domethyme_part.answer, *words)
 
-    def some_done(self, runs: Any) -> set[Any]:
+    def wait_any(self, runs: Any) -> set[Any]:
         """The set of the runs that are done; waits until there is one, but maybe not as long."""
         return concurrent.futures.wait(runs, return_when=concurrent.futures.FIRST_COMPLETED).done
 
@@ -264,17 +264,17 @@ class Cluster:
         self.client, self.scheduler = client, scheduler
         self.done: queue.SimpleQueue[Any] = queue.SimpleQueue()
 
-    def room(self) -> int:
-        with scheduler_faults(self.scheduler):
+    def capacity(self) -> int:
+        with scheduler_errors(self.scheduler):
             workers = self.client.scheduler_info()["workers"].values()
         return max(1, 2 * sum(int(worker["nthreads"]) for worker in workers))
 
     def begin(self, *words: Any) -> Any:
-        run = self.client.submit(domethyme_part.answer_apart, *words, pure=False)
+        run = self.client.submit(domethyme_part.answer_on_worker, *words, pure=False)
         run.add_done_callback(self.done.put)
         return run
 
-    def some_done(self, _runs: Any) -> set[Any]:
+    def wait_any(self, _runs: Any) -> set[Any]:
         try:
             return {self.done.get(timeout=LOOK_AGAIN_SECONDS)}
         except queue.Empty:
@@ -283,10 +283,10 @@ class Cluster:
     def result(self, run: Any) -> domethyme_part.Result:
         """As of Threads; a Fault where the scheduler went away, which cancels all runs."""
         try:
-            with scheduler_faults(self.scheduler):
+            with scheduler_errors(self.scheduler):
                 result: domethyme_part.Result = run.result()
                 return result
-        except Fault:
+        except ToolError:
             raise
         except Exception as error:
             return 1, f"Dask: {type(error).__name__}: {error}", 0
@@ -295,16 +295,16 @@ class Cluster:
 @contextlib.contextmanager
 def cluster(scheduler: str, task: domethyme_part.Task) -> Iterator[Cluster]:
     """The Cluster of the scheduler, whose workers have been looked at."""
-    with connected(scheduler) as client, module_sent(client, scheduler):
-        refuse_unfit(client, scheduler, task)
+    with connect(scheduler) as client, upload_module(client, scheduler):
+        check_workers(client, scheduler, task)
         yield Cluster(client, scheduler)
 
 
-def connected(scheduler: str) -> Any:
+def connect(scheduler: str) -> Any:
     """A client of the scheduler by its address or its file. Python's log, into which Dask writes what it notices, is shut:
     what goes wrong is reported in a line of our own."""
     logging.disable()
-    with packages():
+    with require_packages():
         import distributed
     where = {"scheduler_file": scheduler} if os.path.isfile(scheduler) else {"address": scheduler}
     patience = threading.Timer(SILENT_SECONDS, warn, [f"waits for the scheduler {scheduler} to answer"])
@@ -312,18 +312,18 @@ def connected(scheduler: str) -> Any:
     try:
         return distributed.Client(**where)
     except (OSError, ValueError, TypeError, KeyError, RuntimeError) as error:
-        raise Fault(f"no scheduler answers: {error}", scheduler) from error
+        raise ToolError(f"no scheduler answers: {error}", scheduler) from error
     finally:
         patience.cancel()
 
 
 @contextlib.contextmanager
-def module_sent(client: Any, scheduler: str) -> Iterator[None]:
+def upload_module(client: Any, scheduler: str) -> Iterator[None]:
     """While the block runs, the workers have the module domethyme_part, those that come late too."""
     from distributed.diagnostics.plugin import UploadFile
 
     name = f"route_many-{uuid.uuid4().hex}"
-    with scheduler_faults(scheduler):
+    with scheduler_errors(scheduler):
         client.register_worker_plugin(UploadFile(domethyme_part.__file__), name=name)
     try:
         yield
@@ -333,24 +333,24 @@ def module_sent(client: Any, scheduler: str) -> Iterator[None]:
                 client.unregister_worker_plugin(name)
 
 
-def refuse_unfit(client: Any, scheduler: str, task: domethyme_part.Task) -> None:
+def check_workers(client: Any, scheduler: str, task: domethyme_part.Task) -> None:
     """A Fault with the name of a worker that can't take part, and why; where there is no worker, it waits for one. One that
     can't be asked is on its way out, and one that comes later is looked at before its first part."""
-    with scheduler_faults(scheduler):
+    with scheduler_errors(scheduler):
         if not client.scheduler_info()["workers"]:
             print("route_many: there is no worker yet: waiting for one", file=sys.stderr)
             client.wait_for_workers(1)
-        troubles = client.run(domethyme_part.trouble_apart, task, on_error="return")
+        troubles = client.run(domethyme_part.check_machine_async, task, on_error="return")
         workers = client.scheduler_info()["workers"]
     for address, trouble in sorted(troubles.items()):
         if trouble is not None and not isinstance(trouble, OSError) and address in workers:
-            raise Fault(f"worker {workers[address]['name']}: {trouble}")
+            raise ToolError(f"worker {workers[address]['name']}: {trouble}")
 
 
 @contextlib.contextmanager
-def scheduler_faults(scheduler: str) -> Iterator[None]:
+def scheduler_errors(scheduler: str) -> Iterator[None]:
     """A Fault where the scheduler goes away while the block runs."""
     try:
         yield
     except (concurrent.futures.CancelledError, OSError) as error:
-        raise Fault("the scheduler went away; the same call resumes with the parts that are done", scheduler) from error
+        raise ToolError("the scheduler went away; the same call resumes with the parts that are done", scheduler) from error

@@ -17,7 +17,7 @@ from typing import Any
 from domethyme.program import StrPath
 from domethyme.texts import open_input
 
-from .tool import Fault
+from .tool import ToolError
 
 Tags = dict[str, str]
 
@@ -80,54 +80,54 @@ def read_profile(word: str) -> Profile:
     path = pathlib.Path(word) if word.endswith(".json") else PROFILES / f"{word}.json"
     if not word.endswith(".json") and not os.path.exists(path):
         known = ", ".join(sorted(each.stem for each in PROFILES.glob("*.json")))
-        raise Fault(f"there is no profile {word}: there is {known}; for another vehicle copy its file and name the copy")
+        raise ToolError(f"there is no profile {word}: there is {known}; for another vehicle copy its file and name the copy")
     with open_input(path) as stream:
         try:
             members = json.load(stream)
         except json.JSONDecodeError as error:
-            raise Fault(f"isn't JSON: {error.msg}", path, error.lineno) from error
+            raise ToolError(f"isn't JSON: {error.msg}", path, error.lineno) from error
         except UnicodeDecodeError as error:
-            raise Fault("isn't UTF-8", path) from error
-    return checked_profile(members, path)
+            raise ToolError("isn't UTF-8", path) from error
+    return validate_profile(members, path)
 
 
-def checked_profile(members: Any, path: StrPath) -> Profile:
+def validate_profile(members: Any, path: StrPath) -> Profile:
     """The profile with these members, or the first that is missing, unknown or of the wrong kind."""
     if not isinstance(members, dict):
-        raise Fault("is no object with the members of a profile", path)
+        raise ToolError("is no object with the members of a profile", path)
     members.pop("about", None)
     for name in Profile._fields:
         if name in members:
-            if wrong := wrong_member(name, members[name]):
-                raise Fault(f"{name} isn't {wrong}", path)
+            if wrong := member_error(name, members[name]):
+                raise ToolError(f"{name} isn't {wrong}", path)
         elif name not in Profile._field_defaults:
-            raise Fault(f"has no member {name}", path)
+            raise ToolError(f"has no member {name}", path)
     for name in members:
         if name not in Profile._fields:
-            raise Fault(f"has the unknown member {name}", path)
+            raise ToolError(f"has the unknown member {name}", path)
     return Profile(**members)
 
 
-def wrong_member(name: str, value: Any) -> str:
+def member_error(name: str, value: Any) -> str:
     """What a member isn't and has to be, or the empty text."""
     if name == "turns":
         kinds = isinstance(value, dict) and all(kind in TURNS and type(value[kind]) is int for kind in value)
         fits = kinds and all(0 <= penalty <= MOST_PENALTY for penalty in value.values())
         return "" if fits else f"hundredths of a second from 0 to {MOST_PENALTY} by the words {', '.join(TURNS)}"
     if name == "fastest":
-        return wrong_speed({"fastest": value}) and f"a speed from {SLOWEST} to {FASTEST}"
+        return speed_error({"fastest": value}) and f"a speed from {SLOWEST} to {FASTEST}"
     if name in ("both_ways", "closed_by"):
         return "" if is_words(value) and all(word.count("=") == 1 for word in value) else "a list of words KEY=VALUE"
     if name in ("speeds", "maxspeed_words", "surfaces"):
-        wrong = wrong_speed(value)
+        wrong = speed_error(value)
         return f"speeds from {SLOWEST} to {FASTEST} by names{wrong}" if wrong else ""
     if name == "measures":
-        wrong = wrong_speed(value, 0)
+        wrong = speed_error(value, 0)
         return f"measures in metres or tonnes by names{wrong}" if wrong else ""
     return "" if is_words(value) else "a list of words"
 
 
-def wrong_speed(value: Any, least: float = SLOWEST) -> str:
+def speed_error(value: Any, least: float = SLOWEST) -> str:
     """What of a value isn't numbers from `least` to FASTEST by names: that it is no object, the first wrong one, or nothing."""
     if not isinstance(value, dict):
         return ": it is no object"
@@ -166,9 +166,9 @@ def barrier_keys(profile: Profile) -> list[str]:
     return ["barrier", *profile.access]
 
 
-def judged(tags: Tags, profile: Profile) -> Judgement:
+def judge(tags: Tags, profile: Profile) -> Judgement:
     """What the rules say of a way with these tags, one of which is `highway`."""
-    reason = refusal(tags, profile)
+    reason = rejection_reason(tags, profile)
     if reason is not None:
         return Judgement(reason)
     forward, backward = directions(tags, profile)
@@ -218,7 +218,7 @@ def limit_of(key: str, text: str) -> float | None:
     return float(found[1]) * MEASURES[found[2]] if found else None
 
 
-def parts_a_way(tags: Tags, profile: Profile) -> bool:
+def blocks_way(tags: Tags, profile: Profile) -> bool:
     """Whether a node with these tags is a barrier to the vehicle: by its access tags if it has some, else by its kind."""
     if "barrier" not in tags:
         return False
@@ -227,7 +227,7 @@ def parts_a_way(tags: Tags, profile: Profile) -> bool:
     return tags["barrier"] in profile.barriers
 
 
-def refusal(tags: Tags, profile: Profile) -> str | None:
+def rejection_reason(tags: Tags, profile: Profile) -> str | None:
     """Why a way with these tags is left out, in the words of the report, or None."""
     if tags["highway"] not in profile.speeds:
         return "ways left out by their class"
@@ -262,9 +262,9 @@ def speed_of(tags: Tags, direction: str, profile: Profile) -> tuple[float, bool]
     """The speed in a direction in km/h, and whether a maxspeed that is set was understood."""
     keys = (key for base in reversed(profile.maxspeed) for key in (f"{base}:{direction}", base))
     text = next((tags[key] for key in keys if key in tags), None)
-    said = None if text is None else maxspeed_of(text, profile)
-    speed = profile.speeds[tags["highway"]] if said is None else said
-    return min(speed, profile.fastest, profile.surfaces.get(tags.get("surface", ""), FASTEST)), text is None or said is not None
+    limit = None if text is None else maxspeed_of(text, profile)
+    speed = profile.speeds[tags["highway"]] if limit is None else limit
+    return min(speed, profile.fastest, profile.surfaces.get(tags.get("surface", ""), FASTEST)), text is None or limit is not None
 
 
 def maxspeed_of(text: str, profile: Profile) -> float | None:
@@ -282,10 +282,10 @@ def maxspeed_of(text: str, profile: Profile) -> float | None:
     return speed if SLOWEST <= speed <= FASTEST else None
 
 
-def doubts(tags: Tags, profile: Profile) -> Iterator[tuple[str, bool]]:
+def unsupported_tags(tags: Tags, profile: Profile) -> Iterator[tuple[str, bool]]:
     """What of a way's rules isn't looked at, in the words of the report, and whether it is so."""
-    said = [tags[key] for key in profile.access if key in tags]
-    yield "ways for destinations alone that are taken as open", bool(said) and "destination" in said[-1].split(";")
+    access = [tags[key] for key in profile.access if key in tags]
+    yield "ways for destinations alone that are taken as open", bool(access) and "destination" in access[-1].split(";")
     conditional = any(key.endswith(":conditional") and key.startswith(conditional_keys(profile)) for key in tags)
     yield "ways with rules for some times or conditions, which aren't looked at", conditional
 

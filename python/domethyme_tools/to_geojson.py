@@ -55,8 +55,8 @@ from domethyme.network.own import load_network_or_dimacs
 from domethyme.network.tables import Point, read_attribution, to_geojson_geometry, to_multilinestring, paths_of
 from domethyme.texts import Table, parse_float, read_answers, escape_formula, excerpt, open_table
 
-from .geometry import joined
-from .tool import Fault, add_hierarchy, need_hierarchy, refuse_overwriting, words
+from .geometry import join_lines
+from .tool import ToolError, add_hierarchy, need_hierarchy, refuse_overwriting, argument_parser
 
 NO_TRIP: tuple[int | None, dict[str, str] | None] = None, None
 PAIR, KEYS = ("from_node", "to_node"), ("from_key", "to_key")
@@ -67,8 +67,8 @@ NAME = TEXTS.index("name")
 FORMS = ("collection", "lines", "csv")
 
 
-def read_words() -> argparse.Namespace:
-    parser = words(__doc__, "routecli route out/li.rch out/li.pairs | %(prog)s out/li - --trips trips.csv -o out/li.geojson")
+def parse_args() -> argparse.Namespace:
+    parser = argument_parser(__doc__, "routecli route out/li.rch out/li.pairs | %(prog)s out/li - --trips trips.csv -o out/li.geojson")
     parser.add_argument("network", metavar="NETWORK", help="the network that the answers are of")
     parser.add_argument("answers", metavar="ANSWERS", help="the answers of routecli")
     parser.add_argument("-o", dest="output", metavar="ROUTES", default="-", help="by default standard output")
@@ -85,7 +85,7 @@ def read_words() -> argparse.Namespace:
     return options
 
 
-class Driving(typing.NamedTuple):
+class ArcFigures(typing.NamedTuple):
     """What is said of an arc."""
 
     seconds: float | None
@@ -93,18 +93,18 @@ class Driving(typing.NamedTuple):
     name: str
 
 
-class Driven(typing.NamedTuple):
+class RoutedAnswer(typing.NamedTuple):
     """An answer on the road: the user's fields, the arcs, the places along them, None where there is no route, and the keys of its
     ends where nodes have keys."""
 
     fields: dict[str, str]
     answer: RouteReply
-    arcs: list[Driving]
+    arcs: list[ArcFigures]
     line: list[Point] | None
     keys: dict[str, str | None]
 
 
-class Roads:
+class RouteArcs:
     """The arcs that routes take, and where they lie."""
 
     def __init__(self, network: str) -> None:
@@ -115,26 +115,26 @@ class Roads:
         """The arcs of an answer's route, whose weights sum to its length."""
         for node in answer.nodes or (answer.source, answer.target):
             if not 1 <= node <= self.nodes:
-                raise Fault(f"has node {node}, and the network has {self.nodes} nodes", path, row)
+                raise ToolError(f"has node {node}, and the network has {self.nodes} nodes", path, row)
         nodes = numpy.array(answer.nodes, dtype=numpy.int64)
         arcs: list[int] = self.arrays.lightest(nodes[:-1], nodes[1:]).tolist() if len(nodes) > 1 else []
         if -1 in arcs:
             start, end = answer.nodes[arcs.index(-1) :][:2]
-            raise Fault(f"leads from node {start} to node {end}, where the network has no arc", path, row)
+            raise ToolError(f"leads from node {start} to node {end}, where the network has no arc", path, row)
         weight = int(self.arrays.arc_weight[arcs].sum()) if arcs else 0
         if answer.length not in (NO_WAY, weight):
             fault = f"has the length {answer.length}, and its arcs' weights sum to {weight}"
-            raise Fault(f"{fault}: is it of another network?", path, row)
+            raise ToolError(f"{fault}: is it of another network?", path, row)
         return arcs
 
-    def driven(self, arcs: list[int]) -> list[Driving]:
+    def arc_figures(self, arcs: list[int]) -> list[ArcFigures]:
         """What is said of arcs."""
         if not arcs:
             return []
         metres = self.arrays.arc_metres[arcs].tolist()
         seconds = self.arrays.arc_seconds[arcs].tolist() if self.arrays.has_seconds else [None] * len(arcs)
         names = [self.arrays.texts[text] for text in self.arrays.arc_texts[arcs, NAME].tolist()]
-        return list(map(Driving, seconds, metres, names))
+        return list(map(ArcFigures, seconds, metres, names))
 
     def keys_of(self, answer: RouteReply) -> dict[str, str | None]:
         """The keys of both ends, by the names of their properties; none where nodes have none."""
@@ -144,7 +144,7 @@ class Roads:
     def line_along(self, node: int, arcs: list[int]) -> list[Point]:
         """The places along arcs that follow one another from a node, two or more."""
         begin = self.arrays.node_lon[node - 1] / UNITS, self.arrays.node_lat[node - 1] / UNITS
-        line = joined([[begin], *map(self.arrays.line, arcs)])
+        line = join_lines([[begin], *map(self.arrays.line, arcs)])
         return line if len(line) > 1 else line * 2
 
 
@@ -170,40 +170,40 @@ def trips_at(path: str | None) -> Iterator[Trips]:
     with open_table(path, ()) as trips:
         for name in trips.columns:
             if name in (*FIGURES, STEPS, LINE):
-                raise Fault(f"column {name} has the name of a property of the routes: rename it", path, 1)
+                raise ToolError(f"column {name} has the name of a property of the routes: rename it", path, 1)
             if trips.columns.count(name) > 1:
-                raise Fault(f"has two columns {name}", path, 1)
+                raise ToolError(f"has two columns {name}", path, 1)
         yield trips
 
 
-def routes_of(answers: Iterable[tuple[int, RouteReply]], answers_path: str, trips: Trips, roads: Roads) -> Iterator[Driven]:
+def routes_of(answers: Iterable[tuple[int, RouteReply]], answers_path: str, trips: Trips, roads: RouteArcs) -> Iterator[RoutedAnswer]:
     """The routes of the answers, which come with their row numbers, in order."""
     rows = iter(trips)
     for row, answer in answers:
         trip_row, trip = next(rows, NO_TRIP)
         if trip is None:
-            raise Fault(f"is an answer more than {trips.path} has rows", answers_path, row)
+            raise ToolError(f"is an answer more than {trips.path} has rows", answers_path, row)
         arcs = roads.arcs_along(answer, answers_path, row)
         line = None if answer.length == NO_WAY else roads.line_along(answer.source, arcs)
         keys = roads.keys_of(answer)
-        yield Driven(own_fields(trip, answer, keys, trips, trip_row), answer, roads.driven(arcs), line, keys)
+        yield RoutedAnswer(user_fields(trip, answer, keys, trips, trip_row), answer, roads.arc_figures(arcs), line, keys)
     if trips.columns:
         for more, _ in rows:
-            raise Fault("is a row more than there are answers", trips.path, more)
+            raise ToolError("is a row more than there are answers", trips.path, more)
 
 
-def own_fields(
+def user_fields(
     trip: dict[str, str], answer: RouteReply, keys: dict[str, str | None], trips: Trips, row: int | None
 ) -> dict[str, str]:
     """The fields of a trip but those of the pair and its keys, which have to be the answer's."""
     ours = dict(zip(PAIR, answer)) | keys
     for name, value in ours.items():
         if trip.get(name, str(value)) != str(value):
-            raise Fault(f"has {name} {excerpt(trip[name])} where the answer has {value}", trips.path, row)
+            raise ToolError(f"has {name} {excerpt(trip[name])} where the answer has {value}", trips.path, row)
     return {name: text for name, text in trip.items() if name not in ours}
 
 
-def figures_of(route: Driven) -> dict[str, Any]:
+def route_properties(route: RoutedAnswer) -> dict[str, Any]:
     """The pair and the figures of a route, by their names."""
     figures: list[float | None] = [None] * len(FIGURES)
     if route.line is not None:
@@ -211,13 +211,13 @@ def figures_of(route: Driven) -> dict[str, Any]:
     return dict(zip(PAIR, route.answer)) | route.keys | dict(zip(FIGURES, figures))
 
 
-def time_and_way(arcs: list[Driving]) -> tuple[float | None, float]:
+def time_and_way(arcs: list[ArcFigures]) -> tuple[float | None, float]:
     """Seconds to the thousandth, None where the network has none, and metres to the hundredth, as the table of arcs has them."""
     seconds = [arc.seconds for arc in arcs if arc.seconds is not None]
     return round(sum(seconds), 3) if len(seconds) == len(arcs) else None, round(sum(arc.metres for arc in arcs), 2)
 
 
-def steps_of(route: Driven) -> list[dict[str, Any]] | None:
+def route_steps(route: RoutedAnswer) -> list[dict[str, Any]] | None:
     """The streets along a route, or None where there is no route."""
     if route.line is None:
         return None
@@ -225,17 +225,17 @@ def steps_of(route: Driven) -> list[dict[str, Any]] | None:
     return [step_of(name, list(arcs)) for name, arcs in streets]
 
 
-def step_of(name: str, arcs: list[Driving]) -> dict[str, Any]:
+def step_of(name: str, arcs: list[ArcFigures]) -> dict[str, Any]:
     """The step along arcs of one street."""
     seconds, metres = time_and_way(arcs)
     return {"name": name, "metres": metres, "seconds": seconds}
 
 
-def feature_of(route: Driven, with_steps: bool) -> str:
+def feature_of(route: RoutedAnswer, with_steps: bool) -> str:
     """The text of a route's feature, on one line."""
-    properties = route.fields | figures_of(route)
+    properties = route.fields | route_properties(route)
     if with_steps:
-        properties[STEPS] = steps_of(route)
+        properties[STEPS] = route_steps(route)
     geometry = None if route.line is None else to_geojson_geometry(route.line)
     feature = {"type": "Feature", "properties": properties, "geometry": geometry}
     return json.dumps(feature, ensure_ascii=False, separators=(",", ":"))
@@ -250,13 +250,13 @@ def write_collection(file: IO[str], features: Iterable[str], attribution: str) -
     file.write("\n]}\n")
 
 
-def write_table(file: IO[str], routes: Iterable[Driven], columns: Iterable[str], has_keys: bool) -> None:
+def write_table(file: IO[str], routes: Iterable[RoutedAnswer], columns: Iterable[str], has_keys: bool) -> None:
     """Writes the routes as CSV, the user's columns first."""
     rows, ours = csv.writer(file, lineterminator="\n"), (*PAIR, *(KEYS if has_keys else ()))
     rows.writerow([*(escape_formula(name) for name in columns if name not in ours), *ours, *FIGURES, LINE])
     for route in routes:
         line = None if route.line is None else to_multilinestring(route.line)
-        figures = (escape_formula(value) if isinstance(value, str) else value for value in figures_of(route).values())
+        figures = (escape_formula(value) if isinstance(value, str) else value for value in route_properties(route).values())
         rows.writerow([*map(escape_formula, route.fields.values()), *figures, line])
 
 
@@ -290,16 +290,16 @@ def write_on_roads(options: argparse.Namespace) -> None:
 
 
 def main() -> None:
-    options = read_words()
+    options = parse_args()
     need_hierarchy(options)
     if options.on_roads:
         write_on_roads(options)
         return
-    roads = Roads(options.network)
+    roads = RouteArcs(options.network)
     answers = enumerate(read_answers(options.answers), 1)
     first = list(itertools.islice(answers, 1))
     if not first:
-        raise Fault("has no answer", options.answers)
+        raise ToolError("has no answer", options.answers)
     with trips_at(options.trips) as trips, atomic_write(options.output) as file:
         routes = routes_of(itertools.chain(first, answers), options.answers, trips, roads)
         features = (feature_of(route, not options.no_steps) for route in routes)

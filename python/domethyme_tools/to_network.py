@@ -49,13 +49,13 @@ from domethyme.network.tables import (
 )
 
 from .old_tables import tables_there
-from .tool import Fault, refuse_overwriting, warn, words
+from .tool import ToolError, refuse_overwriting, warn, argument_parser
 
 ROWS = 1 << 16
 
 
-def read_words() -> argparse.Namespace:
-    parser = words(__doc__, "%(prog)s nodes.csv arcs.csv out/firm", "%(prog)s USA-road-d.NY.co USA-road-d.NY.gr out/ny")
+def parse_args() -> argparse.Namespace:
+    parser = argument_parser(__doc__, "%(prog)s nodes.csv arcs.csv out/firm", "%(prog)s USA-road-d.NY.co USA-road-d.NY.gr out/ny")
     parser.add_argument("nodes", metavar="NODES", help="the table of nodes, or a .co file")
     parser.add_argument("arcs", metavar="ARCS", help="the table of arcs, or a .gr file")
     parser.add_argument("out", metavar="OUT", help="the beginning of the names of the files")
@@ -93,7 +93,7 @@ def sizes_of(paths: Files, options: argparse.Namespace) -> tuple[int, int]:
     for table, given, columns in ((paths.nodes, options.nodes, NODE_COLUMNS), (paths.arcs, options.arcs, ARC_COLUMNS)):
         is_given = os.path.exists(table) and os.path.exists(given) and os.path.samefile(table, given)
         if not is_given and has_columns(table, columns):
-            raise Fault(f"is there, and isn't {given}: remove it, or give --tables to write it anew", table)
+            raise ToolError(f"is there, and isn't {given}: remove it, or give --tables to write it anew", table)
         sizes.append(os.stat(table).st_size if is_given else 0)
     return sizes[0], sizes[1]
 
@@ -115,11 +115,11 @@ def read_arrays(options: argparse.Namespace, attribution: str) -> binary.Arrays:
     try:
         return own.build_arrays(nodes, arcs, attribution)
     except ValueError as error:
-        raise Fault(str(error), options.arcs) from error
+        raise ToolError(str(error), options.arcs) from error
 
 
 def main() -> None:
-    options = read_words()
+    options = parse_args()
     paths = Files(options.out)
     attribution = read_attribution(options.out) if options.attribution is None else " ".join(options.attribution.split())
     if options.tables:
@@ -135,7 +135,7 @@ def main() -> None:
         try:
             binary.write(buffer_of(files[-1]), arrays._replace(sizes=numpy.array(sizes)))
         except ValueError as error:
-            raise Fault(str(error), options.arcs) from error
+            raise ToolError(str(error), options.arcs) from error
     kilometres = arrays.arc_metres[numpy.unique(arrays.arc_edge, return_index=True)[1]].sum() / 1000
     warn(f"{options.out}: {len(arrays.node_osm)} nodes, {len(arrays.arc_from)} arcs, {kilometres:.1f} km of road")
     if (older := older_hierarchy(options.out)) is not None:

@@ -26,13 +26,13 @@ from domethyme import belonging
 from domethyme.errors import DomethymeError, FileError
 
 
-class Fault(FileError):
+class ToolError(FileError):
     """What is wrong, in one line: `FILE, row ROW: MESSAGE`. `status` is what the tool ends with."""
 
 
 def run(main: Callable[[], None]) -> NoReturn:
     """Calls main() and ends the process as the module's docstring says."""
-    signal.signal(signal.SIGTERM, ended_by_signal)
+    signal.signal(signal.SIGTERM, exit_on_signal)
     line: str | None
     try:
         main()
@@ -45,13 +45,13 @@ def run(main: Callable[[], None]) -> NoReturn:
     except BrokenPipeError:
         status, line = 1, None
     except OSError as error:
-        status, line = 1, os_fault(error)
+        status, line = 1, os_error_text(error)
     except MemoryError:
         status, line = 1, "there isn't enough memory"
     if line is not None:
         warn(line)
     if status != 0:
-        drop_standard_output()
+        discard_stdout()
     sys.exit(status)
 
 
@@ -60,24 +60,24 @@ def warn(text: str) -> None:
     print(f"{pathlib.Path(sys.argv[0]).name}: {' '.join(text.split())}", file=sys.stderr)
 
 
-def ended_by_signal(number: int, _frame: FrameType | None) -> NoReturn:
+def exit_on_signal(number: int, _frame: FrameType | None) -> NoReturn:
     """Ends the process in order, so that with-blocks remove what they have begun."""
     sys.exit(128 + number)
 
 
-def os_fault(error: OSError) -> str:
+def os_error_text(error: OSError) -> str:
     reason = error.strerror or str(error)
     return f"{error.filename}: {reason}" if error.filename else reason
 
 
-def drop_standard_output() -> None:
+def discard_stdout() -> None:
     """Sends what is still to be flushed nowhere: Python flushes again at its end, and would fail a second time."""
     with contextlib.suppress(OSError, ValueError):
         os.dup2(os.open(os.devnull, os.O_WRONLY), sys.stdout.fileno())
 
 
 @contextlib.contextmanager
-def packages() -> Iterator[None]:
+def require_packages() -> Iterator[None]:
     """Around imports of Debian's modules, in scripts: one that is missing ends the tool with one line and status 1."""
     try:
         yield
@@ -88,12 +88,12 @@ def packages() -> Iterator[None]:
         sys.exit(1)
 
 
-def spoken(path: str) -> str:
+def display_name(path: str) -> str:
     """The name by which messages call an input file."""
     return "standard input" if path == "-" else path
 
 
-def words(doc: str | None, *examples: str) -> argparse.ArgumentParser:
+def argument_parser(doc: str | None, *examples: str) -> argparse.ArgumentParser:
     """A parser of a tool's arguments. Its `--help` shows the docstring line by line, and ends with calls of the tool, in which
     `%(prog)s` is the name that it was called by."""
     epilog = "\n  ".join(["examples:", *examples]) if examples else None
@@ -119,7 +119,7 @@ def refuse_overwriting(parser: argparse.ArgumentParser, outputs: Iterable[str | 
         found = None if output in (None, "-") else file_at(str(output))
         for path, file in given.items():
             if found is not None and os.path.samestat(found, file):
-                parser.error(f"{output} and {spoken(path)} are one file: it would be overwritten")
+                parser.error(f"{output} and {display_name(path)} are one file: it would be overwritten")
 
 
 def file_at(path: str) -> os.stat_result | None:
@@ -131,6 +131,6 @@ def file_at(path: str) -> os.stat_result | None:
     return found if stat.S_ISREG(found.st_mode) else None
 
 
-def tool(name: str) -> list[str]:
+def tool_command(name: str) -> list[str]:
     """The words that begin another tool, by this Python."""
     return [sys.executable, "-P", str(pathlib.Path(__file__).with_name("__main__.py")), name]

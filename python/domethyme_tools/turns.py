@@ -90,7 +90,7 @@ class Rules:
         return (start, end) not in self.forbidden and (start not in self.only or end in self.only[start])
 
 
-def fitting(
+def applicable_rules(
     restrictions: Iterable[Restriction], ends_of: Callable[[int], Iterable[int] | None], report: Report
 ) -> dict[int, Rules]:
     """The rules at each node, by the restrictions whose ways end at their node. `ends_of` gives the nodes at the ends of a
@@ -109,7 +109,7 @@ def fitting(
     return rules
 
 
-class Pairs(NamedTuple):
+class TurnPairs(NamedTuple):
     """The turns at some nodes, by arcs that lead to a node and those that lead from it.
 
     into, out              the arcs that lead to the nodes, and from them, node by node and in the order of arcs
@@ -125,32 +125,32 @@ class Pairs(NamedTuple):
     turn_out: Ints
 
 
-def begins(counts: NDArray[Any]) -> Ints:
+def offsets(counts: NDArray[Any]) -> Ints:
     """Where the items of each begin, by their counts; and at last where they end."""
     return np.concatenate((np.zeros(1, np.int64), np.cumsum(counts, dtype=np.int64)))
 
 
-def within(counts: NDArray[Any]) -> Ints:
+def index_within(counts: NDArray[Any]) -> Ints:
     """For the items of each, by their counts, their numbers from 0."""
-    found: Ints = np.arange(int(counts.sum())) - np.repeat(begins(counts)[:-1], counts)
+    found: Ints = np.arange(int(counts.sum())) - np.repeat(offsets(counts)[:-1], counts)
     return found
 
 
-def pairs_at(nodes: Ints, start: NDArray[np.int32], end: NDArray[np.int32], count: int) -> Pairs:
+def pairs_at(nodes: Ints, start: NDArray[np.int32], end: NDArray[np.int32], count: int) -> TurnPairs:
     """The turns at these nodes, of a graph with `count` nodes and arcs with these ends."""
     rank = np.full(count, -1, np.int32)
     rank[nodes] = np.arange(len(nodes), dtype=np.int32)
     (into, into_begin), (out, out_begin) = (arcs_at(rank[side], len(nodes)) for side in (end, start))
     out_count = np.diff(out_begin)[rank[end[into]]]
     turn_into = np.repeat(np.arange(len(into)), out_count)
-    turn_out = np.repeat(out_begin[rank[end[into]]], out_count) + within(out_count)
-    return Pairs(into, out, into_begin, out_begin, turn_into, turn_out)
+    turn_out = np.repeat(out_begin[rank[end[into]]], out_count) + index_within(out_count)
+    return TurnPairs(into, out, into_begin, out_begin, turn_into, turn_out)
 
 
 def arcs_at(rank: NDArray[np.int32], count: int) -> tuple[Ints, Ints]:
     """The arcs that have a rank from 0, by it, and where those of each rank begin."""
     arcs = np.flatnonzero(rank >= 0)
-    return arcs[np.argsort(rank[arcs], kind="stable")], begins(np.bincount(rank[arcs], minlength=count))
+    return arcs[np.argsort(rank[arcs], kind="stable")], offsets(np.bincount(rank[arcs], minlength=count))
 
 
 class Split(NamedTuple):
@@ -181,13 +181,13 @@ class Copies(NamedTuple):
     ends: NDArray[np.uint8]
 
 
-def split(
-    nodes: Ints, pairs: Pairs, cost: NDArray[np.int32], start: NDArray[np.int32], end: NDArray[np.int32], count: int
+def split_nodes(
+    nodes: Ints, pairs: TurnPairs, cost: NDArray[np.int32], start: NDArray[np.int32], end: NDArray[np.int32], count: int
 ) -> Split:
     """Splits those of the nodes where a turn is FORBIDDEN or has a penalty, by the cost of each turn. New nodes follow the others:
     of each node that is split the one where routes end, and one for each set of arcs that differ in what they may go on into, or
     at which penalty, in the order of the first of them."""
-    copies = copies_of(nodes, pairs, cost, count)
+    copies = make_copies(nodes, pairs, cost, count)
     # each arc that leads to a split node ends twice, and each that leads from one starts once for each node made that may take it
     ends_of, first_end, last_end = np.ones(len(start), np.int8), end.copy(), end.copy()
     there = np.repeat(copies.is_split, np.diff(pairs.into_begin))
@@ -204,12 +204,12 @@ def split(
     # each start of those with several, with each end
     several = np.flatnonzero(total > 1)
     starts_of, ends_of, total = starts_of[several], ends_of[several], total[several]
-    start_begin = begins(starts_of)
+    start_begin = offsets(starts_of)
     starts, penalties = np.repeat(start[several], starts_of), np.zeros(int(start_begin[-1]), np.int32)
     is_more = np.ones(len(starts), np.bool_)
     is_more[start_begin[:-1]] = False
     starts[is_more], penalties[is_more] = copies.made[pairs.turn_into[leaves]], cost[leaves]
-    which, number = np.repeat(np.arange(len(several)), total), within(total)
+    which, number = np.repeat(np.arange(len(several)), total), index_within(total)
     at = start_begin[which] + number // ends_of[which]
     found[0][is_several], found[2][is_several] = starts[at], penalties[at]
     found[1][is_several] = np.where(number % ends_of[which] == 0, first_end[several[which]], last_end[several[which]])
@@ -217,7 +217,7 @@ def split(
     return Split(arc, *found, copies.beside, copies.ends, nodes[copies.is_split], touched)
 
 
-def copies_of(nodes: Ints, pairs: Pairs, cost: NDArray[np.int32], count: int) -> Copies:
+def make_copies(nodes: Ints, pairs: TurnPairs, cost: NDArray[np.int32], count: int) -> Copies:
     """The new nodes. Arcs of one class may go on into the same arcs at the same costs; those that may go on anywhere for nothing
     lead to the node itself."""
     node = np.repeat(np.arange(len(nodes)), np.diff(pairs.into_begin))
@@ -225,25 +225,25 @@ def copies_of(nodes: Ints, pairs: Pairs, cost: NDArray[np.int32], count: int) ->
     is_free[pairs.turn_into[cost != 0]] = False
     is_split = np.zeros(len(nodes), np.bool_)
     is_split[node[~is_free]] = True
-    first = first_of_class(pairs, cost, node)
+    first = first_equivalent(pairs, cost, node)
     is_made = ~is_free & (first == np.arange(len(first)))
     made_at = np.bincount(node[is_made], minlength=len(nodes))
-    begin = count + begins(np.where(is_split, 1 + made_at, 0))
+    begin = count + offsets(np.where(is_split, 1 + made_at, 0))
     made = np.zeros(len(pairs.into), np.int64)
-    made[is_made] = begin[:-1][node[is_made]] + 1 + within(made_at)
+    made[is_made] = begin[:-1][node[is_made]] + 1 + index_within(made_at)
     ends = np.full(int(begin[-1]) - count, ENDS.index(PASSED), np.uint8)
     ends[begin[:-1][is_split] - count] = ENDS.index(END)
     beside = np.repeat(nodes[is_split], 1 + made_at[is_split])
     return Copies(is_made, made, np.where(is_free, nodes[node], made[first]), begin[:-1][node], is_split, beside, ends)
 
 
-def first_of_class(pairs: Pairs, cost: NDArray[np.int32], node: Ints) -> Ints:
+def first_equivalent(pairs: TurnPairs, cost: NDArray[np.int32], node: Ints) -> Ints:
     """For each arc that leads to a node the first of those that lead there and have the same costs, by a mix of 64 bits."""
     key = np.zeros(len(pairs.into), np.uint64)
     place = (pairs.turn_out - pairs.out_begin[node[pairs.turn_into]]).astype(np.uint64)
-    begin = begins(np.bincount(pairs.turn_into, minlength=len(key)))
+    begin = offsets(np.bincount(pairs.turn_into, minlength=len(key)))
     has_turns = np.diff(begin) > 0
-    codes = mixed(place * np.uint64(1 << 32) + (cost + 2).astype(np.uint64))
+    codes = splitmix64(place * np.uint64(1 << 32) + (cost + 2).astype(np.uint64))
     key[has_turns] = np.add.reduceat(codes, begin[:-1][has_turns]) if len(codes) else 0
     order = np.lexsort((key, node))
     is_first = np.ones(len(order), np.bool_)
@@ -253,7 +253,7 @@ def first_of_class(pairs: Pairs, cost: NDArray[np.int32], node: Ints) -> Ints:
     return found
 
 
-def mixed(values: NDArray[np.uint64]) -> NDArray[np.uint64]:
+def splitmix64(values: NDArray[np.uint64]) -> NDArray[np.uint64]:
     """Numbers of 64 bits for numbers (the end of splitmix64)."""
     values = (values ^ values >> np.uint64(30)) * np.uint64(0xBF58476D1CE4E5B9)
     values = (values ^ values >> np.uint64(27)) * np.uint64(0x94D049BB133111EB)

@@ -16,7 +16,7 @@ from domethyme.network.tables import read_arcs, read_nodes
 from domethyme.texts import read_graph
 from domethyme_tools import map_arrays, osm_to_gr, road_network
 from domethyme_tools.rules import read_profile
-from domethyme_tools.tool import Fault
+from domethyme_tools.tool import ToolError
 
 # A compiler that writes the program to the path behind -o
 BUILT = '#!/bin/sh\nwhile [ "$1" != -o ]; do shift; done\ncp program "$2"\nchmod +x "$2"\n'
@@ -148,11 +148,11 @@ class FileTests(ToolCase):
 
 class RoomTests(unittest.TestCase):
     def test_a_network_that_is_too_large(self):
-        osm_to_gr.need_room(1 << 25, 1 << 27, "map.osm")
+        osm_to_gr.check_limits(1 << 25, 1 << 27, "map.osm")
         cases = [((1 << 25) + 1, 0, "33554433 nodes, and there may be 33554432"), (0, (1 << 27) + 1, "134217729 arcs")]
         for nodes, arcs, says in cases:
-            with self.assertRaisesRegex(Fault, f"map.osm: makes a network of {says}"):
-                osm_to_gr.need_room(nodes, arcs, "map.osm")
+            with self.assertRaisesRegex(ToolError, f"map.osm: makes a network of {says}"):
+                osm_to_gr.check_limits(nodes, arcs, "map.osm")
 
 
 class ArraysTests(ToolCase):
@@ -195,7 +195,7 @@ class ArraysTests(ToolCase):
         with map_arrays.folder_beside(str(self.folder / "out")) as folder:
             report = osm_to_gr.collections.Counter()
             network, rows_of = osm_to_gr.convert(options, read_profile("car"), folder, report)
-            return road_network.arrays_of(network, "time", rows_of, "said", report)
+            return road_network.to_arrays(network, "time", rows_of, "said", report)
 
 
 def drawn_map(seed):
@@ -263,7 +263,7 @@ class RoundingTests(unittest.TestCase):
         values = [number / 16 for number in range(200)] + [number / 2000 for number in range(2000)]
         values += [draw.uniform(0, 10.0 ** draw.randrange(7)) for _ in range(2000)]
         for digits in (2, 3):
-            found = road_network.rounded(np.array(values), digits).tolist()
+            found = road_network.rounded_exactly(np.array(values), digits).tolist()
             self.assertEqual(found, [round(value, digits) for value in values])
 
 

@@ -438,7 +438,7 @@ class BadInput(DrawCase):
 class Geometry(ToolCase):
     def test_plane(self):
         # By the projection of web maps 45 degrees north lie at log(1 + sqrt(2)) / (2 pi) = 0.140275 above the middle.
-        (west, equator), (middle, north), (east, south) = geometry.plane_of([(-180, 0), (0, 45), (180, -90)])
+        (west, equator), (middle, north), (east, south) = geometry.to_mercator([(-180, 0), (0, 45), (180, -90)])
         self.assertEqual([west, equator, middle, east], [0, 0.5, 0.5, 1])
         self.assertAlmostEqual(north, 0.359725, 6)
         self.assertAlmostEqual(south, 1, 4)
@@ -450,7 +450,7 @@ class Geometry(ToolCase):
 
     def test_pixel_on_the_ground(self):
         # At 60 degrees north a degree of longitude is half of 111195.08 m; the line is a tenth of a degree, in 100 pixels.
-        view = geometry.View(geometry.box_of(geometry.plane_of([(9, 60), (9.1, 60)])), 100)
+        view = geometry.View(geometry.box_of(geometry.to_mercator([(9, 60), (9.1, 60)])), 100)
         self.assertAlmostEqual(view.metres_of_a_pixel, 55.59754, 4)
 
     def test_box(self):
@@ -465,15 +465,15 @@ class Geometry(ToolCase):
         self.assertFalse(box.meets(geometry.Box(0, 0.51, 1, 1)))
 
     def test_joined(self):
-        self.assertEqual(geometry.joined([["a", "b"], ["b", "b", "c"], ["c", "a"]]), ["a", "b", "c", "a"])
+        self.assertEqual(geometry.join_lines([["a", "b"], ["b", "b", "c"], ["c", "a"]]), ["a", "b", "c", "a"])
 
     def test_nested(self):
         a, b, c, d = (0, 0), (1, 0), (2, 0), (3, 0)
-        found = geometry.nested([[a, b, c, d], [c, b, a, b], [b, c]], 9)
+        found = geometry.overlap_pieces([[a, b, c, d], [c, b, a, b], [b, c]], 9)
         self.assertEqual(found[0], [(1, [a, b]), (2, [b, c]), (0, [c, d])])
         self.assertEqual(found[1], [(1, [c, b]), (0, [b, a, b])])
         self.assertEqual(found[2], [(0, [b, c])])
-        self.assertEqual(geometry.nested([[a, b], [a, b], [a, b], []], 1)[0], [(1, [a, b])])
+        self.assertEqual(geometry.overlap_pieces([[a, b], [a, b], [a, b], []], 1)[0], [(1, [a, b])])
 
     def test_path(self):
         self.assertEqual(geometry.path_of([(1, 2), (1.04, 2), (3.5, -2.26)]), "M1 2l2.5 -4.3")
@@ -488,15 +488,15 @@ class Geometry(ToolCase):
     def test_share(self):
         bent = [(0, 0), (1, 0), (1, 0), (1, 3)]
         for share, place in ((0, (0, 0)), (0.125, (0.5, 0)), (0.25, (1, 0)), (0.5, (1, 1)), (1, (1, 3))):
-            found = geometry.share_of(bent, share)
+            found = geometry.point_at_fraction(bent, share)
             self.assertAlmostEqual(found[0], place[0])
             self.assertAlmostEqual(found[1], place[1])
-        self.assertEqual(geometry.share_of([(5, 6), (5, 6)], 0.5), (5, 6))
+        self.assertEqual(geometry.point_at_fraction([(5, 6), (5, 6)], 0.5), (5, 6))
 
     def test_differences(self):
         line = [(9.5, 47.1), (9.500001, 47.0999996), (9.4, 47.1)]
-        self.assertEqual(geometry.differences(line), [9500000, 47100000, 1, 0, -100001, 0])
+        self.assertEqual(geometry.delta_encode(line), [9500000, 47100000, 1, 0, -100001, 0])
 
     def test_scale_bars(self):
-        found = [geometry.bar_for(metres) for metres in (1, 1.99, 4.9, 5, 999, 1000, 2500, 0.3)]
+        found = [geometry.scale_bar_metres(metres) for metres in (1, 1.99, 4.9, 5, 999, 1000, 2500, 0.3)]
         self.assertEqual(found, [1, 1, 2, 5, 500, 1000, 2000, 0.2])

@@ -6,7 +6,7 @@ from test_turns import STEP, CrossingCase, crossing
 from tool_case import VILLAGE, ToolCase
 
 from domethyme.network.tables import read_arcs, read_nodes
-from domethyme_tools.rules import PROFILES, judged, limit_of, parts_a_way, read_profile, way_keys
+from domethyme_tools.rules import PROFILES, judge, limit_of, blocks_way, read_profile, way_keys
 from domethyme_tools.turns import Member, restrictions_of
 
 # The km/h forward and backward of a way with these tags (~ is a blank), by vehicle; None where it may not be taken
@@ -117,12 +117,12 @@ class VehicleTests(unittest.TestCase):
             for text, forward, backward in cases:
                 with self.subTest(vehicle=vehicle, way=text):
                     tags = tags_of(text)
-                    found = judged({key: tags[key] for key in way_keys(profile) if key in tags}, profile)
+                    found = judge({key: tags[key] for key in way_keys(profile) if key in tags}, profile)
                     self.assertEqual((found.forward, found.backward), (forward, backward))
 
     def test_barriers(self):
         for text, parted in BARRIERS:
-            found = [name for name in ("car", "lorry", "bicycle", "foot") if parts_a_way(tags_of(text), read_profile(name))]
+            found = [name for name in ("car", "lorry", "bicycle", "foot") if blocks_way(tags_of(text), read_profile(name))]
             self.assertEqual(" ".join(found), parted, text)
 
     def test_turn_restrictions(self):

@@ -178,7 +178,7 @@ class PartsTests(ToolCase):
         self.assertEqual(copy.read_bytes(), text)
         copy.unlink()
         self.assertEqual(survey.sha256, hashlib.sha256(text).hexdigest())
-        return survey.pairs, [part for _, part in parts.texts_of_parts(io.BytesIO(text), size)]
+        return survey.pairs, [part for _, part in parts.iter_parts(io.BytesIO(text), size)]
 
     def test_parts_of_a_text(self):
         count, texts = self.cut(b"c\np aux sp p2p 3\nq 1 2\n\tq 3 4\r\n\nc q\nq 5 6", 2)

@@ -26,17 +26,17 @@ from domethyme.files import atomic_write
 from domethyme.network.tables import read_attribution, paths_of
 
 from ..geometry import Box, View
-from ..tool import refuse_overwriting, spoken, warn, words
+from ..tool import refuse_overwriting, display_name, warn, argument_parser
 from .page import page_of
 from .picture import picture_of
-from .roads import scene_of
+from .roads import make_scene
 from .routes import read_routes
 
 PICTURE, PAGE = ".svg", ".html"
 
 
-def read_words() -> argparse.Namespace:
-    parser = words(
+def parse_args() -> argparse.Namespace:
+    parser = argument_parser(
         __doc__,
         "%(prog)s out/li out/li.geojson out/li.svg --label trip",
         "%(prog)s out/li out/li.geojson out/li.html --label trip",
@@ -76,12 +76,12 @@ def width_of(box: Box) -> int:
 
 
 def main() -> None:
-    options = read_words()
+    options = parse_args()
     routes, said = read_routes(options.routes, options.label)
     if not routes:
-        warn(f"{spoken(options.routes)} has no route: the roads alone are drawn")
+        warn(f"{display_name(options.routes)} has no route: the roads alone are drawn")
     is_picture = options.output.endswith(PICTURE)
-    box, roads = scene_of(options.network, routes, options.whole, is_picture, options.routes)
+    box, roads = make_scene(options.network, routes, options.whole, is_picture, options.routes)
     of_all = [read_attribution(options.network), *said, options.attribution]
     attribution = ", ".join(dict.fromkeys(filter(None, of_all)))
     if is_picture:

@@ -8,11 +8,11 @@ import re
 import string
 from typing import Any
 
-from ..geometry import box_of, differences
-from ..tool import Fault
+from ..geometry import box_of, delta_encode
+from ..tool import ToolError
 from .picture import FAINT, INK, MOST_WITH_ARROWS, PAPER, escaped
-from .roads import DASHES, KINDS, Lines, all_places
-from .routes import COLOURS, Drawn
+from .roads import DASHES, ROAD_STYLES, Lines, all_places
+from .routes import COLOURS, DrawnRoute
 
 LEAFLET = pathlib.Path("/usr/share/javascript/leaflet")
 LEAFLET_COPYRIGHT = pathlib.Path("/usr/share/doc/libjs-leaflet/copyright")
@@ -22,7 +22,7 @@ POLICY = "-- policy --"
 LIGHT_COLOURS = ["#3aa0e0", "#f08a3c", "#2bc297", "#e38abb", "#dfae3a", "#7cc4ec", "#c08ad6", "#9dbf4e"]
 
 
-def page_of(routes: list[Drawn], roads: Lines, attribution: str, tiles: str | None) -> str:
+def page_of(routes: list[DrawnRoute], roads: Lines, attribution: str, tiles: str | None) -> str:
     """The text of the HTML file."""
     page = string.Template(file_here("page.html")).substitute(
         policy=POLICY,
@@ -66,7 +66,7 @@ def leaflet_notice() -> str:
     paragraphs = package_text(LEAFLET_COPYRIGHT).split("\n\n")
     notices = [text for text in paragraphs if text.startswith(("Files: *\n", "License: BSD-2-clause\n"))]
     if len(notices) != 2:
-        raise Fault("has Leaflet's licence in another form than expected", LEAFLET_COPYRIGHT)
+        raise ToolError("has Leaflet's licence in another form than expected", LEAFLET_COPYRIGHT)
     return "\n\n".join(["Leaflet", *notices])
 
 
@@ -75,16 +75,16 @@ def package_text(path: pathlib.Path) -> str:
     try:
         return path.read_text(encoding="utf-8")
     except FileNotFoundError as error:
-        raise Fault("isn't there: pages need Debian's package libjs-leaflet", path) from error
+        raise ToolError("isn't there: pages need Debian's package libjs-leaflet", path) from error
 
 
-def data_of(routes: list[Drawn], roads: Lines, attribution: str, tiles: str | None) -> str:
+def data_of(routes: list[DrawnRoute], roads: Lines, attribution: str, tiles: str | None) -> str:
     """What the page's script draws, as JSON that may be a part of HTML."""
     places = list(itertools.chain.from_iterable(route.line for route in routes if route.line)) or all_places(roads)
     west, south, east, north = box_of(places)
     data = {
         "bounds": [[south, west], [north, east]],
-        "attribution": linked(attribution),
+        "attribution": attribution_html(attribution),
         "tiles": tiles,
         "mostWithArrows": MOST_WITH_ARROWS,
         "roads": [
@@ -92,11 +92,11 @@ def data_of(routes: list[Drawn], roads: Lines, attribution: str, tiles: str | No
                 "width": kind.width,
                 "colour": kind.colour,
                 "dark": of_dark.colour,
-                "lines": [differences(line) for line in lines],
+                "lines": [delta_encode(line) for line in lines],
                 "dashes": dashes,
             }
             for kind, of_dark, lines, dashes in zip(
-                (*KINDS, *KINDS), (*KINDS[::-1], *KINDS[::-1]), roads, (None,) * len(KINDS) + (DASHES,) * len(KINDS)
+                (*ROAD_STYLES, *ROAD_STYLES), (*ROAD_STYLES[::-1], *ROAD_STYLES[::-1]), roads, (None,) * len(ROAD_STYLES) + (DASHES,) * len(ROAD_STYLES)
             )
             if lines or dashes is None
         ],
@@ -105,20 +105,20 @@ def data_of(routes: list[Drawn], roads: Lines, attribution: str, tiles: str | No
     return json.dumps(data, separators=(",", ":")).replace("<", "\\u003c")
 
 
-def route_data(route: Drawn) -> dict[str, Any]:
+def route_data(route: DrawnRoute) -> dict[str, Any]:
     """A route for the page's script; its ends are null where there is no route."""
     return {
         "label": route.label,
         "figures": route.figures,
         "steps": route.steps,
         "colour": COLOURS.index(route.colour),
-        "names": [[name, *differences([place])] for name, place in route.names],
-        "ends": route.line and differences([route.line[0], route.line[-1]]),
-        "pieces": [(width, differences(line)) for width, line in route.pieces],
+        "names": [[name, *delta_encode([place])] for name, place in route.names],
+        "ends": route.line and delta_encode([route.line[0], route.line[-1]]),
+        "pieces": [(width, delta_encode(line)) for width, line in route.pieces],
     }
 
 
-def linked(attribution: str) -> str:
+def attribution_html(attribution: str) -> str:
     """The attribution as HTML, with a link where OpenStreetMap is named, as it asks for."""
     link = '<a href="https://www.openstreetmap.org/copyright">OpenStreetMap</a>'
     return escaped(attribution).replace("OpenStreetMap", link)

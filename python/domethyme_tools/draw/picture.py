@@ -9,9 +9,9 @@ from typing import Union
 
 from domethyme.network.tables import Point
 
-from ..geometry import Box, View, arrows, bar_for, path_of, plane_of
-from .roads import DASHES, KINDS, Lines
-from .routes import NARROWEST, Drawn
+from ..geometry import Box, View, arrows, scale_bar_metres, path_of, to_mercator
+from .roads import DASHES, ROAD_STYLES, Lines
+from .routes import NARROWEST, DrawnRoute
 
 PAPER, INK, FAINT = "#fbfaf8", "#33302b", "#7a756c"
 LETTER, BOLD_LETTER = 7.8, 8.8
@@ -23,7 +23,7 @@ BETWEEN_ARROWS, FROM_ENDS, MOST_WITH_ARROWS = 130, 16, 20
 HALO = f' paint-order="stroke" stroke="{PAPER}" stroke-width="3" stroke-linejoin="round"'
 
 
-def picture_of(routes: list[Drawn], roads: Lines, view: View, attribution: str) -> str:
+def picture_of(routes: list[DrawnRoute], roads: Lines, view: View, attribution: str) -> str:
     """The text of the SVG file."""
     legend = legend_for(routes, roads, view)
     height = view.height + (legend.height + MARGIN if legend and legend.is_below(view) else 0)
@@ -34,15 +34,15 @@ def picture_of(routes: list[Drawn], roads: Lines, view: View, attribution: str) 
             f'<clipPath id="frame"><rect width="{view.width}" height="{view.height}"/></clipPath>',
             f'<rect width="{view.width}" height="{height}" fill="{PAPER}"/>',
             '<g clip-path="url(#frame)" fill="none" stroke-linecap="round" stroke-linejoin="round">',
-            *roads_drawn(roads, view),
-            *(edge_drawn(route, view) for route in routes),
-            *(route_drawn(route, view) for route in routes),
-            *(arrows_drawn(route, view) for route in routes if route.line and len(routes) <= MOST_WITH_ARROWS),
-            *(ends_drawn(route, view) for route in routes if route.line),
+            *draw_roads(roads, view),
+            *(draw_casing(route, view) for route in routes),
+            *(draw_route(route, view) for route in routes),
+            *(draw_arrows(route, view) for route in routes if route.line and len(routes) <= MOST_WITH_ARROWS),
+            *(draw_ends(route, view) for route in routes if route.line),
             "</g>",
-            *(legend_drawn(legend) if legend else ()),
-            *scale_drawn(view),
-            *attribution_drawn(attribution, view),
+            *(draw_legend(legend) if legend else ()),
+            *draw_scale(view),
+            *draw_attribution(attribution, view),
             "</svg>\n",
         ]
     )
@@ -54,41 +54,41 @@ def escaped(text: str) -> str:
 
 
 def path_through(line: Sequence[Point], view: View) -> str:
-    return path_of(view.pixels(plane_of(line)))
+    return path_of(view.pixels(to_mercator(line)))
 
 
-def roads_drawn(roads: Lines, view: View) -> Iterator[str]:
+def draw_roads(roads: Lines, view: View) -> Iterator[str]:
     """A path for each kind of roads; tunnels, which are dashed, lie below the others."""
     thinner = max(0.5, min(1, view.width / 600))
-    layers = list(zip((*KINDS, *KINDS), roads, ("",) * len(KINDS) + (f' stroke-dasharray="{DASHES}"',) * len(KINDS)))
-    for kind, lines, dashes in layers[len(KINDS) :] + layers[: len(KINDS)]:
+    layers = list(zip((*ROAD_STYLES, *ROAD_STYLES), roads, ("",) * len(ROAD_STYLES) + (f' stroke-dasharray="{DASHES}"',) * len(ROAD_STYLES)))
+    for kind, lines, dashes in layers[len(ROAD_STYLES) :] + layers[: len(ROAD_STYLES)]:
         if lines:
             data = "".join(path_through(line, view) for line in lines)
             caps = ' stroke-linecap="butt"' if dashes else ""
             yield f'<path stroke="{kind.colour}" stroke-width="{kind.width * thinner:g}"{dashes}{caps} d="{data}"/>'
 
 
-def edge_drawn(route: Drawn, view: View) -> str:
+def draw_casing(route: DrawnRoute, view: View) -> str:
     """The white edge of a route, which parts it from the roads."""
-    return pieces_drawn(route, view, "#fff", 2.5)
+    return draw_pieces(route, view, "#fff", 2.5)
 
 
-def route_drawn(route: Drawn, view: View) -> str:
+def draw_route(route: DrawnRoute, view: View) -> str:
     """A route, and its streets as what is shown under the pointer."""
     shown = escaped("\n".join([f"{route.label}: {route.figures}", *(f"{name}, {way}" for name, way in route.steps)]))
-    return f"<g><title>{shown}</title>{pieces_drawn(route, view, route.colour, 0)}</g>"
+    return f"<g><title>{shown}</title>{draw_pieces(route, view, route.colour, 0)}</g>"
 
 
-def pieces_drawn(route: Drawn, view: View, colour: str, more: float) -> str:
+def draw_pieces(route: DrawnRoute, view: View, colour: str, more: float) -> str:
     """The pieces of a route, so much wider than they are."""
     paths = [(width + more, path_through(line, view)) for width, line in route.pieces]
     return "".join(f'<path stroke="{colour}" stroke-width="{width:g}" d="{data}"/>' for width, data in paths)
 
 
-def arrows_drawn(route: Drawn, view: View) -> str:
+def draw_arrows(route: DrawnRoute, view: View) -> str:
     """Arrows along a route, in its colour with a white edge."""
     assert route.line is not None
-    line = view.pixels(plane_of(route.line))
+    line = view.pixels(to_mercator(route.line))
     ends = line[0], line[-1]
     far = [each for each in arrows(line, BETWEEN_ARROWS) if min(math.dist(each[0], end) for end in ends) >= FROM_ENDS]
     data = "".join(arrow(*place, *towards) for place, towards in far)
@@ -102,10 +102,10 @@ def arrow(x: float, y: float, east: float, south: float) -> str:
     return "M" + "L".join(f"{right:.1f} {down:.1f}" for right, down in points) + "Z"
 
 
-def ends_drawn(route: Drawn, view: View) -> str:
+def draw_ends(route: DrawnRoute, view: View) -> str:
     """A ring where a route begins, and a dot where it ends."""
     assert route.line is not None
-    (ring_x, ring_y), (dot_x, dot_y) = view.pixels(plane_of([route.line[0], route.line[-1]]))
+    (ring_x, ring_y), (dot_x, dot_y) = view.pixels(to_mercator([route.line[0], route.line[-1]]))
     return ring(ring_x, ring_y, route.colour) + dot(dot_x, dot_y, route.colour)
 
 
@@ -142,7 +142,7 @@ class Legend(typing.NamedTuple):
         return self.top >= view.height
 
 
-def legend_for(routes: list[Drawn], roads: Lines, view: View) -> Legend | None:
+def legend_for(routes: list[DrawnRoute], roads: Lines, view: View) -> Legend | None:
     """The legend: in the corner where it hides the least of the roads, or below the map where it would hide a part of a
     route in each, or would be wider than two fifths of the picture. None without routes."""
     if not routes:
@@ -157,7 +157,7 @@ def legend_for(routes: list[Drawn], roads: Lines, view: View) -> Legend | None:
     return legend_below(routes, view)
 
 
-def legend_below(routes: list[Drawn], view: View) -> Legend:
+def legend_below(routes: list[DrawnRoute], view: View) -> Legend:
     """The legend below the map, as wide as it is; labels are shortened to the room, and have a line of their own where that
     would be short."""
     room = view.width - 2 * MARGIN
@@ -175,16 +175,16 @@ def width_of(rows: list[Row]) -> float:
     return SWATCH + letters + 3 * MARGIN
 
 
-def legend_drawn(legend: Legend) -> Iterator[str]:
+def draw_legend(legend: Legend) -> Iterator[str]:
     yield f'<g transform="translate({legend.left:.0f} {legend.top:.0f})" fill="{INK}">'
     box = f'width="{legend.width:.0f}" height="{legend.height}" rx="6"'
     yield f'<rect {box} fill="#fff" fill-opacity="0.93" stroke="#dcd8d0"/>'
     for number, row in enumerate(legend.rows):
-        yield from row_drawn(row, MARGIN / 2 + legend.row_height * number + ROW / 2, legend)
+        yield from draw_row(row, MARGIN / 2 + legend.row_height * number + ROW / 2, legend)
     yield "</g>"
 
 
-def row_drawn(row: Row, middle: float, legend: Legend) -> Iterator[str]:
+def draw_row(row: Row, middle: float, legend: Legend) -> Iterator[str]:
     """A row of the legend: a short route in its colour, if it has one, the label and the figures."""
     colour, label, figures = row
     if colour:
@@ -200,7 +200,7 @@ def row_drawn(row: Row, middle: float, legend: Legend) -> Iterator[str]:
         yield f'<text x="{legend.width - MARGIN:.0f}" y="{middle + 5:g}" text-anchor="end">{escaped(figures)}</text>'
 
 
-def legend_rows(routes: list[Drawn], most: int, letters: int) -> list[Row]:
+def legend_rows(routes: list[DrawnRoute], most: int, letters: int) -> list[Row]:
     """Colour, label and figures of each row; the last counts the routes that there is no room for."""
     shown = routes if len(routes) <= most else routes[: most - 1]
     rows = [(route.colour if route.line else None, shortened(route.label, letters), route.figures) for route in shown]
@@ -213,14 +213,14 @@ def shortened(label: str, letters: int) -> str:
     return label if len(label) <= letters else label[: max(1, letters - 1)] + "…"
 
 
-def corner_for(width: float, height: float, routes: list[Drawn], roads: Lines, view: View) -> tuple[int, float, float]:
+def corner_for(width: float, height: float, routes: list[DrawnRoute], roads: Lines, view: View) -> tuple[int, float, float]:
     """Where the upper left corner of a box of that size lies best, the fewest points of routes, and then of roads, being
     hidden there: how many of routes, and the corner."""
     right, bottom = view.width - width - MARGIN, view.height - height - MARGIN - FOOT
     corners = [(MARGIN, MARGIN), (right, MARGIN), (right, bottom), (MARGIN, bottom)]
     lines = [route.line for route in routes if route.line], itertools.chain.from_iterable(roads)
-    of_routes, of_roads = ([view.pixels(plane_of(line)) for line in some] for some in lines)
-    of_routes = [close_points(line) for line in of_routes]
+    of_routes, of_roads = ([view.pixels(to_mercator(line)) for line in some] for some in lines)
+    of_routes = [densify(line) for line in of_routes]
 
     def hidden(corner: Point) -> list[int]:
         left, top = corner
@@ -231,7 +231,7 @@ def corner_for(width: float, height: float, routes: list[Drawn], roads: Lines, v
     return hidden(best)[0], *best
 
 
-def close_points(line: Sequence[Point]) -> list[Point]:
+def densify(line: Sequence[Point]) -> list[Point]:
     """The points of a line and some between, so that no two neighbours are further apart than CLOSE pixels."""
     points = [line[0]]
     for (x, y), (next_x, next_y) in itertools.pairwise(line):
@@ -244,17 +244,17 @@ def is_inside(box: Box, point: Point) -> bool:
     return box.left <= point[0] <= box.right and box.top <= point[1] <= box.bottom
 
 
-def scale_drawn(view: View) -> Iterator[str]:
+def draw_scale(view: View) -> Iterator[str]:
     """A bar of a round length, at most a fifth of the picture."""
     pixel = view.metres_of_a_pixel
-    bar = bar_for(pixel * view.width / 5)
+    bar = scale_bar_metres(pixel * view.width / 5)
     length, bottom = bar / pixel, view.height - MARGIN
     said = f"{bar / 1000:g} km" if bar >= 1000 else f"{bar:g} m"
     yield f'<path d="M{MARGIN} {bottom - 6}v6h{length:.1f}v-6" fill="none" stroke="{INK}" stroke-width="1.5"/>'
     yield f'<text x="{MARGIN + 6}" y="{bottom - 7}" font-size="12" fill="{INK}"{HALO}>{said}</text>'
 
 
-def attribution_drawn(attribution: str, view: View) -> Iterator[str]:
+def draw_attribution(attribution: str, view: View) -> Iterator[str]:
     """What the data asks to be said, where it asks for something."""
     if attribution:
         place = f'x="{view.width - MARGIN}" y="{view.height - MARGIN}" text-anchor="end"'

@@ -10,12 +10,12 @@ from domethyme.network.binary import TEXTS, UNITS, MappedNetwork
 from domethyme.network.own import load_network_or_dimacs
 from domethyme.network.tables import EARTH_RADIUS, Point, arcs_file, metres_between
 
-from ..geometry import Box, box_of, place_at, plane_of, unwrapped
-from ..tool import Fault
-from .routes import Drawn
+from ..geometry import Box, box_of, from_mercator, to_mercator, unwrapped
+from ..tool import ToolError
+from .routes import DrawnRoute
 
 
-class Kind(typing.NamedTuple):
+class RoadStyle(typing.NamedTuple):
     """How roads of some kinds are drawn, the least important first."""
 
     highways: tuple[str, ...]
@@ -23,12 +23,12 @@ class Kind(typing.NamedTuple):
     colour: str
 
 
-KINDS = [
-    Kind((), 1.2, "#918d86"),
-    Kind(("tertiary",), 1.8, "#8b877f"),
-    Kind(("secondary",), 2.4, "#847f77"),
-    Kind(("primary",), 3, "#7c776e"),
-    Kind(("motorway", "trunk"), 3.6, "#726d64"),
+ROAD_STYLES = [
+    RoadStyle((), 1.2, "#918d86"),
+    RoadStyle(("tertiary",), 1.8, "#8b877f"),
+    RoadStyle(("secondary",), 2.4, "#847f77"),
+    RoadStyle(("primary",), 3, "#7c776e"),
+    RoadStyle(("motorway", "trunk"), 3.6, "#726d64"),
 ]
 Lines = list[list[list[Point]]]
 TUNNEL = "tunnel"
@@ -39,23 +39,23 @@ PART, WIDE = 1 << 14, 0.25
 BESIDE = 0.001
 
 
-def kind_of(highway: str) -> int:
+def road_style(highway: str) -> int:
     """The number in KINDS of a kind of highway; a slip road is as the road that it leads to."""
     plain = highway.removesuffix("_link")
-    return next((number for number, kind in enumerate(KINDS) if plain in kind.highways), 0)
+    return next((number for number, kind in enumerate(ROAD_STYLES) if plain in kind.highways), 0)
 
 
 def read_roads(arrays: MappedNetwork, box: Box | None) -> Lines:
     """For each of KINDS the lines of its roads, and then for each those of its tunnels; a road of two directions comes
     once, and with a box only those that meet it."""
-    roads: list[list[list[Point]]] = [[] for _ in (*KINDS, *KINDS)]
+    roads: list[list[list[Point]]] = [[] for _ in (*ROAD_STYLES, *ROAD_STYLES)]
     seen = set()
-    near = (arrays.about["west"] + arrays.about["east"]) / 2 / UNITS if box is None else place_at(box.middle)[0]
+    near = (arrays.about["west"] + arrays.about["east"]) / 2 / UNITS if box is None else from_mercator(box.middle)[0]
     for edge, highway, structure in edges_in(arrays, box):
         line = unwrapped(arrays.edge_line(edge), near)
-        if tuple(line) not in seen and (box is None or box_of(plane_of(line)).meets(box)):
+        if tuple(line) not in seen and (box is None or box_of(to_mercator(line)).meets(box)):
             seen.add(tuple(line))
-            roads[kind_of(highway) + len(KINDS) * (structure == TUNNEL)].append(line if len(line) > 1 else line * 2)
+            roads[road_style(highway) + len(ROAD_STYLES) * (structure == TUNNEL)].append(line if len(line) > 1 else line * 2)
     return roads
 
 
@@ -74,8 +74,8 @@ def parts_of(arrays: MappedNetwork, box: Box | None) -> Iterator[list[int]]:
     if box is None or box.width >= WIDE:
         yield from (list(range(low, min(count, low + PART))) for low in range(0, count, PART))
         return
-    middle = place_at(box.middle)
-    corners = [place_at((x, y)) for x in (box.left, box.right) for y in (box.top, box.bottom)]
+    middle = from_mercator(box.middle)
+    corners = [from_mercator((x, y)) for x in (box.left, box.right) for y in (box.top, box.bottom)]
     reach = max(metres_between(*middle, *corner) for corner in corners)
     found = numpy.unique(numpy.concatenate([[], *arrays.edge_grid.candidates((wrapped_lon(middle[0]), middle[1]), reach)])).astype(int)
     yield from (found[low : low + PART].tolist() for low in range(0, len(found), PART))
@@ -85,15 +85,15 @@ def wrapped_lon(lon: float) -> float:
     return (lon + 180) % 360 - 180
 
 
-def box_around(routes: list[Drawn]) -> Box | None:
+def box_around(routes: list[DrawnRoute]) -> Box | None:
     """The box around the routes with room on each side, or None where none has a line."""
     places = list(itertools.chain.from_iterable(route.line for route in routes if route.line))
-    return roomy_box(places) if places else None
+    return padded_box(places) if places else None
 
 
-def roomy_box(places: list[Point]) -> Box:
+def padded_box(places: list[Point]) -> Box:
     """The box around places, with a tenth of its greater side, and at least 200 metres, on each side."""
-    box = box_of(plane_of(places))
+    box = box_of(to_mercator(places))
     metre = 1 / (2 * math.pi * EARTH_RADIUS * math.cos(math.radians(places[0][1])))
     return box.grown(max(box.width, box.height) / 10 + 200 * metre)
 
@@ -103,7 +103,7 @@ def all_places(roads: Lines) -> list[Point]:
     return list(itertools.chain.from_iterable(itertools.chain.from_iterable(roads)))
 
 
-def scene_of(network: str, routes: list[Drawn], is_whole: bool, is_picture: bool, path: str) -> tuple[Box, Lines]:
+def make_scene(network: str, routes: list[DrawnRoute], is_whole: bool, is_picture: bool, path: str) -> tuple[Box, Lines]:
     """The box to show and its roads. Raises a Fault where the routes, which come from the file at the path, are another network's."""
     arrays = load_network_or_dimacs(network)
     need_inside(arrays, routes, network, path)
@@ -114,11 +114,11 @@ def scene_of(network: str, routes: list[Drawn], is_whole: bool, is_picture: bool
     roads = read_roads(arrays, None)
     places = all_places(roads)
     if not places:
-        raise Fault("has no arcs", arcs_file(network))
-    return shape_for(is_picture, roomy_box(places)), roads
+        raise ToolError("has no arcs", arcs_file(network))
+    return shape_for(is_picture, padded_box(places)), roads
 
 
-def need_inside(arrays: MappedNetwork, routes: list[Drawn], network: str, path: str) -> None:
+def need_inside(arrays: MappedNetwork, routes: list[DrawnRoute], network: str, path: str) -> None:
     """A Fault where a route isn't in the box of the network's roads."""
     west, south, east, north = (arrays.about[side] / UNITS for side in ("west", "south", "east", "north"))
     for number, route in enumerate(routes, 1):
@@ -127,7 +127,7 @@ def need_inside(arrays: MappedNetwork, routes: list[Drawn], network: str, path: 
             if not (is_beside and south - BESIDE <= lat <= north + BESIDE):
                 box = f"{west:.4f},{south:.4f} to {east:.4f},{north:.4f}"
                 where = f"leads by {wrapped_lon(lon):.4f},{lat:.4f}, and the roads of {network} are from {box}"
-                raise Fault(f"feature {number} {where}: is it of another network?", path)
+                raise ToolError(f"feature {number} {where}: is it of another network?", path)
 
 
 def shape_for(is_picture: bool, box: Box) -> Box:

@@ -9,8 +9,8 @@ from typing import Any
 from domethyme.network.tables import Point
 from domethyme.texts import open_input
 
-from ..geometry import nested, share_of, unwrapped
-from ..tool import Fault
+from ..geometry import overlap_pieces, point_at_fraction, unwrapped
+from ..tool import ToolError
 
 COLOURS = ["#0072b2", "#d55e00", "#009e73", "#cc5f9c", "#b8860b", "#2b8fc7", "#7b3294", "#5b7a1f"]
 NARROWEST, STEP_OF_WIDTH, MOST_NESTED = 4.5, 4, 3
@@ -20,7 +20,7 @@ NO_NAME = "unnamed road"
 BLANKS = re.compile(r"\s*")
 
 
-class Drawn(typing.NamedTuple):
+class DrawnRoute(typing.NamedTuple):
     """A route as it is shown: its streets with their ways, its places, or None where there is no route, the names of its
     streets with a place in the middle of each, and the pieces of its line with their widths."""
 
@@ -33,22 +33,22 @@ class Drawn(typing.NamedTuple):
     pieces: list[tuple[float, list[Point]]]
 
 
-def read_routes(path: str, label: str | None) -> tuple[list[Drawn], list[str]]:
+def read_routes(path: str, label: str | None) -> tuple[list[DrawnRoute], list[str]]:
     """The routes of a file of GeoJSON, and what its collections ask to be said."""
     with open_input(path) as stream:
         try:
             text = stream.read().decode("utf-8-sig")
         except UnicodeDecodeError as error:
-            raise Fault("isn't UTF-8", path) from error
+            raise ToolError("isn't UTF-8", path) from error
     if not text.strip():
-        raise Fault("is empty: a step that was to write it has failed", path)
+        raise ToolError("is empty: a step that was to write it has failed", path)
     said: list[str] = []
     coloured = enumerate(zip(features_in(text, path, said), itertools.cycle(COLOURS)), 1)
-    routes = [route_of(feature, Place(path, number), label, colour) for number, (feature, colour) in coloured]
-    return with_pieces(beside_one_another(routes)), said
+    routes = [make_route(feature, FeatureRef(path, number), label, colour) for number, (feature, colour) in coloured]
+    return with_pieces(unwrap_all(routes)), said
 
 
-def beside_one_another(routes: list[Drawn]) -> list[Drawn]:
+def unwrap_all(routes: list[DrawnRoute]) -> list[DrawnRoute]:
     """The routes with longitudes beyond 180 degrees where they cross that meridian, all on one side of the first one's begin."""
     near = next((route.line[0][0] for route in routes if route.line), 0.0)
     found = []
@@ -59,9 +59,9 @@ def beside_one_another(routes: list[Drawn]) -> list[Drawn]:
     return found
 
 
-def with_pieces(routes: list[Drawn]) -> list[Drawn]:
+def with_pieces(routes: list[DrawnRoute]) -> list[DrawnRoute]:
     """The routes with their pieces, which are the wider, the more of the later routes go along them."""
-    pieces = nested([route.line or [] for route in routes], MOST_NESTED)
+    pieces = overlap_pieces([route.line or [] for route in routes], MOST_NESTED)
     return [
         route._replace(pieces=[(NARROWEST + STEP_OF_WIDTH * depth, line) for depth, line in of_route])
         for route, of_route in zip(routes, pieces)
@@ -76,9 +76,9 @@ def features_in(text: str, path: str, said: list[str]) -> Iterator[Any]:
         try:
             document, place = decoder.raw_decode(text, start)
         except json.JSONDecodeError as error:
-            raise Fault(f"isn't GeoJSON: {error.msg}", path, error.lineno) from error
+            raise ToolError(f"isn't GeoJSON: {error.msg}", path, error.lineno) from error
         except (RecursionError, ValueError) as error:
-            raise Fault(f"isn't GeoJSON: {error}", path, row) from error
+            raise ToolError(f"isn't GeoJSON: {error}", path, row) from error
         yield from features_of(document, path, row)
         if isinstance(document.get("attribution"), str):
             said.append(" ".join(document["attribution"].split()))
@@ -95,47 +95,47 @@ def features_of(document: Any, path: str, row: int) -> Any:
     if kind == "Feature":
         return [document]
     if kind != "FeatureCollection" or not isinstance(document.get("features"), list):
-        raise Fault("is neither a feature nor a collection of features", path, row)
+        raise ToolError("is neither a feature nor a collection of features", path, row)
     return document["features"]
 
 
-class Place(typing.NamedTuple):
+class FeatureRef(typing.NamedTuple):
     """Where a feature is: the file, and its number there."""
 
     path: str
     number: int
 
-    def need(self, is_so: object, problem: str) -> None:
+    def require(self, condition: object, problem: str) -> None:
         """Refuses the feature where it isn't so."""
-        if not is_so:
-            raise Fault(f"feature {self.number} {problem}", self.path)
+        if not condition:
+            raise ToolError(f"feature {self.number} {problem}", self.path)
 
 
-def route_of(feature: Any, place: Place, label: str | None, colour: str) -> Drawn:
+def make_route(feature: Any, place: FeatureRef, label: str | None, colour: str) -> DrawnRoute:
     """A feature as a route, still without pieces."""
-    place.need(isinstance(feature, dict) and isinstance(feature.get("properties"), dict), "has no properties")
+    place.require(isinstance(feature, dict) and isinstance(feature.get("properties"), dict), "has no properties")
     properties = feature["properties"]
-    place.need(label is None or label in properties, f"has no property {label}")
+    place.require(label is None or label in properties, f"has no property {label}")
     name = f"route {place.number}" if label is None else str(properties[label])
-    line = line_of(feature.get("geometry"), place)
+    line = read_line(feature.get("geometry"), place)
     if line is None:
-        return Drawn(name, NO_WAY, [], None, [], colour, [])
-    metres = amount(properties, "metres", place)
-    seconds = 0.0 if properties.get("seconds", 0.0) is None else amount(properties, "seconds", place)
+        return DrawnRoute(name, NO_WAY, [], None, [], colour, [])
+    metres = read_number(properties, "metres", place)
+    seconds = 0.0 if properties.get("seconds", 0.0) is None else read_number(properties, "seconds", place)
     figures = kilometres(metres) if metres and not seconds else f"{kilometres(metres)}, {minutes(seconds)}"
-    steps, line = steps_of(properties, place), unwrapped(line, line[0][0])
+    steps, line = read_steps(properties, place), unwrapped(line, line[0][0])
     line = line if len(line) > 1 else line * 2
     shown = [(street or NO_NAME, way_of(way)) for street, way in steps]
-    return Drawn(name, figures, shown, line, names_along(line, steps), colour, [])
+    return DrawnRoute(name, figures, shown, line, names_along(line, steps), colour, [])
 
 
-def line_of(geometry: Any, place: Place) -> list[Point] | None:
+def read_line(geometry: Any, place: FeatureRef) -> list[Point] | None:
     """The places of a geometry, or None where there is none."""
     if geometry is None:
         return None
     kind, whole = (geometry.get("type"), geometry.get("coordinates")) if isinstance(geometry, dict) else (None, None)
     parts: list[Any] = [whole] if kind == "LineString" else whole if kind == "MultiLineString" and isinstance(whole, list) else []
-    place.need(parts and all(map(is_line, parts)), "has no line of places")
+    place.require(parts and all(map(is_line, parts)), "has no line of places")
     return [(lon, lat) for part in parts for lon, lat, *_ in part]
 
 
@@ -155,18 +155,18 @@ def is_number(value: Any) -> bool:
     return isinstance(value, (int, float)) and not isinstance(value, bool) and abs(value) < TOO_LARGE
 
 
-def amount(properties: dict[str, Any], name: str, place: Place) -> float:
+def read_number(properties: dict[str, Any], name: str, place: FeatureRef) -> float:
     """A property that is a number, 0 or more."""
     value: Any = properties.get(name)
-    place.need(is_number(value) and value >= 0, f"has no number {name}")
+    place.require(is_number(value) and value >= 0, f"has no number {name}")
     return float(value)
 
 
-def steps_of(properties: dict[str, Any], place: Place) -> list[tuple[str, float]]:
+def read_steps(properties: dict[str, Any], place: FeatureRef) -> list[tuple[str, float]]:
     """The streets of a route with their metres; none where it has no steps."""
     steps = properties.get("steps", [])
-    place.need(isinstance(steps, list) and all(isinstance(step, dict) for step in steps), "has no list of steps")
-    return [(str(step.get("name") or ""), amount(step, "metres", place)) for step in steps]
+    place.require(isinstance(steps, list) and all(isinstance(step, dict) for step in steps), "has no list of steps")
+    return [(str(step.get("name") or ""), read_number(step, "metres", place)) for step in steps]
 
 
 def names_along(line: list[Point], steps: list[tuple[str, float]]) -> list[tuple[str, Point]]:
@@ -174,7 +174,7 @@ def names_along(line: list[Point], steps: list[tuple[str, float]]) -> list[tuple
     whole, behind, found = sum(way for _, way in steps), 0.0, []
     for name, way in steps:
         if name and way > 0:
-            found.append((way, name, share_of(line, (behind + way / 2) / whole)))
+            found.append((way, name, point_at_fraction(line, (behind + way / 2) / whole)))
         behind += way
     return [(name, place) for _, name, place in sorted(found, key=lambda each: -each[0])]
 
