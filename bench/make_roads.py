@@ -15,11 +15,11 @@ import numpy as np
 
 from kit.counted import parser  # (finds domethyme too)
 
-from domethyme import texts
-from domethyme.network import binary, index, tables
+from domethyme import dimacs
+from domethyme.network import geo, indexes, net_file, reading, tables
 
 STEP, LON, LAT = 400.0, 9.0, 47.0
-METRES = tables.EARTH_RADIUS * np.pi / 180
+METRES = geo.EARTH_RADIUS * np.pi / 180
 KINDS = [(128, "motorway", 110), (32, "primary", 80), (8, "tertiary", 50), (1, "residential", 30)]
 ON_ROAD = np.array([0, 0, 0, 0, 1, 1, 2, 2, 2, 3])
 
@@ -74,27 +74,31 @@ def arrays_of(places, starts, stops, single, kind, name):
     number[order] = np.arange(1, len(places) + 1)
     lat = LAT + places[order, 1] * STEP / METRES
     lon = LON + places[order, 0] * STEP / METRES / np.cos(np.radians(LAT))
-    units = np.round(np.column_stack((lon, lat)) * binary.UNITS).astype(np.int32)
+    units = np.round(np.column_stack((lon, lat)) * net_file.UNITS).astype(np.int32)
     starts, stops = number[starts], number[stops]
     lines = np.stack((units[starts - 1], units[stops - 1]), axis=1)
     is_turned = (lines[:, 0, 0] > lines[:, 1, 0]) | (lines[:, 0, 0] == lines[:, 1, 0]) & (lines[:, 0, 1] > lines[:, 1, 1])
     lines[is_turned] = lines[is_turned][:, ::-1]
-    steps = (lines[:, 1] - lines[:, 0]) / binary.UNITS * METRES
-    metres = np.round(np.hypot(steps[:, 0] * np.cos(np.radians(lines[:, :, 1].mean(axis=1) / binary.UNITS)), steps[:, 1]), 2)
+    steps = (lines[:, 1] - lines[:, 0]) / net_file.UNITS * METRES
+    metres = np.round(
+        np.hypot(steps[:, 0] * np.cos(np.radians(lines[:, :, 1].mean(axis=1) / net_file.UNITS)), steps[:, 1]), 2
+    )
     seconds = np.round(metres * 3.6 / np.array([speed for _, _, speed in KINDS])[kind], 3)
     both = np.repeat(np.arange(len(starts)), 2 - single)
     is_back = np.append(both[1:] == both[:-1], False)[np.maximum(np.arange(len(both)) - 1, 0)] & (np.arange(len(both)) > 0)
     names = [f"{'Street' if number % 2 else 'Avenue'} {number // 2}" if number else "" for number in range(name.max() + 1)]
     texts = ["", "", *(highway for _, highway, _ in KINDS), *names]
     pairs, of_pair = np.unique(np.column_stack((kind, name)), axis=0, return_inverse=True)
-    rows = np.ones((len(pairs), len(binary.TEXTS)), np.int32)
+    rows = np.ones((len(pairs), len(net_file.TEXTS)), np.int32)
     rows[:, 0], rows[:, 1] = 2 + pairs[:, 0], 2 + len(KINDS) + pairs[:, 1]
-    rows, of_arc = index.unique_text_rows(rows, of_pair[both])
+    rows, of_arc = indexes.unique_text_rows(rows, of_pair[both])
     encoded = [text.encode() for text in texts]
-    return binary.Arrays(
-        np.array([binary.VERSION]), np.zeros(2, np.int64), np.arange(1, len(places) + 1), units[:, 0].copy(), units[:, 1].copy(),
+    return net_file.Arrays(
+        np.array([net_file.VERSION]), np.zeros(2, np.int64), np.arange(1, len(places) + 1), units[:, 0].copy(),
+        units[:, 1].copy(),
         np.zeros(len(places), np.uint8), np.where(is_back, stops[both], starts[both]).astype(np.int32),
-        np.where(is_back, starts[both], stops[both]).astype(np.int32), np.maximum(1, np.round(1000 * seconds[both])).astype(np.int64),
+        np.where(is_back, starts[both], stops[both]).astype(np.int32),
+        np.maximum(1, np.round(1000 * seconds[both])).astype(np.int64),
         seconds[both], metres[both], both + 1, of_arc, both.astype(np.int32),
         is_back == is_turned[both], rows, np.arange(0, 2 * len(starts) + 1, 2), lines.reshape(-1, 2),
         np.cumsum([0, *map(len, encoded)]), np.frombuffer(b"".join(encoded), np.uint8),
@@ -110,10 +114,10 @@ def spread(values):
 
 def write_tables(prefix, arrays):
     """The tables of osm_to_gr; returns their sizes."""
-    files, network = tables.Files(prefix), binary.map_tempfile(arrays, prefix)
+    files, network = tables.Files(prefix), net_file.map_tempfile(arrays, prefix)
     with open(files.nodes, "w") as nodes, open(files.arcs, "w") as arcs:
-        tables.write_nodes(nodes, tables.nodes_from_net(network))
-        tables.write_arcs(arcs, tables.arcs_from_net(network))
+        tables.write_nodes(nodes, reading.nodes_from_net(network))
+        tables.write_arcs(arcs, reading.arcs_from_net(network))
     return [pathlib.Path(each).stat().st_size for each in (files.nodes, files.arcs)]
 
 
@@ -127,15 +131,15 @@ def main():
     if not 1000 <= given.nodes <= 10_000_000:
         words.error("NODES is from 1,000 to 10,000,000")
     arrays = make(given.nodes, given.seed)
-    if problem := binary.find_inconsistency(arrays):
+    if problem := net_file.find_inconsistency(arrays):
         raise AssertionError(problem)
     arcs = np.column_stack((arrays.arc_from, arrays.arc_to, arrays.arc_weight)).tolist()
     with open(f"{given.network}.gr", "w") as file:
-        texts.write_graph(file, len(arrays.node_osm), arcs)
+        dimacs.write_graph(file, len(arrays.node_osm), arcs)
     if given.tables:
         arrays = arrays._replace(sizes=np.array(write_tables(given.network, arrays)))
     with open(tables.Files(given.network).binary, "wb") as file:
-        binary.write(file, arrays)
+        net_file.write(file, arrays)
     print(f"{given.network}: {len(arrays.node_osm)} nodes, {len(arrays.arc_from)} arcs, {len(arrays.edge_begin) - 1} edges")
 
 

@@ -37,7 +37,7 @@ SIZE = re.compile(r": (\d+) nodes, (\d+) arcs, ")
 # Opens a network, and looks up places in the middle half of its box; prints seconds, and kB of its own memory
 OPENED = """
 import random, sys, time
-from domethyme.network import network, binary
+from domethyme.network import network, net_file
 def own():
     return int(next(line for line in open("/proc/self/status") if line.startswith("RssAnon")).split()[1])
 prefix, count = sys.argv[1], int(sys.argv[2])
@@ -45,8 +45,8 @@ before, start = own(), time.perf_counter()
 opened = network.Network(prefix)
 places = opened._places
 took, more = time.perf_counter() - start, own() - before
-about = binary.read(prefix + ".net").about
-west, south, east, north = (about[each] / binary.UNITS for each in ("west", "south", "east", "north"))
+about = net_file.read(prefix + ".net").about
+west, south, east, north = (about[each] / net_file.UNITS for each in ("west", "south", "east", "north"))
 draw = random.Random(1)
 lon = [west + (east - west) * draw.uniform(0.25, 0.75) for _ in range(count)]
 lat = [south + (north - south) * draw.uniform(0.25, 0.75) for _ in range(count)]

@@ -53,9 +53,9 @@ ALLOCATORS = {
     "mimalloc": "libmimalloc.so.2.0",
 }
 PARALLEL = """
-"$ROUTE_MANY" --program "$PROGRAM" --cut "$HIERARCHY" "$PAIRS" "$OUT" >&2 &&
+"$ROUTE_MANY" --program "$PROGRAM" --split-only "$HIERARCHY" "$PAIRS" "$OUT" >&2 &&
 parallel --will-cite -j 2 '"$PROGRAM" route "$HIERARCHY" {} >{.}.new && mv {.}.new {.}.answers' ::: "$OUT".parts/[0-9]*.pairs &&
-"$ROUTE_MANY" --program "$PROGRAM" --cut "$HIERARCHY" "$PAIRS" "$OUT"
+"$ROUTE_MANY" --program "$PROGRAM" --split-only "$HIERARCHY" "$PAIRS" "$OUT"
 """
 
 
@@ -216,10 +216,10 @@ def batches(network, folder):
 
     row("one process", times(network.routed(wanted, many)))
     for part in PARTS:
-        answered(f"`route_many --jobs 2 --part {part}`", [*route_many, "--jobs", 2, "--part", part])
+        answered(f"`route_many --jobs 2 --pairs-per-part {part}`", [*route_many, "--jobs", 2, "--pairs-per-part", part])
     places = {"ROUTE_MANY": ROOT / "tools/route_many", "PROGRAM": PROGRAM, "HIERARCHY": network.file, "PAIRS": many, "OUT": out}
     places = {**os.environ, **{name: str(path) for name, path in places.items()}}
-    answered("`route_many --cut`, GNU parallel `-j 2`", ["/bin/sh", "-c", PARALLEL], env=places)
+    answered("`route_many --split-only`, GNU parallel `-j 2`", ["/bin/sh", "-c", PARALLEL], env=places)
     with cluster(folder):
         while not (folder / "scheduler.json").exists():
             time.sleep(0.1)

@@ -30,7 +30,7 @@ import time
 
 from kit.counted import parser  # (finds domethyme too)
 
-from domethyme.network import binary
+from domethyme.network import net_file
 
 ROOT = pathlib.Path(__file__).resolve().parent.parent
 
@@ -131,8 +131,8 @@ class Places:
     """Nodes, and where they lie."""
 
     def __init__(self, network):
-        arrays = binary.load_network(network)
-        self.lon, self.lat = arrays.node_lon[:] / binary.UNITS, arrays.node_lat[:] / binary.UNITS
+        arrays = net_file.load_network(network)
+        self.lon, self.lat = arrays.node_lon[:] / net_file.UNITS, arrays.node_lat[:] / net_file.UNITS
         self.count = len(self.lon)
 
     def pair(self, draw, is_near):

@@ -8,7 +8,7 @@ this file. So the module needs nothing but Python's own library, and what it tak
         digests                        {path: sha256} of both, as the machine that began the run has them
         drafts                         the folder of this run for files that aren't whole yet
         pairs                          the name of the query file, for messages
-    trouble_here(task)                 why this machine can't take part in the run, as one line, or None
+    check_machine(task)                why this machine can't take part in the run, as one line, or None
     answer(task, text, size, answers)  answers a part: (status, line, bytes), as it says there
     stop_all()                         ends the programs that run in this process, and lets none begin
 """

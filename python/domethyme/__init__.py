@@ -24,6 +24,7 @@ Errors are DomethymeErrors, listed in `domethyme.errors`; arguments that can't b
 from typing import TYPE_CHECKING, Any
 
 from .checking import check
+from .deprecated import warn_renamed
 from .errors import (
     DomethymeError,
     FileError,
@@ -34,7 +35,7 @@ from .errors import (
     LibraryNotFound,
     NetworkError,
     NoSuchNode,
-    NotShown,
+    NotProved,
     OutOfMemory,
     ProgramError,
     ProgramNotFound,
@@ -44,10 +45,11 @@ from .errors import (
 )
 from .extras import need
 from .graphs import Graph, prepare, unscaled, write_graph
-from .hierarchy import Hierarchy, Route
+from .hierarchy import Hierarchy
 from .keys import Keys
-from .lines import NO_WAY
 from .program import find_program
+from .protocol import NO_PATH
+from .route import Route
 
 if TYPE_CHECKING:
     from .network.network import Network
@@ -68,8 +70,8 @@ __all__ = [
     "Network",
     "NetworkError",
     "NoSuchNode",
-    "NO_WAY",
-    "NotShown",
+    "NO_PATH",
+    "NotProved",
     "OutOfMemory",
     "ProgramError",
     "ProgramNotFound",
@@ -87,10 +89,15 @@ __all__ = [
 
 # The name of DomethymeError in scripts that are older than this package.
 Fault = DomethymeError
+# Old words that work until the next version.
+RENAMED = {"NO_WAY": "NO_PATH", "NotShown": "NotProved"}
 
 
 def __getattr__(name: str) -> Any:
-    """What needs numpy is loaded when it is first asked for."""
+    """What needs numpy is loaded when it is first asked for, and a name is found by its old word too."""
+    if name in RENAMED:
+        warn_renamed(f"domethyme.{name}", RENAMED[name])
+        return globals()[RENAMED[name]]
     if name in ("Network", "Routes"):
         need("numpy")
     if name == "Network":

@@ -104,7 +104,7 @@ def like_frame(lengths: Numbers, pairs: Any) -> Any:
 
 def like_axes(table: Numbers, sources: Any, targets: Any, has_keys: bool, missing: Any) -> Any:
     """The table as a DataFrame where the places came as pandas' objects, or as lists of keys, else as an array. Where there is no way
-    it has `missing`, and without that a frame of Int64 has missing values and an array NO_WAY."""
+    it has `missing`, and without that a frame of Int64 has missing values and an array NO_PATH."""
     is_frame = any(is_pandas(side) or has_keys and not hasattr(side, "__array__") for side in (sources, targets))
     filled = table if missing is None else np.where(table < 0, missing, table)
     if not is_frame:

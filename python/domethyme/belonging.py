@@ -17,7 +17,7 @@ import re
 from typing import TYPE_CHECKING, Any, NamedTuple
 
 from .errors import FileError, NetworkError, WrongHierarchy, os_reason
-from .opening import read_header, open_hierarchy_file
+from .hierarchy_file import open_hierarchy_file, read_header
 from .program import StrPath
 
 if TYPE_CHECKING:
@@ -25,10 +25,10 @@ if TYPE_CHECKING:
     from numpy.typing import NDArray
 
     from .links import Links
-    from .network.binary import MappedNetwork
+    from .network.net_file import MappedNetwork
 
 # Links up to which all are compared; of more as many as DRAWN, unless all are asked for.
-MOST_COMPARED, DRAWN = 10_000_000, 5_000
+MAX_COMPARED, DRAWN = 10_000_000, 5_000
 # How often links are drawn, where many have a middle.
 ROUNDS = 20
 NO_ARC = -1
@@ -63,7 +63,7 @@ class Origin(NamedTuple):
 def compare_files(hierarchy: str, network: str, whole: bool = False) -> None:
     """Raises WrongHierarchy where a file of a hierarchy isn't that of the network that a tool's argument NETWORK names, and the
     errors of both."""
-    from .network.own import load_network_or_dimacs
+    from .network.from_tables import load_network_or_dimacs
 
     with open_hierarchy_file(hierarchy) as file:
         read_header(file.fileno(), hierarchy)
@@ -73,13 +73,13 @@ def compare_files(hierarchy: str, network: str, whole: bool = False) -> None:
 def compare(file: int, name: str, network: "MappedNetwork", whole: bool = False) -> None:
     """Raises WrongHierarchy where an open file of a hierarchy, whose head fits its size, isn't that of a network.
 
-    Above MOST_COMPARED links DRAWN ones or more are compared, unless `whole`. For a million nodes all links take a second.
+    Above MAX_COMPARED links DRAWN ones or more are compared, unless `whole`. For a million nodes all links take a second.
     """
     from .links import Links
 
     links = Links.of(file, name)
     need_nodes(name, links.nodes, network.path, len(network.node_osm))
-    is_whole = whole or links.size <= MOST_COMPARED
+    is_whole = whole or links.size <= MAX_COMPARED
     if (found := difference(links, network) if is_whole else drawn_difference(links, network)) is not None:
         raise of_another(name, network.path, found)
 
@@ -140,7 +140,7 @@ def least_arcs(network: "MappedNetwork", behind: int, last: int) -> "tuple[NDArr
     A key is the number of the first node, from 0, and 32 bits with that of the second."""
     import numpy as np
 
-    from .network.threads import differs_from_previous
+    from .network.parallel import differs_from_previous
 
     first, end = max(behind, 0) >> 32, min((last >> 32) + 1, len(network.out_begin) - 1)
     arcs = network.out_arcs[int(network.out_begin[first]) : int(network.out_begin[end])]

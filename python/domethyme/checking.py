@@ -4,7 +4,7 @@ import subprocess
 from collections.abc import Callable, Sequence
 from typing import TYPE_CHECKING
 
-from .errors import NotShown, ProgramError, WrongHierarchy, error_from_exit, os_reason
+from .errors import NotProved, ProgramError, WrongHierarchy, error_from_exit, os_reason
 from .program import StrPath, find_program
 
 if TYPE_CHECKING:
@@ -19,7 +19,7 @@ def check(graph: "Graph | StrPath", hierarchy: StrPath, program: StrPath | None 
 
     program   the path of `routecli`, else it is looked for (find_program)
 
-    Raises WrongHierarchy if it isn't right, NotShown if neither is shown, and GraphError, HierarchyError, OutOfMemory,
+    Raises WrongHierarchy if it isn't right, NotProved if neither is shown, and GraphError, HierarchyError, OutOfMemory,
     ReadWriteError, ProgramNotFound, ProgramError.
     """
     from .graphs import graph_file
@@ -42,12 +42,14 @@ def run_check(
     if completed.returncode == 0:
         return
     if completed.returncode not in (WRONG, NOT_SHOWN):
-        raise error_from_exit(completed.returncode, completed.stderr.replace(os.fsencode(hierarchy), os.fsencode(name)), name)
+        raise error_from_exit(
+            completed.returncode, completed.stderr.replace(os.fsencode(hierarchy), os.fsencode(name)), name
+        )
     line = completed.stdout.decode("ascii", "replace").strip()
     told = completed.stderr.decode("utf-8", "replace").replace(hierarchy, name)
     explanation = [" ".join(each.split()) for each in told.splitlines()]
     if completed.returncode == NOT_SHOWN:
-        raise NotShown(f"{name}: {line}", NOT_SHOWN, explanation)
+        raise NotProved(f"{name}: {line}", NOT_SHOWN, explanation)
     fault = WrongHierarchy(f"{name}: {line}", WRONG, explanation)
     words = line.split()
     if words[1:2] == ["pair"]:

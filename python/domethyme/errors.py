@@ -10,7 +10,7 @@
     ├── HierarchyError       a file of a hierarchy is refused
     │   ├── HierarchyNotFound  there is no such file (also a FileNotFoundError)
     │   ├── WrongHierarchy   it isn't right for the graph that it was checked against
-    │   └── NotShown         a check showed neither that it is right nor that it isn't
+    │   └── NotProved        a check showed neither that it is right nor that it isn't
     ├── FileError            a file is refused by this package and not by the program
     │   └── NetworkError     a file of a network (nodes, arcs), or of places or pairs in one
     ├── NoSuchNode           a node or key that the hierarchy doesn't have (also a ValueError and a LookupError)
@@ -22,6 +22,9 @@ missing a plain ImportError.
 """
 import os
 from collections.abc import Sequence
+from typing import Any
+
+from .deprecated import warn_renamed
 
 
 class DomethymeError(Exception):
@@ -81,14 +84,16 @@ class WrongHierarchy(HierarchyError):
     pair: tuple[int, int] | None = None
 
 
-class NotShown(HierarchyError):
+class NotProved(HierarchyError):
     """A check showed neither that a hierarchy is right for a graph nor that it isn't; the message says where it ended."""
 
 
 class FileError(DomethymeError):
     """A file is refused: `FILE, row ROW: MESSAGE`, where rows are lines from 1, and the file `-` is standard input."""
 
-    def __init__(self, message: str, file: "str | os.PathLike[str] | None" = None, row: int | None = None, status: int = 1) -> None:
+    def __init__(
+        self, message: str, file: "str | os.PathLike[str] | None" = None, row: int | None = None, status: int = 1
+    ) -> None:
         place = "" if file is None else "standard input" if str(file) == "-" else str(file)
         if row is not None:
             place += f", row {row}"
@@ -143,3 +148,11 @@ def error_from_exit(status: int, stderr: bytes, file: str = "") -> DomethymeErro
 def os_reason(error: OSError) -> str:
     """The reason of an OSError without its number and file."""
     return error.strerror or os.strerror(error.errno or 0)
+
+
+def __getattr__(name: str) -> Any:
+    """NotShown, which is NotProved now."""
+    if name == "NotShown":
+        warn_renamed("domethyme.errors.NotShown", "NotProved")
+        return NotProved
+    raise AttributeError(f"module {__name__!r} has no attribute {name!r}")

@@ -7,20 +7,21 @@ import warnings
 from collections.abc import Iterator
 from typing import TYPE_CHECKING, Any, Literal
 
-from . import library, texts
+from . import dimacs, library, limits
+from .atomic_files import atomic_write
+from .deprecated import warn_renamed
 from .errors import ReadWriteError, os_reason
 from .extras import need
-from .files import atomic_write
 from .hierarchy import Hierarchy
 from .keys import Keys
+from .limits import MAX_NODES, MAX_WEIGHT
 from .program import StrPath, find_program, run_program
-from .texts import MAX_WEIGHT, MOST_NODES
 
 if TYPE_CHECKING:
     import numpy as np
     from numpy.typing import ArrayLike, NDArray
 
-MOST_ARCS = texts.MOST_LINES
+MAX_ARCS = limits.MAX_LINES
 Order = Literal["edges", "neighbours", "depth"]
 
 
@@ -45,20 +46,20 @@ class Graph:
         need("numpy")
         from .arrays import whole_numbers
 
-        self.from_nodes: "NDArray[np.int64]" = whole_numbers("from_nodes", from_nodes, 0, MOST_NODES - 1)
-        self.to_nodes: "NDArray[np.int64]" = whole_numbers("to_nodes", to_nodes, 0, MOST_NODES - 1)
+        self.from_nodes: "NDArray[np.int64]" = whole_numbers("from_nodes", from_nodes, 0, MAX_NODES - 1)
+        self.to_nodes: "NDArray[np.int64]" = whole_numbers("to_nodes", to_nodes, 0, MAX_NODES - 1)
         self.weights: "NDArray[np.int64]" = whole_numbers("weights", weights, 0, MAX_WEIGHT)
         if self.weights.ndim != 1 or not self.from_nodes.shape == self.to_nodes.shape == self.weights.shape:
             raise ValueError("from_nodes, to_nodes and weights have to be of one dimension and as long as one another")
-        if len(self.weights) > MOST_ARCS:
-            raise ValueError(f"a graph has at most {MOST_ARCS} arcs")
+        if len(self.weights) > MAX_ARCS:
+            raise ValueError(f"a graph has at most {MAX_ARCS} arcs")
         least = int(max(self.from_nodes.max(initial=-1), self.to_nodes.max(initial=-1))) + 1
-        if nodes is not None and not least <= nodes <= MOST_NODES:
-            raise ValueError(f"the number of nodes has to be from {least}, by the arcs, to {MOST_NODES}")
+        if nodes is not None and not least <= nodes <= MAX_NODES:
+            raise ValueError(f"the number of nodes has to be from {least}, by the arcs, to {MAX_NODES}")
         self.nodes, self.keys = least if nodes is None else int(nodes), keys
 
     @classmethod
-    def of_keys(cls, sources: Any, targets: Any, weights: "ArrayLike", scale: float | None = None) -> "Graph":
+    def from_keys(cls, sources: Any, targets: Any, weights: "ArrayLike", scale: float | None = None) -> "Graph":
         """The graph of arcs between keys of any hashable kind: arc i leads from sources[i] to targets[i]. Nodes are
         numbered in the order in which the keys come first, sources before targets.
 
@@ -86,12 +87,24 @@ class Graph:
         return cls(from_nodes, to_nodes, weights, len(numbers), Keys(numbers))
 
     @classmethod
-    def of_frame(
+    def of_keys(cls, *arguments: Any, **options: Any) -> "Graph":
+        """The old word of `from_keys`."""
+        warn_renamed("Graph.of_keys", "Graph.from_keys")
+        return cls.from_keys(*arguments, **options)
+
+    @classmethod
+    def of_frame(cls, *arguments: Any, **options: Any) -> "Graph":
+        """The old word of `from_frame`."""
+        warn_renamed("Graph.of_frame", "Graph.from_frame")
+        return cls.from_frame(*arguments, **options)
+
+    @classmethod
+    def from_frame(
         cls, frame: Any, source: str = "from", target: str = "to", weight: str = "weight", scale: float | None = None
     ) -> "Graph":
-        """The graph of a frame of pandas with a row for each arc, by the names of its columns; as `of_keys`. Raises KeyError
+        """The graph of a frame of pandas with a row for each arc, by the names of its columns; as `from_keys`. Raises KeyError
         for a column that isn't there, and ValueError."""
-        return cls.of_keys(frame[source], frame[target], frame[weight].to_numpy(), scale)
+        return cls.from_keys(frame[source], frame[target], frame[weight].to_numpy(), scale)
 
     def __repr__(self) -> str:
         return f"<Graph of {self.nodes} nodes and {len(self.weights)} arcs>"
@@ -102,11 +115,11 @@ class Graph:
 
         arcs = np.column_stack([self.from_nodes + 1, self.to_nodes + 1, self.weights])
         with atomic_write(path) as file:
-            texts.write_graph(file, self.nodes, arcs.tolist())
+            dimacs.write_graph(file, self.nodes, arcs.tolist())
 
     def prepare(self, hierarchy: StrPath, **options: Any) -> Hierarchy:
         """Prepares the graph as `prepare` does, and returns the Hierarchy with the graph's keys. Keys that are all str or int are
-        saved beside its file, as FILE.keys, where Keys.saved finds them."""
+        saved beside its file, as FILE.keys, where Keys.load finds them."""
         return prepare(self, hierarchy, **options)
 
 
@@ -124,7 +137,9 @@ def scaled(weights: "ArrayLike", scale: float) -> "NDArray[np.int64]":
         raise ValueError(f"weights times {scale:g} have to be from 0 to {MAX_WEIGHT}")
     rounded: "NDArray[np.int64]" = np.rint(products).astype(np.int64)
     if lost := int(np.count_nonzero((products > 0) & (rounded == 0))):
-        warnings.warn(f"{lost} of {rounded.size} weights are above 0, and 0 once they are scaled by {scale:g}", stacklevel=3)
+        warnings.warn(
+            f"{lost} of {rounded.size} weights are above 0, and 0 once they are scaled by {scale:g}", stacklevel=3
+        )
     return rounded
 
 
@@ -151,7 +166,7 @@ def write_graph(
     nodes, or else those up to the greatest of an arc. The file is whole; at an exception it is as it was before.
 
     The arrays are of whole numbers and of shape (arcs,): nodes from 0 to 33554431, weights from 0 to 4294967295 in any one
-    unit. Who has keys, or weights that aren't whole, takes Graph.of_keys. Raises ValueError, and OSError for the file.
+    unit. For keys or weights that aren't whole use Graph.from_keys. Raises ValueError, and OSError for the file.
     """
     Graph(from_nodes, to_nodes, weights, nodes).write(path)
 
@@ -163,20 +178,25 @@ def prepare(
     workers: int | None = None,
     seed: int | None = None,
     program: StrPath | None = None,
+    switch_order_after: int | None = None,
+    *,
     stint: int | None = None,
 ) -> Hierarchy:
     """Makes the file of the hierarchy of a Graph, or of a graph's file, by `routecli prepare`. Returns the Hierarchy. At an
     exception its file is as it was before.
 
-    order     edges, neighbours or depth: which nodes go first
-    workers   threads, 0 to 64; without it 4
-    seed      of the draws of nodes, 0 to 18446744073709551615; without it 1
-    stint     after how many nodes a worker takes the next order, from 1; without it none does
-    program   the path of `routecli`, else it is looked for (find_program)
+    order               edges, neighbours or depth: which nodes go first
+    workers             threads, 0 to 64; without it 4
+    seed                of the draws of nodes, 0 to 18446744073709551615; without it 1
+    switch_order_after  after how many nodes a worker takes the next order, from 1; without it none does. `stint` is its old word
+    program             the path of `routecli`, else it is looked for (find_program)
 
     Time and memory: some 20 s and 1.3 GB for a million nodes, by four workers. Raises GraphError, OutOfMemory,
     ReadWriteError, ProgramNotFound, ProgramError, LibraryNotFound.
     """
+    if stint is not None:
+        warn_renamed("prepare(stint=)", "prepare(switch_order_after=)")
+    stint = switch_order_after if stint is None else stint
     found = find_program(program)
     library.load_library()  # (the result is a Hierarchy: what it needs is looked for before the work)
     options = {"--order": order, "--workers": workers, "--seed": seed, "--stint": stint}

@@ -2,15 +2,18 @@
 import functools
 import os
 import threading
-from collections.abc import Hashable, Iterable, Mapping, Sequence
-from typing import TYPE_CHECKING, Any, Literal, NamedTuple, Union, overload
+from collections.abc import Hashable, Iterable, Mapping
+from typing import TYPE_CHECKING, Any, Literal, Union, overload
 
+from .deprecated import side_of
 from .errors import NoSuchNode
 from .extras import need
+from .hierarchy_file import open_hierarchy_file, pread_all, read_header
 from .keys import Keys, as_list
-from .opening import read_header, open_hierarchy_file, pread_all
+from .network.tables import Side
 from .program import StrPath
-from .router import RouterResult, Router
+from .route import Route, Rows
+from .router import Router, RouterResult
 
 if TYPE_CHECKING:
     import numpy as np
@@ -20,40 +23,13 @@ if TYPE_CHECKING:
     from .routes import Routes
     from .sweeps import Sweeps
 
-MOST_ADDED = (1 << 32) - 1
+MAX_ADDED = (1 << 32) - 1
 
 # How many metres away the nearest node may be.
 DEFAULT_MAX_METRES = 1000.0
 
 Ends = Union[Mapping[Any, int], Iterable[Any]]
-Rows = Union["NDArray[Any]", Sequence[Any]]
 By = Literal["library", "sweeps"]
-
-
-class Route(NamedTuple):
-    """A least walk.
-
-    source, target   its ends, nodes from 0 or keys
-    length           its length, in the unit of the graph's weights, with what `between` adds at its ends
-    nodes            its nodes from the first to the last, or their keys
-    numbers          its nodes from 0, whatever keys there are
-    """
-
-    source: Hashable
-    target: Hashable
-    length: int
-    nodes: list[Any]
-    numbers: list[int]
-
-    @property
-    def arcs(self) -> int:
-        """How many arcs it has."""
-        return len(self.numbers) - 1
-
-    def geojson(self, network: "Network") -> dict[str, Any]:
-        """The route as a Feature along the real road; see Network.geojson."""
-        feature: dict[str, Any] = network.geojson(self)["features"][0]
-        return feature
 
 
 class Hierarchy:
@@ -83,7 +59,7 @@ class Hierarchy:
     ) -> None:
         """Reads the file, which takes 0.4 seconds for a million nodes, and some 350 bytes of memory a node.
 
-        keys         a key for each node, in order, or a mapping from keys to nodes from 0; Keys.saved has those that Graph.prepare
+        keys         a key for each node, in order, or a mapping from keys to nodes from 0; Keys.load has those that Graph.prepare
                      saved. Saved keys of another file are refused, and others that contradict those saved beside it
         network      the network of the nodes: a Network, or the beginning of its files' names. It is compared with the hierarchy,
                      which takes a second for a million nodes: their nodes, and the weights of all links that are arcs
@@ -166,19 +142,19 @@ class Hierarchy:
         can't be pairs.
         """
         need("numpy")
-        from . import arrays, many
+        from . import arrays, batch
 
-        return arrays.like_frame(many.lengths(self._router, arrays.pairs_of(pairs, self.keys, self.nodes)), pairs)
+        return arrays.like_frame(batch.lengths(self._router, arrays.pairs_of(pairs, self.keys, self.nodes)), pairs)
 
     def routes(self, pairs: Any) -> "Routes":
         """The Routes of many pairs, which are given and asked for as for `lengths`."""
         need("numpy")
         import numpy as np
 
-        from . import arrays, many, routes
+        from . import arrays, batch, routes
 
         asked = arrays.pairs_of(pairs, self.keys, self.nodes)
-        found = many.routes(self._router, asked)
+        found = batch.routes(self._router, asked)
         offsets = np.concatenate([[0], np.cumsum(found.counts)])
         return routes.Routes(found.lengths, found.nodes, offsets, asked, self.keys, routes.index_of(pairs))
 
@@ -200,7 +176,7 @@ class Hierarchy:
         Raises NoSuchNode and ValueError.
         """
         need("numpy")
-        from . import arrays, many
+        from . import arrays, batch
 
         sources = sources if hasattr(sources, "__array__") else as_list(sources)
         targets = sources if targets is None else targets if hasattr(targets, "__array__") else as_list(targets)
@@ -208,23 +184,29 @@ class Hierarchy:
         ends = arrays.nodes_of("targets", targets, self.keys, self.nodes)
         if by not in ("library", "sweeps", None):
             raise ValueError(f"a matrix is made by library or by sweeps, and not by {by!r}")
-        table = self._swept().lengths(starts, ends) if by == "sweeps" else many.table(self._router, starts, ends)
+        table = self._swept().lengths(starts, ends) if by == "sweeps" else batch.table(self._router, starts, ends)
         return arrays.like_axes(table, sources, targets, self.keys is not None, missing)
 
     @overload
-    def nearest(self, lon: float, lat: float, end: bool = False, *, within: float = DEFAULT_MAX_METRES) -> tuple[Any, float]: ...
+    def nearest(
+        self, lon: float, lat: float, side: Side | bool = "from", *, within: float = DEFAULT_MAX_METRES,
+        end: bool | None = None
+    ) -> tuple[Any, float]: ...
     @overload
     def nearest(
-        self, lon: Rows, lat: Rows, end: bool = False, *, within: float = DEFAULT_MAX_METRES
+        self, lon: Rows, lat: Rows, side: Side | bool = "from", *, within: float = DEFAULT_MAX_METRES,
+        end: bool | None = None
     ) -> "tuple[NDArray[Any], NDArray[np.float64]]": ...
-    def nearest(self, lon: Any, lat: Any, end: bool = False, *, within: float = DEFAULT_MAX_METRES) -> tuple[Any, Any]:
+    def nearest(
+        self, lon: Any, lat: Any, side: Side | bool = "from", *, within: float = DEFAULT_MAX_METRES, end: bool | None = None
+    ) -> tuple[Any, Any]:
         """The node nearest to each place in degrees, or its key, and how many metres away it is along the great circle: one
-        where routes begin, or with `end` one where they end, which differ at junctions with turn restrictions. Two numbers
+        where routes begin, or with side="to" one where they end, which differ at junctions with turn restrictions. Two numbers
         give a node and a float, two arrays give two arrays. Needs the network. Raises NoSuchNode where none is
         `within` so many metres, and ValueError."""
         if self.network is None:
             raise ValueError("the hierarchy has no network: give Hierarchy the word network=")
-        nodes, metres = self.network.nearest(lon, lat, end)
+        nodes, metres = self.network.nearest(lon, lat, side_of(side, end))
         check_within(metres, within)
         if self.keys is None:
             return nodes, metres
@@ -249,8 +231,8 @@ class Hierarchy:
         found = [(self._node(node), as_int(name, added)) for node, added in rows]
         if not found:
             raise ValueError(f"{name} have to be a node or more")
-        if not all(0 <= added <= MOST_ADDED for _, added in found):
-            raise ValueError(f"the lengths added at {name} have to be from 0 to {MOST_ADDED}")
+        if not all(0 <= added <= MAX_ADDED for _, added in found):
+            raise ValueError(f"the lengths added at {name} have to be from 0 to {MAX_ADDED}")
         return found
 
     def _route(self, answer: RouterResult | None) -> Route | None:

@@ -5,11 +5,12 @@ import os
 from collections.abc import Hashable, Iterable, Mapping, Sequence
 from typing import TYPE_CHECKING, Any
 
+from .atomic_files import atomic_write
 from .belonging import digest_of
+from .csv_tables import open_table
+from .deprecated import warn_renamed
 from .errors import FileError, NoSuchNode, os_reason
-from .files import atomic_write
 from .program import StrPath
-from .texts import open_table
 
 if TYPE_CHECKING:
     import numpy as np
@@ -35,7 +36,11 @@ class Keys:
             self._names, self._nodes, self._ambiguous = keys._names, keys._nodes, keys._ambiguous
             self._digest, self._is_partial = keys._digest, keys._is_partial
         elif isinstance(keys, Mapping):
-            self._names, self._nodes, self._ambiguous = keys_by_node(keys), {to_python_scalar(key): int(keys[key]) for key in keys}, set()
+            self._names, self._nodes, self._ambiguous = (
+                keys_by_node(keys),
+                {to_python_scalar(key): int(keys[key]) for key in keys},
+                set(),
+            )
         else:
             self._names = [to_python_scalar(key) for key in keys]
             self._nodes, self._ambiguous = index_keys(self._names)
@@ -61,19 +66,27 @@ class Keys:
         keys = cls(())
         keys._names = list(names)
         keys._nodes, keys._ambiguous = index_keys(keys._names)
-        begins = {key: node for node, (key, end) in enumerate(zip(keys._names, ends)) if end == "from" and key in keys._ambiguous}
+        begins = {
+            key: node for node, (key, end) in enumerate(zip(keys._names, ends)) if end == "from" and key in keys._ambiguous
+        }
         keys._nodes |= begins
         keys._ambiguous -= begins.keys()
         return keys
 
     @classmethod
-    def saved(cls, hierarchy: StrPath) -> "Keys":
+    def load(cls, hierarchy: StrPath) -> "Keys":
         """The keys that `save` or Graph.prepare has written beside the file of a hierarchy, FILE.keys. Raises FileError where
         there is no such file, or where it is of another hierarchy."""
         keys = load_if_matching(hierarchy, digest_of(hierarchy))
         if keys is None:
             raise FileError(f"has the keys of another file than {os.fspath(hierarchy)}", keys_path(hierarchy))
         return keys
+
+    @classmethod
+    def saved(cls, hierarchy: StrPath) -> "Keys":
+        """The old word of `load`."""
+        warn_renamed("Keys.saved", "Keys.load")
+        return cls.load(hierarchy)
 
     def save(self, hierarchy: StrPath) -> None:
         """Saves the keys beside the file of their hierarchy, as FILE.keys, with its digest, so that nobody takes them for those of
@@ -110,7 +123,7 @@ class Keys:
         for key, node in self._nodes.items():
             other = saved._nodes.get(key, node)
             if other != node:
-                beside = f"node {other} in {keys_path(hierarchy)}: take Keys.saved, or delete that file"
+                beside = f"node {other} in {keys_path(hierarchy)}: take Keys.load, or delete that file"
                 raise ValueError(f"key {key!r} names node {node} here, and {beside}")
 
     def __len__(self) -> int:

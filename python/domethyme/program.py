@@ -37,7 +37,9 @@ def run_program(program: str, arguments: list[str], files: list[str]) -> None:
     isn't 0, with the program's explanation."""
     try:
         nothing = subprocess.DEVNULL
-        completed = subprocess.run([program, *arguments, "--explain", "--", *files], stdin=nothing, stdout=nothing, stderr=subprocess.PIPE)
+        completed = subprocess.run(
+            [program, *arguments, "--explain", "--", *files], stdin=nothing, stdout=nothing, stderr=subprocess.PIPE
+        )
     except OSError as error:
         raise ProgramError(f"{program}: {os_reason(error)}") from error
     if completed.returncode != 0:

@@ -17,7 +17,8 @@ from typing import NamedTuple
 
 from .errors import DomethymeError, HierarchyError, LibraryError, OutOfMemory
 from .library import (
-    FIRST_FAULT, NO_PATH, NO_ROOM, OK, OUT_OF_MEMORY, TOO_LONG, BetweenInfo, Handle, RouteInfo, Seed, load_library, error_message
+    FIRST_FAULT, NO_PATH, NO_ROOM, OK, OUT_OF_MEMORY, TOO_LONG, BetweenInfo, Handle, RouteInfo, Seed, error_message,
+    load_library
 )
 
 # How many nodes of a route a seat has room for at first.
@@ -180,7 +181,9 @@ class Router:
                 return None
             return RouterResult(source, target, seat.route_info.length, seat.nodes[: seat.route_info.nodes])
 
-    def between(self, starts: Sequence[tuple[int, int]], ends: Sequence[tuple[int, int]], with_nodes: bool = True) -> RouterResult | None:
+    def between(
+        self, starts: Sequence[tuple[int, int]], ends: Sequence[tuple[int, int]], with_nodes: bool = True
+    ) -> RouterResult | None:
         """The same from one of several nodes to one of several, each with a length that is added there, of the least whole length;
         or without its nodes."""
         start_seeds, end_seeds = seed_array(starts), seed_array(ends)

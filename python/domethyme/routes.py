@@ -6,6 +6,7 @@ from typing import TYPE_CHECKING, Any, overload
 import numpy as np
 from numpy.typing import NDArray
 
+from .deprecated import warn_renamed
 from .extras import need
 from .keys import Keys
 
@@ -20,7 +21,7 @@ class Routes:
     `routes[i:j]` are the Routes of these pairs.
 
     pairs     the pairs, of shape (n, 2), nodes from 0
-    lengths   the least lengths, of shape (n,), NO_WAY (-1) where there is no way
+    lengths   the least lengths, of shape (n,), NO_PATH (-1) where there is no way
     nodes     the nodes of all routes from 0, one route after the other
     offsets   where each route begins in `nodes`, and last where they end, of shape (n + 1,)
     """
@@ -47,7 +48,7 @@ class Routes:
     def __getitem__(self, row: int | slice) -> "NDArray[Any] | Routes":
         if isinstance(row, slice):
             return self._slice(row)
-        nodes = self.numbers(row)
+        nodes = self.node_indices(row)
         return nodes if self.keys is None else self.keys.of(nodes)
 
     def __iter__(self) -> Iterator[NDArray[Any]]:
@@ -64,16 +65,21 @@ class Routes:
     def __repr__(self) -> str:
         return f"<{len(self)} routes of {len(self.nodes)} nodes>"
 
-    def numbers(self, row: int) -> NDArray[np.int32]:
+    def node_indices(self, row: int) -> NDArray[np.int32]:
         """The nodes of a route from 0, whatever keys there are."""
         if not -len(self) <= row < len(self):
             raise IndexError(f"there is no route {row} among {len(self)}")
         row %= len(self)
         return self.nodes[self.offsets[row] : self.offsets[row + 1]]
 
+    def numbers(self, row: int) -> NDArray[np.int32]:
+        """The old word of `node_indices`."""
+        warn_renamed("Routes.numbers", "Routes.node_indices")
+        return self.node_indices(row)
+
     @property
     def arcs(self) -> NDArray[np.int64]:
-        """How many arcs each route has, of shape (n,); NO_WAY (-1) where there is no way."""
+        """How many arcs each route has, of shape (n,); NO_PATH (-1) where there is no way."""
         return np.diff(self.offsets) - 1
 
     def to_frame(self) -> Any:
@@ -94,7 +100,7 @@ class Routes:
 
     def _slice(self, rows: slice) -> "Routes":
         chosen = np.arange(len(self))[rows]
-        parts = [self.numbers(row) for row in chosen.tolist()]
+        parts = [self.node_indices(row) for row in chosen.tolist()]
         offsets = np.concatenate([[0], np.cumsum(self.arcs[chosen] + 1)]).astype(np.int64)
         nodes = np.concatenate([np.empty(0, np.int32), *parts])
         index = None if self.index is None else self.index[rows]

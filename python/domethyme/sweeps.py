@@ -17,9 +17,9 @@ import numpy as np
 from numpy.typing import NDArray
 
 from .errors import HierarchyError
-from .lines import NO_WAY as NO_WAY
+from .hierarchy_file import HEAD_BYTES, pread_all
 from .links import Links
-from .opening import HEAD_BYTES, pread_all
+from .protocol import NO_PATH as NO_PATH
 
 Numbers = NDArray[np.int64]
 Nodes = NDArray[np.int32]
@@ -118,7 +118,7 @@ class Sweeps:
         return cls(ranks, starts, ends, weights)
 
     def lengths(self, sources: Numbers, targets: Numbers) -> Numbers:
-        """The least lengths, of shape (sources, targets), NO_WAY (-1) where there is no way. Memory: that of the table, and
+        """The least lengths, of shape (sources, targets), NO_PATH (-1) where there is no way. Memory: that of the table, and
         some 100 MB."""
         return self.between(Seeds.at(sources), Seeds.at(targets))
 
@@ -140,7 +140,7 @@ class Sweeps:
                 sweep(part, least, step)
             lengths = least[last[order]] + ends.added[order, None]
             table[begin:end, places] = np.minimum.reduceat(lengths, groups, axis=0).T
-        table[table >= FAR] = NO_WAY
+        table[table >= FAR] = NO_PATH
         return table
 
     def _space(self, sources: Numbers, targets: Numbers, step: Callable[[], object]) -> "Space":

@@ -9,9 +9,9 @@ import numpy as np
 
 from domethyme import belonging
 from domethyme.checking import run_check
+from domethyme.hierarchy_file import pread_all, read_header
+from domethyme.hierarchy_file import open_hierarchy_file as open_hierarchy
 from domethyme.network.snapping import RoadIndex
-from domethyme.opening import read_header, pread_all
-from domethyme.opening import open_hierarchy_file as open_hierarchy
 from domethyme.router import Router
 from domethyme.sweeps import Sweeps
 

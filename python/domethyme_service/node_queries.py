@@ -6,7 +6,7 @@ by line.
 import json
 from collections.abc import Iterator, Sequence
 
-from domethyme.lines import NO_WAY, RouteReply
+from domethyme.protocol import NO_PATH, RouteReply
 
 from .errors import RequestError, invalid_query, invalid_value
 from .parameters import Parameter, Values, node_of
@@ -27,7 +27,7 @@ def route_between(questions: Queries, source: int, target: int) -> bytes:
 def length_between(questions: Queries, source: int, target: int) -> bytes:
     """The length alone. Raises RequestError."""
     length = questions.length(source, target)
-    return questions.keys.put(length_told((source, target), NO_WAY if length is None else length), (source, target))
+    return questions.keys.put(length_told((source, target), NO_PATH if length is None else length), (source, target))
 
 
 def node_asked(questions: Queries, values: Values, number: Parameter[int | None], key: Parameter[str | None]) -> int:
@@ -50,7 +50,7 @@ def route_told(pair: Pair, route: RouteReply | None) -> bytes:
 
 
 def length_told(pair: Pair, length: int) -> bytes:
-    if length == NO_WAY:
+    if length == NO_PATH:
         return b'{"from":%d,"to":%d,"length":null}' % pair
     return b'{"from":%d,"to":%d,"length":%d}' % (*pair, length)
 

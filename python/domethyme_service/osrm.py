@@ -7,15 +7,16 @@ from collections.abc import Iterator, Sequence
 from typing import NamedTuple
 
 from domethyme.network.bearings import BearingRange, nearest_with_bearing
+from domethyme.network.geo import Point
 from domethyme.network.leg_geometry import LegGeometry, leg_geometry, leg_totals
 from domethyme.network.legs import Leg, find_leg
 from domethyme.network.snapping import RoadIndex, SnappedPoint
-from domethyme.network.tables import Point
 from domethyme.sweeps import Sweeps
 
 from .budget import Budget
 from .endpoints import (
-    ANNOTATIONS, BEARINGS, DESTINATIONS, GENERATE_HINTS, GEOMETRIES, NUMBER, OVERVIEW, RADIUSES, SKIP_WAYPOINTS, SOURCES, STEPS
+    ANNOTATIONS, BEARINGS, DESTINATIONS, GENERATE_HINTS, GEOMETRIES, NUMBER, OVERVIEW, RADIUSES, SKIP_WAYPOINTS,
+    SOURCES, STEPS
 )
 from .errors import RequestError
 from .json_text import join_array, join_object, to_json

@@ -5,12 +5,12 @@ from collections.abc import Iterable, Sequence
 
 import numpy as np
 
-from domethyme.network.binary import UNITS
+from domethyme.network.geo import Point
 from domethyme.network.leg_geometry import LegGeometry
+from domethyme.network.net_file import UNITS
 from domethyme.network.network import Floats
-from domethyme.network.polyline import Line, points_array, encode_polylines
+from domethyme.network.polyline import Line, encode_polylines, points_array
 from domethyme.network.snapping import segment_metres
-from domethyme.network.tables import Point
 
 from .budget import Budget
 from .osrm_types import Geometry

@@ -5,8 +5,8 @@ import urllib.parse
 from collections.abc import Mapping
 from typing import NamedTuple
 
+from domethyme.network.geo import Point
 from domethyme.network.polyline import decode_polyline
-from domethyme.network.tables import Point
 
 from .endpoints import BY_NAME
 from .errors import RequestError, invalid_query, invalid_value

@@ -8,11 +8,11 @@ from typing import NamedTuple
 import numpy as np
 from numpy.typing import NDArray
 
-from domethyme.network.binary import TEXTS
-from domethyme.network.leg_geometry import LegGeometry, Figures, make_totals
+from domethyme.network.geo import Point
+from domethyme.network.leg_geometry import Figures, LegGeometry, make_totals
+from domethyme.network.net_file import TEXTS
 from domethyme.network.polyline import Line
 from domethyme.network.snapping import RoadIndex
-from domethyme.network.tables import Point
 
 from .osrm_types import Coordinates, Geometry, Maneuver, Step
 

@@ -8,11 +8,11 @@ from typing import NamedTuple
 
 import numpy as np
 
-from domethyme.network.leg_geometry import UNITS_PER_OUTPUT_UNIT, Figures, make_totals, leg_totals
-from domethyme.network.legs import leg_on_one_arc, is_same_node, find_leg, leg_weight
+from domethyme.network.geo import EARTH_RADIUS, Point
+from domethyme.network.leg_geometry import UNITS_PER_OUTPUT_UNIT, Figures, leg_totals, make_totals
+from domethyme.network.legs import find_leg, is_same_node, leg_on_one_arc, leg_weight
 from domethyme.network.snapping import RoadIndex, SnappedPoint
-from domethyme.network.tables import EARTH_RADIUS, Point
-from domethyme.sweeps import NO_WAY, Numbers, Seeds, Sweeps
+from domethyme.sweeps import NO_PATH, Numbers, Seeds, Sweeps
 
 from .endpoints import DESTINATIONS, FALLBACK_COORDINATE, FALLBACK_SPEED, FIGURES, SCALE_FACTOR, SOURCES
 from .errors import RequestError, not_implemented
@@ -101,7 +101,7 @@ def least_between(roads: RoadIndex, start: SnappedPoint, end: SnappedPoint) -> i
 def row_of(weights: Numbers, unit: int) -> Row:
     """A row in a larger unit, with None where there is no way."""
     found = (weights / unit).astype(object)
-    found[weights == NO_WAY] = None
+    found[weights == NO_PATH] = None
     row: Row = found.tolist()
     return row
 

@@ -6,8 +6,8 @@ from collections.abc import Sequence
 import numpy as np
 
 from domethyme import DomethymeError
-from domethyme.lines import RouteReply
 from domethyme.network.legs import Sides
+from domethyme.protocol import RouteReply
 from domethyme.router import Router
 
 from .errors import RequestError, invalid_value
@@ -70,7 +70,7 @@ class Queries:
         return RouteReply(found.source + 1, found.target + 1, found.length, tuple([node + 1 for node in found.nodes]))
 
     def lengths(self, pairs: Sequence[Pair]) -> list[int]:
-        """The least length of each pair, NO_WAY where there is no way."""
+        """The least length of each pair, NO_PATH where there is no way."""
         if not pairs:
             return []
         pairs_u32, out = np.array(pairs, np.uint32).reshape(-1, 2) - np.uint32(1), np.empty(len(pairs), np.int64)

@@ -9,9 +9,9 @@ from typing import Any
 
 import numpy as np
 
-from domethyme.network.binary import TEXTS, UNITS, MappedNetwork
-from domethyme.network.index import segment_middles, wrapped_difference
-from domethyme.network.levels import CODE_ZOOM, ROAD_CLASSES, Ints, to_mercator, spread_bits
+from domethyme.network.indexes import segment_middles, wrapped_difference
+from domethyme.network.net_file import TEXTS, UNITS, MappedNetwork
+from domethyme.network.zoom_levels import CODE_ZOOM, ROAD_CLASSES, Ints, spread_bits, to_mercator
 
 from .errors import invalid_value
 

@@ -5,8 +5,8 @@ It is in C++ over libosmium, and is built once, in half a minute: osm_to_gr does
 
 Status 0: it is there. 1: it can't be built, and one line says why. 2: the arguments were refused.
 """
+from .cli import argument_parser
 from .map_arrays import ensure_built
-from .tool import argument_parser
 
 
 def main() -> None:

@@ -15,9 +15,9 @@ import subprocess
 import tarfile
 import tempfile
 
-from domethyme.files import atomic_write
+from domethyme.atomic_files import atomic_write
 
-from .tool import ToolError, warn, argument_parser
+from .cli import ToolError, argument_parser, warn
 
 NAME = "liechtenstein-2013-08-03.osm.pbf"
 SHA256 = "edb2b075be057662691fc343abed4ed58f139dd7c501c243197640fcb3ea82d4"

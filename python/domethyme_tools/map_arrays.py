@@ -1,10 +1,10 @@
 """Reads a map into arrays, by a program in C++ over libosmium (converter/map_arrays.cpp), which knows no vehicle.
 
-    built()                    the path of the program, which is built where it is missing
+    ensure_built()             the path of the program, which is built where it is missing
     Folder(path)               a folder of arrays, and the program's commands over it
     read_ways(folder, ..)      Ways: the ways with a key, their tags, and the turn restrictions
     read_places(folder, ..)    Places: the nodes of those that are taken
-    cut(folder, ..)            Runs: their lines from stop to stop, cut to pieces
+    cut_runs(folder, ..)       Runs: their lines from stop to stop, cut to pieces
 
 In Debian's package the program is there. Elsewhere it is built at the first use, in half a minute, by g++ and Debian's
 libosmium2-dev; tools/build_converter does that alone. It is kept by the checksum of its source, in converter/built, or if that
@@ -29,9 +29,9 @@ from tqdm import tqdm
 
 from domethyme.program import StrPath
 
-from . import turns
-from .rules import Tags
-from .tool import ToolError
+from . import turn_restrictions
+from .cli import ToolError
+from .vehicle_profile import Tags
 
 SOURCE = pathlib.Path(__file__).resolve().parent / "converter" / "map_arrays.cpp"
 PACKAGES, PACKAGED = "/usr/lib/python3/dist-packages/", "/usr/libexec/domethyme/map_arrays"
@@ -49,7 +49,7 @@ DISK_IS_FULL = os.strerror(errno.ENOSPC)
 
 
 def ensure_built() -> str:
-    """The path of the program. Where it is missing it is built, and a Fault says why that can't be done."""
+    """The path of the program. Where it is missing it is built, and a ToolError says why that can't be done."""
     if str(SOURCE).startswith(PACKAGES) and os.path.exists(PACKAGED):
         return PACKAGED
     folder, name = build_folder(), f"map_arrays-{hashlib.sha256(SOURCE.read_bytes()).hexdigest()[:16]}"
@@ -141,7 +141,7 @@ class Folder:
             os.unlink(os.path.join(self.path, name))
 
     def read_map(self, command: str, path: StrPath, words: Sequence[str]) -> None:
-        """Runs a command over a map, with a bar of its bytes. What libosmium finds wrong is a Fault of the map."""
+        """Runs a command over a map, with a bar of its bytes. What libosmium finds wrong is a ToolError of the map."""
         with tqdm(desc=command, total=os.path.getsize(path), unit="B", unit_scale=True, disable=None) as bar:
             with self.running([command, self.path, os.fspath(path), *words], path, subprocess.PIPE) as process:
                 for line in process.stdout or ():
@@ -194,7 +194,7 @@ class WayArrays(NamedTuple):
     labels: NDArray[np.uint32]
     tags: list[Tags]
     texts: list[str]
-    relations: list[tuple[Tags, list[turns.Member]]]
+    relations: list[tuple[Tags, list[turn_restrictions.Member]]]
 
 
 def read_ways(folder: Folder, path: StrPath, keys: Sequence[str], conditional: Sequence[str]) -> WayArrays:
@@ -214,11 +214,12 @@ def read_ways(folder: Folder, path: StrPath, keys: Sequence[str], conditional: S
     return WayArrays(osm, label, nodes, labels, tags, texts, relations)
 
 
-def relations_of(folder: Folder) -> Iterator[tuple[Tags, list[turns.Member]]]:
+def relations_of(folder: Folder) -> Iterator[tuple[Tags, list[turn_restrictions.Member]]]:
     """The tags and members of each relation of a turn restriction."""
     tags = folder.tags("relation_tags")
     members = (
-        turns.Member(chr(kind), osm, ROLES[role]) for kind, role, osm in folder.array("member", "i8", 3).tolist()
+        turn_restrictions.Member(chr(kind), osm, ROLES[role]) for kind, role,
+        osm in folder.array("member", "i8", 3).tolist()
     )
     for number, count in zip(folder.array("relation_of", "u4").tolist(), folder.array("relation_count", "u4").tolist()):
         yield tags[number], list(itertools.islice(members, count))
@@ -276,7 +277,8 @@ class Runs(NamedTuple):
 
 
 def cut_runs(
-    folder: Folder, counts: NDArray[np.uint32], is_junction: NDArray[np.bool_], is_barrier: NDArray[np.bool_], longest: float
+    folder: Folder, counts: NDArray[np.uint32], is_junction: NDArray[np.bool_], is_barrier: NDArray[np.bool_],
+    longest: float
 ) -> Runs:
     """The runs of roads, which have these counts of nodes, cut to parts of at most `longest` metres, as few as can be. A run that
     comes back to its node, if that is no barrier, is cut at least once."""

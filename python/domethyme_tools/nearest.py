@@ -39,12 +39,16 @@ from typing import Any
 
 import numpy
 
-from domethyme.files import atomic_write
+from domethyme.atomic_files import atomic_write
+from domethyme.csv_tables import escape_formula, excerpt, open_table, parse_float
+from domethyme.dimacs import write_pairs
+from domethyme.limits import MAX_LINES
+from domethyme.network.geo import Point
 from domethyme.network.network import load_node_index
-from domethyme.network.tables import ENDS, KEY, Point, Side, is_coordinates, paths_of, read_nodes
-from domethyme.texts import MOST_LINES, parse_float, escape_formula, excerpt, open_table, write_pairs
+from domethyme.network.reading import read_nodes
+from domethyme.network.tables import ENDS, KEY, Side, is_coordinates, paths_of
 
-from .tool import ToolError, add_hierarchy, need_hierarchy, refuse_overwriting, argument_parser
+from .cli import ToolError, add_hierarchy, argument_parser, current_arguments, need_hierarchy, refuse_overwriting
 
 SIDES: tuple[Side, Side] = ("from", "to")
 PREFIXES = ("from_", "to_")
@@ -63,7 +67,7 @@ def parse_args() -> argparse.Namespace:
     parser.add_argument("trips", metavar="TRIPS", help="the table of trips, or with --matrix of places")
     parser.add_argument("-o", dest="output", metavar="PAIRS", default="-", help="by default standard output")
     parser.add_argument(
-        "--within",
+        "--max-distance",
         metavar="METRES",
         type=distance,
         default=1000.0,
@@ -74,7 +78,7 @@ def parse_args() -> argparse.Namespace:
     parser.add_argument("--snapped", metavar="FILE", help="write the table of trips with their nodes too")
     parser.add_argument("--on-roads", action="store_true", help="write lines for routecli serve, with places on roads")
     add_hierarchy(parser)
-    options = parser.parse_args()
+    options = parser.parse_args(current_arguments(parser, {"--within": "--max-distance"}))
     if options.on_roads and (options.matrix or options.skip_far or options.snapped):
         parser.error("--on-roads goes with neither --matrix, --skip-far nor --snapped")
     if is_coordinates(options.trips) and not options.matrix:
@@ -88,7 +92,7 @@ def parse_args() -> argparse.Namespace:
 
 
 def distance(text: str) -> float:
-    """The value of --within, in metres."""
+    """The value of --max-distance, in metres."""
     value = float(text)
     if not (math.isfinite(value) and value >= 0):
         raise argparse.ArgumentTypeError(f"{text} isn't a distance")
@@ -195,7 +199,7 @@ def too_far_error(trips: Trips, trip: int, found: dict[Side, Any], nearest: Node
     if abs(lon) <= 90 and nearest.nodes_at([(lat, lon)])[1][0] <= within:
         message += f": {SWAPPED}"
     else:
-        message += f", and --within is {within:g} m"
+        message += f", and --max-distance is {within:g} m"
     return ToolError(message, trips.path, trips.rows[trip])
 
 
@@ -275,7 +279,7 @@ def write_requests(options: argparse.Namespace) -> None:
     trips = read_trips(options.trips, PREFIXES)
     rows = zip(trips.rows, trips.ends["from_"], trips.ends["to_"])
     with atomic_write(options.output) as file:
-        file.writelines(f"{line}\n" for line in request_lines(options.network, rows, options.within, trips.path))
+        file.writelines(f"{line}\n" for line in request_lines(options.network, rows, options.max_distance, trips.path))
 
 
 def main() -> None:
@@ -291,10 +295,10 @@ def main() -> None:
         trips = read_trips(options.trips, NO_PREFIX if options.matrix else PREFIXES)
     keys = nearest.nodes.keys() if options.snapped else ()
     columns = snapped_columns(trips, options.matrix, len(keys) > 0) if options.snapped else []
-    snapped = snap(trips, nearest, options.within, options.skip_far)
+    snapped = snap(trips, nearest, options.max_distance, options.skip_far)
     pairs = pairs_of(snapped, nearest, options.matrix)
-    if len(pairs) > MOST_LINES:
-        raise ToolError(f"has {len(snapped.fields)} places, which make more than {MOST_LINES} pairs", options.trips)
+    if len(pairs) > MAX_LINES:
+        raise ToolError(f"has {len(snapped.fields)} places, which make more than {MAX_LINES} pairs", options.trips)
     if options.snapped:
         write_snapped(options.snapped, columns, snapped_rows(snapped, pairs, options.matrix, keys))
     with atomic_write(options.output) as file:

@@ -2,16 +2,16 @@
 import os
 
 from domethyme.errors import NetworkError
-from domethyme.network import binary
+from domethyme.network import net_file
 from domethyme.network.tables import ALL_ARC_COLUMNS, ALL_NODE_COLUMNS, Files, is_written_by_tools
 
-from .tool import ToolError
+from .cli import ToolError
 
 
 def tables_there(names: Files, are_written: bool) -> list[str]:
     """The tables of a network that the tools have written, and the files for GDAL beside them.
 
-    Raises a Fault where tables are to be written in the place of a user's own, and where one of the tools was edited since, as far as its
+    Raises a ToolError where tables are to be written in the place of a user's own, and where one of the tools was edited since, as far as its
     size shows: it would be read in place of the new network, and may not be lost.
     """
     kinds = {names.nodes: ALL_NODE_COLUMNS, names.arcs: ALL_ARC_COLUMNS}
@@ -29,7 +29,7 @@ def tables_there(names: Files, are_written: bool) -> list[str]:
 def is_current(prefix: str) -> bool:
     """Whether a network's tables are as its file was written with them; a file that is damaged doesn't say otherwise."""
     try:
-        return binary.is_current(prefix)
+        return net_file.is_current(prefix)
     except NetworkError:
         return True
 

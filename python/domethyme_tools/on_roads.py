@@ -9,17 +9,18 @@ import itertools
 from collections.abc import Iterable, Iterator
 from typing import Any, NamedTuple
 
+from domethyme.csv_tables import open_input
 from domethyme.errors import DomethymeError
-from domethyme.lines import parse_reply_to, matches_request, parse_ready
-from domethyme.network.tables import Point, is_coordinates, reject_wrong_suffix
+from domethyme.network.geo import Point
+from domethyme.network.tables import is_coordinates, reject_wrong_suffix
 from domethyme.program import StrPath
-from domethyme.texts import open_input
+from domethyme.protocol import matches_request, parse_ready, parse_reply_to
 
-from .tool import ToolError, require_packages
+from .cli import ToolError, require_packages
 
 with require_packages():
     from domethyme.network.leg_geometry import leg_geometry, leg_totals
-    from domethyme.network.legs import EMPTY_LEG, is_same_node, choose_leg
+    from domethyme.network.legs import EMPTY_LEG, choose_leg, is_same_node
     from domethyme.network.snapping import RoadIndex, SnappedPoint
 
 Trip = tuple[int | None, Point, Point]
@@ -49,14 +50,16 @@ def open_road_index(network: StrPath) -> RoadIndex:
 
 
 def snap_trip(roads: RoadIndex, trip: Trip, within: float, path: str) -> tuple[SnappedPoint, SnappedPoint]:
-    """The points of roads that are nearest to a trip's places. Raises Fault for one that is too far."""
+    """The points of roads that are nearest to a trip's places. Raises ToolError for one that is too far."""
     row, *places = trip
     found = []
     for side, place in zip(("from", "to"), places):
         snapped = roads.nearest(place)[0]
         if snapped.metres > within:
             where = f"{side}_lon {place[0]}, {side}_lat {place[1]}"
-            raise ToolError(f"{where} is {snapped.metres:,.0f} m from the nearest road, and --within is {within:g} m", path, row)
+            raise ToolError(
+                f"{where} is {snapped.metres:,.0f} m from the nearest road, and --max-distance is {within:g} m", path, row
+            )
         found.append(snapped)
     return found[0], found[1]
 
@@ -67,7 +70,9 @@ def format_request(start: SnappedPoint, end: SnappedPoint, path: str, row: int |
         node = start.copies[0]
         return b"b %d 0 : %d 0" % (node, node)
     if max(len(start.exits), len(end.entries)) > MAX_SEEDS:
-        raise ToolError(f"begins or ends at a junction with more than {MAX_SEEDS} nodes, which one line can't ask for", path, row)
+        raise ToolError(
+            f"begins or ends at a junction with more than {MAX_SEEDS} nodes, which one line can't ask for", path, row
+        )
     return b"b %b : %b" % (format_seeds(start.exits), format_seeds(end.entries))
 
 

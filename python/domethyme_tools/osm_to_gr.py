@@ -28,7 +28,7 @@ access tags (of access, vehicle, motor_vehicle, motorcar the last that is set) h
 closed. `maxspeed` counts before the speed of the class, for each direction, in km/h, mph or knots. One-way are oneway=yes
 and -1, roundabouts and motorways. Reversible ways are left out. A barrier such as a bollard, or one whose access tags
 are closed, parts the roads at its node. A way is cut where the map lacks a node of it. Only the largest set of nodes that
-can all reach one another is kept, unless --islands is given.
+can all reach one another is kept, unless --keep-islands is given.
 
 These are the rules of a car; those of a lorry, a bicycle and pedestrians, and what else a profile may say, are in
 profiles/README.md. Not looked at: turn restrictions by a way or for some times, opening hours and other conditions, `destination`
@@ -50,29 +50,51 @@ from typing import IO, Any, NamedTuple, cast
 import numpy as np
 from numpy.typing import NDArray
 
+from domethyme.atomic_files import atomic_write_all
 from domethyme.belonging import older_hierarchy
-from domethyme.files import atomic_write_all
-from domethyme.network import binary
-from domethyme.network.tables import ENDS, OSM_ATTRIBUTION, Arc, Files, Nodes, write_arcs, write_nodes, format_linestring
+from domethyme.csv_tables import open_input
+from domethyme.limits import MAX_LINES, MAX_NODES
+from domethyme.network import net_file
+from domethyme.network.geo import format_linestring
+from domethyme.network.groups import offsets
+from domethyme.network.tables import ENDS, OSM_ATTRIBUTION, Arc, Files, Nodes, write_arcs, write_nodes
 from domethyme.program import StrPath
-from domethyme.texts import MOST_LINES, MOST_NODES, open_input
 
-from . import turns
-from .map_arrays import Folder, NodeArrays, WayArrays, cut_runs, folder_beside, read_places, read_ways, progress
+from . import turn_restrictions
+from .cli import ToolError, argument_parser, current_arguments, refuse_overwriting
+from .map_arrays import Folder, NodeArrays, WayArrays, cut_runs, folder_beside, progress, read_places, read_ways
 from .old_tables import tables_there
 from .road_network import (
-    WEIGHTS, RoadNetwork, RoadTable, RowsOf, to_arrays, keep_largest, metres_of_roads, build_network, split_junctions,
+    WEIGHTS,
+    RoadNetwork,
+    RoadTable,
+    RowsOf,
+    build_network,
+    keep_largest,
+    metres_of_roads,
+    split_junctions,
+    to_arrays,
 )
-from .rules import (
-    Profile, Tags, barrier_keys, conditional_keys, unsupported_tags, judge, blocks_way, read_profile, structure_of, way_keys,
+from .vehicle_profile import (
+    Profile,
+    Tags,
+    barrier_keys,
+    blocks_way,
+    conditional_keys,
+    judge,
+    read_profile,
+    structure_of,
+    unsupported_tags,
+    way_keys,
 )
-from .tool import ToolError, refuse_overwriting, argument_parser
 
-Report = turns.Report
+Report = turn_restrictions.Report
 
 # metres: the most of --longest-arc
-MOST_METRES = 1_000_000
-MOST_VALUES = 10
+MAX_METRES = 1_000_000
+# Options by their old words.
+RENAMED = {"--islands": "--keep-islands", "--free-turns": "--ignore-turn-restrictions"}
+MAX_VALUES = 10
 ROWS_AT_ONCE = 1 << 16
 
 
@@ -87,7 +109,7 @@ class Map(NamedTuple):
     counts: NDArray[np.uint32]
     places: NodeArrays
     is_barrier: NDArray[np.bool_]
-    restrictions: list[turns.Restriction]
+    restrictions: list[turn_restrictions.Restriction]
     rows_of: RowsOf
 
 
@@ -112,7 +134,9 @@ def read_map(path: StrPath, profile: Profile, folder: Folder, report: Report) ->
     return Map(roads, ways.nodes[taken], places, is_barrier, restrictions, TextRows(ways))
 
 
-def judge_tags(ways: WayArrays, profile: Profile, report: Report) -> tuple[NDArray[np.bool_], NDArray[np.float64], dict[str, Report]]:
+def judge_tags(
+    ways: WayArrays, profile: Profile, report: Report
+) -> tuple[NDArray[np.bool_], NDArray[np.float64], dict[str, Report]]:
     """For each combination of tags whether such ways are taken, and their km/h in both directions, NaN for none, of shape (2,
     combinations); and the values that weren't understood, by what they are of. The rules are asked once for each combination."""
     counts = np.bincount(ways.labels[:, 0][ways.label], minlength=len(ways.tags)).tolist()
@@ -133,11 +157,11 @@ def judge_tags(ways: WayArrays, profile: Profile, report: Report) -> tuple[NDArr
     return is_taken, speeds, unknown
 
 
-def read_restrictions(ways: WayArrays, profile: Profile, report: Report) -> list[turns.Restriction]:
+def read_restrictions(ways: WayArrays, profile: Profile, report: Report) -> list[turn_restrictions.Restriction]:
     """The turn restrictions of the map for the vehicle."""
     restrictions = []
     for tags, members in ways.relations:
-        found, reason = turns.restrictions_of(tags, members, profile.access, profile.restrictions)
+        found, reason = turn_restrictions.restrictions_of(tags, members, profile.access, profile.restrictions)
         restrictions += found
         if reason is not None:
             report[reason] += 1
@@ -171,8 +195,8 @@ class TextRows:
 
 def most_common(counted: Report) -> str:
     """The values that come most often, with their counts, as a text."""
-    values = [f"{value} {count}" for value, count in counted.most_common(MOST_VALUES)]
-    return ", ".join(values + ["..."] * (len(counted) > MOST_VALUES))
+    values = [f"{value} {count}" for value, count in counted.most_common(MAX_VALUES)]
+    return ", ".join(values + ["..."] * (len(counted) > MAX_VALUES))
 
 
 # The network
@@ -188,11 +212,11 @@ def convert(options: argparse.Namespace, profile: Profile, folder: Folder, repor
         raise ToolError("has no road that the profile takes", options.map)
     with progress("junctions"):
         network, node_at = build_network(runs, read.roads, read.places, read.is_barrier)
-    if not options.free_turns:
+    if not options.ignore_turn_restrictions:
         with progress("turns"):
             network = split_junctions(network, turn_rules(read, folder, node_at, report), profile.turns, report)
     del node_at
-    if not options.islands:
+    if not options.keep_islands:
         with progress("islands"):
             network = keep_largest(network, report)
     check_limits(len(network.node_osm), len(network.start), options.map)
@@ -200,23 +224,27 @@ def convert(options: argparse.Namespace, profile: Profile, folder: Folder, repor
 
 
 def check_limits(nodes: int, arcs: int, path: StrPath) -> None:
-    """Raises a Fault where a graph can't have as many nodes or arcs."""
-    for count, most, what in ((nodes, MOST_NODES, "nodes"), (arcs, MOST_LINES, "arcs")):
+    """Raises a ToolError where a graph can't have as many nodes or arcs."""
+    for count, most, what in ((nodes, MAX_NODES, "nodes"), (arcs, MAX_LINES, "arcs")):
         if count > most:
-            raise ToolError(f"makes a network of {count} {what}, and there may be {most}: take a part of it, or longer arcs", path)
+            raise ToolError(
+                f"makes a network of {count} {what}, and there may be {most}: take a part of it, or longer arcs", path
+            )
 
 
 def turn_rules(
     read: Map, folder: Folder, node_at: Callable[[int], int], report: Report
-) -> dict[int, turns.Rules]:
+) -> dict[int, turn_restrictions.Rules]:
     """What is forbidden at nodes of the network."""
     named = {way for restriction in read.restrictions for way in (restriction.start, restriction.end)}
-    nodes, begin = folder.array("road_node", "u4"), turns.offsets(read.counts)
+    nodes, begin = folder.array("road_node", "u4"), offsets(read.counts)
     chosen = np.flatnonzero(np.isin(read.roads.osm, list(named)) & (read.counts > 1))
     firsts, lasts = (read.places.osm[nodes[place]].tolist() for place in (begin[chosen], begin[chosen + 1] - 1))
     ends = dict(zip(read.roads.osm[chosen].tolist(), zip(firsts, lasts)))
-    by_osm = turns.applicable_rules(read.restrictions, ends.get, report)
-    at = ((node_at(int(place)), rule) for place, rule in zip(np.searchsorted(read.places.osm, list(by_osm)), by_osm.values()))
+    by_osm = turn_restrictions.applicable_rules(read.restrictions, ends.get, report)
+    at = (
+        (node_at(int(place)), rule) for place, rule in zip(np.searchsorted(read.places.osm, list(by_osm)), by_osm.values())
+    )
     return {node: rule for node, rule in at if node >= 0}
 
 
@@ -224,7 +252,7 @@ def turn_rules(
 
 
 def write_network(
-    files: Sequence[IO[Any]], tables: Sequence[IO[Any]], arrays: binary.Arrays, folder: Folder, attribution: str
+    files: Sequence[IO[Any]], tables: Sequence[IO[Any]], arrays: net_file.Arrays, folder: Folder, attribution: str
 ) -> None:
     """Writes the graph, the network in arrays, and the tables that are asked for."""
     graph, both = files
@@ -236,21 +264,21 @@ def write_network(
         for file in tables:
             file.flush()
         arrays = arrays._replace(sizes=np.array([os.fstat(file.fileno()).st_size for file in tables], np.int64))
-    binary.write(cast(io.TextIOWrapper, both).buffer, arrays)
+    net_file.write(cast(io.TextIOWrapper, both).buffer, arrays)
 
 
-def nodes_in(arrays: binary.Arrays) -> Nodes:
+def nodes_in(arrays: net_file.Arrays) -> Nodes:
     """The nodes, as those of the table."""
-    osm = [None if number == binary.NO_OSM else number for number in arrays.node_osm.tolist()]
-    lon, lat = ((places / binary.UNITS).tolist() for places in (arrays.node_lon, arrays.node_lat))
+    osm = [None if number == net_file.NO_OSM else number for number in arrays.node_osm.tolist()]
+    lon, lat = ((places / net_file.UNITS).tolist() for places in (arrays.node_lon, arrays.node_lat))
     return Nodes(osm, lon, lat, [ENDS[number] for number in arrays.node_ends.tolist()])
 
 
-def arcs_in(arrays: binary.Arrays) -> Iterator[Arc]:
+def arcs_in(arrays: net_file.Arrays) -> Iterator[Arc]:
     """The arcs, as those of the table."""
     whole, text_begin, edge_begin = arrays.text_bytes.tobytes(), arrays.text_begin.tolist(), arrays.edge_begin.tolist()
     texts = [whole[begin:end].decode() for begin, end in itertools.pairwise(text_begin)]
-    texts_of_rows = [[texts[number] for number in row] for row in arrays.row_texts[:, : len(binary.TEXTS)].tolist()]
+    texts_of_rows = [[texts[number] for number in row] for row in arrays.row_texts[:, : len(net_file.TEXTS)].tolist()]
     columns: tuple[NDArray[Any], ...] = (
         arrays.arc_from, arrays.arc_to, arrays.arc_weight, arrays.arc_seconds, arrays.arc_metres, arrays.arc_osm,
         arrays.arc_row, arrays.arc_edge, arrays.arc_along,
@@ -259,12 +287,23 @@ def arcs_in(arrays: binary.Arrays) -> Iterator[Arc]:
         parts: list[list[Any]] = [column[low : low + ROWS_AT_ONCE].tolist() for column in columns]
         for start, end, weight, seconds, metres, osm, row, edge, along in zip(*parts):
             highway, name, *others = texts_of_rows[row]
-            line = (arrays.points[edge_begin[edge] : edge_begin[edge + 1]] / binary.UNITS).tolist()
-            yield Arc(start, end, weight, seconds, metres, osm, highway, name, format_linestring(line if along else line[::-1]), *others)
+            line = (arrays.points[edge_begin[edge] : edge_begin[edge + 1]] / net_file.UNITS).tolist()
+            yield Arc(
+                start,
+                end,
+                weight,
+                seconds,
+                metres,
+                osm,
+                highway,
+                name,
+                format_linestring(line if along else line[::-1]),
+                *others
+            )
 
 
-def write_graph(file: IO[Any], arrays: binary.Arrays, folder: Folder, attribution: str) -> None:
-    """Writes the graph, as domethyme.texts.write_graph does."""
+def write_graph(file: IO[Any], arrays: net_file.Arrays, folder: Folder, attribution: str) -> None:
+    """Writes the graph, as domethyme.dimacs.write_graph does."""
     for name in ("arc_from", "arc_to", "arc_weight"):
         folder.write(name, getattr(arrays, name))
     if attribution:
@@ -279,13 +318,15 @@ def write_graph(file: IO[Any], arrays: binary.Arrays, folder: Folder, attributio
 def longest_arc(text: str) -> float:
     """The metres of the word."""
     with contextlib.suppress(ValueError):
-        if 1 <= float(text) <= MOST_METRES:
+        if 1 <= float(text) <= MAX_METRES:
             return float(text)
-    raise argparse.ArgumentTypeError(f"{text} isn't from 1 to {MOST_METRES}")
+    raise argparse.ArgumentTypeError(f"{text} isn't from 1 to {MAX_METRES}")
 
 
 def parse_args() -> argparse.Namespace:
-    parser = argument_parser(__doc__, "%(prog)s country.osm.pbf out/country", "%(prog)s country.osm.pbf out/bicycle --profile bicycle")
+    parser = argument_parser(
+        __doc__, "%(prog)s country.osm.pbf out/country", "%(prog)s country.osm.pbf out/bicycle --profile bicycle"
+    )
     parser.add_argument("map", metavar="MAP", help="a .osm, .osm.bz2 or .osm.pbf file")
     parser.add_argument("out", metavar="OUT", help="the beginning of the names of the files")
     parser.add_argument(
@@ -299,15 +340,15 @@ def parse_args() -> argparse.Namespace:
         "--longest-arc", type=longest_arc, default=250, metavar="METRES", help="from 1 to 1000000 (250)"
     )
     parser.add_argument("--tables", action="store_true", help="write tables in CSV too")
-    parser.add_argument("--free-turns", action="store_true", help="don't look at turn restrictions")
-    parser.add_argument("--islands", action="store_true", help="keep all nodes, whether they reach the others or not")
+    parser.add_argument("--ignore-turn-restrictions", action="store_true", help="don't look at turn restrictions")
+    parser.add_argument("--keep-islands", action="store_true", help="keep all nodes, whether they reach the others or not")
     parser.add_argument(
         "--attribution",
         default=OSM_ATTRIBUTION,
         metavar="TEXT",
         help="the attribution that maps of the network show; empty for none (%(default)s)",
     )
-    options = parser.parse_args()
+    options = parser.parse_args(current_arguments(parser, RENAMED))
     if not os.path.basename(options.out) or os.path.isdir(options.out):
         out = options.out
         fault = f"{out} is a folder" if out else "it is empty"

@@ -12,7 +12,7 @@ Beside OUT is the folder OUT.parts while a run isn't done:
 
 Other files in it are left alone, and with them the folder.
 
-    opened(out, anew)   with-block: the Folder of OUT, which no other run has meanwhile
+    open_folder(out, anew)  with-block: the Folder of OUT, which no other run has meanwhile
     spool(path, to)     the Survey of a query file, which it copies
 """
 import contextlib
@@ -31,11 +31,12 @@ import uuid
 from collections.abc import Callable, Iterable, Iterator
 from typing import IO, Any
 
+from domethyme.atomic_files import atomic_write, unlink_missing_ok
 from domethyme.belonging import Origin
-from domethyme.files import unlink_missing_ok, atomic_write
-from domethyme.texts import MOST_LINES, open_input
+from domethyme.csv_tables import open_input
+from domethyme.limits import MAX_LINES
 
-from .tool import ToolError
+from .cli import ToolError
 
 BLOCK = 1 << 20
 PROBLEM_WORDS = [b"p", b"aux", b"sp", b"p2p"]
@@ -102,7 +103,7 @@ def is_pair(line: bytes) -> bool:
 def number_announced(fields: list[bytes]) -> int | None:
     """The number of a problem line's fields; None where they are no problem line, or one that is refused."""
     digits = re.fullmatch(b"0*([0-9]{1,9})", fields[-1])
-    if fields[:-1] != PROBLEM_WORDS or digits is None or int(digits[1]) > MOST_LINES:
+    if fields[:-1] != PROBLEM_WORDS or digits is None or int(digits[1]) > MAX_LINES:
         return None
     return int(digits[1])
 
@@ -138,7 +139,7 @@ class Plan(typing.NamedTuple):
 
     def difference(self, other: "Plan") -> str | None:
         """In words, the first thing that the plans don't have in common; None where they are of the same parts."""
-        words = ["HIERARCHY", "program", "PAIRS", "--part"]
+        words = ["HIERARCHY", "program", "PAIRS", "--pairs-per-part"]
         return next((word for word, one, two in zip(words, self, other) if one != two), None)
 
 
@@ -209,7 +210,7 @@ class Folder:
         except FileNotFoundError:
             return None
         except (ValueError, TypeError) as error:
-            raise ToolError("is no plan of route_many: --anew drops it", self.plan_file) from error
+            raise ToolError("is no plan of route_many: --restart drops it", self.plan_file) from error
 
     def cut(self, plan: Plan, spooled: str) -> Plan:
         """Cuts the spooled text by the plan; gives the plan with its parts, which is then kept."""
@@ -241,7 +242,7 @@ class Folder:
 
 @contextlib.contextmanager
 def open_folder(out: str, anew: bool) -> Iterator[Folder]:
-    """The Folder of OUT, locked; a Fault where another run has it. If it starts over, nothing is left in it."""
+    """The Folder of OUT, locked; a ToolError where another run has it. If it starts over, nothing is left in it."""
     folder = Folder(out)
     with lock_folder(folder, out):
         folder.begin(anew)
@@ -272,7 +273,7 @@ def lock_folder(folder: Folder, out: str) -> Iterator[None]:
 
 
 def check_ownership(path: str) -> None:
-    """A Fault where another user may have put something into the folder, or it has a link: files would be written elsewhere."""
+    """A ToolError where another user may have put something into the folder, or it has a link: files would be written elsewhere."""
     found = os.lstat(path)
     if not stat.S_ISDIR(found.st_mode) or found.st_uid != os.geteuid() or found.st_mode & stat.S_IWOTH:
         raise ToolError("isn't a folder that you alone may write to: remove it, or give another OUT", path)
@@ -287,7 +288,7 @@ def open_nofollow(path: str, flags: int) -> int:
 
 
 def take_lock(lock: IO[str], out: str) -> None:
-    """Locks the open file, or raises a Fault that says who has it."""
+    """Locks the open file, or raises a ToolError that says who has it."""
     try:
         fcntl.flock(lock, fcntl.LOCK_EX | fcntl.LOCK_NB)
     except OSError as error:

@@ -1,9 +1,9 @@
 """The nodes and arcs of a network in arrays, made of the runs of roads (map_arrays.py).
 
-    network_of(runs, ..)       a RoadNetwork: nodes in the order in which runs come to them, arcs forward before backward
-    split(network, ..)         splits the junctions where there are turn restrictions, or penalties of turns (turns.py)
+    build_network(runs, ..)    a RoadNetwork: nodes in the order in which runs come to them, arcs forward before backward
+    split_junctions(network, ..)  splits the junctions where there are turn restrictions, or penalties of turns (turn_restrictions.py)
     keep_largest(network, ..)  drops all but the largest set of nodes that can all reach one another
-    arrays_of(network, ..)     the network as domethyme.network.binary has it
+    to_arrays(network, ..)     the network as domethyme.network.net_file has it
 """
 from collections.abc import Callable
 from typing import Any, NamedTuple
@@ -13,18 +13,18 @@ from numpy.typing import NDArray
 from scipy.sparse import coo_matrix
 from scipy.sparse.csgraph import connected_components
 
-from domethyme.network import binary
-from domethyme.network.index import unique_text_rows
+from domethyme.network import net_file
+from domethyme.network.groups import offsets
+from domethyme.network.indexes import unique_text_rows
+from domethyme.network.parallel import differs_from_previous as differs, map_slices, parallel_sort
 from domethyme.network.tables import ENDS
-from domethyme.network.threads import map_slices, differs_from_previous as differs, parallel_sort
 
-from . import turns
+from . import turn_restrictions
 from .map_arrays import NodeArrays, Runs
-from .turns import offsets
 
 Ints = NDArray[np.int64]
 Floats = NDArray[np.float64]
-Report = turns.Report
+Report = turn_restrictions.Report
 Unit = Callable[[Floats, Floats], Floats]
 RowsOf = Callable[[Ints], tuple[list[str], NDArray[np.int32]]]
 # Degrees by which a turn may be off the line of the road, and off the way back
@@ -121,20 +121,23 @@ def build_network(
     # the pieces: each begins where the one before ends, but for the first of a run
     piece_begin = offsets(runs.parts)
     run = np.repeat(np.arange(len(runs.parts), dtype=np.int32), runs.parts)
-    start = np.arange(len(run), dtype=np.int32) + (begin[1:] - cuts - piece_begin[:-1] - 1).astype(np.int32)[run]
+    position = np.arange(len(run), dtype=np.int32) - piece_begin[:-1].astype(np.int32)[run]
+    start = (begin[1:] - cuts)[run] + position - np.int32(1)
     start[piece_begin[:-1]] = node[0::2]
     end = np.empty(len(run), np.int32)
     end[:-1] = start[1:]
     end[piece_begin[1:] - 1] = node[1::2]
     # the nodes
-    osm = np.full(int(begin[-1]), binary.NO_OSM, np.int64)
+    osm = np.full(int(begin[-1]), net_file.NO_OSM, np.int64)
     place = np.empty((len(osm), 2), np.int32)
     osm[of_end[is_new]], place[of_end[is_new]] = places.osm[ends[is_new]], places.place[ends[is_new]]
     is_cut = np.ones(len(run), np.bool_)
     is_cut[piece_begin[1:] - 1] = False
     place[end[is_cut]] = runs.points[runs.end[is_cut].astype(np.int64) - 1]
     ends_of = np.zeros(len(osm), np.uint8)
-    found = RoadNetwork(osm, place, ends_of, *arcs_along(start, end, run, runs, roads), piece_run=run, runs=runs, roads=roads)
+    found = RoadNetwork(
+        osm, place, ends_of, *arcs_along(start, end, run, runs, roads), piece_run=run, runs=runs, roads=roads
+    )
     return found, lambda number: -1 if first[number] < 0 or is_barrier[number] else int(of_end[first[number]])
 
 
@@ -164,18 +167,22 @@ def arcs_along(
 # Turn restrictions
 
 
-def split_junctions(network: RoadNetwork, rules: dict[int, turns.Rules], penalties: dict[str, int], report: Report) -> RoadNetwork:
+def split_junctions(
+    network: RoadNetwork, rules: dict[int, turn_restrictions.Rules], penalties: dict[str, int], report: Report
+) -> RoadNetwork:
     """The network with the junctions split where a turn is forbidden, by the rules of nodes, or has a penalty, in hundredths of a
     second by the words left, right and back."""
     count = len(network.node_osm)
     nodes = np.arange(count) if any(penalties.values()) else np.fromiter(rules, np.int64, len(rules))
-    pairs = turns.pairs_at(nodes, network.start, network.end, count)
+    pairs = turn_restrictions.pairs_at(nodes, network.start, network.end, count)
     cost = penalties_of(network, pairs, penalties)
     forbid(network, pairs, rules, cost)
-    found = turns.split_nodes(nodes, pairs, cost, network.start, network.end, count)
-    report["junctions split by turn restrictions" if not any(penalties.values()) else "nodes split by turns"] = len(found.begin)
+    found = turn_restrictions.split_nodes(nodes, pairs, cost, network.start, network.end, count)
+    report["junctions split by turn restrictions" if not any(penalties.values()) else "nodes split by turns"] = len(
+        found.begin
+    )
     ends = network.node_ends.copy()
-    ends[found.begin] = ENDS.index(turns.START)
+    ends[found.begin] = ENDS.index(turn_restrictions.START)
     is_apart = np.zeros(len(network.piece_run), np.bool_)
     is_apart[network.piece[found.touched]] = True
     return network.with_arcs(found.arc)._replace(
@@ -186,7 +193,12 @@ def split_junctions(network: RoadNetwork, rules: dict[int, turns.Rules], penalti
     )
 
 
-def forbid(network: RoadNetwork, pairs: turns.TurnPairs, rules: dict[int, turns.Rules], cost: NDArray[np.int32]) -> None:
+def forbid(
+    network: RoadNetwork,
+    pairs: turn_restrictions.TurnPairs,
+    rules: dict[int, turn_restrictions.Rules],
+    cost: NDArray[np.int32],
+) -> None:
     """Sets the cost of the turns that the rules of their nodes don't allow to FORBIDDEN."""
     into, out = pairs.into[pairs.turn_into], pairs.out[pairs.turn_out]
     has_rules = np.zeros(len(network.node_osm), np.bool_)
@@ -196,10 +208,10 @@ def forbid(network: RoadNetwork, pairs: turns.TurnPairs, rules: dict[int, turns.
     ways = (network.roads.osm[road[arcs[there]]].tolist() for arcs in (into, out))
     turn = zip(network.start[out[there]].tolist(), *ways)
     allowed = np.fromiter((rules[node].allows(start, end) for node, start, end in turn), np.bool_, len(there))
-    cost[there[~allowed]] = turns.FORBIDDEN
+    cost[there[~allowed]] = turn_restrictions.FORBIDDEN
 
 
-def penalties_of(network: RoadNetwork, pairs: turns.TurnPairs, penalties: dict[str, int]) -> NDArray[np.int32]:
+def penalties_of(network: RoadNetwork, pairs: turn_restrictions.TurnPairs, penalties: dict[str, int]) -> NDArray[np.int32]:
     """The penalty of each turn, by its angle: straight on is within STRAIGHT degrees of the line of the road; back is the piece
     of road by which one came, or within BACK degrees of it."""
     found = np.zeros(len(pairs.turn_into), np.int32)
@@ -224,9 +236,9 @@ def headings(network: RoadNetwork, arcs: Ints, is_end: bool) -> Floats:
     begin, end = network.runs.begin[piece].astype(np.int64), network.runs.end[piece].astype(np.int64)
     first = np.where(at_tail, end - 2, begin)
     here, there = (network.runs.points[place].astype(np.float64) for place in (first, first + 1))
-    half = 180 * binary.UNITS
+    half = 180 * net_file.UNITS
     east = (there[:, 0] - here[:, 0] + half) % (2 * half) - half
-    steps = np.column_stack((east * np.cos(np.radians(here[:, 1] / binary.UNITS)), there[:, 1] - here[:, 1]))
+    steps = np.column_stack((east * np.cos(np.radians(here[:, 1] / net_file.UNITS)), there[:, 1] - here[:, 1]))
     found: Floats = np.where(network.is_back[arcs][:, None], -steps, steps)
     return found
 
@@ -245,7 +257,9 @@ def keep_largest(network: RoadNetwork, report: Report) -> RoadNetwork:
     from_kept[end[kept[start]]] = True
     to_kept[start[kept[end]]] = True
     ends = network.node_ends
-    kept |= (ends == ENDS.index(turns.END)) & from_kept | (ends == ENDS.index(turns.START)) & to_kept
+    kept |= (ends == ENDS.index(turn_restrictions.END)) & from_kept | (
+        ends == ENDS.index(turn_restrictions.START)
+    ) & to_kept
     number = (np.cumsum(kept) - 1).astype(np.int32)
     found = network.with_arcs(kept[start] & kept[end])
     report["nodes outside the largest strongly connected component"] = count - int(kept.sum())
@@ -308,7 +322,7 @@ UNITS_PER_PENALTY = {"time": 10, "length": 0}
 
 def to_arrays(
     network: RoadNetwork, kind: str, rows_of: RowsOf, attribution: str, report: Report
-) -> binary.Arrays:
+) -> net_file.Arrays:
     """The network in arrays; `rows_of` gives texts, and the rows of their numbers that roads name, in the order of
     binary.TEXTS."""
     edge, along, edge_begin, points = edges_from_pieces(network)
@@ -316,8 +330,8 @@ def to_arrays(
     texts, row_texts, arc_row = texts_of(row, rows_of, attribution)
     del row
     encoded = [text.encode("utf-8", "replace") for text in texts]
-    return binary.Arrays(
-        np.array([binary.VERSION]), np.zeros(2, np.int64), network.node_osm,
+    return net_file.Arrays(
+        np.array([net_file.VERSION]), np.zeros(2, np.int64), network.node_osm,
         np.ascontiguousarray(network.node_place[:, 0]), np.ascontiguousarray(network.node_place[:, 1]), network.node_ends,
         network.start + np.int32(1), network.end + np.int32(1), weight, seconds, metres, osm, arc_row,
         edge, along, row_texts, edge_begin, points,
@@ -355,7 +369,7 @@ def texts_of(
     come = order_of_first_use(first_index(rows.reshape(-1), len(texts)))
     number = np.zeros(len(texts), np.int32)
     number[come] = np.arange(1, len(come) + 1, dtype=np.int32)
-    of_row = np.zeros((len(first), len(binary.TEXTS)), np.int32)
+    of_row = np.zeros((len(first), len(net_file.TEXTS)), np.int32)
     of_row[used] = number[rows]
     return [attribution, *(texts[place] for place in come.tolist())], *unique_text_rows(of_row, row_of_arc)
 

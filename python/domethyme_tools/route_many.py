@@ -1,6 +1,7 @@
 """Answers very many pairs: OUT is byte for byte what one process of `routecli route HIERARCHY PAIRS` prints.
 
-    route_many HIERARCHY PAIRS OUT [--jobs N | --dask SCHEDULER | --cut] [--part PAIRS] [--program FILE] [--anew]
+    route_many HIERARCHY PAIRS OUT [--jobs N | --dask SCHEDULER | --split-only] [--pairs-per-part PAIRS] [--program FILE]
+               [--restart]
 
 The query file (`-` is standard input) is cut into parts, and each part is answered by a `routecli route` of its own, as
 many at a time as there are workers. The parts and their answers are kept in the folder OUT.parts until OUT is written:
@@ -9,7 +10,7 @@ after an interrupt or a failed run the same call resumes with what is done. OUT 
 Pairs that `nearest` has written say how large their network is: a hierarchy with another number of nodes is refused. --network
 NETWORK compares the hierarchy with the network itself.
 
-Status 0 says that OUT is written (with --cut also that the parts are), 1 bad input or a failed run, 2 arguments that are
+Status 0 says that OUT is written (with --split-only also that the parts are), 1 bad input or a failed run, 2 arguments that are
 refused, and 130 an interrupt; if the program refuses the input, its line and its status, 3 to 8, are those of one process.
 """
 import argparse
@@ -29,17 +30,21 @@ from typing import Any, NoReturn
 import tqdm
 
 import domethyme_part
-from domethyme.files import add_paths_to_errors, atomic_write
+from domethyme.atomic_files import add_paths_to_errors, atomic_write
+from domethyme.hierarchy_file import open_hierarchy_file, read_header
 from domethyme.network.tables import paths_of
-from domethyme.opening import read_header, open_hierarchy_file
 from domethyme.program import find_program
 
 from . import parts
-from .tool import ToolError, add_hierarchy, need_hierarchy, require_packages, display_name, warn, argument_parser
+from .cli import (
+    ToolError, add_hierarchy, argument_parser, current_arguments, display_name, need_hierarchy, require_packages, warn
+)
 
 BAD_INPUT = (3, 4, 5)
 LOOK_AGAIN_SECONDS = 2
 SILENT_SECONDS = 3
+# Options by their old words.
+RENAMED = {"--anew": "--restart", "--part": "--pairs-per-part", "--cut": "--split-only"}
 
 
 def parse_args() -> argparse.Namespace:
@@ -50,12 +55,14 @@ def parse_args() -> argparse.Namespace:
     workers = parser.add_mutually_exclusive_group()
     workers.add_argument("--jobs", type=positive_int, metavar="N", help="programs at a time here (one for each processor)")
     workers.add_argument("--dask", metavar="SCHEDULER", help="the address of a Dask scheduler, or its scheduler file")
-    workers.add_argument("--cut", action="store_true", help="only cut; once all parts are answered, only join them")
-    parser.add_argument("--part", type=positive_int, default=10_000, metavar="PAIRS", help="pairs in a part (10000)")
+    workers.add_argument("--split-only", action="store_true", help="only cut; once all parts are answered, only join them")
+    parser.add_argument(
+        "--pairs-per-part", type=positive_int, default=10_000, metavar="PAIRS", help="pairs in a part (10000)"
+    )
     parser.add_argument("--program", metavar="FILE", help="routecli, where it isn't on PATH, in ROUTECLI or built here")
-    parser.add_argument("--anew", action="store_true", help="drop what an earlier call has left for OUT")
+    parser.add_argument("--restart", action="store_true", help="drop what an earlier call has left for OUT")
     add_hierarchy(parser, "--network", "the network of the pairs")
-    return parser.parse_args()
+    return parser.parse_args(current_arguments(parser, RENAMED))
 
 
 def positive_int(text: str) -> int:
@@ -84,15 +91,15 @@ def run_all(options: argparse.Namespace) -> None:
     """Cuts the pairs, has the parts answered, and joins them, as far as the arguments say."""
     program = find_program(options.program)
     hierarchy = os.path.join(os.getcwd(), options.hierarchy)
-    with parts.open_folder(options.out, options.anew) as folder:
+    with parts.open_folder(options.out, options.restart) as folder:
         task = domethyme_part.task(program, hierarchy, folder.drafts, display_name(options.pairs))
         with workers_of(options, task) as workers:
             plan, is_new = make_plan(options, task, folder, workers)
-            if options.cut and is_new:
+            if options.split_only and is_new:
                 print(f"{len(plan.parts)} parts in {folder.path}")
                 return
             missing = [number for number in range(len(plan.parts)) if not folder.is_answered(number)]
-            if options.cut and missing:
+            if options.split_only and missing:
                 problem = f"{len(missing)} of {len(plan.parts)} parts have no answers yet, the first is"
                 raise ToolError(f"{problem} {folder.text(missing[0])}")
             answer_all(workers, task, folder, plan, missing)
@@ -100,7 +107,7 @@ def run_all(options: argparse.Namespace) -> None:
 
 
 def check_out(options: argparse.Namespace) -> None:
-    """A Fault where OUT can't be a file with a folder of parts beside it, or is an input too."""
+    """A ToolError where OUT can't be a file with a folder of parts beside it, or is an input too."""
     out = options.out
     if out == "-" or not os.path.basename(out) or os.path.exists(out) and not os.path.isfile(out):
         raise ToolError(f"OUT has to be a file, and {out!r} is none", status=2)
@@ -124,11 +131,11 @@ def make_plan(
         with open_hierarchy_file(options.hierarchy) as file:
             survey.origin.need(options.hierarchy, read_header(file.fileno(), options.hierarchy)[0], options.pairs)
     digests = task["digests"]
-    plan = parts.Plan(digests[task["hierarchy"]], digests[task["program"]], survey.sha256, options.part, [])
+    plan = parts.Plan(digests[task["hierarchy"]], digests[task["program"]], survey.sha256, options.pairs_per_part, [])
     kept = folder.load_plan()
     if kept is not None:
         if (word := kept.difference(plan)) is not None:
-            raise ToolError(f"is of a call with another {word}: --anew drops it", folder.path)
+            raise ToolError(f"is of a call with another {word}: --restart drops it", folder.path)
         return kept, False
     if survey.pairs is None:
         exit_with(folder, *refusal_of_whole(workers, task, spooled))
@@ -218,7 +225,7 @@ def workers_of(options: argparse.Namespace, task: domethyme_part.Task) -> Any:
     """The workers that the arguments name, in a with-block."""
     if options.dask is not None:
         return cluster(options.dask, task)
-    return threads(1 if options.cut else options.jobs or len(os.sched_getaffinity(0)))
+    return threads(1 if options.split_only else options.jobs or len(os.sched_getaffinity(0)))
 
 
 class Threads:
@@ -281,7 +288,7 @@ class Cluster:
             return set()
 
     def result(self, run: Any) -> domethyme_part.Result:
-        """As of Threads; a Fault where the scheduler went away, which cancels all runs."""
+        """As of Threads; a ToolError where the scheduler went away, which cancels all runs."""
         try:
             with scheduler_errors(self.scheduler):
                 result: domethyme_part.Result = run.result()
@@ -334,7 +341,7 @@ def upload_module(client: Any, scheduler: str) -> Iterator[None]:
 
 
 def check_workers(client: Any, scheduler: str, task: domethyme_part.Task) -> None:
-    """A Fault with the name of a worker that can't take part, and why; where there is no worker, it waits for one. One that
+    """A ToolError with the name of a worker that can't take part, and why; where there is no worker, it waits for one. One that
     can't be asked is on its way out, and one that comes later is looked at before its first part."""
     with scheduler_errors(scheduler):
         if not client.scheduler_info()["workers"]:
@@ -349,7 +356,7 @@ def check_workers(client: Any, scheduler: str, task: domethyme_part.Task) -> Non
 
 @contextlib.contextmanager
 def scheduler_errors(scheduler: str) -> Iterator[None]:
-    """A Fault where the scheduler goes away while the block runs."""
+    """A ToolError where the scheduler goes away while the block runs."""
     try:
         yield
     except (concurrent.futures.CancelledError, OSError) as error:

@@ -31,7 +31,7 @@ from the nearest point of a road to another, and have no from_node and to_node.
 
 Without any answer it fails: an empty input is what an earlier error in a pipe leaves.
 
---as collection is a FeatureCollection with a feature on each line; --as lines has the features alone; --as csv is a
+--format collection is a FeatureCollection with a feature on each line; --format lines has the features alone; --format csv is a
 table for GIS programs with the line in the column WKT, without steps. A file that is written is whole or not there.
 
 Exit status: 0; 1 for bad input or a failed write, with one line on standard error that names file and row; 2 for
@@ -48,15 +48,17 @@ from typing import IO, Any, Union
 
 import numpy
 
-from domethyme.files import atomic_write
-from domethyme.lines import NO_WAY, RouteReply
-from domethyme.network.binary import TEXTS, UNITS
-from domethyme.network.own import load_network_or_dimacs
-from domethyme.network.tables import Point, read_attribution, to_geojson_geometry, to_multilinestring, paths_of
-from domethyme.texts import Table, parse_float, read_answers, escape_formula, excerpt, open_table
+from domethyme.atomic_files import atomic_write
+from domethyme.csv_tables import Table, escape_formula, excerpt, open_table, parse_float
+from domethyme.dimacs import read_answers
+from domethyme.network.from_tables import load_network_or_dimacs
+from domethyme.network.geo import Point, to_geojson_geometry, to_multilinestring
+from domethyme.network.net_file import TEXTS, UNITS
+from domethyme.network.tables import paths_of, read_attribution
+from domethyme.protocol import NO_PATH, RouteReply
 
-from .geometry import join_lines
-from .tool import ToolError, add_hierarchy, need_hierarchy, refuse_overwriting, argument_parser
+from .cli import ToolError, add_hierarchy, argument_parser, current_arguments, need_hierarchy, refuse_overwriting
+from .draw.geometry import join_lines
 
 NO_TRIP: tuple[int | None, dict[str, str] | None] = None, None
 PAIR, KEYS = ("from_node", "to_node"), ("from_key", "to_key")
@@ -68,20 +70,22 @@ FORMS = ("collection", "lines", "csv")
 
 
 def parse_args() -> argparse.Namespace:
-    parser = argument_parser(__doc__, "routecli route out/li.rch out/li.pairs | %(prog)s out/li - --trips trips.csv -o out/li.geojson")
+    parser = argument_parser(
+        __doc__, "routecli route out/li.rch out/li.pairs | %(prog)s out/li - --trips trips.csv -o out/li.geojson"
+    )
     parser.add_argument("network", metavar="NETWORK", help="the network that the answers are of")
     parser.add_argument("answers", metavar="ANSWERS", help="the answers of routecli")
     parser.add_argument("-o", dest="output", metavar="ROUTES", default="-", help="by default standard output")
     parser.add_argument("--trips", metavar="FILE", help="a table whose columns are kept, with a row for each answer")
-    parser.add_argument("--as", dest="form", choices=FORMS, default="collection", help="default: collection")
+    parser.add_argument("--format", choices=FORMS, default="collection", help="default: collection")
     parser.add_argument("--no-steps", action="store_true", help="leave out the steps")
     parser.add_argument("--on-roads", action="store_true", help="ANSWERS are replies to lines of nearest --on-roads")
     add_hierarchy(parser)
-    options = parser.parse_args()
+    options = parser.parse_args(current_arguments(parser, {"--as": "--format"}))
     inputs = [options.answers, options.trips, options.hierarchy, *paths_of(options.network)]
     refuse_overwriting(parser, [options.output], inputs)
-    if options.on_roads and (options.trips is None or options.form == "csv"):
-        parser.error("--on-roads needs --trips, and isn't there for --as csv")
+    if options.on_roads and (options.trips is None or options.format == "csv"):
+        parser.error("--on-roads needs --trips, and isn't there for --format csv")
     return options
 
 
@@ -122,7 +126,7 @@ class RouteArcs:
             start, end = answer.nodes[arcs.index(-1) :][:2]
             raise ToolError(f"leads from node {start} to node {end}, where the network has no arc", path, row)
         weight = int(self.arrays.arc_weight[arcs].sum()) if arcs else 0
-        if answer.length not in (NO_WAY, weight):
+        if answer.length not in (NO_PATH, weight):
             fault = f"has the length {answer.length}, and its arcs' weights sum to {weight}"
             raise ToolError(f"{fault}: is it of another network?", path, row)
         return arcs
@@ -176,7 +180,9 @@ def trips_at(path: str | None) -> Iterator[Trips]:
         yield trips
 
 
-def routes_of(answers: Iterable[tuple[int, RouteReply]], answers_path: str, trips: Trips, roads: RouteArcs) -> Iterator[RoutedAnswer]:
+def routes_of(
+    answers: Iterable[tuple[int, RouteReply]], answers_path: str, trips: Trips, roads: RouteArcs
+) -> Iterator[RoutedAnswer]:
     """The routes of the answers, which come with their row numbers, in order."""
     rows = iter(trips)
     for row, answer in answers:
@@ -184,7 +190,7 @@ def routes_of(answers: Iterable[tuple[int, RouteReply]], answers_path: str, trip
         if trip is None:
             raise ToolError(f"is an answer more than {trips.path} has rows", answers_path, row)
         arcs = roads.arcs_along(answer, answers_path, row)
-        line = None if answer.length == NO_WAY else roads.line_along(answer.source, arcs)
+        line = None if answer.length == NO_PATH else roads.line_along(answer.source, arcs)
         keys = roads.keys_of(answer)
         yield RoutedAnswer(user_fields(trip, answer, keys, trips, trip_row), answer, roads.arc_figures(arcs), line, keys)
     if trips.columns:
@@ -283,7 +289,7 @@ def features_on_roads(options: argparse.Namespace) -> Iterator[str]:
 
 def write_on_roads(options: argparse.Namespace) -> None:
     with atomic_write(options.output) as file:
-        if options.form == "collection":
+        if options.format == "collection":
             write_collection(file, features_on_roads(options), read_attribution(options.network))
         else:
             file.writelines(f"{feature}\n" for feature in features_on_roads(options))
@@ -303,9 +309,9 @@ def main() -> None:
     with trips_at(options.trips) as trips, atomic_write(options.output) as file:
         routes = routes_of(itertools.chain(first, answers), options.answers, trips, roads)
         features = (feature_of(route, not options.no_steps) for route in routes)
-        if options.form == "csv":
+        if options.format == "csv":
             write_table(file, routes, trips.columns, roads.arrays.has_keys)
-        elif options.form == "collection":
+        elif options.format == "collection":
             write_collection(file, features, read_attribution(options.network))
         else:
             file.writelines(f"{feature}\n" for feature in features)

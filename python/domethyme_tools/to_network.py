@@ -41,25 +41,30 @@ from typing import IO, Any
 
 import numpy
 
+from domethyme.atomic_files import atomic_write_all
 from domethyme.belonging import older_hierarchy
-from domethyme.files import atomic_write_all
-from domethyme.network import binary, own
+from domethyme.network import from_tables, net_file
+from domethyme.network.reading import arcs_from_net, nodes_from_net
 from domethyme.network.tables import (
-    ARC_COLUMNS, ATTRIBUTION_COMMENT, NODE_COLUMNS, Files, arcs_from_net, read_attribution, has_columns, nodes_from_net, write_arcs, write_nodes,
+    ARC_COLUMNS, ATTRIBUTION_COMMENT, NODE_COLUMNS, Files, has_columns, read_attribution, write_arcs, write_nodes
 )
 
+from .cli import ToolError, argument_parser, refuse_overwriting, warn
 from .old_tables import tables_there
-from .tool import ToolError, refuse_overwriting, warn, argument_parser
 
 ROWS = 1 << 16
 
 
 def parse_args() -> argparse.Namespace:
-    parser = argument_parser(__doc__, "%(prog)s nodes.csv arcs.csv out/firm", "%(prog)s USA-road-d.NY.co USA-road-d.NY.gr out/ny")
+    parser = argument_parser(
+        __doc__, "%(prog)s nodes.csv arcs.csv out/firm", "%(prog)s USA-road-d.NY.co USA-road-d.NY.gr out/ny"
+    )
     parser.add_argument("nodes", metavar="NODES", help="the table of nodes, or a .co file")
     parser.add_argument("arcs", metavar="ARCS", help="the table of arcs, or a .gr file")
     parser.add_argument("out", metavar="OUT", help="the beginning of the names of the files")
-    parser.add_argument("--weight", choices=("time", "length"), default="time", help="what a weight is without the column (time)")
+    parser.add_argument(
+        "--weight", choices=("time", "length"), default="time", help="what a weight is without the column (time)"
+    )
     parser.add_argument("--tables", action="store_true", help="write OUT.nodes.csv and OUT.arcs.csv too")
     parser.add_argument("--attribution", metavar="TEXT", help="the attribution that maps show (that in OUT.gr)")
     options = parser.parse_args()
@@ -75,7 +80,7 @@ def outputs_of(options: argparse.Namespace) -> list[str]:
     return [paths.graph, *([paths.nodes, paths.arcs, *paths.forms] if options.tables else []), paths.binary]
 
 
-def write_graph(file: IO[bytes], arrays: binary.Arrays, attribution: str) -> None:
+def write_graph(file: IO[bytes], arrays: net_file.Arrays, attribution: str) -> None:
     """Writes the graph's text."""
     if attribution:
         file.write(f"{ATTRIBUTION_COMMENT}{attribution}\n".encode())
@@ -98,9 +103,9 @@ def sizes_of(paths: Files, options: argparse.Namespace) -> tuple[int, int]:
     return sizes[0], sizes[1]
 
 
-def write_tables(files: list[IO[Any]], arrays: binary.Arrays) -> tuple[int, int]:
+def write_tables(files: list[IO[Any]], arrays: net_file.Arrays) -> tuple[int, int]:
     """Writes both tables; returns their sizes."""
-    network = binary.map_tempfile(arrays, "the network")
+    network = net_file.map_tempfile(arrays, "the network")
     write_nodes(files[0], nodes_from_net(network))
     write_arcs(files[1], arcs_from_net(network))
     for file in files:
@@ -108,12 +113,12 @@ def write_tables(files: list[IO[Any]], arrays: binary.Arrays) -> tuple[int, int]
     return os.fstat(files[0].fileno()).st_size, os.fstat(files[1].fileno()).st_size
 
 
-def read_arrays(options: argparse.Namespace, attribution: str) -> binary.Arrays:
+def read_arrays(options: argparse.Namespace, attribution: str) -> net_file.Arrays:
     """The network of the tables."""
-    nodes = own.read_nodes(options.nodes, warn)
-    arcs = own.read_arcs(options.arcs, nodes, options.weight, warn)
+    nodes = from_tables.read_nodes(options.nodes, warn)
+    arcs = from_tables.read_arcs(options.arcs, nodes, options.weight, warn)
     try:
-        return own.build_arrays(nodes, arcs, attribution)
+        return from_tables.build_arrays(nodes, arcs, attribution)
     except ValueError as error:
         raise ToolError(str(error), options.arcs) from error
 
@@ -133,7 +138,7 @@ def main() -> None:
                 print(text, file=file)
         write_graph(buffer_of(files[0]), arrays, attribution)
         try:
-            binary.write(buffer_of(files[-1]), arrays._replace(sizes=numpy.array(sizes)))
+            net_file.write(buffer_of(files[-1]), arrays._replace(sizes=numpy.array(sizes)))
         except ValueError as error:
             raise ToolError(str(error), options.arcs) from error
     kilometres = arrays.arc_metres[numpy.unique(arrays.arc_edge, return_index=True)[1]].sum() / 1000

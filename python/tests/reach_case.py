@@ -6,8 +6,9 @@ import numpy as np
 from scipy.sparse import coo_array
 from scipy.sparse.csgraph import dijkstra
 
-from domethyme.network import binary
-from domethyme.network.tables import Arc, metres_between
+from domethyme.network import net_file
+from domethyme.network.geo import metres_between
+from domethyme.network.tables import Arc
 
 # A thousandth of a degree along the equator, in metres.
 MILLI = 111.19508
@@ -30,7 +31,7 @@ class Place(NamedTuple):
 
 def network(nodes, roads):
     """A network of nodes (lon, lat) or (lon, lat, ends, osm), and of roads, each a way by itself."""
-    builder = binary.Builder("© the town")
+    builder = net_file.Builder("© the town")
     for number, (lon, lat, *more) in enumerate(nodes):
         ends, osm = more or ("", number)
         builder.add_node(osm, lon, lat, ends)
@@ -42,7 +43,7 @@ def network(nodes, roads):
             if weight is not None:
                 figures = weight, weight / 1000, metres, way
                 builder.add_arc(Arc(start + 1, end + 1, *figures, "residential", "", f"LINESTRING ({wkt(points)})"))
-    return binary.map_tempfile(builder.build(), "town")
+    return net_file.map_tempfile(builder.build(), "town")
 
 
 def wkt(points):

@@ -13,7 +13,7 @@ from typing import BinaryIO, NamedTuple
 from tool_case import TOOLS, VILLAGE, ToolCase
 
 import domethyme
-from domethyme.texts import read_graph
+from domethyme.dimacs import read_graph
 
 SECONDS = 20
 # KiB that a worker may grow by in a round that leaves nothing, and how many rounds there are. Python's allocator and the threads'
@@ -41,7 +41,7 @@ class ServiceCase(ToolCase):
 
     def setUp(self):
         super().setUp()
-        self.run_tool("osm_to_gr", self.map_file(), "v", "--islands", "--tables")
+        self.run_tool("osm_to_gr", self.map_file(), "v", "--keep-islands", "--tables")
         domethyme.prepare(self.folder / "v.gr", self.folder / "v.rch", workers=1).close()
         self.graph = read_graph(self.folder / "v.gr")
 

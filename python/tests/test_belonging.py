@@ -11,7 +11,7 @@ from tool_case import VILLAGE, ToolCase
 
 import domethyme
 from domethyme import belonging
-from domethyme.network import binary
+from domethyme.network import net_file
 
 FOREIGN = "is the hierarchy of another network than"
 # Three nodes in a row, and a detour: 1 to 2 and 2 to 3 of 100, 1 to 3 of 500 or, in another network, of less.
@@ -51,9 +51,9 @@ class HierarchyTests(ToolCase):
         domethyme.Hierarchy(path, network=self.network("same", ARCS + "a,b,700\nb,b,3\n")).close()
 
     def test_other_speeds_of_the_same_map(self):
-        self.run_tool("osm_to_gr", VILLAGE, "v", "--islands")
+        self.run_tool("osm_to_gr", VILLAGE, "v", "--keep-islands")
         path, slow = self.prepared("v"), self.folder / "slow.json"
-        self.run_tool("osm_to_gr", VILLAGE, "v", "--islands", "--weight", "length")
+        self.run_tool("osm_to_gr", VILLAGE, "v", "--keep-islands", "--weight", "length")
         with self.assertRaisesRegex(domethyme.WrongHierarchy, FOREIGN):
             domethyme.Hierarchy(path, network=self.folder / "v")
         self.assertFalse(slow.exists())
@@ -75,11 +75,11 @@ class HierarchyTests(ToolCase):
         with open(path, "rb") as file:
             for changed in draw.sample(range(len(arcs)), 5):
                 for by in (1, -1):
-                    arrays = binary.read(f"{self.network('other', text(changed, by), nodes)}.net")
+                    arrays = net_file.read(f"{self.network('other', text(changed, by), nodes)}.net")
                     with self.subTest(changed=changed, by=by), self.assertRaisesRegex(domethyme.WrongHierarchy, FOREIGN):
                         belonging.compare(file.fileno(), "town.rch", arrays)
-            with unittest.mock.patch.object(belonging, "MOST_COMPARED", 0):
-                belonging.compare(file.fileno(), "town.rch", binary.read(str(self.folder / "town.net")))
+            with unittest.mock.patch.object(belonging, "MAX_COMPARED", 0):
+                belonging.compare(file.fileno(), "town.rch", net_file.read(str(self.folder / "town.net")))
                 with self.assertRaisesRegex(domethyme.WrongHierarchy, FOREIGN):
                     belonging.compare(file.fileno(), "town.rch", arrays)
                 with self.assertRaisesRegex(domethyme.WrongHierarchy, FOREIGN):
@@ -87,7 +87,7 @@ class HierarchyTests(ToolCase):
 
     def test_flipped_bits(self):
         """A flipped bit that reading takes is found if it changes a length."""
-        self.run_tool("osm_to_gr", VILLAGE, "v", "--islands")
+        self.run_tool("osm_to_gr", VILLAGE, "v", "--keep-islands")
         path, damaged = self.prepared("v"), self.folder / "damaged.rch"
         whole, draw, found = path.read_bytes(), random.Random(7), 0
         with domethyme.Hierarchy(path) as hierarchy:
@@ -119,9 +119,9 @@ class HierarchyTests(ToolCase):
     def test_keys_of_another_file(self):
         frame = pd.DataFrame({"from": ["a", "b", "c"], "to": ["b", "c", "a"], "weight": [3, 4, 5]})
         firm, town = self.folder / "firm.rch", self.folder / "town.rch"
-        domethyme.Graph.of_frame(frame).prepare(firm, workers=1).close()
+        domethyme.Graph.from_frame(frame).prepare(firm, workers=1).close()
         domethyme.Graph([0, 1, 2], [1, 2, 0], [7, 7, 7]).prepare(town, workers=1).close()
-        keys = domethyme.Keys.saved(firm)
+        keys = domethyme.Keys.load(firm)
         domethyme.Hierarchy(firm, keys=keys).close()
         for each in (keys, domethyme.Keys(keys)):
             with self.assertRaisesRegex(ValueError, r"the keys were saved for another file than .*town.rch: .* keys.save\(path\)"):
@@ -130,7 +130,7 @@ class HierarchyTests(ToolCase):
         domethyme.Hierarchy(copy, keys=keys).close()
         some = domethyme.Graph([0], [1], [5], nodes=3, keys=domethyme.Keys({"a": 0, "b": 1}))
         some.prepare(self.folder / "some.rch", workers=1).close()
-        with domethyme.Hierarchy(self.folder / "some.rch", keys=domethyme.Keys.saved(self.folder / "some.rch")) as hierarchy:
+        with domethyme.Hierarchy(self.folder / "some.rch", keys=domethyme.Keys.load(self.folder / "some.rch")) as hierarchy:
             self.assertEqual((hierarchy.length("a", "b"), hierarchy.keys.key(2)), (5, None))
         keys.save(town)
         with domethyme.Hierarchy(town, keys=keys) as hierarchy:
@@ -200,7 +200,7 @@ class ServiceTests(ServiceCase):
         """Refused at a start, and at a reload, by the name of a file that is there."""
         process = self.serve("--network", self.folder / "v")
         answer = self.ask("/route/v1/car/0,0;0.008,0")
-        self.run_tool("osm_to_gr", VILLAGE, "v", "--islands", "--profile", "bicycle")
+        self.run_tool("osm_to_gr", VILLAGE, "v", "--keep-islands", "--profile", "bicycle")
         says = f"v.rch: {FOREIGN} {self.folder / 'v.net'}: "
         process.send_signal(1)
         self.wait_for(lambda: any("reload refused: " in line and says in line for line in self.said))

@@ -12,9 +12,10 @@ from test_turns import crossing
 from tool_case import PYTHON, ROOT, VILLAGE, ToolCase
 
 import domethyme
-from domethyme.network import binary, mapped
-from domethyme.network.tables import arcs_of, lightest, read_arcs, read_node_table, read_nodes
+from domethyme.network import column_file, net_file
+from domethyme.network.reading import arcs_of, read_nodes
 from domethyme.network.snapping import RoadIndex
+from domethyme.network.tables import lightest, read_arcs, read_node_table
 from domethyme_service.tiles import Tiles
 
 # Two nodes, a road both ways and one that is straight on.
@@ -35,10 +36,10 @@ class BinaryCase(ToolCase):
         self.path = self.folder / "v.net"
 
     def make(self):
-        self.run_tool("osm_to_gr", VILLAGE, "v", "--islands", "--tables")
+        self.run_tool("osm_to_gr", VILLAGE, "v", "--keep-islands", "--tables")
 
     def assert_same(self, one, other):
-        for name in binary.Arrays._fields:
+        for name in net_file.Arrays._fields:
             values = [np.asarray(getattr(each, name)) for each in (one, other)]
             np.testing.assert_array_equal(*values, name)
             self.assertEqual(values[0].dtype, values[1].dtype, name)
@@ -52,14 +53,16 @@ def answers(prefix):
     """All that is in a network's file, and some of what is answered by it."""
     roads = RoadIndex(prefix)
     columns = [column[:].tolist() for column in roads.arrays.file.columns.values()]
-    return str((columns, roads.nearest((0.0004, 0.0001), 2), roads.lightest((1, 2, 1)), roads.unit, Tiles(roads.arrays).about))
+    return str(
+        (columns, roads.nearest((0.0004, 0.0001), 2), roads.lightest((1, 2, 1)), roads.unit, Tiles(roads.arrays).about)
+    )
 
 
 class SameTests(BinaryCase):
     def test_it_says_what_the_tables_say(self):
         for prefix in self.prefix, self.turns():
-            self.assertTrue(binary.is_current(prefix))
-            self.assert_same(binary.read(f"{prefix}.net"), binary.arrays_from_tables(prefix))
+            self.assertTrue(net_file.is_current(prefix))
+            self.assert_same(net_file.read(f"{prefix}.net"), net_file.arrays_from_tables(prefix))
             self.assertEqual(read_nodes(f"{prefix}.nodes.csv"), read_node_table(f"{prefix}.nodes.csv"))
             self.assertEqual(list(arcs_of(prefix)), list(read_arcs(f"{prefix}.arcs.csv")))
         self.assertIn("no", read_nodes(f"{prefix}.nodes.csv").ends)
@@ -67,13 +70,13 @@ class SameTests(BinaryCase):
     def turns(self):
         """A network with a junction that a turn restriction splits."""
         self.write("map.osm", crossing((2, 3, {"restriction": "no_left_turn"})))
-        self.run_tool("osm_to_gr", "map.osm", "t", "--islands", "--tables")
+        self.run_tool("osm_to_gr", "map.osm", "t", "--keep-islands", "--tables")
         return str(self.folder / "t")
 
     def test_the_lightest_arcs_are_found(self):
         for prefix in self.prefix, self.turns():
             wanted = lightest(read_arcs(f"{prefix}.arcs.csv"))
-            arrays = binary.load_network(prefix)
+            arrays = net_file.load_network(prefix)
             count = len(arrays.node_osm)
             pairs = np.array([(start, end) for start in range(1, count + 1) for end in range(1, count + 1)]).T
             found = arrays.lightest(*pairs)
@@ -98,10 +101,13 @@ class SameTests(BinaryCase):
         for name in ("nodes.csv", "arcs.csv"):
             shutil.copy(f"{self.prefix}.{name}", self.folder / f"copy.{name}")
         network, tables = domethyme.Network(self.prefix), domethyme.Network(self.folder / "copy")
-        self.assertEqual([binary.is_current(each.prefix) for each in (network, tables)], [True, False])
+        self.assertEqual([net_file.is_current(each.prefix) for each in (network, tables)], [True, False])
         weights = {ends: arc.weight for ends, arc in lightest(arcs_of(self.prefix)).items()}
         for (start, end), weight in weights.items():
-            found = [domethyme.Route(start - 1, end - 1, weight, [], [start - 1, end - 1]).geojson(each) for each in (network, tables)]
+            found = [
+                domethyme.Route(start - 1, end - 1, weight, [], [start - 1, end - 1]).geojson(each)
+                for each in (network, tables)
+            ]
             self.assertEqual(found[0], found[1])
         for each in (network, tables):
             with self.assertRaisesRegex(domethyme.NetworkError, "has no arc from node 0 to node 37"):
@@ -109,45 +115,52 @@ class SameTests(BinaryCase):
         self.assertEqual((network.lon.tolist(), network.lat.tolist()), (tables.lon.tolist(), tables.lat.tolist()))
 
     def test_without_tables(self):
-        before, network = binary.arrays_from_tables(self.prefix), domethyme.Network(self.prefix)
+        before, network = net_file.arrays_from_tables(self.prefix), domethyme.Network(self.prefix)
         keys, nodes, arcs = network.keys(), network.nodes_frame(), network.arcs_frame()
         for name in ("nodes.csv", "arcs.csv"):
             (self.folder / f"v.{name}").unlink()
-        self.assert_same(binary.load_network(self.prefix), before)
+        self.assert_same(net_file.load_network(self.prefix), before)
         network = domethyme.Network(self.prefix)
         self.assertEqual((network.keys().node(1), len(network.keys())), (keys.node(1), len(keys)))
         frame = network.nodes_frame()
-        self.assertEqual((frame["osm"].fillna(0).tolist(), frame["lon"].tolist()), (nodes["osm"].fillna(0).tolist(), nodes["lon"].tolist()))
+        self.assertEqual(
+            (frame["osm"].fillna(0).tolist(), frame["lon"].tolist()),
+            (nodes["osm"].fillna(0).tolist(), nodes["lon"].tolist()),
+        )
         self.assertEqual(network.arcs_frame().astype(str).values.tolist(), arcs.astype(str).values.tolist())
 
     def test_it_is_the_same_each_time(self):
-        self.run_tool("osm_to_gr", VILLAGE, "other", "--islands", "--tables")
+        self.run_tool("osm_to_gr", VILLAGE, "other", "--keep-islands", "--tables")
         self.assertEqual((self.folder / "other.net").read_bytes(), self.path.read_bytes())
 
 
 class OtherTests(BinaryCase):
     def test_one_that_is_older_or_of_other_tables_is_not_read(self):
-        self.assertTrue(binary.is_current(self.prefix))
+        self.assertTrue(net_file.is_current(self.prefix))
         later = os.stat(self.path).st_mtime + 1
         os.utime(f"{self.prefix}.arcs.csv", (later, later))
-        self.assertFalse(binary.is_current(self.prefix))
+        self.assertFalse(net_file.is_current(self.prefix))
         os.utime(self.path, (later, later))
-        self.assertTrue(binary.is_current(self.prefix))
+        self.assertTrue(net_file.is_current(self.prefix))
         text = (self.folder / "v.nodes.csv").read_text()
         self.write("v.nodes.csv", text.rstrip("\n"))
         os.utime(self.folder / "v.nodes.csv", (1, 1))
-        self.assertFalse(binary.is_current(self.prefix))
-        self.assertEqual(len(binary.load_network(self.prefix).node_osm), text.count("\n") - 1)
+        self.assertFalse(net_file.is_current(self.prefix))
+        self.assertEqual(len(net_file.load_network(self.prefix).node_osm), text.count("\n") - 1)
         (self.folder / "v.arcs.csv").unlink()
-        with self.assertRaisesRegex(domethyme.NetworkError, "v.nodes.csv: has changed since .*v.net was made of it: run `to_network` again"):
-            binary.load_network(self.prefix)
+        with self.assertRaisesRegex(
+            domethyme.NetworkError, "v.nodes.csv: has changed since .*v.net was made of it: run `to_network` again"
+        ):
+            net_file.load_network(self.prefix)
 
     def test_an_archive_of_an_earlier_version(self):
         self.path.rename(self.folder / "v.npz")
-        with self.assertRaisesRegex(domethyme.NetworkError, r"v\.npz: is an archive of an earlier version.*`to_network .*v\.nodes\.csv"):
-            binary.load_network(self.prefix)
+        with self.assertRaisesRegex(
+            domethyme.NetworkError, r"v\.npz: is an archive of an earlier version.*`to_network .*v\.nodes\.csv"
+        ):
+            net_file.load_network(self.prefix)
         self.run_tool("to_network", "v.nodes.csv", "v.arcs.csv", "v")
-        self.assertEqual(len(binary.load_network(self.prefix).node_osm), 38)
+        self.assertEqual(len(net_file.load_network(self.prefix).node_osm), 38)
 
     def test_what_is_no_file(self):
         self.path.unlink()
@@ -213,7 +226,9 @@ class SmallTests(BinaryCase):
             else:
                 self.assertEqual(found, before, place)
         self.path.write_bytes(whole)
-        padding = sum(-column[:].nbytes % mapped.ALIGNED for column in binary.read(str(self.path)).file.columns.values())
+        padding = sum(
+            -column[:].nbytes % column_file.ALIGNED for column in net_file.read(str(self.path)).file.columns.values()
+        )
         self.assertEqual(refused, len(whole) - padding)
 
     def test_each_length(self):
@@ -227,8 +242,8 @@ class SmallTests(BinaryCase):
     def test_hostile_sizes_take_no_memory(self):
         """Sizes that are as great as can be, with the right checksum."""
         whole = self.path.read_bytes()
-        tail = int(np.frombuffer(whole[: mapped.HEAD.itemsize], mapped.HEAD)["tail"][0])
-        for array in range(len(binary.FILE_SCHEMA)):
+        tail = int(np.frombuffer(whole[: column_file.HEAD.itemsize], column_file.HEAD)["tail"][0])
+        for array in range(len(net_file.FILE_SCHEMA)):
             for rows in (1 << 62, (1 << 64) - 1, 1 << 33, 10**9):
                 place = tail + 8 * array
                 self.keep(whole[:place] + rows.to_bytes(8, "little") + whole[place + 8 :])
@@ -240,26 +255,31 @@ class SmallTests(BinaryCase):
 
     def keep(self, whole):
         """Writes the file with the checksum of its head and tail."""
-        head = np.frombuffer(whole[: mapped.HEAD.itemsize], mapped.HEAD).copy()
+        head = np.frombuffer(whole[: column_file.HEAD.itemsize], column_file.HEAD).copy()
         head["sum"] = 0
         head["sum"] = zlib.crc32(whole[int(head["tail"][0]) :], zlib.crc32(head.tobytes()))
-        self.path.write_bytes(head.tobytes() + whole[mapped.HEAD.itemsize :])
+        self.path.write_bytes(head.tobytes() + whole[column_file.HEAD.itemsize :])
 
     def test_arrays_that_do_not_fit(self):
         """Right checksums, and values that can't be: they are refused where they are read."""
-        before = {name: column[:].copy() for name, column in binary.read(str(self.path)).file.columns.items()}
+        before = {name: column[:].copy() for name, column in net_file.read(str(self.path)).file.columns.items()}
         for name, change in [
             ("arc_from", lambda old: old + 100), ("arc_to", lambda old: old * 0), ("node_ends", lambda old: old + 4),
             ("edge_begin", lambda old: old[::-1]), ("edge_begin", lambda old: old[:-1]), ("points", lambda old: old[:-1]),
-            ("points", lambda old: old + 2_000_000_000), ("arc_row", lambda old: old + 7), ("row_texts", lambda old: old - 2),
-            ("arc_weight", lambda old: old - 10**9), ("arc_metres", lambda old: old * np.nan), ("text_begin", lambda old: old[:0]),
+            ("points", lambda old: old + 2_000_000_000), ("arc_row", lambda old: old + 7),
+            ("row_texts", lambda old: old - 2),
+            ("arc_weight", lambda old: old - 10**9), ("arc_metres", lambda old: old * np.nan),
+            ("text_begin", lambda old: old[:0]),
             ("node_lon", lambda old: old[:-1]), ("arc_edge", lambda old: old + 9), ("about", lambda old: old[:-1]),
             ("about", lambda old: old * 0), ("out_arcs", lambda old: old + 3), ("out_begin", lambda old: old[::-1]),
-            ("edge_things", lambda old: old + 9), ("node_cells", lambda old: old[::-1]), ("step_edges", lambda old: old - 5),
+            ("edge_things", lambda old: old + 9), ("node_cells", lambda old: old[::-1]),
+            ("step_edges", lambda old: old - 5),
             ("step_points", lambda old: old + 9), ("degrees", lambda old: old[:-1]), ("edge_keys", lambda old: old[:-1]),
         ]:
             with open(self.path, "wb") as file:
-                mapped.write(file, binary.FILE_SCHEMA, binary.VERSION, {**before, name: change(before[name])}.items())
+                column_file.write(
+                    file, net_file.FILE_SCHEMA, net_file.VERSION, {**before, name: change(before[name])}.items()
+                )
             with self.subTest(name=name):
                 self.refused("is damaged: ")
 
@@ -271,7 +291,7 @@ class SmallTests(BinaryCase):
 
     def test_a_route_that_meets_a_damaged_block(self):
         """The file opens, and what isn't damaged is answered; what is read of the damaged block is refused, each time."""
-        arrays = binary.read(str(self.path))
+        arrays = net_file.read(str(self.path))
         begin = self.path.read_bytes().index(arrays.arc_weight[:].tobytes())
         with open(self.path, "r+b") as file:
             file.seek(begin)
@@ -291,11 +311,11 @@ class MemoryTests(ToolCase):
         program = f"""
 import re, sys
 sys.path.insert(0, {str(PYTHON)!r})
-from domethyme.network.snapping import Roads
+from domethyme.network.snapping import RoadIndex
 from domethyme_service.tiles import Tiles
 own = lambda: int(re.search(r"RssAnon:\\s+(\\d+)", open("/proc/self/status").read())[1])
 before = own()
-roads = Roads({str(self.folder / "large")!r})
+roads = RoadIndex({str(self.folder / "large")!r})
 for place in range(200):
     roads.nearest((9 + place / 3000, 47 + place / 4000), 3)
 Tiles(roads.arrays).tile(10, 537, 358)

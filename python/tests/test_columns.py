@@ -8,8 +8,8 @@ import json
 from tool_case import ToolCase
 
 import domethyme
-from domethyme.network import binary
-from domethyme.texts import read_graph
+from domethyme.dimacs import read_graph
+from domethyme.network import net_file
 
 NODES = "node,lon,lat\ndepot,0,0\nshop,0.001,0\nfarm,0.001,0.002\n"
 ARCS = "from,to,kmh\ndepot,shop,50\nshop,depot,50\nshop,farm,30\n"
@@ -34,22 +34,35 @@ class ColumnTests(ToolCase):
         arcs = f"from,to,weight,oneway,WKT\ndepot,shop,7,0,{line}\nshop,farm,8,yes,\nfarm,depot,9,-1,\ndepot,farm,5,,\nshop,farm,6,NO,\n"
         _, graph = self.made(arcs=arcs)
         self.assertEqual(graph, (3, [1, 2, 2, 1, 1, 3, 2, 3], [2, 1, 3, 3, 3, 1, 3, 2], [7, 7, 8, 9, 5, 5, 6, 6]))
-        network = binary.read(str(self.folder / "net.net"))
-        self.assertEqual((network.line(0), network.line(1)), ([(0, 0), (0.0005, 0.0001), (0.001, 0)], [(0.001, 0), (0.0005, 0.0001), (0, 0)]))
+        network = net_file.read(str(self.folder / "net.net"))
+        self.assertEqual(
+            (network.line(0), network.line(1)),
+            ([(0, 0), (0.0005, 0.0001), (0.001, 0)], [(0.001, 0), (0.0005, 0.0001), (0, 0)]),
+        )
         self.assertEqual(network.arc_edge[:2].tolist(), [0, 0])
         self.assertEqual(self.made()[1][1:3], ([1, 2, 2], [2, 1, 3]))
-        self.refused("arcs.csv, row 2: oneway 'both' is none of 1, yes, -1, 0, no", arcs="from,to,weight,oneway\ndepot,shop,7,both\n")
+        self.refused(
+            "arcs.csv, row 2: oneway 'both' is none of 1, yes, -1, 0, no", arcs="from,to,weight,oneway\ndepot,shop,7,both\n"
+        )
 
     def test_kilometres(self):
         _, graph = self.made(NODES, "from,to,km,kmh\ndepot,shop,0.8,50\n")
         self.assertEqual(graph.weights, [57600])
-        self.assertEqual(self.made(NODES, "from,to,km,metres\ndepot,shop,0.8,\nshop,farm,1,300\n", "--weight", "length")[1].weights, [80000, 30000])
+        self.assertEqual(
+            self.made(NODES, "from,to,km,metres\ndepot,shop,0.8,\nshop,farm,1,300\n", "--weight", "length")[1].weights,
+            [80000, 30000],
+        )
 
     def test_what_is_doubted(self):
-        said, _ = self.made(arcs="from,to,metres,kmh\ndepot,shop,0.8,50\nshop,depot,112,50\nshop,farm,111,30\nfarm,shop,222.3,500000\n")
+        said, _ = self.made(
+            arcs="from,to,metres,kmh\ndepot,shop,0.8,50\nshop,depot,112,50\nshop,farm,111,30\nfarm,shop,222.3,500000\n"
+        )
         self.assertIn("to_network: arcs.csv: metres of 2 arcs are less than the straight line: are they km?\n", said)
         self.assertIn("to_network: arcs.csv: 1 arcs are faster than 400 km/h", said)
-        self.assertIn("to_network: arcs.csv: 1 arcs take 0 seconds, and weigh 1\n", self.made(arcs="from,to,seconds\ndepot,shop,0\n")[0])
+        self.assertIn(
+            "to_network: arcs.csv: 1 arcs take 0 seconds, and weigh 1\n",
+            self.made(arcs="from,to,seconds\ndepot,shop,0\n")[0],
+        )
         self.assertEqual(self.made()[0].count("\n"), 1)
 
     def test_columns_that_are_not_used(self):
@@ -60,27 +73,46 @@ class ColumnTests(ToolCase):
 
     def test_common_names_and_other_letters(self):
         wanted = self.made()[1]
-        said, graph = self.made("ID,Latitude,lng\ndepot,0,0\nshop,0,0.001\nfarm,0.002,0.001\n", ARCS.replace("from,to,kmh", "source,To_ID,KMH"))
+        said, graph = self.made(
+            "ID,Latitude,lng\ndepot,0,0\nshop,0,0.001\nfarm,0.002,0.001\n", ARCS.replace("from,to,kmh", "source,To_ID,KMH")
+        )
         self.assertEqual(graph, wanted)
-        for line in ("nodes.csv: column ID is taken as node", "nodes.csv: column lng is taken as lon", "arcs.csv: column source is taken as from"):
+        for line in (
+            "nodes.csv: column ID is taken as node",
+            "nodes.csv: column lng is taken as lon",
+            "arcs.csv: column source is taken as from",
+        ):
             self.assertIn(f"to_network: {line}\n", said)
         self.assertEqual(self.made(NODES.replace("lon,lat", "x,y"))[1], wanted)
         self.assertEqual(self.made(NODES.replace("lon,lat", "LON,Lat"))[0].count("\n"), 1)
-        self.refused("nodes.csv, row 1: has the columns lon and Lon, of which each may be lon: rename one", "lon,Lon,lat\n0,0,0\n")
+        self.refused(
+            "nodes.csv, row 1: has the columns lon and Lon, of which each may be lon: rename one", "lon,Lon,lat\n0,0,0\n"
+        )
         self.refused("nodes.csv, row 1: has the columns lng and x, of which each may be lon", "lng,x,lat\n0,0,0\n")
 
     def test_columns_that_are_missing(self):
         self.refused("nodes.csv, row 1: has no columns lon, lat; its columns are node, place", "node,place\na,b\n")
         self.refused("arcs.csv, row 1: has no columns from, to; its columns are a, b", arcs="a,b\n1,2\n")
-        self.refused("nodes.csv, row 1: has no columns lon, lat; its columns are node;lon;lat: fields have to be separated by commas", "node;lon;lat\n")
+        self.refused(
+            "nodes.csv, row 1: has no columns lon, lat; its columns are node;lon;lat: fields have to be separated by commas",
+            "node;lon;lat\n",
+        )
         self.refused("nodes.csv: is empty", "")
         self.refused("arcs.csv: is empty", arcs="")
-        self.refused("arcs.csv, row 2: from 'depot' is no number, and nodes.csv has no column node, so its nodes are numbered by rows; "
-                     "its columns are lon, lat", "lon,lat\n0,0\n0.001,0\n")
+        self.refused(
+            "arcs.csv, row 2: from 'depot' is no number, and nodes.csv has no column node, so its nodes are numbered by rows; "
+            "its columns are lon, lat",
+            "lon,lat\n0,0\n0.001,0\n",
+        )
         self.write("trips.csv", "from_lon,From_Lat,to_lon\n")
         self.made()
-        self.assert_refused("nearest", "net", "trips.csv", says="has no columns from_lat, to_lat; its columns are from_lon, From_Lat, to_lon: "
-                            "is it From_Lat for from_lat, From_Lat for to_lat?")
+        self.assert_refused(
+            "nearest",
+            "net",
+            "trips.csv",
+            says="has no columns from_lat, to_lat; its columns are from_lon, From_Lat, to_lon: "
+            "is it From_Lat for from_lat, From_Lat for to_lat?",
+        )
 
     def test_keys_come_back(self):
         """In the package, in the tables and answers of the tools, and in tables that are written."""
@@ -91,22 +123,43 @@ class ColumnTests(ToolCase):
         self.assertEqual([keys.key(node) for node in range(3)], ["depot", "shop", "farm"])
         self.assertEqual(network.nodes_frame()["key"].tolist(), ["depot", "shop", "farm"])
         with domethyme.Hierarchy(self.folder / "net.rch", keys=keys, network=network) as hierarchy:
-            self.assertEqual((hierarchy.nearest(0.001, 0.0019)[0], hierarchy.route("depot", "farm").nodes), ("farm", ["depot", "shop", "farm"]))
+            self.assertEqual(
+                (hierarchy.nearest(0.001, 0.0019)[0], hierarchy.route("depot", "farm").nodes),
+                ("farm", ["depot", "shop", "farm"]),
+            )
         self.write("trips.csv", "from_lon,from_lat,to_lon,to_lat\n0,0,0.001,0.002\n")
         self.run_tool("nearest", "net", "trips.csv", "--snapped", "snapped.csv", "-o", "pairs")
         row = next(csv.DictReader(io.StringIO((self.folder / "snapped.csv").read_text())))
         self.assertEqual((row["from_key"], row["to_key"], row["to_node"]), ("depot", "farm", "3"))
         self.write("answers", self.run_program([domethyme.find_program(), "route", "net.rch", "pairs"]).stdout)
         for words in ((), ("--trips", "snapped.csv")):
-            found = json.loads(self.run_tool("to_geojson", "net", "answers", "--as", "lines", *words).stdout)["properties"]
+            found = json.loads(self.run_tool("to_geojson", "net", "answers", "--format", "lines", *words).stdout)[
+                "properties"
+            ]
             self.assertEqual((found["from_node"], found["from_key"], found["to_key"]), (1, "depot", "farm"))
-            table = next(csv.DictReader(io.StringIO(self.run_tool("to_geojson", "net", "answers", "--as", "csv", *words).stdout)))
+            table = next(
+                csv.DictReader(io.StringIO(self.run_tool("to_geojson", "net", "answers", "--format", "csv", *words).stdout))
+            )
             self.assertEqual((table["from_key"], table["to_key"]), ("depot", "farm"))
         self.write("wrong.csv", (self.folder / "snapped.csv").read_text().replace("depot", "shop"))
-        self.assert_refused("to_geojson", "net", "answers", "--trips", "wrong.csv", "-o", "out", says="has from_key 'shop' where the answer has depot")
+        self.assert_refused(
+            "to_geojson",
+            "net",
+            "answers",
+            "--trips",
+            "wrong.csv",
+            "-o",
+            "out",
+            says="has from_key 'shop' where the answer has depot",
+        )
         self.run_tool("to_network", "nodes.csv", "arcs.csv", "tables", "--tables")
-        self.assertEqual((self.folder / "tables.nodes.csv").read_text().splitlines()[:2], ["node,osm,lon,lat,ends,key", "1,,0.0000000,0.0000000,,depot"])
-        self.assertEqual((self.folder / "tables.nodes.csvt").read_text(), '"Integer","Integer64","CoordX","CoordY","String","String"\n')
+        self.assertEqual(
+            (self.folder / "tables.nodes.csv").read_text().splitlines()[:2],
+            ["node,osm,lon,lat,ends,key", "1,,0.0000000,0.0000000,,depot"],
+        )
+        self.assertEqual(
+            (self.folder / "tables.nodes.csvt").read_text(), '"Integer","Integer64","CoordX","CoordY","String","String"\n'
+        )
         self.run_tool("to_network", "tables.nodes.csv", "tables.arcs.csv", "again")
         (self.folder / "tables.net").unlink()
         for name in ("tables", "again"):
@@ -114,7 +167,7 @@ class ColumnTests(ToolCase):
 
     def test_numbers_as_keys(self):
         self.made("node,lon,lat\n1,0,0\n2,0.001,0\n", "from,to,kmh\n1,2,50\n")
-        self.assertFalse(binary.read(str(self.folder / "net.net")).has_keys)
+        self.assertFalse(net_file.read(str(self.folder / "net.net")).has_keys)
         with self.assertRaisesRegex(domethyme.NetworkError, "net: its nodes have no keys"):
             domethyme.Network(self.folder / "net").keys()
         self.made("node,lon,lat\n007,0,0\n8,0.001,0\n", "from,to,kmh\n007,8,50\n")
@@ -140,15 +193,17 @@ class ColumnTests(ToolCase):
             self.assertIn('"length":8006', self.run_tool("to_geojson", network, "answers").stdout)
         whole = (self.folder / "nodes.csv.gz").read_bytes()
         (self.folder / "nodes.csv.gz").write_bytes(whole[:-9])
-        self.assert_refused("to_network", "nodes.csv.gz", "arcs.csv", "cut", says="nodes.csv.gz: isn't a whole file of gzip")
+        self.assert_refused(
+            "to_network", "nodes.csv.gz", "arcs.csv", "cut", says="nodes.csv.gz: isn't a whole file of gzip"
+        )
 
     def test_no_seconds(self):
         """Weights of one's own: the time isn't known, and is no zero."""
         self.made(arcs="from,to,weight\ndepot,shop,1\nshop,farm,1\n")
-        network = binary.read(str(self.folder / "net.net"))
+        network = net_file.read(str(self.folder / "net.net"))
         self.assertEqual((network.has_seconds, network.unit), (False, "weight"))
         self.write("answers", "r 1 3 2 2 1 2 3\n")
-        feature = json.loads(self.run_tool("to_geojson", "net", "answers", "--as", "lines").stdout)
+        feature = json.loads(self.run_tool("to_geojson", "net", "answers", "--format", "lines").stdout)
         self.assertEqual((feature["properties"]["seconds"], feature["properties"]["metres"]), (None, 333.59))
         self.assertEqual(feature["properties"]["steps"], [{"name": "", "metres": 333.59, "seconds": None}])
         self.run_tool("draw", "net", self.write("routes", json.dumps(feature)), "out.svg")

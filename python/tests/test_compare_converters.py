@@ -15,7 +15,7 @@ class CompareConverters(ToolCase):
     def test_the_village(self):
         for weight in ("time", "length"):
             with self.subTest(weight):
-                self.convert("--islands", "--weight", weight)
+                self.convert("--keep-islands", "--weight", weight)
                 told = self.run_tool("compare_converters", VILLAGE, "village", "--weight", weight).stdout
                 # 38 nodes, without 3 points of our own and the 4 ends at the bollard and the private gate
                 self.assertIn(f"pairs: {31 * 31}, reached by both or by neither; ", told)
@@ -26,7 +26,7 @@ class CompareConverters(ToolCase):
         self.assert_refused("compare_converters", VILLAGE, "village", says="the lengths from node")
 
     def test_an_arc_that_leads_elsewhere(self):
-        self.convert("--islands")
+        self.convert("--keep-islands")
         # the last two arcs are those of Far Road, which nothing else reaches
         self.change("gr", "a 37 38 13343\na 38 37 13343\n", "a 37 38 13343\na 1 37 13343\n")
         self.assert_refused("compare_converters", VILLAGE, "village", says="only one of the two reaches node")

@@ -12,9 +12,9 @@ from shapely import vectorized
 from shapely.affinity import scale, translate
 from shapely.geometry import LineString, MultiPolygon, Point, Polygon, box as rectangle, shape
 
-from domethyme.network import binary, contour_shapes, isochrones
+from domethyme.network import contour_shapes, isochrones, net_file
 from domethyme.network.contours import Field, contours, meshes_of
-from domethyme.network.index import UNITS
+from domethyme.network.indexes import UNITS
 from domethyme.network.isochrones import Style, features
 from domethyme.network.reach import DECIMALS, METRES_OF_DEGREE, Reach
 
@@ -31,7 +31,7 @@ def made_roads(tmp_path_factory):
     """Roads of 20,000 nodes as bench has them: of four kinds, with dead ends and streets of one way."""
     prefix = tmp_path_factory.mktemp("roads") / "net"
     subprocess.run([sys.executable, BENCH / "make_roads.py", "20000", "7", prefix], check=True, capture_output=True)
-    return binary.read(f"{prefix}.net")
+    return net_file.read(f"{prefix}.net")
 
 
 def in_plane(reach, polygons):

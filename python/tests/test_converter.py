@@ -11,12 +11,13 @@ from unittest import mock
 import numpy as np
 from tool_case import PYTHON, TAKES_SIGNALS, VILLAGE, ToolCase
 
-from domethyme.network import binary, threads
-from domethyme.network.tables import read_arcs, read_nodes
-from domethyme.texts import read_graph
+from domethyme.dimacs import read_graph
+from domethyme.network import net_file, parallel
+from domethyme.network.reading import read_nodes
+from domethyme.network.tables import read_arcs
 from domethyme_tools import map_arrays, osm_to_gr, road_network
-from domethyme_tools.rules import read_profile
-from domethyme_tools.tool import ToolError
+from domethyme_tools.cli import ToolError
+from domethyme_tools.vehicle_profile import read_profile
 
 # A compiler that writes the program to the path behind -o
 BUILT = '#!/bin/sh\nwhile [ "$1" != -o ]; do shift; done\ncp program "$2"\nchmod +x "$2"\n'
@@ -30,8 +31,9 @@ class ProgramCase(ToolCase):
         self.copy, self.programs = self.folder / "python", self.folder / "programs"
         for name in ("domethyme", "domethyme_tools"):
             shutil.copytree(PYTHON / name, self.copy / name, ignore=shutil.ignore_patterns("built", "__pycache__"))
+        shutil.copy(PYTHON / "domethyme_launcher.py", self.copy)
         self.programs.mkdir()
-        self.command = ["/usr/bin/python3", "-P", "-B", self.copy / "domethyme_tools/__main__.py"]
+        self.command = ["/usr/bin/python3", "-P", "-B", self.copy / "domethyme_launcher.py"]
         self.environment = {**os.environ, "PATH": str(self.programs), "HOME": str(self.folder / "home")}
         self.run_tool("osm_to_gr", VILLAGE, "old")
 
@@ -77,7 +79,9 @@ class BuildTests(ProgramCase):
         self.put_compiler("#!/bin/sh\nexit 3\n")
         built = self.run_program([*self.command, "build_converter"], environment=self.environment).stdout.strip()
         (self.programs / "g++").unlink()
-        self.assertEqual(self.run_program([*self.command, "build_converter"], environment=self.environment).stdout.strip(), built)
+        self.assertEqual(
+            self.run_program([*self.command, "build_converter"], environment=self.environment).stdout.strip(), built
+        )
         source = self.copy / "domethyme_tools/converter/map_arrays.cpp"
         source.write_text(source.read_text(encoding="utf-8") + "// changed\n", encoding="utf-8")
         self.refused("g++ is missing")
@@ -141,7 +145,7 @@ class FileTests(ToolCase):
 
     def test_tables_of_another_network_are_removed(self):
         self.run_tool("osm_to_gr", VILLAGE, "v", "--tables")
-        self.run_tool("osm_to_gr", VILLAGE, "v", "--islands")
+        self.run_tool("osm_to_gr", VILLAGE, "v", "--keep-islands")
         self.assertEqual(len(list(self.folder.iterdir())), 2)
         self.assertEqual(len(read_nodes(self.folder / "v.nodes.csv").osm), read_graph(self.folder / "v.gr").nodes)
 
@@ -163,13 +167,13 @@ class ArraysTests(ToolCase):
             with self.subTest(seed=seed):
                 self.write("map.osm", drawn_map(seed))
                 arrays = self.arrays()
-                builder = binary.Builder("said")
+                builder = net_file.Builder("said")
                 for node in zip(*osm_to_gr.nodes_in(arrays)[:4]):
                     builder.add_node(*node)
                 for arc in osm_to_gr.arcs_in(arrays):
                     builder.add_arc(arc)
                 wanted = builder.build()
-                for name in binary.Arrays._fields:
+                for name in net_file.Arrays._fields:
                     np.testing.assert_array_equal(getattr(arrays, name), getattr(wanted, name), name)
                     self.assertEqual(getattr(arrays, name).dtype, getattr(wanted, name).dtype, name)
                 self.assertGreater(len(arrays.arc_from), 20)
@@ -181,17 +185,19 @@ class ArraysTests(ToolCase):
             self.write("map.osm", drawn_map(seed))
             wanted = self.file()
             for size in (1, 7):
-                with self.subTest(seed=seed, size=size), mock.patch.object(threads, "PART", size):
+                with self.subTest(seed=seed, size=size), mock.patch.object(parallel, "SLICE_ROWS", size):
                     self.assertEqual(self.file(), wanted)
 
     def file(self):
         """The bytes of the network's file."""
         with open(self.folder / "map.net", "wb") as file:
-            binary.write(file, self.arrays())
+            net_file.write(file, self.arrays())
         return (self.folder / "map.net").read_bytes()
 
     def arrays(self):
-        options = osm_to_gr.argparse.Namespace(map=self.folder / "map.osm", longest_arc=120.0, free_turns=False, islands=True)
+        options = osm_to_gr.argparse.Namespace(
+            map=self.folder / "map.osm", longest_arc=120.0, ignore_turn_restrictions=False, keep_islands=True
+        )
         with map_arrays.folder_beside(str(self.folder / "out")) as folder:
             report = osm_to_gr.collections.Counter()
             network, rows_of = osm_to_gr.convert(options, read_profile("car"), folder, report)
@@ -202,7 +208,9 @@ def drawn_map(seed):
     """A map of a few nodes that ways pass often, there and back, with names of all kinds and turn restrictions."""
     draw = random.Random(seed)
     lines = ["<osm version='0.6'>"]
-    lines += [f"<node id='{node}' lon='{draw.randrange(9) / 1000}' lat='{draw.randrange(9) / 1000}'/>" for node in range(1, 13)]
+    lines += [
+        f"<node id='{node}' lon='{draw.randrange(9) / 1000}' lat='{draw.randrange(9) / 1000}'/>" for node in range(1, 13)
+    ]
     for way in range(1, 25):
         nodes = [draw.randrange(1, 14) for _ in range(draw.randrange(2, 6))]
         nodes += nodes[::-1] * (draw.random() < 0.2)
@@ -224,19 +232,19 @@ class ThreadTests(unittest.TestCase):
     """Parts of arrays by threads, of four numbers each."""
 
     def setUp(self):
-        self.enterContext(mock.patch.object(threads, "PART", 4))
+        self.enterContext(mock.patch.object(parallel, "SLICE_ROWS", 4))
         draw = random.Random(1)
         self.rows = [[draw.randrange(20) for _ in range(count)] for count in (0, 1, 4, 5, 100)]
 
     def test_parts_are_in_order(self):
         for row in self.rows:
-            found = threads.map_slices(lambda part: row[part], len(row))
+            found = parallel.map_slices(lambda part: row[part], len(row))
             self.assertEqual([value for part in found for value in part], row)
             self.assertTrue(all(len(part) <= 4 for part in found))
 
     def test_the_first_fault_is_raised(self):
         with self.assertRaisesRegex(ValueError, "^8$"):
-            threads.map_slices(lambda part: int(f"{part.start}" if part.start < 8 else self.fail_at(part)), 100)
+            parallel.map_slices(lambda part: int(f"{part.start}" if part.start < 8 else self.fail_at(part)), 100)
 
     def fail_at(self, part):
         raise ValueError(part.start)
@@ -244,17 +252,17 @@ class ThreadTests(unittest.TestCase):
     def test_sort(self):
         for row in self.rows:
             values = np.array(row, np.uint64)
-            threads.parallel_sort(values)
+            parallel.parallel_sort(values)
             self.assertEqual(values.tolist(), sorted(row))
 
     def test_order_of(self):
         for row in self.rows:
             wanted = sorted(range(len(row)), key=lambda place: row[place])
-            self.assertEqual(threads.parallel_argsort(np.array(row, np.int32)).tolist(), wanted)
+            self.assertEqual(parallel.parallel_argsort(np.array(row, np.int32)).tolist(), wanted)
 
     def test_firsts(self):
-        self.assertEqual(threads.differs_from_previous(np.array([3, 3, 1, 3])).tolist(), [True, False, True, True])
-        self.assertEqual(threads.differs_from_previous(np.array([])).tolist(), [])
+        self.assertEqual(parallel.differs_from_previous(np.array([3, 3, 1, 3])).tolist(), [True, False, True, True])
+        self.assertEqual(parallel.differs_from_previous(np.array([])).tolist(), [])
 
 
 class RoundingTests(unittest.TestCase):

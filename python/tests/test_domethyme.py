@@ -11,7 +11,7 @@ from scipy.sparse.csgraph import dijkstra
 from tool_case import PYTHON, ROOT, ToolCase
 
 import domethyme
-from domethyme import find_program, many
+from domethyme import batch, find_program
 from domethyme.sweeps import Seeds, Sweeps
 
 # Four nodes: two ways from 0 to 2, of 3 + 4 = 7 and of 9; back from 2 to 0 by 5; node 3 leads to 0 by 6, and nothing to it.
@@ -120,17 +120,17 @@ class DomethymeTests(ToolCase):
         lengths = [[0, 3, 7, -1], [9, 0, 4, -1], [5, 8, 0, -1], [6, 9, 13, 0]]
         hierarchy, pairs = self.square(), [[row // 4 % 4, row % 4] for row in range(1000)]
         for size in [3, 64, 1000]:
-            with self.subTest(size=size), unittest.mock.patch.object(many, "AT_A_TIME", size):
+            with self.subTest(size=size), unittest.mock.patch.object(batch, "CHUNK_SIZE", size):
                 routes = hierarchy.routes(pairs)
                 self.assertEqual(routes.lengths.tolist(), [lengths[start][end] for start, end in pairs])
                 for row in range(14, 1000, 16):
                     self.assertEqual(routes[row].tolist(), [3, 0, 1, 2])
 
     def test_all_options_of_prepare(self):
-        options = {"order": "edges", "workers": 1, "seed": 7, "stint": 2}
+        options = {"order": "edges", "workers": 1, "seed": 7, "switch_order_after": 2}
         self.assertEqual(self.prepared("options", *SQUARE, **options).length(3, 2), 13)
         with self.assertRaisesRegex(domethyme.ProgramError, "--stint"):
-            self.prepared("options", *SQUARE, stint=0)
+            self.prepared("options", *SQUARE, switch_order_after=0)
 
     def test_names_that_begin_with_a_hyphen(self):
         """They are names of files, and no options."""
@@ -158,7 +158,7 @@ print(domethyme.Hierarchy("--help").length(0, 2))
     def test_all_that_is_public_has_a_docstring(self):
         for name in domethyme.__all__:
             found = getattr(domethyme, name)
-            if name == "NO_WAY":
+            if name == "NO_PATH":
                 continue
             self.assertTrue(found.__doc__, name)
             for member in vars(found) if isinstance(found, type) else ():
@@ -252,9 +252,14 @@ print(domethyme.Hierarchy("--help").length(0, 2))
         self.assertEqual(hierarchy.between([0, 1, 2], [2]).nodes, [2])
         self.assertIsNone(hierarchy.between([0, 1, 2], [3]))
         self.assertEqual(hierarchy.between([3] * 20 + [(3, 1)], [2] * 20).length, 13)
-        for starts, ends, says in [([], [0], "a node or more"), ([0], {}, "a node or more"), ({0: -1}, [0], "from 0 to 4294967295"),
-                                   ({0: 1.5}, [0], "have to be whole numbers"),
-                                   ([0], {0: 1 << 32}, "from 0 to 4294967295"), ([7], [0], "nodes 0 to 3")]:
+        for starts, ends, says in [
+            ([], [0], "a node or more"),
+            ([0], {}, "a node or more"),
+            ({0: -1}, [0], "from 0 to 4294967295"),
+            ({0: 1.5}, [0], "have to be whole numbers"),
+            ([0], {0: 1 << 32}, "from 0 to 4294967295"),
+            ([7], [0], "nodes 0 to 3"),
+        ]:
             with self.subTest(says=says), self.assertRaisesRegex(ValueError, says):
                 hierarchy.between(starts, ends)
 
@@ -270,13 +275,15 @@ print(domethyme.Hierarchy("--help").length(0, 2))
         self.assertEqual(routes.arcs.tolist(), [2, -1, 3, 0])
 
     def test_keys_of_any_kind(self):
-        graph = domethyme.Graph.of_keys(["a", "b", "a", ("c", 3)], ["b", ("c", 3), ("c", 3), "a"], [3, 4, 9, 5])
+        graph = domethyme.Graph.from_keys(["a", "b", "a", ("c", 3)], ["b", ("c", 3), ("c", 3), "a"], [3, 4, 9, 5])
         with graph.prepare(self.folder / "keys.rch", program=find_program()) as hierarchy:
             self.assertEqual(hierarchy.route("a", ("c", 3)).nodes, ["a", "b", ("c", 3)])
             self.assertEqual(hierarchy.routes([("a", ("c", 3)), ("b", "a")])[1].tolist(), ["b", ("c", 3), "a"])
             self.assertEqual(hierarchy.matrix(np.array(["b"]), np.array(["a", "b"])).tolist(), [[9, 0]])
             table = hierarchy.matrix(["b"], ["a", ("c", 3)])
-            self.assertEqual((list(table.index), list(table.columns), table.values.tolist()), (["b"], ["a", ("c", 3)], [[9, 4]]))
+            self.assertEqual(
+                (list(table.index), list(table.columns), table.values.tolist()), (["b"], ["a", ("c", 3)], [[9, 4]])
+            )
             self.assertEqual(hierarchy.between({"a": 1}, ["b"]).length, 4)
             for attempt in (lambda: hierarchy.length("a", "z"), lambda: hierarchy.lengths([("a", "z")])):
                 with self.assertRaisesRegex(domethyme.NoSuchNode, "key 'z' names no node"):
@@ -295,13 +302,13 @@ print(domethyme.Hierarchy("--help").length(0, 2))
                 domethyme.Hierarchy(self.folder / "square.rch", keys=keys)
 
     def test_weights_that_are_no_whole_numbers(self):
-        graph = domethyme.Graph.of_keys(["a", "b"], ["b", "c"], [0.5, 2.0004], scale=1000)
+        graph = domethyme.Graph.from_keys(["a", "b"], ["b", "c"], [0.5, 2.0004], scale=1000)
         self.assertEqual(graph.weights.tolist(), [500, 2000])
         for weights in ([1.0, -1.0], [1.0, 5e6], [1.0, float("nan")]):
             with self.assertRaisesRegex(ValueError, "weights times 1000 have to be from 0"):
-                domethyme.Graph.of_keys(["a", "b"], ["b", "c"], weights, scale=1000)
+                domethyme.Graph.from_keys(["a", "b"], ["b", "c"], weights, scale=1000)
 
-        graph = domethyme.Graph.of_keys(["a", "b"], ["b", "c"], [0.5, 2.0004], scale=1000)
+        graph = domethyme.Graph.from_keys(["a", "b"], ["b", "c"], [0.5, 2.0004], scale=1000)
         with graph.prepare(self.folder / "scaled.rch", program=find_program()) as hierarchy:
             lengths = [hierarchy.length("a", "c"), hierarchy.length("c", "a")]
             self.assertEqual([domethyme.unscaled(length, 1000) for length in lengths], [2.5, float("inf")])
@@ -310,21 +317,23 @@ print(domethyme.Hierarchy("--help").length(0, 2))
                 self.assertEqual(table.tolist(), [[0, 2.5], [float("inf"), 0]])
             frame = domethyme.unscaled(hierarchy.matrix(pd.Series(["a", "c"])), 1000)
             self.assertEqual(frame.loc["c"].to_dict(), {"a": float("inf"), "c": 0})
-            series = domethyme.unscaled(hierarchy.lengths(pd.DataFrame({"from": ["a", "c"], "to": ["b", "b"]}, index=[4, 5])))
+            series = domethyme.unscaled(
+                hierarchy.lengths(pd.DataFrame({"from": ["a", "c"], "to": ["b", "b"]}, index=[4, 5]))
+            )
             self.assertEqual(series.to_dict(), {4: 500, 5: float("inf")})
 
     def test_ends_without_a_key(self):
         for missing in (None, float("nan"), pd.NaT, pd.NA, np.float64("nan")):
             with self.subTest(missing=missing), self.assertRaisesRegex(ValueError, "an arc has no key at an end"):
-                domethyme.Graph.of_keys(["a", missing], ["b", "c"], [1, 2])
+                domethyme.Graph.from_keys(["a", missing], ["b", "c"], [1, 2])
         for column in (pd.Series([1, None]), pd.Series([1, None], dtype="Int64"), pd.Series(["a", None], dtype="category")):
             frame = pd.DataFrame({"from": column, "to": column[::-1].to_numpy(), "weight": 1})
             with self.subTest(dtype=column.dtype), self.assertRaisesRegex(ValueError, "an arc has no key at an end"):
-                domethyme.Graph.of_frame(frame)
+                domethyme.Graph.from_frame(frame)
 
     def test_frames_in_and_out(self):
         frame = pd.DataFrame({"from": ["a", "b", "a"], "to": ["b", "c", "c"], "weight": [3, 4, 9]})
-        with domethyme.Graph.of_frame(frame).prepare(self.folder / "f.rch", program=find_program()) as hierarchy:
+        with domethyme.Graph.from_frame(frame).prepare(self.folder / "f.rch", program=find_program()) as hierarchy:
             asked = pd.DataFrame({"name": [1, 2], "from": ["a", "c"], "to": ["c", "a"]}, index=[7, 9])
             self.assertEqual(hierarchy.lengths(asked).to_dict(), {7: 7, 9: pd.NA})
             self.assertEqual(hierarchy.lengths(asked).mean(), 7)
@@ -336,7 +345,10 @@ print(domethyme.Hierarchy("--help").length(0, 2))
             self.assertIs(table.loc["c", "b"], pd.NA)
             for wrong, says in [
                 (asked[["name", "from", "to"]].rename(columns={"to": "there"}), "has 'name', 'from', 'there': rename"),
-                (pd.DataFrame({"destination": ["c"], "origin": ["a"]}), r"give frame\[\['destination', 'origin'\]\].to_numpy\(\)"),
+                (
+                    pd.DataFrame({"destination": ["c"], "origin": ["a"]}),
+                    r"give frame\[\['destination', 'origin'\]\].to_numpy\(\)",
+                ),
             ]:
                 with self.assertRaisesRegex(ValueError, f"columns from and to, or source and target, and .*{says}"):
                     hierarchy.lengths(wrong)
@@ -345,11 +357,13 @@ print(domethyme.Hierarchy("--help").length(0, 2))
 
     def test_the_nearest_depot(self):
         """One that can't be reached is never the nearest: by frames of lists of keys, and by arrays with what stands for no way."""
-        graph = domethyme.Graph.of_keys(["north", "south", "shop", "far"], ["shop", "far", "far", "shop"], [5, 9, 2, 4])
+        graph = domethyme.Graph.from_keys(["north", "south", "shop", "far"], ["shop", "far", "far", "shop"], [5, 9, 2, 4])
         with graph.prepare(self.folder / "depots.rch", program=find_program()) as hierarchy:
             depots, customers = ["south", "north"], ["shop", "far", "north"]
             table = hierarchy.matrix(depots, customers)
-            self.assertEqual(domethyme.unscaled(table).idxmin().to_dict(), {"shop": "north", "far": "north", "north": "north"})
+            self.assertEqual(
+                domethyme.unscaled(table).idxmin().to_dict(), {"shop": "north", "far": "north", "north": "north"}
+            )
             for by in ("library", "sweeps"):
                 lengths = hierarchy.matrix(np.array(depots), np.array(customers), by, missing=np.inf)
                 self.assertEqual(lengths.tolist(), [[13, 9, np.inf], [5, 7, 0]])
@@ -367,7 +381,7 @@ print(domethyme.Hierarchy("--help").length(0, 2))
 
     def test_columns_of_pandas_whole_numbers(self):
         frame = pd.DataFrame({"from": [0, 1], "to": [1, 0], "weight": [3, 4]}, dtype="Int64")
-        self.assertEqual(domethyme.Graph.of_frame(frame).weights.tolist(), [3, 4])
+        self.assertEqual(domethyme.Graph.from_frame(frame).weights.tolist(), [3, 4])
         with self.square() as hierarchy:
             self.assertEqual(hierarchy.lengths(frame[["from", "to"]]).tolist(), [3, 9])
             for missing in (pd.NA, None):
@@ -376,21 +390,21 @@ print(domethyme.Hierarchy("--help").length(0, 2))
         frame.loc[1, "weight"] = pd.NA
         for scale in (None, 10):
             with self.assertRaisesRegex(ValueError, "weights have to be"):
-                domethyme.Graph.of_frame(frame, scale=scale)
+                domethyme.Graph.from_frame(frame, scale=scale)
 
     def test_scales_that_lose_weights(self):
         for scale in (0, -1, float("inf"), float("nan")):
             with self.assertRaisesRegex(ValueError, "the scale has to be above 0"):
-                domethyme.Graph.of_keys(["a"], ["b"], [0.5], scale=scale)
+                domethyme.Graph.from_keys(["a"], ["b"], [0.5], scale=scale)
         with self.assertWarnsRegex(UserWarning, "2 of 4 weights are above 0, and 0 once they are scaled by 1") as told:
-            domethyme.Graph.of_keys("abcd", "bcda", [0.3, 0, 0.4, 2], scale=1)
+            domethyme.Graph.from_keys("abcd", "bcda", [0.3, 0, 0.4, 2], scale=1)
         self.assertEqual(told.filename, __file__)
 
     def test_keys_that_are_saved(self):
         frame = pd.DataFrame({"from": ["a", "b", 7], "to": ["b", 7, "a"], "weight": [3, 4, 5]})
         path, program = self.folder / "firm.rch", find_program()
-        domethyme.Graph.of_frame(frame).prepare(path, program=program).close()
-        with domethyme.Hierarchy(path, keys=domethyme.Keys.saved(path)) as hierarchy:
+        domethyme.Graph.from_frame(frame).prepare(path, program=program).close()
+        with domethyme.Hierarchy(path, keys=domethyme.Keys.load(path)) as hierarchy:
             self.assertEqual((hierarchy.length("a", 7), hierarchy.route("b", "a").nodes), (7, ["b", 7, "a"]))
         for keys in (["a", "b", 7], {"a": 0, 7: 2}, ["x", "y", "z"]):
             domethyme.Hierarchy(path, keys=keys).close()
@@ -398,22 +412,31 @@ print(domethyme.Hierarchy("--help").length(0, 2))
             domethyme.Hierarchy(path, keys=["b", "a", 7])
 
         saved = (self.folder / "firm.rch.keys").read_text(encoding="utf-8")
-        for text in ("", "[]", saved[:-1], saved.replace("keys 1", "keys 2"), saved.replace('"chosen":[]', '"chosen":[["a",2]]')):
+        for text in (
+            "",
+            "[]",
+            saved[:-1],
+            saved.replace("keys 1", "keys 2"),
+            saved.replace('"chosen":[]', '"chosen":[["a",2]]'),
+        ):
             (self.folder / "firm.rch.keys").write_text(text, encoding="utf-8")
             with self.subTest(text=text), self.assertRaises(domethyme.FileError):
-                domethyme.Keys.saved(path)
+                domethyme.Keys.load(path)
         (self.folder / "firm.rch.keys").write_text(saved, encoding="utf-8")
         domethyme.Graph([0, 1], [1, 0], [1, 1]).prepare(path, program=program).close()
         with self.assertRaisesRegex(domethyme.FileError, "has the keys of another file than .*firm.rch"):
-            domethyme.Keys.saved(path)
+            domethyme.Keys.load(path)
         domethyme.Hierarchy(path, keys=["b", "a"]).close()
-        self.assertEqual([domethyme.keys.parse_key(text) for text in ("7", "-7", "0", "007", "-0", "7a", "")], [7, -7, 0, "007", "-0", "7a", None])
+        self.assertEqual(
+            [domethyme.keys.parse_key(text) for text in ("7", "-7", "0", "007", "-0", "7a", "")],
+            [7, -7, 0, "007", "-0", "7a", None],
+        )
         for missing in ("nowhere", "firm.rch.keys"):
             with self.assertRaisesRegex(domethyme.FileError, "No such file"):
-                domethyme.Keys.saved(self.folder / missing)
+                domethyme.Keys.load(self.folder / missing)
 
     def test_keys_of_other_kinds_are_not_saved(self):
-        domethyme.Graph.of_keys([("a", 1)], ["b"], [3]).prepare(self.folder / "t.rch", program=find_program()).close()
+        domethyme.Graph.from_keys([("a", 1)], ["b"], [3]).prepare(self.folder / "t.rch", program=find_program()).close()
         self.assertFalse((self.folder / "t.rch.keys").exists())
         with self.assertRaisesRegex(ValueError, "str or int"):
             domethyme.Keys([True, "b"]).save(self.folder / "t.rch")
@@ -449,7 +472,7 @@ print(domethyme.Hierarchy("--help").length(0, 2))
         with self.assertRaisesRegex(domethyme.WrongHierarchy, "wrong: nodes") as caught:
             domethyme.check(more, path, program)
         self.assertIsNone(caught.exception.pair)
-        with self.assertRaisesRegex(domethyme.NotShown, "not shown: bound"):
+        with self.assertRaisesRegex(domethyme.NotProved, "not shown: bound"):
             domethyme.check(heavier, path, program)
         with self.assertRaisesRegex(domethyme.HierarchyError, "ring.gr: routecli: hierarchy: BadMagic"):
             domethyme.check(right, self.folder / "ring.gr", program)

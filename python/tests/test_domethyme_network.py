@@ -5,7 +5,7 @@ import numpy as np
 from tool_case import VILLAGE, ToolCase
 
 import domethyme
-from domethyme.texts import read_graph
+from domethyme.dimacs import read_graph
 
 STEP = 0.001
 
@@ -13,7 +13,7 @@ STEP = 0.001
 class NetworkTests(ToolCase):
     def setUp(self):
         super().setUp()
-        self.run_tool("osm_to_gr", VILLAGE, "v", "--islands", "--tables")
+        self.run_tool("osm_to_gr", VILLAGE, "v", "--keep-islands", "--tables")
         self.network = domethyme.Network(self.folder / "v")
         domethyme.prepare(self.folder / "v.gr", self.folder / "v.rch", workers=1).close()
 
@@ -80,7 +80,7 @@ class NetworkTests(ToolCase):
         self.write("t.nodes.csv", "node,osm,lon,lat,ends\n1,7,0,0,from\n2,8,0.001,0,\n3,7,0,0,to\n4,7,0,0,no\n")
         network = domethyme.Network(self.folder / "t")
         for place, nodes in ((0.0001, (0, 2)), (0.0009, (1, 1))):
-            self.assertEqual(tuple(network.nearest(place, 0, end=end)[0] for end in (False, True)), nodes)
+            self.assertEqual(tuple(network.nearest(place, 0, side)[0] for side in ("from", "to")), nodes)
         self.assertEqual([network.keys().node(key) for key in (7, 8)], [0, 1])
 
     def test_files_that_are_refused(self):

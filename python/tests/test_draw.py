@@ -9,7 +9,7 @@ import xml.etree.ElementTree as xml
 
 from tool_case import ToolCase
 
-from domethyme_tools import geometry
+from domethyme_tools.draw import geometry
 
 # High Street has two directions, and Far Road lies two hundredths of a degree in the north.
 ARCS = """\
@@ -128,7 +128,7 @@ class Picture(DrawCase):
 
     def test_roads(self):
         self.assertEqual(roads_in(self.picture_of(EAST)), {"1.8": 1, "3": 1})
-        self.assertEqual(roads_in(self.picture_of(EAST, words=["--whole"])), {"1.2": 1, "1.8": 1, "3": 1})
+        self.assertEqual(roads_in(self.picture_of(EAST, words=["--full-network"])), {"1.2": 1, "1.8": 1, "3": 1})
         self.assertEqual(roads_in(self.picture_of(NO_WAY)), {"1.2": 1, "1.8": 1, "3": 1})
 
     def test_legend_and_titles(self):
@@ -182,7 +182,9 @@ class Picture(DrawCase):
             self.assertTrue(0 <= start and start + len(told(text)) * letter <= width + 1, told(text))
 
     def test_contrast(self):
-        colours = [kind.get("stroke") for kind in self.picture_of(EAST, words=["--whole"]).findall("./g[@clip-path]/path")]
+        colours = [
+            kind.get("stroke") for kind in self.picture_of(EAST, words=["--full-network"]).findall("./g[@clip-path]/path")
+        ]
         colours += [dot.get("fill") for dot in self.picture_of(*[WEST] * 8).findall("./g[@clip-path]/circle")][1::2]
         self.assertEqual(len(set(colours) - {"#fff"}), 11)
         for colour in set(colours) - {"#fff"}:
@@ -269,13 +271,18 @@ class Page(DrawCase):
         _, data = self.page_of(EAST)
         self.assertEqual([len(kind["lines"]) for kind in data["roads"]], [0, 1, 0, 1, 0])
         self.assertEqual(data["roads"][1]["lines"], [[0, 0, 1000, 0, 1000, 0]])
-        _, data = self.page_of(EAST, words=["--whole"])
+        _, data = self.page_of(EAST, words=["--full-network"])
         self.assertEqual([len(kind["lines"]) for kind in data["roads"]], [1, 1, 0, 1, 0])
         self.assertEqual(data["bounds"], [[0, 0], [0, 0.004]])
 
     def test_names_of_streets_and_their_ways(self):
         # 499.8 and 2499.6 of 3999.6 m along a line of 4000 millionths of a degree.
-        steps = [{"name": "A", "metres": 999.6}, {"name": "", "metres": 0}, {"name": "B", "metres": 3000}, {"name": "C", "metres": 0}]
+        steps = [
+            {"name": "A", "metres": 999.6},
+            {"name": "", "metres": 0},
+            {"name": "B", "metres": 3000},
+            {"name": "C", "metres": 0},
+        ]
         _, data = self.page_of(route("x", [[0, 0], [0.001, 0], [0.004, 0]], metres=3999.6, steps=steps))
         self.assertEqual(data["routes"][0]["names"], [["B", 2500, 0], ["A", 500, 0]])
         ways = [["A", "1.00 km"], ["unnamed road", "0 m"], ["B", "3.00 km"], ["C", "0 m"]]
@@ -296,7 +303,9 @@ class Page(DrawCase):
         page.feed(text)
         # (what may run is named by its digest, and the data aren't run)
         scripts, styles = (
-            " ".join(f"'sha256-{base64.b64encode(hashlib.sha256(part.encode()).digest()).decode()}'" for part in page.parts[tag])
+            " ".join(
+                f"'sha256-{base64.b64encode(hashlib.sha256(part.encode()).digest()).decode()}'" for part in page.parts[tag]
+            )
             for tag in ("script", "style")
         )
         self.assertEqual([len(page.parts[tag]) for tag in ("script", "style")], [2, 1])

@@ -7,9 +7,9 @@ import random
 import numpy as np
 from tool_case import ToolCase
 
-from domethyme.network import binary, grid, own
+from domethyme.network import from_tables, grid, net_file
+from domethyme.network.geo import metres_between, split_at_antimeridian
 from domethyme.network.network import NodeIndex
-from domethyme.network.tables import metres_between, split_at_antimeridian
 from domethyme.network.snapping import RoadIndex
 from domethyme_service.tiles import Tiles
 
@@ -29,9 +29,14 @@ def place_beside(middle, draw, spread):
 
 def on_way(begin, end, share):
     """The place at a share of the great circle's arc from one to another."""
-    ends = [(math.cos(b) * math.cos(a), math.cos(b) * math.sin(a), math.sin(b)) for a, b in (map(math.radians, each) for each in (begin, end))]
+    ends = [
+        (math.cos(b) * math.cos(a), math.cos(b) * math.sin(a), math.sin(b))
+        for a, b in (map(math.radians, each) for each in (begin, end))
+    ]
     whole = metres_between(*begin, *end) / 6_371_008.8
-    parts = (math.sin((1 - share) * whole) / math.sin(whole), math.sin(share * whole) / math.sin(whole)) if whole else (1, 0)
+    parts = (
+        (math.sin((1 - share) * whole) / math.sin(whole), math.sin(share * whole) / math.sin(whole)) if whole else (1, 0)
+    )
     x, y, z = (one * parts[0] + other * parts[1] for one, other in zip(*ends))
     return math.degrees(math.atan2(y, x)), math.degrees(math.atan2(z, math.hypot(x, y)))
 
@@ -74,7 +79,9 @@ class NearestTests(ToolCase):
             draw = random.Random(number)
             for spread in [30, 2000, 2000, 20_000, 3_000_000]:
                 place = place_beside(draw.choice(nodes), draw, spread)
-                away = sorted((min(metres_to(place, *step) for step in zip(line, line[1:])), edge) for edge, line in enumerate(lines))
+                away = sorted(
+                    (min(metres_to(place, *step) for step in zip(line, line[1:])), edge) for edge, line in enumerate(lines)
+                )
                 with self.subTest(middle=middle, place=place):
                     found = roads.nearest(place, 3)
                     for spot, (metres, _) in zip(found, away):
@@ -139,7 +146,9 @@ class NearestTests(ToolCase):
         for number in range(1000):  # (roads beside one another, each of ten steps in other cells)
             line = [(9 + number / 60_000, 47 + step * 0.003) for step in range(11)]
             rows += [f"{lon},{lat}" for lon, lat in (line[0], line[-1])]
-            arcs.append(f'{len(rows) - 2},{len(rows) - 1},5,"LINESTRING ({", ".join(f"{lon} {lat}" for lon, lat in line)})"')
+            arcs.append(
+                f'{len(rows) - 2},{len(rows) - 1},5,"LINESTRING ({", ".join(f"{lon} {lat}" for lon, lat in line)})"'
+            )
         for number in range(100):
             rows += [f"{9.4 + number / 100_000},47.2", f"{9.4 + number / 100_000},47.201"]
             arcs.append(f"{len(rows) - 2},{len(rows) - 1},5,")
@@ -178,7 +187,7 @@ class MeridianTests(ToolCase):
         self.roads = RoadIndex(str(self.folder / "net"))
 
     def test_metres(self):
-        arrays = binary.read(str(self.folder / "net.net"))
+        arrays = net_file.read(str(self.folder / "net.net"))
         self.assertEqual(arrays.arc_metres[:].tolist(), [444.78, 444.78, 10897.12])
         self.assertEqual(arrays.arc_weight[:].tolist()[:2], [32024, 32024])
         self.assertAlmostEqual(self.roads.edge(0).metres, 444.78, places=2)
@@ -200,7 +209,9 @@ class MeridianTests(ToolCase):
         drawn = {(x, y) for x in range(32) for y in range(32) if tiles.tile(5, x, y) != b'{"roads":[]}'}
         self.assertTrue(drawn and all(x in (0, 31) for x, _ in drawn), drawn)
         # a tile of zoom 15 is 1223 m wide: 444.78 m are 372 of its 1024 parts
-        lines = [line for x in (0, 32767) for road in json.loads(tiles.tile(15, x, 16384))["roads"] for line in road["lines"]]
+        lines = [
+            line for x in (0, 32767) for road in json.loads(tiles.tile(15, x, 16384))["roads"] for line in road["lines"]
+        ]
         self.assertEqual(len(lines), 1)
         x, y, east, south = lines[0]
         self.assertEqual((y, abs(east), south), (0, 372, 0))
@@ -214,26 +225,36 @@ class MeridianTests(ToolCase):
         self.assertEqual(roads[0]["lines"], [[1117, 93, -1025, 0]])
 
     def test_lines_are_parted(self):
-        self.assertEqual(split_at_antimeridian([(179.998, 0), (-179.998, 0)]), [[(179.998, 0), (180.0, 0.0)], [(-180.0, 0.0), (-179.998, 0)]])
-        self.assertEqual(split_at_antimeridian([(-179.9, 1), (179.9, 3), (179, 3)]), [[(-179.9, 1), (-180.0, 2.0)], [(180.0, 2.0), (179.9, 3), (179, 3)]])
+        self.assertEqual(
+            split_at_antimeridian([(179.998, 0), (-179.998, 0)]),
+            [[(179.998, 0), (180.0, 0.0)], [(-180.0, 0.0), (-179.998, 0)]],
+        )
+        self.assertEqual(
+            split_at_antimeridian([(-179.9, 1), (179.9, 3), (179, 3)]),
+            [[(-179.9, 1), (-180.0, 2.0)], [(180.0, 2.0), (179.9, 3), (179, 3)]],
+        )
         self.assertEqual(split_at_antimeridian([(1, 2), (1, 2)]), [[(1, 2), (1, 2)]])
         self.assertEqual(split_at_antimeridian([(180, 0), (-179, 0)]), [[(-180.0, 0.0), (-179, 0)]])
 
     def test_from_answers_to_a_picture(self):
         lines = self.run_tool("to_geojson", "net", self.write("a", "r 1 2 32024 1 1 2\n")).stdout
-        self.assertIn('"type":"MultiLineString","coordinates":[[[179.998,0.0],[180.0,0.0]],[[-180.0,0.0],[-179.998,0.0]]]', lines)
+        self.assertIn(
+            '"type":"MultiLineString","coordinates":[[[179.998,0.0],[180.0,0.0]],[[-180.0,0.0],[-179.998,0.0]]]', lines
+        )
         self.assertIn('"metres":444.78', lines)
-        table = self.run_tool("to_geojson", "net", "a", "--as", "csv").stdout
-        self.assertIn("MULTILINESTRING ((179.9980000 0.0000000, 180.0000000 0.0000000), (-180.0000000 0.0000000, -179.99", table)
+        table = self.run_tool("to_geojson", "net", "a", "--format", "csv").stdout
+        self.assertIn(
+            "MULTILINESTRING ((179.9980000 0.0000000, 180.0000000 0.0000000), (-180.0000000 0.0000000, -179.99", table
+        )
         self.write("routes", lines)
         self.run_tool("draw", "net", "routes", "out.svg")
         picture = (self.folder / "out.svg").read_text()
         # the scale's bar is of 50 or 100 metres: the picture has the road, and not the world
         self.assertRegex(picture, r">(50|100|200) m<")
-        self.run_tool("draw", "net", "routes", "out.html", "--whole")
+        self.run_tool("draw", "net", "routes", "out.html", "--full-network")
         data = (self.folder / "out.html").read_text()
         self.assertRegex(data, r'"bounds":\[\[0.0,179.998\],\[0.0,180.002\]\]')
 
     def test_one_place(self):
-        self.assertEqual(own.read_nodes(str(self.folder / "n.csv")).places.tolist()[1], [-1799980000, 0])
+        self.assertEqual(from_tables.read_nodes(str(self.folder / "n.csv")).places.tolist()[1], [-1799980000, 0])
         self.assertAlmostEqual(metres_between(179.998, 0, -179.998, 0), 0.004 * DEGREE, places=1)

@@ -5,9 +5,9 @@ import subprocess
 from service_case import ServiceCase
 from tool_case import PYTHON, TOOLS, ToolCase
 
-from domethyme_tools.__main__ import COMMANDS
+from domethyme_launcher import COMMANDS
 
-LAUNCHER = PYTHON / "domethyme_tools/__main__.py"
+LAUNCHER = PYTHON / "domethyme_launcher.py"
 TAKEN = "raise SystemExit('a module of the working folder was taken')\n"
 
 
@@ -24,7 +24,7 @@ class LauncherTests(ToolCase):
         self.assertIn("usage: draw ", self.run_program([LAUNCHER, "draw", "--help"]).stdout)
         for words in ([LAUNCHER], [LAUNCHER, "drew"]):
             ended = self.run_program(words, status=2)
-            self.assertIn("there are build_converter, check_page", ended.stderr)
+            self.assertIn("there are build_converter, draw", ended.stderr)
 
     def test_a_package_that_is_missing(self):
         (self.folder / "elsewhere").mkdir()

@@ -138,12 +138,12 @@ class TooFar(NearestCase):
     def test_is_refused_with_its_row(self):
         # A hundredth of a degree south of node 1: 1111.95 m.
         self.assert_far("0,-0.01", "trips.csv, row 4: from_lon 0.0, from_lat -0.01 is 1,112 m from the nearest node")
-        self.assert_far("0,-0.01", "--within is 1000 m")
+        self.assert_far("0,-0.01", "--max-distance is 1000 m")
 
     def test_within(self):
         trips = "from_lon,from_lat,to_lon,to_lat\n0.002,0.0015,0,0\n"
-        self.assertEqual(self.pairs_of(trips, "--within", "55.6"), OF_STREET + "p aux sp p2p 1\nq 4 1\n")
-        self.assert_far("0.002,0.0015", "row 4: from_lon 0.002, from_lat 0.0015 is 56 m", "--within", "55.59")
+        self.assertEqual(self.pairs_of(trips, "--max-distance", "55.6"), OF_STREET + "p aux sp p2p 1\nq 4 1\n")
+        self.assert_far("0.002,0.0015", "row 4: from_lon 0.002, from_lat 0.0015 is 56 m", "--max-distance", "55.59")
 
     def test_first_row_counts(self):
         trips = self.write("trips.csv", TRIPS + "0,0,1,0\n1,0,0,0\n")
@@ -205,9 +205,9 @@ class Words(NearestCase):
         for words in [
             [],
             ["street"],
-            ["street", "trips.csv", "--within", "-1"],
-            ["street", "trips.csv", "--within", "nan"],
-            ["street", "trips.csv", "--within", "near"],
+            ["street", "trips.csv", "--max-distance", "-1"],
+            ["street", "trips.csv", "--max-distance", "nan"],
+            ["street", "trips.csv", "--max-distance", "near"],
             ["street", "places.co"],
             ["street", "trips.csv", "-o", "x", "--snapped", "x"],
         ]:

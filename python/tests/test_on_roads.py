@@ -49,8 +49,15 @@ class OnRoadsTests(ServiceCase):
 
     def test_refusals(self):
         self.write("trips.csv", TRIPS)
-        self.assert_refused("nearest", "v", "trips.csv", "--on-roads", "--within", "0.5",
-                            says="trips.csv, row 2: from_lon 0.0003, from_lat 1e-05 is 1 m from the nearest road, and --within is 0.5 m")
+        self.assert_refused(
+            "nearest",
+            "v",
+            "trips.csv",
+            "--on-roads",
+            "--max-distance",
+            "0.5",
+            says="trips.csv, row 2: from_lon 0.0003, from_lat 1e-05 is 1 m from the nearest road, and --max-distance is 0.5 m",
+        )
         for word in ("--matrix", "--skip-far"):
             self.run_tool("nearest", "v", "trips.csv", "--on-roads", word, status=2)
         self.run_tool("to_geojson", "v", "replies", "--on-roads", status=2)
@@ -66,8 +73,20 @@ class OnRoadsTests(ServiceCase):
         ]:
             self.write("replies", "".join(lines))
             with self.subTest(says=says):
-                self.assert_refused("to_geojson", "v", "replies", "--trips", "trips.csv", "--on-roads", "-o", "out", says=says)
+                self.assert_refused(
+                    "to_geojson", "v", "replies", "--trips", "trips.csv", "--on-roads", "-o", "out", says=says
+                )
         changed = replies[1].split()
         changed[3] = str(int(changed[3]) + 1)
         self.write("replies", "".join([replies[0], " ".join(changed) + "\n", *replies[2:]]))
-        self.assert_refused("to_geojson", "v", "replies", "--trips", "trips.csv", "--on-roads", "-o", "out", says="is it of another network?")
+        self.assert_refused(
+            "to_geojson",
+            "v",
+            "replies",
+            "--trips",
+            "trips.csv",
+            "--on-roads",
+            "-o",
+            "out",
+            says="is it of another network?",
+        )

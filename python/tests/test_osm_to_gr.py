@@ -8,9 +8,10 @@ import xml.etree.ElementTree as xml
 import osmium
 from tool_case import PYTHON, VILLAGE, ToolCase
 
-from domethyme.network.tables import ALL_ARC_COLUMNS, read_attribution, lightest, read_arcs, read_nodes
-from domethyme.texts import read_answers, read_graph, write_pairs
 from domethyme import find_program
+from domethyme.dimacs import read_answers, read_graph, write_pairs
+from domethyme.network.reading import read_nodes
+from domethyme.network.tables import ALL_ARC_COLUMNS, lightest, read_arcs, read_attribution
 
 # A step of the drawing is a thousandth of a degree: 6371008.8 m * pi / 180 / 1000 = 111.19508 m. At 1 km/h that takes
 # 400302.289 ms; so 1 step at 50 km/h 8006.05 ms, at 30 km/h 13343.41, at 15 km/h 26686.82, at 30 mph (48.28032 km/h)
@@ -135,7 +136,7 @@ class Village(NetworkCase):
         self.assertEqual(self.drawn(), arcs_by_length(DRAWING))
 
     def test_islands_are_kept_where_asked_for(self):
-        self.convert("--islands")
+        self.convert("--keep-islands")
         self.assertEqual(self.drawn(), arcs_by_time(DRAWING + ISLANDS))
 
     def test_what_was_left_out_is_counted(self):
@@ -383,7 +384,7 @@ class Tags(NetworkCase):
             lines.extend(f"<tag k='{key}' v='{value}'/>" for key, value in tags)
             lines.append("</way>")
         self.write("ways.osm", "\n".join([*lines, "</osm>"]))
-        self.convert("--islands", source="ways.osm", out="ways")
+        self.convert("--keep-islands", source="ways.osm", out="ways")
         osm = self.nodes("ways").osm
         found = {}
         for arc in self.rows("ways"):
@@ -416,7 +417,7 @@ class Tags(NetworkCase):
             ends = "".join(f"<nd ref='{3 * number + place}'/>" for place in range(3))
             lines.append(f"<way id='{number}'>{ends}<tag k='highway' v='residential'/></way>")
         self.write("barriers.osm", "\n".join([*lines, "</osm>"]))
-        self.convert("--islands", source="barriers.osm", out="barriers")
+        self.convert("--keep-islands", source="barriers.osm", out="barriers")
         arcs = collections.Counter(arc.osm for arc in self.rows("barriers"))
         for number, (text, parts) in enumerate(cases, 1):
             with self.subTest(text):
@@ -426,7 +427,7 @@ class Tags(NetworkCase):
         profile = json.loads((PYTHON / "domethyme_tools/profiles/car.json").read_text(encoding="utf-8"))
         profile.update(speeds={"footway": 5}, access=["access", "foot"], barriers=["gate"])
         self.write("foot.json", json.dumps(profile))
-        self.convert("--profile", "foot.json", "--islands")
+        self.convert("--profile", "foot.json", "--keep-islands")
         # Footpath leads from 11 to 21, 2 steps
         self.assertEqual(self.drawn(), {("Footpath", 11, 21, 160121): 1, ("Footpath", 21, 11, 160121): 1})
 
@@ -628,5 +629,5 @@ class BadInput(NetworkCase):
 
     def test_help(self):
         told = self.run_tool("osm_to_gr", "--help").stdout
-        for word in ("MAP", "OUT", "--profile", "--weight", "--longest-arc", "--islands", "turn restrictions"):
+        for word in ("MAP", "OUT", "--profile", "--weight", "--longest-arc", "--keep-islands", "turn restrictions"):
             self.assertIn(word, told)

@@ -6,7 +6,7 @@ import shutil
 
 from tool_case import ROOT, ToolCase
 
-from domethyme_tools.__main__ import COMMANDS
+from domethyme_launcher import COMMANDS
 
 PACKAGING = ROOT / "packaging"
 JEMALLOC, MIMALLOC = "libjemalloc.so.2", "libmimalloc.so.2.0"
@@ -111,7 +111,7 @@ class CompletionTests(ToolCase):
 
     def setUp(self):
         super().setUp()
-        names = sorted(set(COMMANDS) - {"build_converter", "check_page"})
+        names = sorted(set(COMMANDS) - {"build_converter"})
         self.run_program([PACKAGING / "tool_completions", self.folder, *names])
 
     def completed(self, *words):
@@ -121,9 +121,9 @@ class CompletionTests(ToolCase):
         return self.run_program(["/bin/bash", "-c", script, "bash", file, *words]).stdout.split()
 
     def test_options_and_values(self):
-        self.assertEqual(self.completed("domethyme-nearest", "--w"), ["--within"])
+        self.assertEqual(self.completed("domethyme-nearest", "--max"), ["--max-distance"])
         self.assertEqual(self.completed("domethyme-serve", "net.rch", "--log"), ["--log-places"])
-        self.assertEqual(self.completed("domethyme-to-geojson", "--as", "l"), ["lines"])
+        self.assertEqual(self.completed("domethyme-to-geojson", "--format", "l"), ["lines"])
         self.assertEqual(self.completed("domethyme-serve", "--tables", ""), ["fast", "proved"])
         self.assertEqual(self.completed("domethyme-route-many", "net"), [])
         self.assertIn("-h", self.completed("domethyme-fetch-extract", "-"))
@@ -131,7 +131,7 @@ class CompletionTests(ToolCase):
     def test_shells_take_the_files(self):
         files = [("zsh", self.folder / "zsh/vendor-completions/_domethyme_tools"),
                  *(("fish", file) for file in sorted((self.folder / "fish/vendor_completions.d").iterdir()))]
-        self.assertEqual(len(files), 1 + len(COMMANDS) - 2)
+        self.assertEqual(len(files), 1 + len(COMMANDS) - 1)
         for shell, file in files:
             self.assertIn("domethyme-osm-to-gr" if shell == "zsh" else file.stem, file.read_text(encoding="utf-8"))
             if shutil.which(shell):

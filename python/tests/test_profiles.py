@@ -5,9 +5,10 @@ import unittest
 from test_turns import STEP, CrossingCase, crossing
 from tool_case import VILLAGE, ToolCase
 
-from domethyme.network.tables import read_arcs, read_nodes
-from domethyme_tools.rules import PROFILES, judge, limit_of, blocks_way, read_profile, way_keys
-from domethyme_tools.turns import Member, restrictions_of
+from domethyme.network.reading import read_nodes
+from domethyme.network.tables import read_arcs
+from domethyme_tools.turn_restrictions import Member, restrictions_of
+from domethyme_tools.vehicle_profile import PROFILES, blocks_way, judge, limit_of, read_profile, way_keys
 
 # The km/h forward and backward of a way with these tags (~ is a blank), by vehicle; None where it may not be taken
 WAYS = {
@@ -262,7 +263,7 @@ class PenaltyTests(CrossingCase):
 
     def test_free_turns_have_none(self):
         free = {pair: steps * STEP for pair, steps in self.free().items()}
-        self.assertEqual(self.found(options=["--free-turns"]), free)
+        self.assertEqual(self.found(options=["--ignore-turn-restrictions"]), free)
 
     def test_the_side_of_a_turn_is_that_of_the_last_step(self):
         # way 1 leads from the crossing at 1 east and then north; way 2 leads north: from way 1 to it is to the right
@@ -285,7 +286,7 @@ class PenaltyTests(CrossingCase):
         tags = "<tag k='highway' v='residential'/><tag k='oneway' v='yes'/>"
         ways = "".join(f"<way id='{node}'><nd ref='{node}'/><nd ref='{node + 1}'/>{tags}</way>" for node in (1, 2, 3))
         self.write("map.osm", f"<osm version='0.6'>{nodes}{ways}</osm>")
-        self.run_tool("osm_to_gr", "map.osm", "map", "--tables", "--islands", "--profile", "turns.json")
+        self.run_tool("osm_to_gr", "map.osm", "map", "--tables", "--keep-islands", "--profile", "turns.json")
         plain = 111195.08 * 3600 / 30 / 1000
         rows = [line.split(",") for line in (self.folder / "map.arcs.csv").read_text().splitlines()[1:]]
         found = {(row[5], round((int(row[2]) - plain) / 1000)) for row in rows}

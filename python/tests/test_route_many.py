@@ -15,8 +15,8 @@ import time
 
 from tool_case import TAKES_SIGNALS, TOOLS, ToolCase
 
-from domethyme.texts import write_graph
 from domethyme import find_program
+from domethyme.dimacs import write_graph
 
 from domethyme_tools import parts
 
@@ -61,7 +61,9 @@ class RouteManyCase(ToolCase):
 
     def many(self, *words, status=0, **more):
         """Runs route_many over the pairs into `out`, and wants the status."""
-        return self.run_tool("route_many", "network.rch", "pairs", "out", "--part", PART, *words, status=status, **more)
+        return self.run_tool(
+            "route_many", "network.rch", "pairs", "out", "--pairs-per-part", PART, *words, status=status, **more
+        )
 
     def assert_answered(self):
         """`out` is as wanted, and nothing else has come to stand in the folder."""
@@ -127,7 +129,7 @@ class RouteManyCase(ToolCase):
 
     def start_many(self, *words, hierarchy="network.rch", environment=()):
         """route_many over the pairs into `out`, as it runs beside the test; what it says goes to the file `said`."""
-        words = [TOOLS / "route_many", hierarchy, "pairs", "out", "--part", PART, *words]
+        words = [TOOLS / "route_many", hierarchy, "pairs", "out", "--pairs-per-part", PART, *words]
         return self.start([*environment, *words], "said")
 
     def said(self):
@@ -205,7 +207,20 @@ class PartsTests(ToolCase):
 def random_text(draw):
     """A text of a few lines, many of them right and some of any other kind, with any of the ways to end and to part."""
     pairs = draw.randint(0, 5)
-    kinds = ["q 1 2"] * 20 + ["q 3 4", "q\t5 6 ", " q 7 8", "qq 1 2", "q 1", "q 1 x", "q 0 1", "q", "Q 1 2", "x", "\r", "\v"]
+    kinds = ["q 1 2"] * 20 + [
+        "q 3 4",
+        "q\t5 6 ",
+        " q 7 8",
+        "qq 1 2",
+        "q 1",
+        "q 1 x",
+        "q 0 1",
+        "q",
+        "Q 1 2",
+        "x",
+        "\r",
+        "\v",
+    ]
     kinds += ["", "c", "cq 1 2", "  c", " \t", "p aux sp p2p 2", "p", "q 1 2\r", "\x0bq 1 2", "q\xa01 2", "q 1 2\x0c"]
     problems = ["p aux sp p2p {}"] * 20 + ["p\taux sp p2p  00{} ", "p aux sp p2p", "p aux sp {}", "p aux sp p2p -{}"]
     lines = [draw.choice(kinds) for _ in range(pairs)]
@@ -234,12 +249,12 @@ class OneMachineTests(RouteManyCase):
     def test_parts_of_any_size(self):
         for size in [1000, 999, 1001, 334]:
             with self.subTest(size=size):
-                self.many("--jobs", 1, "--part", size)
+                self.many("--jobs", 1, "--pairs-per-part", size)
                 self.assert_answered()
 
     def test_pairs_from_standard_input(self):
         given = (self.folder / "pairs").read_text()
-        self.run_tool("route_many", "network.rch", "-", "out", "--part", PART, "--jobs", 2, given=given)
+        self.run_tool("route_many", "network.rch", "-", "out", "--pairs-per-part", PART, "--jobs", 2, given=given)
         self.assert_answered()
 
     def test_no_pairs(self):
@@ -258,7 +273,12 @@ class OneMachineTests(RouteManyCase):
 
     def test_words(self):
         words = ["network.rch", "pairs", "out"]
-        wrongs = [words[:2], [*words, "--jobs", "0"], [*words, "--part", "1.5"], [*words, "--jobs", "2", "--cut"]]
+        wrongs = [
+            words[:2],
+            [*words, "--jobs", "0"],
+            [*words, "--pairs-per-part", "1.5"],
+            [*words, "--jobs", "2", "--split-only"],
+        ]
         wrongs += [["network.rch", "pairs", out] for out in ["-", "/dev/null", "new/", ".", "pairs"]]
         for wrong in wrongs:
             with self.subTest(words=wrong):
@@ -446,7 +466,7 @@ class TwoCallsTests(RouteManyCase):
         self.until(lambda: len(self.begun()) == 2)
         (self.folder / "link").symlink_to(self.folder)
         for out in ["out", "link/out"]:
-            for more in [[], ["--anew"], ["--cut"]]:
+            for more in [[], ["--restart"], ["--split-only"]]:
                 ended = self.run_tool("route_many", "network.rch", "pairs", out, *more, status=1)
                 self.assertEqual(ended.stderr.count("\n"), 1)
                 self.assertIn(f"route_many: {out}: another run works on it: process {first.pid} on ", ended.stderr)
@@ -502,21 +522,21 @@ class TwoCallsTests(RouteManyCase):
         other = self.write("other.pairs", "p aux sp p2p 2\nq 1 2\n")
         self.run_program([self.program, "prepare", "--workers", "0", "network.gr", "other.rch"])
         for hierarchy, pairs, words, what in [
-            ("other.rch", "pairs", ["--program", program, "--part", PART], "HIERARCHY"),
-            ("network.rch", other, ["--program", program, "--part", PART], "PAIRS"),
-            ("network.rch", "pairs", ["--program", program, "--part", PART + 1], "--part"),
-            ("network.rch", "pairs", ["--part", PART], "program"),
+            ("other.rch", "pairs", ["--program", program, "--pairs-per-part", PART], "HIERARCHY"),
+            ("network.rch", other, ["--program", program, "--pairs-per-part", PART], "PAIRS"),
+            ("network.rch", "pairs", ["--program", program, "--pairs-per-part", PART + 1], "--pairs-per-part"),
+            ("network.rch", "pairs", ["--pairs-per-part", PART], "program"),
         ]:
             ended = self.run_tool("route_many", hierarchy, pairs, "out", *words, status=1)
             folder = self.folder.resolve() / "out.parts"
-            self.assertEqual(ended.stderr, f"route_many: {folder}: is of a call with another {what}: --anew drops it\n")
+            self.assertEqual(ended.stderr, f"route_many: {folder}: is of a call with another {what}: --restart drops it\n")
         for name in ["other.pairs", "other.rch"]:
             (self.folder / name).unlink()
         self.assertEqual(
             {path: text for path, text in self.contents().items() if path.name != "lock"},
             {path: text for path, text in kept.items() if path.name != "lock"},
         )
-        self.many("--jobs", 2, "--anew")
+        self.many("--jobs", 2, "--restart")
         self.assert_answered()
 
     def test_a_cut_that_was_not_finished_is_made_anew(self):
@@ -532,11 +552,20 @@ class TwoCallsTests(RouteManyCase):
         for name in ["notes", "drafts-mine/notes", "1.answers"]:
             self.write(f"out.parts/{name}", "of another\n")
         others = self.contents()
-        self.many("--jobs", 2, "--anew")
+        self.many("--jobs", 2, "--restart")
         self.assertEqual(self.contents(), {**others, self.folder / "out": self.wanted.encode()})
 
     def test_a_full_disk_names_the_folder(self):
-        words = ["/usr/bin/prlimit", "--fsize=300", TOOLS / "route_many", "network.rch", "pairs", "out", "--part", PART]
+        words = [
+            "/usr/bin/prlimit",
+            "--fsize=300",
+            TOOLS / "route_many",
+            "network.rch",
+            "pairs",
+            "out",
+            "--pairs-per-part",
+            PART,
+        ]
         ended = self.run_program(words, 1)
         self.assertEqual(ended.stderr, f"route_many: {self.folder.resolve() / 'out.parts'}: File too large\n")
 
@@ -556,7 +585,7 @@ class TwoCallsTests(RouteManyCase):
 
 
 class CutTests(RouteManyCase):
-    """`--cut`: the parts are answered by others, as the tasks of an array are."""
+    """`--split-only`: the parts are answered by others, as the tasks of an array are."""
 
     def answer(self, parts):
         for part in parts:
@@ -564,19 +593,19 @@ class CutTests(RouteManyCase):
             self.write(f"out.parts/{part:06}.answers", answers)
 
     def cut(self):
-        ended = self.many("--cut")
+        ended = self.many("--split-only")
         self.assertEqual(ended.stdout, f"20 parts in {self.folder.resolve()}/out.parts\n")
 
     def test_cut_answer_and_join(self):
         self.cut()
         self.answer(range(20))
-        self.many("--cut")
+        self.many("--split-only")
         self.assert_answered()
 
     def test_parts_without_answers(self):
         self.cut()
         self.answer([*range(4), *range(6, 20)])
-        ended = self.many("--cut", status=1)
+        ended = self.many("--split-only", status=1)
         first = self.folder.resolve() / "out.parts/000004.pairs"
         self.assertEqual(ended.stderr, f"route_many: 2 of 20 parts have no answers yet, the first is {first}\n")
         self.many("--jobs", 2)
@@ -587,7 +616,7 @@ class CutTests(RouteManyCase):
         self.answer(range(20))
         answers = self.folder.resolve() / "out.parts/000007.answers"
         answers.write_bytes(answers.read_bytes()[:-1])
-        ended = self.many("--cut", status=1)
+        ended = self.many("--split-only", status=1)
         problem = "has 49 lines for 50 pairs: remove it and give the same call again"
         self.assertEqual(ended.stderr, f"route_many: {answers}: {problem}\n")
         self.assertFalse((self.folder / "out").exists())
@@ -597,7 +626,7 @@ class CutTests(RouteManyCase):
 
     def test_a_wrong_count_is_refused_at_the_cut(self):
         self.write("pairs", "p aux sp p2p 3\nq 1 2\n")
-        ended = self.many("--cut", status=5)
+        ended = self.many("--split-only", status=5)
         self.assertEqual(ended.stderr.splitlines()[0], "routecli: queries: ArcCount line 2")
         self.assertIn("  pairs", ended.stderr)
         self.assert_untouched()
@@ -706,7 +735,9 @@ class DaskTests(RouteManyCase):
         lines[320], lines[170] = "q 301 1", "q one 1"
         self.write("pairs", "\n".join(lines))
         ended = self.many("--dask", "scheduler.json", status=5)
-        self.assertEqual(WAITS.sub("", ended.stderr).splitlines()[:2], ["routecli: queries: NotANumber line 171", "  pairs:171: q one 1"])
+        self.assertEqual(
+            WAITS.sub("", ended.stderr).splitlines()[:2], ["routecli: queries: NotANumber line 171", "  pairs:171: q one 1"]
+        )
         self.assertFalse((self.folder / "out.parts").exists())
         self.assertFalse((self.folder / "out").exists())
 

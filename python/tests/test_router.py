@@ -155,10 +155,10 @@ class RouterTests(ToolCase):
 
     def test_no_memory_for_a_seat(self):
         router = self.ring()._router
-        with unittest.mock.patch.object(type(router._first), "beside", return_value=None):
+        with unittest.mock.patch.object(type(router._first), "clone", return_value=None):
             with self.assertRaisesRegex(domethyme.OutOfMemory, "ring.rch: "):
                 router.length(0, 7)
-        with router.searcher() as seat, unittest.mock.patch.object(type(router._first), "beside", return_value=None):
+        with router.searcher() as seat, unittest.mock.patch.object(type(router._first), "clone", return_value=None):
             with unittest.mock.patch.object(domethyme.router, "PATIENCE", 0.05), self.assertRaises(domethyme.OutOfMemory):
                 router.length(0, 7)
             self.assertEqual(seat.length(0, 8), 8)
@@ -213,7 +213,7 @@ class RouterTests(ToolCase):
             with self.assertRaises(FileNotFoundError):
                 library.find_library()
         other = self.write("other.so", "no library")
-        words = [sys.executable, "-P", "-c", "import domethyme.library as l; l.loaded()"]
+        words = [sys.executable, "-P", "-c", "import domethyme.library as l; l.load_library()"]
         environment = {**os.environ, "PYTHONPATH": str(PYTHON), "DOMETHYME_LIBRARY": str(other)}
         ended = subprocess.run(words, capture_output=True, text=True, env=environment)
         self.assertIn("LibraryNotFound", ended.stderr)

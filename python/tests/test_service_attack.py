@@ -20,8 +20,8 @@ from service_case import NDJSON, ServiceCase, read_answer, workers_of
 from tool_case import PYTHON, ROOT
 
 import domethyme
-from domethyme.network.binary import UNITS, load_network
-from domethyme.network.mapped import HEAD
+from domethyme.network.column_file import HEAD
+from domethyme.network.net_file import UNITS, load_network
 from domethyme_service import access, endpoints, osrm_request, parameters, worker, wsgi
 from domethyme_service.budget import Budget
 from domethyme_service.errors import RequestError

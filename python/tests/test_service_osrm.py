@@ -8,12 +8,14 @@ import time
 import urllib.parse
 
 from service_case import ServiceCase, lengths_from
-from tool_case import TOOLS
 from test_turns import STEP as CROSSING_STEP
 from test_turns import crossing
+from tool_case import TOOLS
 
+from domethyme.network.geo import parse_linestring
+from domethyme.network.reading import read_nodes
+from domethyme.network.tables import read_arcs
 from domethyme_service.osrm_tables import FEW_CELLS
-from domethyme.network.tables import parse_linestring, read_arcs, read_nodes
 
 METRES = math.pi / 180 * 6_371_008.8
 HIGH = "0.0003,0.00001;0.0077,-0.00002"

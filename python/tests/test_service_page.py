@@ -12,7 +12,8 @@ from service_case import ServiceCase
 from tool_case import PYTHON
 
 import domethyme
-from domethyme.network.tables import parse_linestring, read_arcs
+from domethyme.network.geo import parse_linestring
+from domethyme.network.tables import read_arcs
 
 PAGE = PYTHON / "domethyme_service/page"
 HIGH = "#0.0003,0.00001;0.0077,-0.00002"

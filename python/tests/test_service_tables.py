@@ -7,7 +7,7 @@ from service_case import ServiceCase
 from tool_case import ROOT
 
 import domethyme
-from domethyme.network.binary import UNITS, load_network
+from domethyme.network.net_file import UNITS, load_network
 from domethyme.sweeps import Sweeps
 from domethyme_service.dataset import DatasetPaths, open_dataset
 from domethyme_service.errors import StartupError
@@ -46,7 +46,7 @@ class TableTests(ServiceCase):
 
     def test_lengths_as_weights(self):
         """Weights of centimetres: distances are computed, and durations are sums along routes that the program is asked for."""
-        self.run_tool("osm_to_gr", self.map_file(), "v", "--islands", "--weight", "length")
+        self.run_tool("osm_to_gr", self.map_file(), "v", "--keep-islands", "--weight", "length")
         domethyme.prepare(self.folder / "v.gr", self.folder / "v.rch", workers=1).close()
         places = [(0.0005 * number, 0.00005) for number in range(12)] + [(0.02, 0.005)] * 2
         words = ";".join(f"{lon},{lat}" for lon, lat in places)

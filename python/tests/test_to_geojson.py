@@ -5,9 +5,10 @@ import json
 
 from tool_case import TOOLS, VILLAGE, ToolCase
 
-from domethyme.network.tables import metres_between, read_nodes
-from domethyme.texts import read_graph
 from domethyme import find_program
+from domethyme.dimacs import read_graph
+from domethyme.network.geo import metres_between
+from domethyme.network.reading import read_nodes
 
 # From 2 to 3 the second arc is the lightest, and the first of two as light; 4 can't be reached.
 NODES = "node,osm,lon,lat\n1,11,0,0\n2,12,0.001,0\n3,13,0.002,0\n4,14,0.003,0\n"
@@ -99,15 +100,15 @@ class Features(RoutesCase):
 
     def test_no_answers(self):
         for form in ("collection", "lines", "csv"):
-            words = ("net", "-", "--as", form, "-o", "routes")
+            words = ("net", "-", "--format", form, "-o", "routes")
             self.assert_refused("to_geojson", *words, given="", says="to_geojson: standard input: has no answer")
 
     def test_lines(self):
-        lines = self.routes_of(ANSWERS, "--as", "lines").splitlines()
+        lines = self.routes_of(ANSWERS, "--format", "lines").splitlines()
         self.assertEqual(list(map(json.loads, lines)), list(map(feature, [FORTH, BACK, NO_WAY, STAY], GEOMETRIES)))
 
     def test_without_steps(self):
-        found = json.loads(self.routes_of("r 1 3 300 2 1 2 3\n", "--no-steps", "--as", "lines"))
+        found = json.loads(self.routes_of("r 1 3 300 2 1 2 3\n", "--no-steps", "--format", "lines"))
         self.assertEqual(found["properties"], {name: FORTH[name] for name in FORTH if name != "steps"})
 
     def test_attribution(self):
@@ -116,7 +117,7 @@ class Features(RoutesCase):
 
     def test_csv(self):
         self.assertEqual(
-            self.routes_of("r 1 3 300 2 1 2 3\nn 1 4\n", "--as", "csv"),
+            self.routes_of("r 1 3 300 2 1 2 3\nn 1 4\n", "--format", "csv"),
             "from_node,to_node,length,arcs,seconds,metres,WKT\n"
             '1,3,300,2,30.003,231.45,"LINESTRING (0.0000000 0.0000000, 0.0010000 0.0000000, '
             '0.0015000 0.0010000, 0.0020000 0.0000000)"\n'
@@ -125,21 +126,21 @@ class Features(RoutesCase):
 
     def test_file(self):
         self.write("answers", "n 1 4\n")
-        self.run_tool("to_geojson", "net", "answers", "-o", "routes", "--as", "lines")
+        self.run_tool("to_geojson", "net", "answers", "-o", "routes", "--format", "lines")
         self.assertEqual(json.loads((self.folder / "routes").read_text()), feature(NO_WAY, None))
 
 
 class Trips(RoutesCase):
     def test_columns_are_kept(self):
         self.write("trips.csv", TRIPS)
-        lines = self.routes_of(ANSWERS, "--trips", "trips.csv", "--as", "lines").splitlines()
+        lines = self.routes_of(ANSWERS, "--trips", "trips.csv", "--format", "lines").splitlines()
         first, third = json.loads(lines[0])["properties"], json.loads(lines[2])["properties"]
         self.assertEqual(list(first.items())[:3], [("trip", "007"), ("seats", "two, or three"), ("from_node", 1)])
         self.assertEqual(third, {"trip": "third", "seats": "\u00e4", **NO_WAY})
 
     def test_columns_in_csv(self):
         self.write("trips.csv", TRIPS)
-        text = self.routes_of(ANSWERS, "--trips", "trips.csv", "--as", "csv")
+        text = self.routes_of(ANSWERS, "--trips", "trips.csv", "--format", "csv")
         rows = list(csv.reader(text.splitlines()))
         self.assertEqual(rows[0], ["trip", "seats", "from_node", "to_node", *"length arcs seconds metres WKT".split()])
         self.assertEqual(rows[1][:4], ["007", "two, or three", "1", "3"])
@@ -147,7 +148,7 @@ class Trips(RoutesCase):
 
     def test_snapped(self):
         self.write("snapped.csv", "from_node,trip,to_node,to_metres\n1,a,3,2.5\n")
-        words = ["--trips", "snapped.csv", "--as", "lines"]
+        words = ["--trips", "snapped.csv", "--format", "lines"]
         found = json.loads(self.routes_of("r 1 3 300 2 1 2 3\n", *words))["properties"]
         self.assertEqual(found, {"trip": "a", "to_metres": "2.5", **FORTH})
 
@@ -201,7 +202,7 @@ class BadInput(RoutesCase):
         self.assert_answer_refused("r 1 3 400 2 1 2 3", "has the length 400")
 
     def test_words(self):
-        for words in [[], ["net"], ["net", "-", "--as", "picture"]]:
+        for words in [[], ["net"], ["net", "-", "--format", "picture"]]:
             self.assertEqual(self.run_tool("to_geojson", *words, status=2).stdout, "")
         self.assertIn("--no-steps", self.run_tool("to_geojson", "--help").stdout)
 
@@ -212,12 +213,12 @@ class Village(ToolCase):
     PIPE = """
         "$TOOLS/nearest" village places.csv --matrix --snapped snapped.csv |
         "$ROUTECLI" route village.rch /dev/stdin |
-        "$TOOLS/to_geojson" village - --trips snapped.csv --as lines -o routes"""
+        "$TOOLS/to_geojson" village - --trips snapped.csv --format lines -o routes"""
 
     def setUp(self):
         super().setUp()
         self.program = find_program()
-        self.run_tool("osm_to_gr", VILLAGE, "village", "--islands", "--tables")
+        self.run_tool("osm_to_gr", VILLAGE, "village", "--keep-islands", "--tables")
         self.run_program([self.program, "prepare", "village.gr", "village.rch"])
         nodes = read_nodes(self.folder / "village.nodes.csv")
         self.places = [list(place) for place in zip(nodes.lon, nodes.lat)]

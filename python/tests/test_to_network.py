@@ -8,9 +8,11 @@ from service_case import ServiceCase
 from tool_case import VILLAGE, ToolCase
 
 import domethyme
-from domethyme.network import binary
-from domethyme.network.tables import read_arcs, read_nodes
-from domethyme.texts import unescape_formula, read_graph, escape_formula
+from domethyme.csv_tables import escape_formula, unescape_formula
+from domethyme.dimacs import read_graph
+from domethyme.network import net_file
+from domethyme.network.reading import read_nodes
+from domethyme.network.tables import read_arcs
 
 NODES = "node,lon,lat\ndepot,0,0\nshop,0.001,0\nfarm,0.001,0.002\n"
 ARCS = """\
@@ -30,7 +32,7 @@ class TableTests(ToolCase):
 
     def made(self, *words):
         self.run_tool("to_network", "nodes.csv", "arcs.csv", "net", *words)
-        return binary.read(str(self.folder / "net.net"))
+        return net_file.read(str(self.folder / "net.net"))
 
     def test_figures_by_hand(self):
         """111.195 m at 50 km/h are 8.006 s, and 222.39 m at 30 km/h 26.687 s."""
@@ -60,13 +62,13 @@ class TableTests(ToolCase):
         self.write("nodes.csv", "lat,lon,osm\n0,0,17\n0,0.001,\n0.002,0.001,-5\n")
         self.write("arcs.csv", "from,to,weight\n1,2,3\n3,1,4\n")
         network = self.made()
-        self.assertEqual(network.node_osm[:].tolist(), [17, binary.NO_OSM, -5])
+        self.assertEqual(network.node_osm[:].tolist(), [17, net_file.NO_OSM, -5])
         self.assertEqual((network.arc_from[:].tolist(), network.arc_to[:].tolist()), ([1, 3], [2, 1]))
         self.assertEqual(domethyme.Network(self.folder / "net").keys().node(17), 0)
 
     def test_tables_that_it_writes(self):
         self.made("--tables", "--attribution", "© Firm")
-        self.assertTrue(binary.is_current(str(self.folder / "net")))
+        self.assertTrue(net_file.is_current(str(self.folder / "net")))
         text = (self.folder / "net.arcs.csv").read_text()
         self.assertIn(",residential,'=Lane,", text)
         self.assertEqual([arc.name for arc in read_arcs(self.folder / "net.arcs.csv")], ["High Street", "High Street", "=Lane", "=Lane"])
@@ -77,7 +79,7 @@ class TableTests(ToolCase):
         self.assert_refused("to_network", "nodes.csv", "arcs.csv", "net", says="net.nodes.csv: is there, and isn't nodes.csv")
 
     def test_the_tables_of_a_map_give_its_network_again(self):
-        self.run_tool("osm_to_gr", VILLAGE, "v", "--islands", "--tables")
+        self.run_tool("osm_to_gr", VILLAGE, "v", "--keep-islands", "--tables")
         before = self.contents()
         self.run_tool("to_network", "v.nodes.csv", "v.arcs.csv", "v")
         after = self.contents()
@@ -179,9 +181,9 @@ class SafeTests(ToolCase):
         self.run_tool("nearest", "net", "trips.csv", "--snapped", "snapped.csv", "-o", "pairs")
         self.assertEqual((self.folder / "snapped.csv").read_text().splitlines()[1], "'=cmd|x,-0.001,0,0,0,1,0.0,2,0.0")
         self.write("answers", "r 1 2 7 1 1 2\n")
-        table = self.run_tool("to_geojson", "net", "answers", "--trips", "snapped.csv", "--as", "csv").stdout
+        table = self.run_tool("to_geojson", "net", "answers", "--trips", "snapped.csv", "--format", "csv").stdout
         self.assertTrue(table.splitlines()[1].startswith("'=cmd|x,-0.001,"), table)
-        lines = self.run_tool("to_geojson", "net", "answers", "--trips", "snapped.csv", "--as", "lines").stdout
+        lines = self.run_tool("to_geojson", "net", "answers", "--trips", "snapped.csv", "--format", "lines").stdout
         self.assertEqual(json.loads(lines)["properties"]["label"], "=cmd|x")
 
 
@@ -212,7 +214,7 @@ class WholeTests(ServiceCase):
     def test_a_file_that_is_damaged_while_it_is_served(self):
         """The block that is damaged is refused where a request needs it, and the service goes on."""
         network = self.folder / "v.net"
-        arrays, whole = binary.read(str(network)), network.read_bytes()
+        arrays, whole = net_file.read(str(network)), network.read_bytes()
         self.serve("--network", self.folder / "v")
         self.assertEqual(self.ask("/nearest/v1/car/0.0003,0.00001")[0], 200)
         place = whole.index(np.asarray(arrays.step_codes).tobytes())

@@ -1,4 +1,4 @@
-"""Tests of tool.py, texts.py and tables.py: files that are whole or as they were, tables, texts, and how tools end."""
+"""Tests of cli.py, csv_tables.py and tables.py: files that are whole or as they were, tables, texts, and how tools end."""
 import os
 import signal
 import stat
@@ -8,9 +8,9 @@ from unittest import mock
 
 from tool_case import PYTHON, TAKES_SIGNALS, ToolCase
 
-from domethyme import DomethymeError, files, find_program, texts
-from domethyme.lines import NO_WAY, RouteReply
-from domethyme.network import tables
+from domethyme import DomethymeError, atomic_files, csv_tables, dimacs, find_program
+from domethyme.network import geo, reading, tables
+from domethyme.protocol import NO_PATH, RouteReply
 
 
 class SharedCase(ToolCase):
@@ -28,7 +28,7 @@ class WholeFiles(SharedCase):
         self.paths = [self.folder / name for name in ("first", "second", "third")]
 
     def write_all(self, text):
-        with files.atomic_write_all(*self.paths) as opened:
+        with atomic_files.atomic_write_all(*self.paths) as opened:
             for file in opened:
                 file.write(text)
 
@@ -42,7 +42,7 @@ class WholeFiles(SharedCase):
 
     def test_nothing_is_seen_before_the_end(self):
         self.write_all("old")
-        with files.atomic_write_all(*self.paths) as opened:
+        with atomic_files.atomic_write_all(*self.paths) as opened:
             for file in opened:
                 file.write("new")
                 file.flush()
@@ -51,7 +51,7 @@ class WholeFiles(SharedCase):
 
     def test_an_exception_leaves_the_old_files(self):
         self.write_all("old")
-        with self.assertRaises(ZeroDivisionError), files.atomic_write_all(*self.paths) as opened:
+        with self.assertRaises(ZeroDivisionError), atomic_files.atomic_write_all(*self.paths) as opened:
             opened[0].write("new")
             raise ZeroDivisionError
         self.assertEqual(self.texts(), ["old"] * 3)
@@ -59,7 +59,7 @@ class WholeFiles(SharedCase):
 
     def test_where_one_can_not_take_its_name_all_are_as_they_were(self):
         self.paths[1].write_text("old", encoding="utf-8")
-        with self.assertRaises(OSError), files.atomic_write_all(*self.paths) as opened:
+        with self.assertRaises(OSError), atomic_files.atomic_write_all(*self.paths) as opened:
             opened[0].write("new")
             (self.paths[2] / "folder").mkdir(parents=True)
         self.assertEqual(self.contents(), {self.paths[1]: b"old"})
@@ -81,7 +81,7 @@ class WholeFiles(SharedCase):
         self.assertEqual(stat.S_IMODE(self.paths[0].stat().st_mode), 0o640)
 
     def test_a_device_is_written_straight(self):
-        with files.atomic_write("/dev/null") as file:
+        with atomic_files.atomic_write("/dev/null") as file:
             file.write("text")
         self.assertTrue(stat.S_ISCHR(os.stat("/dev/null").st_mode))
 
@@ -90,10 +90,12 @@ class Ends(SharedCase):
     """How a tool ends that calls run()."""
 
     def start(self, body, **streams):
-        text = "import sys\nsys.path.insert(0, sys.argv[1])\nfrom domethyme import files\nfrom domethyme_tools import tool\ndef main():\n"
-        script = self.write("tool", text + textwrap.indent(textwrap.dedent(body), "    ") + "\ntool.run(main)\n")
+        text = "import sys\nsys.path.insert(0, sys.argv[1])\nfrom domethyme import atomic_files\nfrom domethyme_tools import cli\ndef main():\n"
+        script = self.write("tool", text + textwrap.indent(textwrap.dedent(body), "    ") + "\ncli.run(main)\n")
         streams = {"stdout": subprocess.PIPE, "stderr": subprocess.PIPE, **streams}
-        return subprocess.Popen([*TAKES_SIGNALS, "/usr/bin/python3", script, PYTHON], cwd=self.folder, encoding="utf-8", **streams)
+        return subprocess.Popen(
+            [*TAKES_SIGNALS, "/usr/bin/python3", script, PYTHON], cwd=self.folder, encoding="utf-8", **streams
+        )
 
     def assert_ends(self, child, status, says):
         stdout, stderr = child.communicate(timeout=60)
@@ -104,9 +106,9 @@ class Ends(SharedCase):
         self.assertEqual(self.assert_ends(self.start("print('told')"), 0, ""), "told\n")
 
     def test_a_fault(self):
-        self.assert_ends(self.start("raise tool.Fault('is wrong', 'file', 3)"), 1, "tool: file, row 3: is wrong\n")
+        self.assert_ends(self.start("raise cli.ToolError('is wrong', 'file', 3)"), 1, "tool: file, row 3: is wrong\n")
         told = "tool: standard input: two lines\n"
-        self.assert_ends(self.start("raise tool.Fault('two\\nlines', '-', status=5)"), 5, told)
+        self.assert_ends(self.start("raise cli.ToolError('two\\nlines', '-', status=5)"), 5, told)
 
     def test_a_full_device(self):
         with open("/dev/full", "w", encoding="ascii") as full:
@@ -121,7 +123,7 @@ class Ends(SharedCase):
 
     def test_signals_leave_nothing(self):
         body = """
-            with files.whole_files('first', 'second'):
+            with atomic_files.atomic_write_all('first', 'second'):
                 print('ready', flush=True)
                 sys.stdin.read()
             """
@@ -134,8 +136,10 @@ class Ends(SharedCase):
             self.assertEqual(len(self.contents()), 1)
 
     def test_a_missing_module(self):
-        body = "with tool.packages():\n    import no_such_module\n"
-        says = "tool: Python's module no_such_module is missing: run tools/check_packages, and the tool by /usr/bin/python3\n"
+        body = "with cli.require_packages():\n    import no_such_module\n"
+        says = (
+            "tool: Python's module no_such_module is missing: run tools/check_packages, and the tool by /usr/bin/python3\n"
+        )
         self.assert_ends(self.start(body), 1, says)
 
 
@@ -143,7 +147,7 @@ class Tables(SharedCase):
     def rows(self, text, needed=("a", "b")):
         path = self.folder / "table.csv"
         path.write_bytes(text)
-        with texts.open_table(path, needed) as rows:
+        with csv_tables.open_table(path, needed) as rows:
             return rows.columns, list(rows)
 
     def assert_table_fault(self, says, text):
@@ -166,16 +170,18 @@ class Tables(SharedCase):
         self.assert_table_fault(", row 2: isn't CSV: unexpected end of data", b'a,b\n"1,2\n')
 
     def test_numbers(self):
-        self.assertEqual(texts.parse_int("-3", "n", "f", 1, -5, 5), -3)
-        self.assertEqual(texts.parse_int(b"007", "n", "f", 1), 7)
-        self.assertEqual(texts.parse_float("1.5e1", "n", "f", 1), 15.0)
+        self.assertEqual(csv_tables.parse_int("-3", "n", "f", 1, -5, 5), -3)
+        self.assertEqual(csv_tables.parse_int(b"007", "n", "f", 1), 7)
+        self.assertEqual(csv_tables.parse_float("1.5e1", "n", "f", 1), 15.0)
         for text in ("", "1_0", "1.0", "٣", "x" * 50, "9" * 5000):
             shown = repr(text if len(text) <= 40 else text[:40] + "..")
-            self.assert_fault(f"f, row 1: n {shown} is no whole number", texts.parse_int, text, "n", "f", 1)
-        self.assert_fault("f, row 1: n 6 isn't from 0 to 5", texts.parse_int, "6", "n", "f", 1, 0, 5)
-        self.assert_fault("f, row 1: lon '181' isn't from -180 to 180", texts.parse_float, "181", "lon", "f", 1, -180, 180)
-        self.assert_fault("f, row 1: n 'nan' is no finite number", texts.parse_float, "nan", "n", "f", 1)
-        self.assert_fault("f, row 1: n 'x' is no number", texts.parse_float, "x", "n", "f", 1)
+            self.assert_fault(f"f, row 1: n {shown} is no whole number", csv_tables.parse_int, text, "n", "f", 1)
+        self.assert_fault("f, row 1: n 6 isn't from 0 to 5", csv_tables.parse_int, "6", "n", "f", 1, 0, 5)
+        self.assert_fault(
+            "f, row 1: lon '181' isn't from -180 to 180", csv_tables.parse_float, "181", "lon", "f", 1, -180, 180
+        )
+        self.assert_fault("f, row 1: n 'nan' is no finite number", csv_tables.parse_float, "nan", "n", "f", 1)
+        self.assert_fault("f, row 1: n 'x' is no number", csv_tables.parse_float, "x", "n", "f", 1)
 
 
 class Networks(SharedCase):
@@ -197,13 +203,15 @@ class Networks(SharedCase):
             ("li.arcs.csv", "li.arcs.csv: name the network by the beginning of its files' names, li"),
         ]:
             self.assert_fault(says, tables.nodes_file, word)
-        self.assertEqual([tables.nodes_file(word) for word in ("li", "li.co", "li.co.gz")], ["li.nodes.csv", "li.co", "li.co.gz"])
+        self.assertEqual(
+            [tables.nodes_file(word) for word in ("li", "li.co", "li.co.gz")], ["li.nodes.csv", "li.co", "li.co.gz"]
+        )
 
     def test_nodes_there_and_back(self):
         nodes = tables.Nodes([5, None, -7], [-180.0, 0.1234567, 180.0], [-90.0, 0.0, 90.0], ["", "from", "no"])
-        with files.atomic_write(self.folder / "n.nodes.csv") as file:
+        with atomic_files.atomic_write(self.folder / "n.nodes.csv") as file:
             tables.write_nodes(file, nodes)
-        self.assertEqual(tables.read_nodes(self.folder / "n.nodes.csv"), nodes)
+        self.assertEqual(reading.read_nodes(self.folder / "n.nodes.csv"), nodes)
 
     def test_nodes_with_faults(self):
         head = "node,osm,lon,lat\n"
@@ -213,11 +221,11 @@ class Networks(SharedCase):
             (head + "1,x,0,0\n", ", row 2: osm 'x' isn't an integer"),
         ]
         for text, says in cases:
-            self.assert_text_fault(tables.read_nodes, "n.nodes.csv", text, says)
+            self.assert_text_fault(reading.read_nodes, "n.nodes.csv", text, says)
 
     def test_coordinates_of_dimacs(self):
         text = "c New York\np aux sp co 2\nv 2 -73530767 41085396\nv 1 -73530538 41086098\n"
-        nodes = self.write_and(tables.read_nodes, "ny.co", text)
+        nodes = self.write_and(reading.read_nodes, "ny.co", text)
         self.assertEqual(nodes, tables.Nodes([None, None], [-73.530538, -73.530767], [41.086098, 41.085396], ["", ""]))
         self.assertEqual(tables.nodes_file("ny.co"), "ny.co")
         self.assertEqual(tables.nodes_file("ny"), "ny.nodes.csv")
@@ -231,14 +239,14 @@ class Networks(SharedCase):
             ("p aux sp p2p 2\n", ", row 1: is no problem line `p aux sp co NUMBER`"),
         ]
         for text, says in cases:
-            self.assert_text_fault(tables.read_nodes, "n.co", text, says)
+            self.assert_text_fault(reading.read_nodes, "n.co", text, says)
 
     def test_arcs_there_and_back(self):
         arcs = [
             tables.Arc(1, 2, 16012, 16.012, 222.39, 101, "tertiary", 'High "Street", N', "LINESTRING (0 0, 1 1)"),
             tables.Arc(2, 1, 1, 0.0, 0.0, -5, "residential", "", "LINESTRING (1 1, 0 0)"),
         ]
-        with files.atomic_write(self.folder / "n.arcs.csv") as file:
+        with atomic_files.atomic_write(self.folder / "n.arcs.csv") as file:
             tables.write_arcs(file, arcs)
         self.assertEqual(list(tables.read_arcs(self.folder / "n.arcs.csv")), arcs)
 
@@ -251,18 +259,18 @@ class Networks(SharedCase):
 
     def test_lines(self):
         points = [(-0.0016667, 0.0), (9.5, 47.1878542)]
-        self.assertEqual(tables.format_linestring(points), "LINESTRING (-0.0016667 0.0000000, 9.5000000 47.1878542)")
-        self.assertEqual(tables.parse_linestring(tables.format_linestring(points)), points)
+        self.assertEqual(geo.format_linestring(points), "LINESTRING (-0.0016667 0.0000000, 9.5000000 47.1878542)")
+        self.assertEqual(geo.parse_linestring(geo.format_linestring(points)), points)
         bodies = ("(1 2)", "(1 2, 3)", "(1 2, 3 4", "EMPTY", "(1 2, 3 4) 5", "(1 2, 3 x)")
         for text in ("", "POINT (1 2, 3 4)", *(f"LINESTRING {body}" for body in bodies)):
-            self.assert_fault(f"f, row 7: WKT {text!r} is no line", tables.parse_linestring, text, "f", 7)
+            self.assert_fault(f"f, row 7: WKT {text!r} is no line", geo.parse_linestring, text, "f", 7)
 
     def test_graph_there_and_back(self):
-        with files.atomic_write(self.folder / "n.gr") as file:
-            texts.write_graph(file, 3, [(1, 2, 7), (1, 2, 8), (3, 3, 1)], ["a comment"])
+        with atomic_files.atomic_write(self.folder / "n.gr") as file:
+            dimacs.write_graph(file, 3, [(1, 2, 7), (1, 2, 8), (3, 3, 1)], ["a comment"])
         text = (self.folder / "n.gr").read_text(encoding="ascii")
         self.assertEqual(text, "c a comment\np sp 3 3\na 1 2 7\na 1 2 8\na 3 3 1\n")
-        self.assertEqual(texts.read_graph(self.folder / "n.gr"), texts.GraphLists(3, [1, 1, 3], [2, 2, 3], [7, 8, 1]))
+        self.assertEqual(dimacs.read_graph(self.folder / "n.gr"), dimacs.GraphLists(3, [1, 1, 3], [2, 2, 3], [7, 8, 1]))
 
     def test_graph_with_faults(self):
         cases = [
@@ -274,16 +282,16 @@ class Networks(SharedCase):
             ("p sp 2 1\np sp 2 1\n", ", row 2: is no line of a graph"),
         ]
         for text, says in cases:
-            self.assert_text_fault(texts.read_graph, "n.gr", text, says)
+            self.assert_text_fault(dimacs.read_graph, "n.gr", text, says)
 
     def test_pairs(self):
-        with files.atomic_write(self.folder / "pairs") as file:
-            texts.write_pairs(file, [(1, 2), (3, 3)])
+        with atomic_files.atomic_write(self.folder / "pairs") as file:
+            dimacs.write_pairs(file, [(1, 2), (3, 3)])
         self.assertEqual((self.folder / "pairs").read_text(encoding="ascii"), "p aux sp p2p 2\nq 1 2\nq 3 3\n")
 
     def test_answers(self):
-        answers = self.write_and(texts.read_answers, "answers", "r 1 2 9 2 1 5 2\nn 2 1\nr 3 3 0 0 3\n")
-        expected = [RouteReply(1, 2, 9, (1, 5, 2)), RouteReply(2, 1, NO_WAY, ()), RouteReply(3, 3, 0, (3,))]
+        answers = self.write_and(dimacs.read_answers, "answers", "r 1 2 9 2 1 5 2\nn 2 1\nr 3 3 0 0 3\n")
+        expected = [RouteReply(1, 2, 9, (1, 5, 2)), RouteReply(2, 1, NO_PATH, ()), RouteReply(3, 3, 0, (3,))]
         self.assertEqual(answers, expected)
 
     def test_answers_with_faults(self):
@@ -296,7 +304,7 @@ class Networks(SharedCase):
             ("r 1 2 9 1 1 3\n", ", row 1: has nodes that don't fit its pair and its number of arcs"),
         ]
         for text, says in cases:
-            self.assert_text_fault(texts.read_answers, "answers", text, says)
+            self.assert_text_fault(dimacs.read_answers, "answers", text, says)
 
 
 class Program(SharedCase):
@@ -327,9 +335,9 @@ class Program(SharedCase):
 class Earth(SharedCase):
     def test_distances(self):
         # a degree of a circle of radius 6371008.8 m; at 60 degrees north half of that
-        self.assertAlmostEqual(tables.metres_between(0, 0, 1, 0), 111195.080, 3)
-        self.assertAlmostEqual(tables.metres_between(7, -3, 7, -4), 111195.080, 3)
-        self.assertAlmostEqual(tables.metres_between(0, 60, 0.001, 60), 55.59754, 4)
-        self.assertAlmostEqual(tables.metres_between(179.5, 0, -179.5, 0), 111195.080, 3)
-        self.assertAlmostEqual(tables.metres_between(0, 90, 0, -90), 20015114.4, 0)
-        self.assertEqual(tables.metres_between(5, 5, 5, 5), 0)
+        self.assertAlmostEqual(geo.metres_between(0, 0, 1, 0), 111195.080, 3)
+        self.assertAlmostEqual(geo.metres_between(7, -3, 7, -4), 111195.080, 3)
+        self.assertAlmostEqual(geo.metres_between(0, 60, 0.001, 60), 55.59754, 4)
+        self.assertAlmostEqual(geo.metres_between(179.5, 0, -179.5, 0), 111195.080, 3)
+        self.assertAlmostEqual(geo.metres_between(0, 90, 0, -90), 20015114.4, 0)
+        self.assertEqual(geo.metres_between(5, 5, 5, 5), 0)

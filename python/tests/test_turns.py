@@ -1,10 +1,10 @@
 """Tests of turn restrictions: a crossing with figures by hand, relations of all kinds, and a search over turns."""
 from tool_case import VILLAGE, ToolCase
 
-from domethyme import NO_WAY, find_program
-from domethyme.network.tables import read_nodes
-from domethyme.texts import read_answers
-from domethyme_tools.turns import Member, Restriction, restrictions_of
+from domethyme import NO_PATH, find_program
+from domethyme.dimacs import read_answers
+from domethyme.network.reading import read_nodes
+from domethyme_tools.turn_restrictions import Member, Restriction, restrictions_of
 
 CAR = ["access", "vehicle", "motor_vehicle", "motorcar"]
 
@@ -37,11 +37,11 @@ class CrossingCase(ToolCase):
         self.said = self.run_tool("osm_to_gr", "map.osm", "map", "--tables", *options).stderr
         rows = [f"{x / 1000},{y / 1000}" for x, y in PLACES.values()]
         self.write("places.csv", "\n".join(["lon,lat", *rows]) + "\n")
-        self.run_tool("nearest", "map", "places.csv", "--matrix", "--within", "1", "-o", "pairs")
+        self.run_tool("nearest", "map", "places.csv", "--matrix", "--max-distance", "1", "-o", "pairs")
         self.write("answers", self.run_program([find_program(), "answer", "map.gr", "pairs"]).stdout)
         answers = iter(read_answers(self.folder / "answers"))
         found = {(start, end): next(answers).length for start in PLACES for end in PLACES}
-        return {pair: None if length == NO_WAY else length / STEP for pair, length in found.items()}
+        return {pair: None if length == NO_PATH else length / STEP for pair, length in found.items()}
 
     def free(self):
         """The steps where each turn may be taken."""
@@ -58,7 +58,9 @@ class CrossingTests(CrossingCase):
         # 4 arcs to the crossing lead to 2 nodes each; 4 lead on from where routes begin, and 3 for who came from the west
         self.assertIn("osm_to_gr: map: 7 nodes, 15 arcs, 0.4 km of road\n", self.said)
         self.assertEqual(sorted(read_nodes(self.folder / "map.nodes.csv").ends), ["", "", "", "", "from", "no", "to"])
-        self.assertEqual(self.lengths((2, 3, {"restriction": "no_left_turn"}), options=["--free-turns"]), self.free())
+        self.assertEqual(
+            self.lengths((2, 3, {"restriction": "no_left_turn"}), options=["--ignore-turn-restrictions"]), self.free()
+        )
 
     def test_only_one_turn(self):
         wanted = self.free() | {(2, 3): 4, (2, 5): 4}
@@ -73,7 +75,7 @@ class CrossingTests(CrossingCase):
     def test_a_street_that_can_be_left_by_turning_alone(self):
         # whoever comes from the west has to turn round: 2 leads to itself and to 1, where routes may end
         self.assertEqual(
-            self.lengths((2, 2, {"restriction": "only_u_turn"}), options=["--islands"]),
+            self.lengths((2, 2, {"restriction": "only_u_turn"}), options=["--keep-islands"]),
             self.free() | {(2, 3): None, (2, 4): None, (2, 5): None},
         )
 

@@ -9,6 +9,7 @@ import unittest
 HERE = pathlib.Path(__file__).resolve().parent
 ROOT = HERE.parents[1]
 PYTHON, TOOLS = ROOT / "python", ROOT / "tools"
+LONG = ROOT / "tests/long"
 VILLAGE = HERE / "village.osm"
 
 # Before the words of a program that is sent signals. What a test inherits may ignore them, as a shell's background job
@@ -24,8 +25,10 @@ class ToolCase(unittest.TestCase):
         self.addCleanup(shutil.rmtree, self.folder)
 
     def run_tool(self, tool, *words, status=0, given=None, environment=None):
-        """Runs a tool with the words, and `given` as its standard input, and wants the status. Texts are returned."""
-        return self.run_program([TOOLS / tool, *words], status, given, environment)
+        """Runs a tool, or a script of tests/long, with the words, and `given` as its standard input, and wants the status. Texts
+        are returned."""
+        folder = TOOLS if (TOOLS / tool).exists() else LONG
+        return self.run_program([folder / tool, *words], status, given, environment)
 
     def run_program(self, words, status=0, given=None, environment=None):
         ended = subprocess.run(

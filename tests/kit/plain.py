@@ -8,8 +8,8 @@ import heapq
 
 MAGICS = {1: b"RCH1", 2: b"RCH2"}
 LINK_BYTES = {1: 20, 2: 24}
-MOST_NODES = 1 << 25
-MOST_LINES = 1 << 27
+MAX_NODES = 1 << 25
+MAX_LINES = 1 << 27
 HEAVIEST = (1 << 32) - 1
 MOST_BYTES = 4096
 NONE = (1 << 32) - 1
@@ -44,7 +44,7 @@ def hierarchy_of(data):
     if len(data) < 24:
         raise Refused("Truncated")
     nodes, count, bound = number(data, 4, 4), number(data, 8, 8), number(data, 16, 8)
-    if nodes > MOST_NODES or count > nodes * (nodes - 1):
+    if nodes > MAX_NODES or count > nodes * (nodes - 1):
         raise Refused("TooBig")
     if bound > max(nodes - 1, 0) * HEAVIEST:
         raise Refused("BoundTooBig")
@@ -226,9 +226,9 @@ def read(text, entry, entry_fields, problem, sizes_of, entry_of):
 
 
 def graph_sizes(numbers, line):
-    if numbers[0] > MOST_NODES:
+    if numbers[0] > MAX_NODES:
         raise Refused(f"TooManyNodes line {line}")
-    if numbers[1] > MOST_LINES:
+    if numbers[1] > MAX_LINES:
         raise Refused(f"TooManyArcs line {line}")
     return numbers
 
@@ -251,7 +251,7 @@ def pairs_of(text, nodes):
     """The pairs that a text says, or its first fault."""
 
     def pair_sizes(numbers, line):
-        if numbers[0] > MOST_LINES:
+        if numbers[0] > MAX_LINES:
             raise Refused(f"TooManyArcs line {line}")
         return numbers
 

@@ -35,7 +35,7 @@ from kit.program import PROGRAM, ROOT, need_compiled, need_program
 
 KEPT = ROOT / "out/fuzz"
 SECONDS = 30
-MOST_NODES = 2000
+MAX_NODES = 2000
 TEXTS = 40
 NUMBERS = [0, 1, 2, 3, 7, 37, 38, 255, 256, 1 << 25, (1 << 25) + 1, (1 << 31) - 1, 1 << 31, (1 << 32) - 2, (1 << 32) - 1]
 DIGITS = [b"0", b"00", b"1", b"2", b"3", b"4294967295", b"4294967296", b"33554432", b"33554433", b"134217728"]
@@ -420,7 +420,7 @@ def is_right(command, inputs, ended):
     asked, refusal = wanted_answer(*inputs)
     if refusal is not None:
         return ended() == refusal
-    if asked[0] > MOST_NODES:
+    if asked[0] > MAX_NODES:
         return None
     return is_right_answer(asked, *ended())
 

@@ -1,8 +1,8 @@
 """The nearest point of a road that leads in a wanted direction, as OSRM's `bearings` ask for."""
 from typing import NamedTuple
 
+from .geo import Point, bearing
 from .snapping import Arc, RoadIndex, SnappedPoint, keep_lightest
-from .tables import Point, bearing
 
 # Of so many edges the directions are looked at, a few at first.
 FIRST_CANDIDATES, MAX_CANDIDATES = 8, 4096
@@ -18,14 +18,25 @@ class BearingRange(NamedTuple):
         return abs((direction - self.bearing + 180) % 360 - 180) <= self.tolerance
 
 
-def nearest_with_bearing(roads: RoadIndex, place: Point, count: int, bearing_range: BearingRange, max_metres: float) -> list[SnappedPoint]:
+def nearest_with_bearing(
+    roads: RoadIndex, place: Point, count: int, bearing_range: BearingRange, max_metres: float
+) -> list[SnappedPoint]:
     """The `count` nearest points of roads that lead that way there, no further off than `max_metres` metres. Routes begin there, and
     end there, in that direction alone."""
     limit = FIRST_CANDIDATES
     while True:
         snapped_points = roads.nearest(place, limit)
-        found = [restricted for snapped in snapped_points if (restricted := restrict_to_bearing(roads, snapped, bearing_range)) is not None]
-        if len(found) >= count or len(snapped_points) < limit or limit >= MAX_CANDIDATES or snapped_points[-1].metres > max_metres:
+        found = [
+            restricted
+            for snapped in snapped_points
+            if (restricted := restrict_to_bearing(roads, snapped, bearing_range)) is not None
+        ]
+        if (
+            len(found) >= count
+            or len(snapped_points) < limit
+            or limit >= MAX_CANDIDATES
+            or snapped_points[-1].metres > max_metres
+        ):
             return found[:count]
         limit *= 8
 
@@ -33,7 +44,9 @@ def nearest_with_bearing(roads: RoadIndex, place: Point, count: int, bearing_ran
 def restrict_to_bearing(roads: RoadIndex, snapped: SnappedPoint, bearing_range: BearingRange) -> SnappedPoint | None:
     """The point with those arcs of its edge that lead that way at it; None where none does."""
     arcs = roads.edge(snapped.edge).arcs.items()
-    kept = [(number, arc) for number, arc in arcs if bearing_range.contains(bearing_at(roads, number, arc, snapped.fraction))]
+    kept = [
+        (number, arc) for number, arc in arcs if bearing_range.contains(bearing_at(roads, number, arc, snapped.fraction))
+    ]
     if not kept:
         return None
     exits: dict[int, tuple[int, int]] = {}

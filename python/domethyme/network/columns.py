@@ -1,8 +1,8 @@
 """The columns of a user's own tables: which are meant by names in other letters, or by common ones, and which aren't used."""
 from collections.abc import Callable, Iterable, Mapping
 
+from ..csv_tables import Table, alike, need_columns
 from ..errors import NetworkError
-from ..texts import Table, alike, need_columns
 
 # By the name of a column the other names that are taken for it.
 OF_NODES: Mapping[str, tuple[str, ...]] = {

@@ -13,8 +13,8 @@ from shapely.geometry.polygon import orient
 from shapely.ops import unary_union
 from shapely.prepared import prep
 
+from .geo import Point
 from .reach import DECIMALS, METRES_OF_DEGREE
-from .tables import Point
 
 Ring = tuple[Point, ...]
 # How often a tolerance is halved, until contours are valid and lie within one another.

@@ -17,9 +17,10 @@ from typing import Any, NamedTuple
 import numpy as np
 from numpy.typing import NDArray
 
+from .geo import EARTH_RADIUS
+from .groups import Ints as Ints, expand
+from .parallel import differs_from_previous, parallel_sort
 from .sphere import Floats
-from .tables import EARTH_RADIUS
-from .threads import differs_from_previous, parallel_sort
 
 BAND_SHIFT = 32
 # Of a cell's column and of a thing, where both are packed in 64 bits with the cell's band. The lowest bands, of 0.0025 degrees, are
@@ -37,7 +38,6 @@ WIDE_DEGREES = 0.5
 MAX_SPAN_IN_BANDS = 8
 HALF_WAY_ROUND = math.pi * EARTH_RADIUS
 
-Ints = NDArray[np.int64]
 # By an array of different things the metres to each, or infinity.
 DistanceFunction = Callable[[Ints], Floats]
 # The same by numbers of places, and for each a thing.
@@ -76,16 +76,19 @@ class Grid(NamedTuple):
         half = np.where(has_pole, 180.0, np.degrees(np.arcsin(sine / np.maximum(away, 1e-300))))[which]
         if span.max(initial=0) > WIDE_DEGREES:
             half = np.minimum(half, half_widths(lat[which], angle[which], bands * self.height - 90, self.height))
-        west, east = (np.floor((side + 180) / 360 * counts).astype(np.int64) for side in (lon[which] - half, lon[which] + half))
+        west, east = (
+            np.floor((side + 180) / 360 * counts).astype(np.int64) for side in (lon[which] - half, lon[which] + half)
+        )
         is_all = east - west >= counts - 1
         west, east = np.where(is_all, 0, west), np.where(is_all, counts - 1, east)
-        # what lies beyond a side of the band comes again at its other one
+        # rows with their first and last columns: what is beyond a side of the band comes again at its other one
         before, beyond = np.flatnonzero(west < 0), np.flatnonzero(east >= counts)
-        rows = np.concatenate((np.arange(len(bands)), before, beyond))
-        lows = np.concatenate((np.maximum(west, 0), (west + counts)[before], np.zeros(len(beyond), np.int64)))
-        highs = np.concatenate((np.minimum(east, counts - 1), (counts - 1)[before], (east - counts)[beyond])) + 1
-        band = bands[rows] << BAND_SHIFT
-        return which[rows], band + lows, band + highs
+        inside = np.arange(len(bands)), np.maximum(west, 0), np.minimum(east, counts - 1)
+        past_west = before, (west + counts)[before], (counts - 1)[before]
+        past_east = beyond, np.zeros(len(beyond), np.int64), (east - counts)[beyond]
+        row, low, high = map(np.concatenate, zip(inside, past_west, past_east))
+        band = bands[row] << BAND_SHIFT
+        return which[row], band + low, band + high + 1
 
     @property
     def initial_radius(self) -> float:
@@ -99,7 +102,7 @@ class Grid(NamedTuple):
         first, and of equally near ones the lesser number. There are fewer only where there are no more. `step` is called for each
         circle that is looked at, and for each part of the things in it; what it raises ends the search.
 
-        A circle with more things than CROWD, and more than twice as many as the last one, is narrowed, down to a metre beyond what is
+        A circle with more things than MAX_CANDIDATES, and more than twice as many as the last one, is narrowed, down to a metre beyond what is
         known. So each circle is wider than the last, and few are looked at however many things there are.
         """
         known, reach, most = 0.0, self.initial_radius, MAX_CANDIDATES
@@ -113,11 +116,11 @@ class Grid(NamedTuple):
                 slices = self._slices_around(place, reach)
             most = max(MAX_CANDIDATES, 2 * size_of(slices))
             found = self._nearest_in(slices, count, metres, step)
-            is_full = len(found) == count
-            if is_full and found[-1][0] <= reach or reach >= HALF_WAY_ROUND:
+            farthest = found[-1][0] if len(found) == count else math.inf
+            if farthest <= reach or reach >= HALF_WAY_ROUND:
                 return found
-            known = reach
-            reach = min(found[-1][0] if is_full else max(wide, 4 * reach), HALF_WAY_ROUND)
+            further = farthest if farthest < math.inf else max(wide, 4 * reach)
+            known, reach = reach, min(further, HALF_WAY_ROUND)
 
     def _nearest_in(
         self, slices: list[tuple[int, int]], count: int, metres: DistanceFunction, step: Callable[[], object]
@@ -201,7 +204,9 @@ class Grid(NamedTuple):
                 left = self._resolve_nearby(lon[part], lat[part], shift_indices(metres, begin), nodes[part], away[part])
             for row in (left + begin).tolist():
                 place = np.array([row])
-                found = self.nearest((float(lon[row]), float(lat[row])), 1, lambda some: metres(np.repeat(place, len(some)), some))
+                found = self.nearest(
+                    (float(lon[row]), float(lat[row])), 1, lambda some: metres(np.repeat(place, len(some)), some)
+                )
                 if found:
                     away[row], nodes[row] = found[0]
         return nodes, away
@@ -238,8 +243,8 @@ def shift_indices(metres: PairDistanceFunction, begin: int) -> PairDistanceFunct
 
 def concat_ranges(begins: NDArray[Any], counts: NDArray[Any]) -> tuple[Ints, Ints]:
     """All numbers from begins[k], counts[k] of them, for each k in a row; and k for each of them, which comes first."""
-    which = np.arange(len(counts)).repeat(counts)
-    return which, np.arange(len(which)) - (counts.cumsum() - counts - begins).repeat(counts)
+    owner, position = expand(counts)
+    return owner, begins[owner] + position
 
 
 def half_widths(lat: Floats, angle: Floats, south: Floats, height: float) -> Floats:

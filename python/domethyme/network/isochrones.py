@@ -11,8 +11,8 @@ from shapely.geometry import Polygon
 
 from .contour_shapes import denoised, generalized, split
 from .contours import contours
+from .geo import Point
 from .reach import Reach
-from .tables import Point
 
 # Of the palette of Okabe and Ito (Color Universal Design, 2008), whose colours differ for the colour-blind.
 COLORS = ("0072B2", "E69F00", "009E73", "CC79A7")

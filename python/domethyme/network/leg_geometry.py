@@ -7,12 +7,12 @@ from typing import TypedDict
 import numpy as np
 from numpy.typing import NDArray
 
-from .binary import UNITS
-from .index import wrapped_difference
+from .geo import bearing
+from .indexes import wrapped_difference
 from .legs import Leg
+from .net_file import UNITS
 from .network import Floats
 from .snapping import RoadIndex
-from .tables import bearing
 
 MICRODEGREES = 1_000_000
 
@@ -67,7 +67,11 @@ class LegGeometry:
         is_other = np.ones(len(shown), dtype=bool)
         is_other[1:] = (shown[1:, 0] != shown[:-1, 0]) | (shown[1:, 1] != shown[:-1, 1])
         places = is_other.cumsum() - 1
-        return (shown[is_other] / MICRODEGREES).tolist(), places[self.begins[:-1]].tolist(), places[self.begins[1:] - 1].tolist()
+        return (
+            (shown[is_other] / MICRODEGREES).tolist(),
+            places[self.begins[:-1]].tolist(),
+            places[self.begins[1:] - 1].tolist(),
+        )
 
     def line(self, first: int, last: int) -> list[list[float]]:
         """The points of the arcs from one to before another, to six places, without one that follows itself; two at least."""
@@ -89,7 +93,10 @@ class LegGeometry:
 
     def _end_bearing(self, arc_index: int, step: int) -> int:
         """The direction at an end of an arc whose first step there has no length."""
-        line = [(lon / UNITS, lat / UNITS) for lon, lat in self.points[self.begins[arc_index] : self.begins[arc_index + 1]].tolist()]
+        line = [
+            (lon / UNITS, lat / UNITS)
+            for lon, lat in self.points[self.begins[arc_index] : self.begins[arc_index + 1]].tolist()
+        ]
         ordered = line[::step]
         other = next((point for point in ordered if point != ordered[0]), ordered[0])
         return bearing(*(ordered[0], other)[::step])
@@ -104,7 +111,9 @@ class LegGeometry:
     def figures(self, first: int, last: int) -> Figures:
         """The weight, seconds and metres of the arcs from one to before another."""
         weights, seconds, metres = self.prefix_sums
-        return make_totals(self.roads, weights[last] - weights[first], seconds[last] - seconds[first], metres[last] - metres[first])
+        return make_totals(
+            self.roads, weights[last] - weights[first], seconds[last] - seconds[first], metres[last] - metres[first]
+        )
 
 
 def make_totals(roads: RoadIndex, weight: int, seconds: float, metres: float) -> Figures:

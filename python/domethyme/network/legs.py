@@ -7,7 +7,7 @@ is asked for. So the least of all these is least in the graph that is cut.
 from typing import NamedTuple, Protocol
 
 from ..errors import NetworkError
-from ..lines import RouteReply
+from ..protocol import RouteReply
 from .snapping import NO_ARC, RoadIndex, SnappedPoint
 
 # Where a way begins or ends: nodes, and the weight and arc that lead there.
@@ -37,7 +37,9 @@ EMPTY_LEG = Leg(0, [], [], 0.0, 1.0)
 
 def find_leg(queries: Questions, roads: RoadIndex, start: SnappedPoint, end: SnappedPoint) -> Leg | None:
     """The leg between two points; None where there is no way. Raises NetworkError."""
-    return EMPTY_LEG if is_same_node(start, end) else choose_leg(roads, start, end, queries.between(start.exits, end.entries))
+    return (
+        EMPTY_LEG if is_same_node(start, end) else choose_leg(roads, start, end, queries.between(start.exits, end.entries))
+    )
 
 
 def leg_weight(queries: Questions, roads: RoadIndex, start: SnappedPoint, end: SnappedPoint) -> int | None:

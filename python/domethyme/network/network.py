@@ -9,21 +9,24 @@ import numpy as np
 from numpy.typing import ArrayLike, NDArray
 
 from .. import belonging
+from ..csv_tables import unescape_formula
+from ..deprecated import side_of
 from ..errors import NetworkError
 from ..extras import need
-from ..hierarchy import Route, Rows
 from ..keys import Keys, parse_key
 from ..links import Links
 from ..program import StrPath
+from ..route import Route, Rows
 from ..routes import Routes
-from ..texts import unescape_formula
-from . import binary, index, own
-from .binary import NO_OSM, UNITS
+from . import from_tables, indexes, net_file
+from .geo import Point, to_geojson_geometry
 from .grid import Grid
+from .net_file import NO_OSM, UNITS
+from .reading import arcs_from_net, mapped_if_current, read_nodes
 from .sphere import Floats as Floats, great_circle_metres, unit_vectors
 from .tables import (
-    ALL_ARC_COLUMNS, ARC_COLUMNS, ENDS, KEY, NODE_COLUMNS, Files, Point, Side, arcs_file, arcs_from_net, mapped_if_current, to_geojson_geometry,
-    has_columns, is_coordinates, need_nodes, read_nodes,
+    ALL_ARC_COLUMNS, ARC_COLUMNS, ENDS, KEY, NODE_COLUMNS, Files, Side, arcs_file, has_columns, is_coordinates,
+    need_nodes
 )
 
 
@@ -64,7 +67,9 @@ class Network:
             return Keys([parse_key(key) for key in keys])
         osm = [None if each == NO_OSM else each for each in self._places.osm[:].tolist()]
         if all(each is None for each in osm):
-            raise NetworkError("its nodes have no keys: they are in the column node, or osm, of the table of nodes", self.prefix)
+            raise NetworkError(
+                "its nodes have no keys: they are in the column node, or osm, of the table of nodes", self.prefix
+            )
         return Keys.of_rows(osm, [ENDS[each] for each in self._places.ends[:].tolist()])
 
     def nodes_frame(self) -> Any:
@@ -99,20 +104,24 @@ class Network:
         return frame.assign(**{end: frame[end] - 1 for end in ("from", "to")})
 
     @overload
-    def nearest(self, lon: float, lat: float, end: bool = False) -> tuple[int, float]: ...
+    def nearest(self, lon: float, lat: float, side: Side | bool = "from", *, end: bool | None = None) -> tuple[int, float]: ...
     @overload
-    def nearest(self, lon: Rows, lat: Rows, end: bool = False) -> tuple[NDArray[np.int64], Floats]: ...
-    def nearest(self, lon: ArrayLike, lat: ArrayLike, end: bool = False) -> tuple[Any, Any]:
+    def nearest(
+        self, lon: Rows, lat: Rows, side: Side | bool = "from", *, end: bool | None = None
+    ) -> tuple[NDArray[np.int64], Floats]: ...
+    def nearest(
+        self, lon: ArrayLike, lat: ArrayLike, side: Side | bool = "from", *, end: bool | None = None
+    ) -> tuple[Any, Any]:
         """The node nearest to each place, from 0, and how many metres away it is along the great circle, on a sphere of
-        6,371,008.8 m: of those where routes may begin, or with `end` of those where they may end, which differ at junctions
-        with turn restrictions. Two numbers give an int and a float, two arrays of one shape give two arrays of that shape.
+        6,371,008.8 m: of those where routes may begin, or with side="to" of those where they may end, which differ at
+        junctions with turn restrictions. Two numbers give an int and a float, two arrays of one shape give two arrays of that shape.
         Raises ValueError for what are no degrees."""
         east, north = np.broadcast_arrays(np.asarray(lon, float), np.asarray(lat, float))
         if not (np.isfinite(east).all() and np.isfinite(north).all()):
             raise ValueError("lon and lat have to be numbers of degrees")
         if (np.abs(east) > 180).any() or (np.abs(north) > 90).any():
             raise ValueError("lon has to be from -180 to 180 and lat from -90 to 90: are they in each other's place?")
-        nodes, away = self._places.nearest(east.ravel(), north.ravel(), "to" if end else "from")
+        nodes, away = self._places.nearest(east.ravel(), north.ravel(), side_of(side, end))
         if east.ndim == 0:
             return int(nodes[0]), float(away[0])
         return nodes.reshape(east.shape), away.reshape(east.shape)
@@ -154,7 +163,9 @@ class Network:
         """The lightest arc from each of the nodes, from 0, to the next."""
         line = np.array(nodes, dtype=np.int64) + 1
         if line.min() < 1 or line.max() > len(self._arrays.node_osm):
-            raise NetworkError(f"a route has a node that it hasn't: it has {len(self._arrays.node_osm)} nodes", self._files.arcs)
+            raise NetworkError(
+                f"a route has a node that it hasn't: it has {len(self._arrays.node_osm)} nodes", self._files.arcs
+            )
         arcs: list[int] = self._arrays.lightest(line[:-1], line[1:]).tolist()
         if -1 in arcs:
             start, end = nodes[arcs.index(-1) :][:2]
@@ -170,8 +181,8 @@ class Network:
             belonging.need_nodes(name, Links.of(file, name).nodes, self.prefix, len(self._places.lon))
 
     @functools.cached_property
-    def _arrays(self) -> binary.MappedNetwork:
-        return own.load_network_or_dimacs(self.prefix)
+    def _arrays(self) -> net_file.MappedNetwork:
+        return from_tables.load_network_or_dimacs(self.prefix)
 
     @functools.cached_property
     def _places(self) -> "NodeIndex":
@@ -186,24 +197,29 @@ class NodeIndex:
     """
 
     def __init__(
-        self, osm: Any, lon: Any, lat: Any, ends: Any, grid: Grid, path: StrPath, of: binary.MappedNetwork | Sequence[str] = ()
+        self, osm: Any, lon: Any, lat: Any, ends: Any, grid: Grid, path: StrPath,
+        of: net_file.MappedNetwork | Sequence[str] = ()
     ) -> None:
         """`of` is the network's file, or where the nodes are of a table or of a DIMACS file alone the keys that they have."""
         self.osm, self.lon, self.lat, self.ends, self._grid, self._path = osm, lon, lat, ends, grid, path
         self._of = of
 
     @classmethod
-    def of(cls, arrays: binary.MappedNetwork) -> "NodeIndex":
+    def of(cls, arrays: net_file.MappedNetwork) -> "NodeIndex":
         """Those of a mapped file."""
-        return cls(arrays.node_osm, arrays.node_lon, arrays.node_lat, arrays.node_ends, arrays.node_grid, arrays.path, arrays)
+        return cls(
+            arrays.node_osm, arrays.node_lon, arrays.node_lat, arrays.node_ends, arrays.node_grid, arrays.path, arrays
+        )
 
     def origin(self, name: str) -> belonging.Origin:
         """What pairs of these nodes say of their network, whose name is given."""
-        return belonging.Origin(name, len(self.lon), len(self._of.arc_from) if isinstance(self._of, binary.MappedNetwork) else None)
+        return belonging.Origin(
+            name, len(self.lon), len(self._of.arc_from) if isinstance(self._of, net_file.MappedNetwork) else None
+        )
 
     def keys(self) -> Sequence[str]:
         """The keys of the nodes, none where they have none."""
-        return self._of.keys() if isinstance(self._of, binary.MappedNetwork) else self._of
+        return self._of.keys() if isinstance(self._of, net_file.MappedNetwork) else self._of
 
     def nearest(self, lon: Floats, lat: Floats, side: Side) -> tuple[NDArray[np.int64], Floats]:
         """The nearest node to each place in degrees, from 0, of those where routes may begin (`from`) or end (`to`), and the metres
@@ -239,17 +255,17 @@ def load_node_index(word: StrPath) -> NodeIndex:
     if arrays is not None:
         return NodeIndex.of(arrays)
     nodes = read_nodes(path)
-    lon, lat = binary.to_units(nodes.lon, 180), binary.to_units(nodes.lat, 90)
+    lon, lat = net_file.to_units(nodes.lon, 180), net_file.to_units(nodes.lat, 90)
     ends = np.array([ENDS.index(each) for each in nodes.ends], dtype=np.uint8)
     osm = np.array([NO_OSM if each is None else each for each in nodes.osm], dtype=np.int64)
-    return NodeIndex(osm, lon, lat, ends, index.node_grid(lon, lat), path, nodes.keys)
+    return NodeIndex(osm, lon, lat, ends, indexes.node_grid(lon, lat), path, nodes.keys)
 
 
 def iter_routes(routes: "Route | Routes") -> Iterator[tuple[tuple[Any, Any], int | None, list[int], bool]]:
     """For each route its ends, its length or None, its nodes from 0, and whether the length is that of its arcs alone."""
     if isinstance(routes, Route):
-        yield (routes.source, routes.target), routes.length, routes.numbers, False
+        yield (routes.source, routes.target), routes.length, routes.node_indices, False
         return
     for row, (pair, length) in enumerate(zip(routes.pairs.tolist(), routes.lengths.tolist())):
         ends = pair if routes.keys is None else [routes.keys.key(node) for node in pair]
-        yield (ends[0], ends[1]), None if length < 0 else length, routes.numbers(row).tolist(), True
+        yield (ends[0], ends[1]), None if length < 0 else length, routes.node_indices(row).tolist(), True

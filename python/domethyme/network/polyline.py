@@ -4,8 +4,8 @@ from collections.abc import Iterable, Sequence
 
 import numpy as np
 
+from .geo import Point
 from .network import Floats
-from .tables import Point
 
 # Points (lon, lat), as lists.
 Line = list[list[float]]

@@ -13,12 +13,12 @@ from typing import NamedTuple, Protocol
 import numpy as np
 from numpy.typing import NDArray
 
-from .binary import UNITS, MappedNetwork
+from .from_tables import FARTHEST_END
+from .geo import EARTH_RADIUS, Point, split_at_antimeridian
 from .grid import Grid, Ints, concat_ranges
-from .index import wrapped_difference
-from .own import FARTHEST_END
+from .indexes import wrapped_difference
+from .net_file import UNITS, MappedNetwork
 from .sphere import Floats, great_circle_metres, unit_vectors
-from .tables import EARTH_RADIUS, Point, split_at_antimeridian
 
 METRES_OF_DEGREE = EARTH_RADIUS * np.pi / 180
 # Edges that are worked on together.
@@ -171,7 +171,8 @@ class Reach:
     """
 
     def __init__(
-        self, network: MappedNetwork, lengths: Ints, limits: Sequence[int], places: Sequence[PlaceOnRoad] = (), towards: bool = False,
+        self, network: MappedNetwork, lengths: Ints, limits: Sequence[int], places: Sequence[PlaceOnRoad] = (),
+        towards: bool = False,
     ) -> None:
         """Raises ValueError for arguments that don't fit, and NetworkError if the network's file is damaged.
 

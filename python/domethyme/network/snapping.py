@@ -16,13 +16,14 @@ import numpy as np
 from numpy.typing import NDArray
 
 from ..errors import NetworkError
-from .binary import NO_OSM, TEXTS, UNITS, MappedNetwork, load_network
+from .column_file import Column
+from .geo import Point, metres_between
 from .grid import Ints, concat_ranges
-from .mapped import Column
+from .net_file import NO_OSM, TEXTS, UNITS, MappedNetwork, load_network
 from .network import NodeIndex
+from .parallel import differs_from_previous
 from .sphere import Floats, interpolate_one, nearest_on_segments
-from .tables import ENDS, Point, metres_between
-from .threads import differs_from_previous
+from .tables import ENDS
 
 END_TOLERANCE = 0.005
 NO_ARC = -1
@@ -277,7 +278,10 @@ def split_by_points(edges: Ints, begins: Column) -> Iterator[Ints]:
         yield edges
         return
     sums = np.cumsum(begins[edges + 1] - begins[edges])
-    yield from np.split(edges, np.unique(np.searchsorted(sums, np.arange(SEGMENTS_PER_BATCH, int(sums[-1]), SEGMENTS_PER_BATCH), side="right")))
+    yield from np.split(
+        edges,
+        np.unique(np.searchsorted(sums, np.arange(SEGMENTS_PER_BATCH, int(sums[-1]), SEGMENTS_PER_BATCH), side="right")),
+    )
 
 
 def keep_lightest(found: dict[int, tuple[int, int]], node: int, weight: int, arc: int) -> None:

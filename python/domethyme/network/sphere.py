@@ -7,7 +7,7 @@ import math
 import numpy as np
 from numpy.typing import ArrayLike, NDArray
 
-from .tables import EARTH_RADIUS, Point
+from .geo import EARTH_RADIUS, Point
 
 Floats = NDArray[np.float64]
 # The cosine of the angle, of some 12 km, within which a plane stands for the earth.
@@ -88,7 +88,9 @@ def nearest_on_segments(place: Floats, ways: Floats) -> tuple[Floats, Floats]:
     """
     east, north, up = local_components(place, ways)
     if up.min() < COS_FLAT:
-        return nearest_on_segments_far(unit_vectors(place[..., 0], place[..., 1]), *unit_vectors(ways[..., 0], ways[..., 1]))
+        return nearest_on_segments_far(
+            unit_vectors(place[..., 0], place[..., 1]), *unit_vectors(ways[..., 0], ways[..., 1])
+        )
     (x, other_x), (y, other_y) = east / up, north / up
     step_x, step_y = other_x - x, other_y - y
     squares = np.maximum(step_x * step_x + step_y * step_y, 1e-300)

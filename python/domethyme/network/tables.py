@@ -1,11 +1,11 @@
-"""A network: the files of its nodes and arcs, and where they lie on the earth.
+"""The tables of a network, NETWORK.nodes.csv and NETWORK.arcs.csv, and the names of its files.
 
 A network is files with one beginning of their names, NETWORK:
 
     NETWORK.gr          the graph, in the format of docs/FORMATS.md
     NETWORK.nodes.csv   node, osm, lon, lat, ends: where node 1, 2, .. is, in degrees; `osm` is empty for a point
                         between; `ends` is empty, or says that routes begin there alone (from), end there alone (to) or
-                        neither (no), as turns.py has it
+                        neither (no), as turn_restrictions.py of the tools has it
     NETWORK.arcs.csv    from, to, weight, seconds, metres, osm, highway, name, ref, junction, destination, structure, WKT:
                         a row for each arc of the graph, in the graph's order; structure is tunnel, bridge or empty, WKT
                         its line, longitude first
@@ -18,39 +18,28 @@ WGS 84; no tool here reads them. The columns ends, ref, junction, destination an
     Files(prefix)                `.path`, `.graph`, `.nodes`, `.arcs`, `.binary`: the paths; `.forms`: those for GDAL and their texts
     is_coordinates(word), graph_of(word), paths_of(word)    a DIMACS file X.co; the graph of a network; all its files
     is_written_by_tools(table, columns)             whether a table begins as those that the tools write
-    read_nodes(path)             Nodes(osm, lon, lat, ends): lists, node n at n - 1; of a .nodes.csv or a DIMACS .co file
-    nodes_file(word)             the path that a tool's word NETWORK means to read_nodes: NETWORK.nodes.csv, or a .co file
+    read_node_table(path)        Nodes(osm, lon, lat, ends): lists, node n at n - 1
+    nodes_file(word)             the path of the nodes that a tool's argument NETWORK means: NETWORK.nodes.csv, or a .co file
     write_nodes(file, nodes)     the rows of .nodes.csv
-    read_arcs(path)              yields Arcs; rows_of_arcs yields their rows in the file too
-    arcs_of(word)                the arcs that a tool's word NETWORK means: of .arcs.csv, or of X.gr for a DIMACS file X.co
+    read_arcs(path)              yields Arcs; iter_arc_rows yields their rows in the file too
     write_arcs(file, arcs)       the rows of .arcs.csv
     lightest(arcs)               {(start, end): the first arc of the least weight between them}
-    points_of(wkt, path, row), wkt_of(points)       [(lon, lat), ..] and back
-    parted(line), geometry_of(line), parted_wkt(line)    a line that may cross the 180th meridian: its parts, as GeoJSON, as WKT
-    attribution_of(network)      what the data asks to be said wherever it is shown, "" for nothing: the comment of the
+    read_attribution(network)    what the data asks to be said wherever it is shown, "" for nothing: the comment of the
                                  graph that `osm_to_gr --attribution` wrote. OSM_ATTRIBUTION is that of OpenStreetMap.
-    metres_between(lon, lat, lon, lat)              along the great circle, on a sphere of EARTH_RADIUS metres
-    bearing(point, point)                           the direction from a point to a near one
 """
 import csv
 import errno
 import itertools
-import math
 import os
 import re
 from collections.abc import Iterable, Iterator, Sequence
-from typing import IO, TYPE_CHECKING, Any, Literal, NamedTuple
+from typing import IO, Literal, NamedTuple
 
+from ..csv_tables import escape_formula, excerpt, open_input, open_table, parse_float, parse_int
 from ..errors import NetworkError
+from ..limits import MAX_NODES
 from ..program import StrPath
-from ..texts import (
-    MOST_NODES, dimacs_lines, parse_float, parse_problem_line, read_graph, open_input, escape_formula, excerpt, open_table, parse_int
-)
 
-if TYPE_CHECKING:
-    from . import binary
-
-EARTH_RADIUS = 6_371_008.8
 OSM_ATTRIBUTION = "© OpenStreetMap contributors (ODbL 1.0)"
 ATTRIBUTION_COMMENT = "c attribution: "
 NODE_COLUMNS = ("node", "osm", "lon", "lat")
@@ -74,9 +63,7 @@ WRONG_SUFFIXES = {
     ".net": "name the network by the beginning of its files' names, {0}",
 }
 ENDS = ("", "from", "to", "no")
-CHUNK = 1 << 14
 Side = Literal["from", "to"]
-Point = tuple[float, float]
 
 
 class Files:
@@ -129,7 +116,10 @@ def is_written_by_tools(path: StrPath, columns: Sequence[str]) -> bool:
     """Whether a table begins with the columns that the tools write, and maybe the keys of nodes, so it isn't a user's own."""
     try:
         with open(path, "rb") as file:
-            return file.readline(1 << 16).decode("utf-8", "replace").strip() in (",".join(columns), ",".join([*columns, KEY]))
+            return file.readline(1 << 16).decode("utf-8", "replace").strip() in (
+                ",".join(columns),
+                ",".join([*columns, KEY]),
+            )
     except OSError:
         return False
 
@@ -184,47 +174,6 @@ def need_nodes(word: StrPath) -> str:
     return path
 
 
-def read_nodes(path: StrPath) -> Nodes:
-    """The nodes of a .nodes.csv file, by the binary form beside it where that is current, or of a DIMACS .co file by its
-    ending."""
-    if is_coordinates(path):
-        return read_coordinates(path)
-    arrays = mapped_if_current(os.fspath(path).removesuffix(".nodes.csv")) if str(path).endswith(".nodes.csv") else None
-    return read_node_table(path) if arrays is None else nodes_from_net(arrays)
-
-
-def mapped_if_current(prefix: str) -> "binary.MappedNetwork | None":
-    """A network's mapped file, where it is current and there is numpy."""
-    try:
-        from . import binary
-    except ModuleNotFoundError:
-        return None
-    return binary.read(Files(prefix).binary) if binary.is_current(prefix) else None
-
-
-def nodes_from_net(arrays: "binary.MappedNetwork") -> Nodes:
-    """The nodes of a mapped file, as those of the table."""
-    from .binary import NO_OSM, UNITS
-
-    osm = [None if number == NO_OSM else number for number in arrays.node_osm[:].tolist()]
-    lon, lat = (arrays.node_lon[:] / UNITS).tolist(), (arrays.node_lat[:] / UNITS).tolist()
-    return Nodes(osm, lon, lat, [ENDS[place] for place in arrays.node_ends[:].tolist()], arrays.keys() or ())
-
-
-def arcs_from_net(arrays: "binary.MappedNetwork") -> Iterator[Arc]:
-    """The arcs of a mapped file, as those of the table."""
-    for begin in range(0, len(arrays.arc_from), CHUNK):
-        part = slice(begin, begin + CHUNK)
-        figures: tuple[Any, ...] = (
-            arrays.arc_from, arrays.arc_to, arrays.arc_weight, arrays.arc_seconds, arrays.arc_metres, arrays.arc_osm, arrays.arc_texts
-        )
-        rows = zip(*(values[part].tolist() for values in figures))
-        for place, (start, end, weight, seconds, metres, osm, row) in enumerate(rows, begin):
-            highway, name, ref, junction, destination, structure = (arrays.texts[text] for text in row)
-            line = format_linestring(arrays.line(place))
-            yield Arc(start, end, weight, seconds, metres, osm, highway, name, line, ref, junction, destination, structure)
-
-
 def read_node_table(path: StrPath) -> Nodes:
     keys: list[str] = []
     nodes = Nodes([], [], [], [])
@@ -245,31 +194,6 @@ def read_node_table(path: StrPath) -> Nodes:
     return nodes._replace(keys=keys or ())
 
 
-def read_coordinates(path: StrPath) -> Nodes:
-    """The nodes of a DIMACS .co file: `p aux sp co N`, and `v NODE X Y` in millionths of a degree, in any order."""
-    lon: list[float | None] | None = None
-    lat: list[float | None] = []
-    with open_input(path) as stream:
-        for row, fields in dimacs_lines(path, stream):
-            if fields[0] == b"p" and lon is None:
-                count = parse_problem_line(fields, (b"aux", b"sp", b"co"), path, row, MOST_NODES)
-                lon, lat = [None] * count, [None] * count
-            elif fields[0] == b"v" and lon is not None and len(fields) == 4:
-                place = parse_int(fields[1], "node", path, row, 1, len(lon)) - 1
-                lon[place] = parse_int(fields[2], "x", path, row, -180_000_000, 180_000_000) / 1e6
-                lat[place] = parse_int(fields[3], "y", path, row, -90_000_000, 90_000_000) / 1e6
-            else:
-                missing = " before the line `p aux sp co N`" if lon is None else ""
-                raise NetworkError(f"is no line of coordinates{missing}", path, row)
-    if lon is None:
-        raise NetworkError("has no line `p aux sp co N`", path)
-    if None in lon:
-        raise NetworkError(f"has no coordinates of node {lon.index(None) + 1}", path)
-    places = [(east, north) for east, north in zip(lon, lat) if east is not None and north is not None]
-    lons, lats = [east for east, _ in places], [north for _, north in places]
-    return Nodes([None] * len(lon), lons, lats, [""] * len(lon))
-
-
 def write_nodes(file: IO[str], nodes: Nodes) -> None:
     """Writes a .nodes.csv file: degrees to the seventh place, as OpenStreetMap has them."""
     rows = csv.writer(file, lineterminator="\n")
@@ -284,7 +208,7 @@ def read_arcs(path: StrPath) -> Iterator[Arc]:
     return (arc for _, arc in iter_arc_rows(path))
 
 
-def iter_arc_rows(path: StrPath, nodes: int = MOST_NODES) -> Iterator[tuple[int, Arc]]:
+def iter_arc_rows(path: StrPath, nodes: int = MAX_NODES) -> Iterator[tuple[int, Arc]]:
     """The arcs of a .arcs.csv file between nodes from 1 to `nodes`, with their rows."""
     with open_table(path, ARC_COLUMNS) as rows:
         for row, fields in rows:
@@ -300,23 +224,6 @@ def iter_arc_rows(path: StrPath, nodes: int = MOST_NODES) -> Iterator[tuple[int,
                 fields["WKT"],
                 *(fields.get(name, "") for name in ("ref", "junction", "destination", "structure")),
             )
-
-
-def arcs_of(word: StrPath) -> Iterator[Arc]:
-    """The arcs of a tool's word NETWORK: those of its table, or for a DIMACS file X.co those of the graph X.gr as straight
-    lines, without a way, a name and seconds."""
-    if not is_coordinates(word):
-        path = arcs_file(word)
-        arrays = mapped_if_current(os.fspath(word))
-        yield from read_arcs(path) if arrays is None else arcs_from_net(arrays)
-        return
-    nodes, graph = read_nodes(word), read_graph(graph_of(word))
-    if len(nodes.lon) != graph.nodes:
-        raise NetworkError(f"has {len(nodes.lon)} nodes, and the graph beside it has {graph.nodes}", word)
-    places = list(zip(nodes.lon, nodes.lat))
-    for start, end, weight in zip(graph.starts, graph.ends, graph.weights):
-        line = [places[start - 1], places[end - 1]]
-        yield Arc(start, end, weight, 0.0, metres_between(*line[0], *line[1]), 0, "", "", format_linestring(line))
 
 
 def arcs_file(word: StrPath) -> str:
@@ -344,71 +251,17 @@ def lightest(arcs: Iterable[Arc]) -> dict[tuple[int, int], Arc]:
     return best
 
 
-def parse_linestring(wkt: str, path: StrPath | None = None, row: int | None = None) -> list[Point]:
-    """The points of a text `LINESTRING (LON LAT, LON LAT, ..)`: two or more pairs of degrees."""
-    head, _, rest = wkt.partition("(")
-    body, closed, tail = rest.partition(")")
-    try:
-        points = [(float(lon), float(lat)) for lon, lat in (point.split() for point in body.split(","))]
-    except ValueError:
-        points = []
-    if head.strip().upper() != "LINESTRING" or not closed or tail.strip() or len(points) < 2:
-        raise NetworkError(f"WKT {excerpt(wkt)} is no line", path, row)
-    return points
-
-
-def format_linestring(points: Iterable[Point]) -> str:
-    """The text of a line through two or more points (lon, lat), to the seventh place."""
-    return "LINESTRING (" + ", ".join(f"{lon:.7f} {lat:.7f}" for lon, lat in points) + ")"
-
-
-def split_at_antimeridian(line: Sequence[Point]) -> list[list[Point]]:
-    """A line in parts none of which crosses the 180th meridian, as GeoJSON wants them (RFC 7946, 3.1.9): where it does, one part ends
-    there and the next begins on the other side. There is one of two points at least."""
-    parts = [[line[0]]]
-    for here, there in itertools.pairwise(line):
-        if abs(there[0] - here[0]) > 180:
-            side = math.copysign(180.0, here[0])
-            before, behind = abs(side - here[0]), abs(side + there[0])
-            lat = here[1] + (there[1] - here[1]) * (before / (before + behind) if before + behind else 0.0)
-            parts[-1].append((side, round(lat, 7)))
-            parts.append([(-side, round(lat, 7))])
-        parts[-1].append(there)
-    found = [part for part in parts if len(set(part)) > 1]
-    return found or [list(line)]
-
-
-def to_geojson_geometry(line: Sequence[Point]) -> dict[str, Any]:
-    """A line as GeoJSON: a LineString, or where it crosses the 180th meridian a MultiLineString."""
-    parts = [[list(point) for point in part] for part in split_at_antimeridian(line)]
-    return {"type": "LineString", "coordinates": parts[0]} if len(parts) == 1 else {"type": "MultiLineString", "coordinates": parts}
-
-
-def to_multilinestring(line: Sequence[Point]) -> str:
-    """A line as WKT: a LINESTRING, or where it crosses the 180th meridian a MULTILINESTRING."""
-    parts = [format_linestring(part) for part in split_at_antimeridian(line)]
-    return parts[0] if len(parts) == 1 else f"MULTILINESTRING ({', '.join(part.removeprefix('LINESTRING ') for part in parts)})"
-
-
 def read_attribution(network: StrPath) -> str:
     """What the comment at the beginning of the network's graph asks to be said; "" where it asks for nothing."""
     graph = graph_of(network)
     if not os.path.exists(graph):
         return ""
     with open_input(graph) as file:
-        comments = itertools.takewhile(lambda line: line.startswith("c"), (line.decode("utf-8", "replace") for line in file))
-        return next((line[len(ATTRIBUTION_COMMENT) :].strip() for line in comments if line.startswith(ATTRIBUTION_COMMENT)), "")
+        comments = itertools.takewhile(
+            lambda line: line.startswith("c"), (line.decode("utf-8", "replace") for line in file)
+        )
+        return next(
+            (line[len(ATTRIBUTION_COMMENT) :].strip() for line in comments if line.startswith(ATTRIBUTION_COMMENT)), ""
+        )
 
 
-def metres_between(lon_1: float, lat_1: float, lon_2: float, lat_2: float) -> float:
-    """The length of the great circle's arc between two places in degrees."""
-    phi_1, phi_2 = math.radians(lat_1), math.radians(lat_2)
-    half_lat, half_lon = (phi_2 - phi_1) / 2, math.radians(lon_2 - lon_1) / 2
-    square = math.sin(half_lat) ** 2 + math.cos(phi_1) * math.cos(phi_2) * math.sin(half_lon) ** 2
-    return 2 * EARTH_RADIUS * math.asin(math.sqrt(min(1.0, square)))
-
-
-def bearing(begin: Point, end: Point) -> int:
-    """The direction from a point to a near one, in degrees from north, clockwise."""
-    east = math.remainder(end[0] - begin[0], 360) * math.cos(math.radians(begin[1]))
-    return round(math.degrees(math.atan2(east, end[1] - begin[1]))) % 360

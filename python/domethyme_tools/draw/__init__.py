@@ -4,7 +4,7 @@ NETWORK is the beginning of the names of the network's files, of which NETWORK.n
 NETWORK.gr for what the data asks to be said wherever it is shown. ROUTES is what `to_geojson` wrote as a collection or as lines (`-` is
 standard input). OUT is a picture (SVG) where its name ends in .svg, and a page (HTML) where it ends in .html.
 
-Both show the roads in grey, around the routes or with --whole all of them; each route in a colour, from a ring to a
+Both show the roads in grey, around the routes or with --full-network all of them; each route in a colour, from a ring to a
 dot, with arrows where there are no more than 20; a legend with kilometres and minutes; a scale; and the attribution of
 the network and of ROUTES. Routes that begin or end outside of the network's roads are refused: they are another network's.
 Where routes overlap, earlier ones are drawn wider, so up to four remain visible. Colours repeat after eight routes.
@@ -22,11 +22,11 @@ feature; 2 for arguments that are refused.
 """
 import argparse
 
-from domethyme.files import atomic_write
-from domethyme.network.tables import read_attribution, paths_of
+from domethyme.atomic_files import atomic_write
+from domethyme.network.tables import paths_of, read_attribution
 
-from ..geometry import Box, View
-from ..tool import refuse_overwriting, display_name, warn, argument_parser
+from ..cli import argument_parser, current_arguments, display_name, refuse_overwriting, warn
+from .geometry import Box, View
 from .page import page_of
 from .picture import picture_of
 from .roads import make_scene
@@ -46,10 +46,10 @@ def parse_args() -> argparse.Namespace:
     parser.add_argument("output", metavar="OUT.svg|OUT.html", help="the picture or page")
     parser.add_argument("--label", metavar="COLUMN", help="the property that names a route (default: numbers)")
     parser.add_argument("--width", metavar="PIXELS", type=pixels, help="of the picture (default: 1000, or less if it is high)")
-    parser.add_argument("--whole", action="store_true", help="the whole network, and not only around the routes")
+    parser.add_argument("--full-network", action="store_true", help="the whole network, and not only around the routes")
     parser.add_argument("--tiles", metavar="URL", help="a background for the page, such as https://../{z}/{x}/{y}.png")
     parser.add_argument("--attribution", metavar="TEXT", help="shown beside the network's own, such as that of the tiles")
-    options = parser.parse_args()
+    options = parser.parse_args(current_arguments(parser, {"--whole": "--full-network"}))
     if not options.output.endswith((PICTURE, PAGE)):
         parser.error(f"OUT ends neither in {PICTURE} nor in {PAGE}")
     if options.output.endswith(PAGE) and options.width is not None:
@@ -81,7 +81,7 @@ def main() -> None:
     if not routes:
         warn(f"{display_name(options.routes)} has no route: the roads alone are drawn")
     is_picture = options.output.endswith(PICTURE)
-    box, roads = make_scene(options.network, routes, options.whole, is_picture, options.routes)
+    box, roads = make_scene(options.network, routes, options.full_network, is_picture, options.routes)
     of_all = [read_attribution(options.network), *said, options.attribution]
     attribution = ", ".join(dict.fromkeys(filter(None, of_all)))
     if is_picture:

@@ -8,9 +8,9 @@ import re
 import string
 from typing import Any
 
-from ..geometry import box_of, delta_encode
-from ..tool import ToolError
-from .picture import FAINT, INK, MOST_WITH_ARROWS, PAPER, escaped
+from ..cli import ToolError
+from .geometry import box_of, delta_encode
+from .picture import FAINT, INK, MAX_WITH_ARROWS, PAPER, escaped
 from .roads import DASHES, ROAD_STYLES, Lines, all_places
 from .routes import COLOURS, DrawnRoute
 
@@ -86,7 +86,7 @@ def data_of(routes: list[DrawnRoute], roads: Lines, attribution: str, tiles: str
         "bounds": [[south, west], [north, east]],
         "attribution": attribution_html(attribution),
         "tiles": tiles,
-        "mostWithArrows": MOST_WITH_ARROWS,
+        "mostWithArrows": MAX_WITH_ARROWS,
         "roads": [
             {
                 "width": kind.width,
@@ -96,7 +96,8 @@ def data_of(routes: list[DrawnRoute], roads: Lines, attribution: str, tiles: str
                 "dashes": dashes,
             }
             for kind, of_dark, lines, dashes in zip(
-                (*ROAD_STYLES, *ROAD_STYLES), (*ROAD_STYLES[::-1], *ROAD_STYLES[::-1]), roads, (None,) * len(ROAD_STYLES) + (DASHES,) * len(ROAD_STYLES)
+                (*ROAD_STYLES, *ROAD_STYLES), (*ROAD_STYLES[::-1], *ROAD_STYLES[::-1]), roads,
+                (None,) * len(ROAD_STYLES) + (DASHES,) * len(ROAD_STYLES)
             )
             if lines or dashes is None
         ],

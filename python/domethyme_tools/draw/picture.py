@@ -7,19 +7,19 @@ import typing
 from collections.abc import Iterator, Sequence
 from typing import Union
 
-from domethyme.network.tables import Point
+from domethyme.network.geo import Point
 
-from ..geometry import Box, View, arrows, scale_bar_metres, path_of, to_mercator
+from .geometry import Box, View, arrows, path_of, scale_bar_metres, to_mercator
 from .roads import DASHES, ROAD_STYLES, Lines
 from .routes import NARROWEST, DrawnRoute
 
 PAPER, INK, FAINT = "#fbfaf8", "#33302b", "#7a756c"
 LETTER, BOLD_LETTER = 7.8, 8.8
 ROW, SWATCH, MARGIN, FOOT = 24, 58, 14, 36
-LONGEST_LABEL, SHORTEST_LABEL, MOST_ROWS = 48, 12, 40
+LONGEST_LABEL, SHORTEST_LABEL, MAX_ROWS = 48, 12, 40
 SECOND_LINE, ROUND_ENDS, CLOSE = 18, 8, 10
-MOST_OF_WIDTH = 0.4
-BETWEEN_ARROWS, FROM_ENDS, MOST_WITH_ARROWS = 130, 16, 20
+MAX_OF_WIDTH = 0.4
+BETWEEN_ARROWS, FROM_ENDS, MAX_WITH_ARROWS = 130, 16, 20
 HALO = f' paint-order="stroke" stroke="{PAPER}" stroke-width="3" stroke-linejoin="round"'
 
 
@@ -37,7 +37,7 @@ def picture_of(routes: list[DrawnRoute], roads: Lines, view: View, attribution: 
             *draw_roads(roads, view),
             *(draw_casing(route, view) for route in routes),
             *(draw_route(route, view) for route in routes),
-            *(draw_arrows(route, view) for route in routes if route.line and len(routes) <= MOST_WITH_ARROWS),
+            *(draw_arrows(route, view) for route in routes if route.line and len(routes) <= MAX_WITH_ARROWS),
             *(draw_ends(route, view) for route in routes if route.line),
             "</g>",
             *(draw_legend(legend) if legend else ()),
@@ -60,7 +60,13 @@ def path_through(line: Sequence[Point], view: View) -> str:
 def draw_roads(roads: Lines, view: View) -> Iterator[str]:
     """A path for each kind of roads; tunnels, which are dashed, lie below the others."""
     thinner = max(0.5, min(1, view.width / 600))
-    layers = list(zip((*ROAD_STYLES, *ROAD_STYLES), roads, ("",) * len(ROAD_STYLES) + (f' stroke-dasharray="{DASHES}"',) * len(ROAD_STYLES)))
+    layers = list(
+        zip(
+            (*ROAD_STYLES, *ROAD_STYLES),
+            roads,
+            ("",) * len(ROAD_STYLES) + (f' stroke-dasharray="{DASHES}"',) * len(ROAD_STYLES),
+        )
+    )
     for kind, lines, dashes in layers[len(ROAD_STYLES) :] + layers[: len(ROAD_STYLES)]:
         if lines:
             data = "".join(path_through(line, view) for line in lines)
@@ -152,7 +158,7 @@ def legend_for(routes: list[DrawnRoute], roads: Lines, view: View) -> Legend | N
     width = width_of(rows)
     height = ROW * len(rows) + MARGIN
     hidden, left, top = corner_for(width, height, routes, roads, view)
-    if not hidden and width <= view.width * MOST_OF_WIDTH:
+    if not hidden and width <= view.width * MAX_OF_WIDTH:
         return Legend(rows, False, left, top, width)
     return legend_below(routes, view)
 
@@ -165,7 +171,7 @@ def legend_below(routes: list[DrawnRoute], view: View) -> Legend:
     beside = int((room - SWATCH - figures - 3 * MARGIN) / BOLD_LETTER)
     is_tall = beside < SHORTEST_LABEL
     letters = int((room - SWATCH - 2 * MARGIN) / BOLD_LETTER) if is_tall else beside
-    rows = legend_rows(routes, MOST_ROWS, min(letters, LONGEST_LABEL))
+    rows = legend_rows(routes, MAX_ROWS, min(letters, LONGEST_LABEL))
     return Legend(rows, is_tall, MARGIN, view.height, min(room, width_of(rows)) if not is_tall else room)
 
 

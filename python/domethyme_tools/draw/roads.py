@@ -6,12 +6,13 @@ from collections.abc import Iterator
 
 import numpy
 
-from domethyme.network.binary import TEXTS, UNITS, MappedNetwork
-from domethyme.network.own import load_network_or_dimacs
-from domethyme.network.tables import EARTH_RADIUS, Point, arcs_file, metres_between
+from domethyme.network.from_tables import load_network_or_dimacs
+from domethyme.network.geo import EARTH_RADIUS, Point, metres_between
+from domethyme.network.net_file import TEXTS, UNITS, MappedNetwork
+from domethyme.network.tables import arcs_file
 
-from ..geometry import Box, box_of, from_mercator, to_mercator, unwrapped
-from ..tool import ToolError
+from ..cli import ToolError
+from .geometry import Box, box_of, from_mercator, to_mercator, unwrapped
 from .routes import DrawnRoute
 
 
@@ -55,7 +56,9 @@ def read_roads(arrays: MappedNetwork, box: Box | None) -> Lines:
         line = unwrapped(arrays.edge_line(edge), near)
         if tuple(line) not in seen and (box is None or box_of(to_mercator(line)).meets(box)):
             seen.add(tuple(line))
-            roads[road_style(highway) + len(ROAD_STYLES) * (structure == TUNNEL)].append(line if len(line) > 1 else line * 2)
+            roads[road_style(highway) + len(ROAD_STYLES) * (structure == TUNNEL)].append(
+                line if len(line) > 1 else line * 2
+            )
     return roads
 
 
@@ -77,7 +80,9 @@ def parts_of(arrays: MappedNetwork, box: Box | None) -> Iterator[list[int]]:
     middle = from_mercator(box.middle)
     corners = [from_mercator((x, y)) for x in (box.left, box.right) for y in (box.top, box.bottom)]
     reach = max(metres_between(*middle, *corner) for corner in corners)
-    found = numpy.unique(numpy.concatenate([[], *arrays.edge_grid.candidates((wrapped_lon(middle[0]), middle[1]), reach)])).astype(int)
+    found = numpy.unique(
+        numpy.concatenate([[], *arrays.edge_grid.candidates((wrapped_lon(middle[0]), middle[1]), reach)])
+    ).astype(int)
     yield from (found[low : low + PART].tolist() for low in range(0, len(found), PART))
 
 
@@ -104,7 +109,7 @@ def all_places(roads: Lines) -> list[Point]:
 
 
 def make_scene(network: str, routes: list[DrawnRoute], is_whole: bool, is_picture: bool, path: str) -> tuple[Box, Lines]:
-    """The box to show and its roads. Raises a Fault where the routes, which come from the file at the path, are another network's."""
+    """The box to show and its roads. Raises a ToolError where the routes, which come from the file at the path, are another network's."""
     arrays = load_network_or_dimacs(network)
     need_inside(arrays, routes, network, path)
     around = None if is_whole else box_around(routes)
@@ -119,7 +124,7 @@ def make_scene(network: str, routes: list[DrawnRoute], is_whole: bool, is_pictur
 
 
 def need_inside(arrays: MappedNetwork, routes: list[DrawnRoute], network: str, path: str) -> None:
-    """A Fault where a route isn't in the box of the network's roads."""
+    """A ToolError where a route isn't in the box of the network's roads."""
     west, south, east, north = (arrays.about[side] / UNITS for side in ("west", "south", "east", "north"))
     for number, route in enumerate(routes, 1):
         for lon, lat in route.line or ():

@@ -6,14 +6,14 @@ import typing
 from collections.abc import Iterator
 from typing import Any
 
-from domethyme.network.tables import Point
-from domethyme.texts import open_input
+from domethyme.csv_tables import open_input
+from domethyme.network.geo import Point
 
-from ..geometry import overlap_pieces, point_at_fraction, unwrapped
-from ..tool import ToolError
+from ..cli import ToolError
+from .geometry import overlap_pieces, point_at_fraction, unwrapped
 
 COLOURS = ["#0072b2", "#d55e00", "#009e73", "#cc5f9c", "#b8860b", "#2b8fc7", "#7b3294", "#5b7a1f"]
-NARROWEST, STEP_OF_WIDTH, MOST_NESTED = 4.5, 4, 3
+NARROWEST, STEP_OF_WIDTH, MAX_NESTED = 4.5, 4, 3
 TOO_LARGE = 1e12
 NO_WAY = "no way"
 NO_NAME = "unnamed road"
@@ -61,7 +61,7 @@ def unwrap_all(routes: list[DrawnRoute]) -> list[DrawnRoute]:
 
 def with_pieces(routes: list[DrawnRoute]) -> list[DrawnRoute]:
     """The routes with their pieces, which are the wider, the more of the later routes go along them."""
-    pieces = overlap_pieces([route.line or [] for route in routes], MOST_NESTED)
+    pieces = overlap_pieces([route.line or [] for route in routes], MAX_NESTED)
     return [
         route._replace(pieces=[(NARROWEST + STEP_OF_WIDTH * depth, line) for depth, line in of_route])
         for route, of_route in zip(routes, pieces)

@@ -11,7 +11,7 @@ from typing import NamedTuple
 import numpy as np
 from numpy.typing import NDArray
 
-from .threads import map_slices, differs_from_previous, parallel_sort
+from .parallel import differs_from_previous, map_slices, parallel_sort
 
 ROAD_CLASSES: tuple[tuple[str, ...], ...] = (
     ("motorway", "trunk"), ("primary",), ("secondary",), ("tertiary",), ("unclassified", "residential", "living_street"), ()
@@ -19,7 +19,7 @@ ROAD_CLASSES: tuple[tuple[str, ...], ...] = (
 # The zoom of the cells, and how many steps one may have on average in a picture.
 CODE_ZOOM = 15
 MAX_PER_CELL = 10_000
-MOST_LAT = 85.0511
+MAX_LAT = 85.0511
 # Of the number of a step, of which there are fewer than 2**31.
 SEGMENT_BITS = 31
 
@@ -48,7 +48,7 @@ def road_class(highway: str) -> int:
 
 def to_mercator(places: Floats) -> Floats:
     """Places (lon, lat) in Mercator's plane, whose sides are 1: x to the east, y to the south."""
-    lat = np.radians(np.clip(places[:, 1], -MOST_LAT, MOST_LAT))
+    lat = np.radians(np.clip(places[:, 1], -MAX_LAT, MAX_LAT))
     return np.column_stack((places[:, 0] / 360 + 0.5, 0.5 - np.arcsinh(np.tan(lat)) / (2 * math.pi)))
 
 

@@ -15,11 +15,11 @@ from .errors import DomethymeError, HierarchyError, OutOfMemory, ProgramError
 # What may befall a request that is right.
 ERROR_REPLIES = (b"e OutOfMemory", b"e TooLong")
 NOT_A_REPLY = "is no answer of routecli"
-NO_WAY = -1
+NO_PATH = -1
 
 
 class RouteReply(NamedTuple):
-    """What a reply says of a pair: the length, NO_WAY where there is no way, and the nodes, () where they weren't asked."""
+    """What a reply says of a pair: the length, NO_PATH where there is no way, and the nodes, () where they weren't asked."""
 
     source: int
     target: int
@@ -43,7 +43,7 @@ def parse_reply(line: bytes) -> RouteReply:
         raise ValueError(f"the number {wrong[:40]!r} isn't an integer")
     values = tuple(map(int, fields))
     if kind == b"n" and len(values) == 2:
-        return RouteReply(values[0], values[1], NO_WAY, ())
+        return RouteReply(values[0], values[1], NO_PATH, ())
     if kind == b"d" and len(values) == 3:
         return RouteReply(values[0], values[1], values[2], ())
     if kind != b"r" or len(values) < 5:

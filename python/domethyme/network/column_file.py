@@ -23,13 +23,14 @@ import numpy as np
 from numpy.typing import NDArray
 
 from ..errors import NetworkError, os_reason
-from .threads import map_slices
+from .parallel import map_slices
 
 MAGIC = b"\x89DMNET\r\n"
 BLOCK = 1 << 14
 ALIGNED = 64
 HEAD = np.dtype([
-    ("magic", "S8"), ("version", "<u4"), ("arrays", "<u4"), ("size", "<u8"), ("tail", "<u8"), ("sum", "<u4"), ("rest", "V28")
+    ("magic", "S8"), ("version", "<u4"), ("arrays", "<u4"), ("size", "<u8"), ("tail", "<u8"), ("sum", "<u4"),
+    ("rest", "V28")
 ])
 
 
@@ -75,7 +76,9 @@ def write(file: IO[bytes], form: Schema, version: int, arrays: Iterable[tuple[st
 def checksums(whole: NDArray[np.uint8]) -> list[int]:
     """The CRC-32 of each block of bytes."""
     def sums(part: slice) -> list[int]:
-        return [zlib.crc32(whole[begin : min(begin + BLOCK, part.stop)].data) for begin in range(part.start, part.stop, BLOCK)]
+        return [
+            zlib.crc32(whole[begin : min(begin + BLOCK, part.stop)].data) for begin in range(part.start, part.stop, BLOCK)
+        ]
 
     return [each for found in map_slices(sums, len(whole), BLOCK << 8) for each in found]
 
@@ -87,7 +90,7 @@ class MappedFile:
     def __init__(self, file: IO[bytes], path: str, forms: Mapping[int, Schema], remedy: str) -> None:
         """`forms` are those of the versions that are read."""
         self.path, self.remedy, self._forms = path, remedy, forms
-        # a descriptor of its own, by which `unchanged` looks at the file that is mapped, whatever has its name
+        # a descriptor of its own, by which `check_unchanged` looks at the file that is mapped, whatever has its name
         self._file = os.dup(file.fileno())
         weakref.finalize(self, os.close, self._file)
         try:
@@ -116,7 +119,9 @@ class MappedFile:
         if now == self._state:
             return
         if now[0] != self._state[0] or self._sum_now() != self.sum:
-            raise NetworkError("was written to while it was in use; new files have to take their place by a rename", self.path)
+            raise NetworkError(
+                "was written to while it was in use; new files have to take their place by a rename", self.path
+            )
         for column in self.columns.values():
             column.forget()
         self._state = now
@@ -173,7 +178,7 @@ class Column:
     second index their members. Numbers of rows aren't below 0. Memory is taken for what an array of numbers takes alone.
 
     low, high   the least and greatest value that there may be, or None; set before anything is read
-    rise        how much more each value is at least than the one before, or None
+    min_step    how much more each value is at least than the one before, or None
     """
 
     def __init__(self, file: MappedFile, name: str, values: NDArray[Any], sums: NDArray[np.uint32]) -> None:
@@ -241,13 +246,12 @@ class Column:
         if len(blocks):
             self._file.check_unchanged()
         for block in blocks.tolist():
-            part = self._values[block << self._shift : block + 1 << self._shift]
+            begin, end = block << self._shift, (block + 1) << self._shift
+            part, with_next = self._values[begin:end], self._values[begin : end + 1]
             if zlib.crc32(part.data) != self._sums[block]:
                 raise self._file.damaged_error(f"{self._name} has another checksum")
             if self.low is not None and not (part.min() >= self.low and part.max() <= self.high):
                 raise self._file.damaged_error(f"{self._name} isn't from {self.low:g} to {self.high:g}")
-            if self.min_step is not None:
-                more = self._values[block << self._shift : (block + 1 << self._shift) + 1]
-                if (np.diff(more) < self.min_step).any():
-                    raise self._file.damaged_error(f"{self._name} has wrong offsets")
+            if self.min_step is not None and (np.diff(with_next) < self.min_step).any():
+                raise self._file.damaged_error(f"{self._name} has wrong offsets")
             self._verified[block] = True

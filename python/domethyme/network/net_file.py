@@ -1,6 +1,6 @@
 """A network in arrays, and the file NETWORK.net, which has them and what is derived from them. Needs numpy.
 
-A tool that makes a network writes the file; whoever reads one maps it (mapped.py), so nothing is read before it is used, and
+A tool that makes a network writes the file; whoever reads one maps it (column_file.py), so nothing is read before it is used, and
 processes share it. Where NETWORK.nodes.csv and NETWORK.arcs.csv are there too, it has their sizes: it is taken where it is no older
 than they are and these are their sizes. Places are in tenths of a millionth of a degree, as the tables have them. Texts are
 numbers of rows in one list of texts, which is an array of bytes and the offsets at which they begin. An edge is a line of a way, in
@@ -18,22 +18,23 @@ from typing import IO, Any, NamedTuple
 import numpy as np
 from numpy.typing import NDArray
 
-from . import index, mapped
 from ..errors import NetworkError, os_reason
+from ..limits import MAX_WEIGHT
 from ..program import StrPath
-from ..texts import MAX_WEIGHT
+from . import column_file, indexes
+from .column_file import ArraySpec, Column, MappedFile
+from .geo import Point, parse_linestring
 from .grid import Grid, concat_ranges
-from .levels import ROAD_CLASSES
-from .mapped import Column, ArraySpec, MappedFile
+from .parallel import differs_from_previous, map_slices
 from .tables import (
-    ARC_COLUMNS, ENDS, NODE_COLUMNS, Arc, Files, Point, read_attribution, has_columns, need_nodes, parse_linestring, read_node_table,
-    iter_arc_rows,
+    ARC_COLUMNS, ENDS, NODE_COLUMNS, Arc, Files, has_columns, iter_arc_rows, need_nodes, read_attribution,
+    read_node_table
 )
-from .threads import map_slices
+from .zoom_levels import ROAD_CLASSES
 
 # Of the file, without and with the keys of nodes.
 VERSION, WITH_KEYS = 2, 3
-UNITS = index.UNITS
+UNITS = indexes.UNITS
 NO_OSM = -(1 << 63)
 TEXTS = ("highway", "name", "ref", "junction", "destination", "structure")
 UNITS_OF_WEIGHTS = ("weight", "duration", "distance")
@@ -123,10 +124,12 @@ class Builder:
         edges = edges_from_lines(self._lines, arc_osm)
         texts, keys = encoded(self._attribution, self._texts, self._keys)
         rows = np.array(self._rows, dtype=np.int32).reshape(-1, len(TEXTS))
-        rows, row = index.unique_text_rows(rows, np.array(self._row_of_arc, dtype=np.int64))
+        rows, row = indexes.unique_text_rows(rows, np.array(self._row_of_arc, dtype=np.int64))
         found = Arrays(
-            np.array([VERSION]), np.array(sizes, dtype=np.int64), to_int64(osm, "osm"), to_units(lon, 180), to_units(lat, 90),
-            np.array(ends, dtype=np.uint8), to_int64(starts, "from").astype(np.int32), to_int64(stops, "to").astype(np.int32),
+            np.array([VERSION]), np.array(sizes, dtype=np.int64), to_int64(osm, "osm"), to_units(lon, 180),
+            to_units(lat, 90),
+            np.array(ends, dtype=np.uint8), to_int64(starts, "from").astype(np.int32),
+            to_int64(stops, "to").astype(np.int32),
             to_int64(weights, "weight"), np.array(seconds, dtype=np.float64), np.array(metres, dtype=np.float64), arc_osm,
             row, *edges[:2], rows, *edges[2:],
             np.cumsum([0, *map(len, texts)], dtype=np.int64), np.frombuffer(b"".join(texts), dtype=np.uint8), keys,
@@ -173,7 +176,7 @@ def edges_from_lines(
     keys = every.tolist()
     for arc, (count, way) in enumerate(zip(counts, ways.tolist())):
         end = begin + count
-        is_along = keys[begin] < keys[end - 1] or keys[begin] == keys[end - 1] and keys[begin:end] <= keys[begin:end][::-1]
+        is_along = keys[begin:end] <= keys[begin:end][::-1]
         line = every[begin:end] if is_along else every[begin:end][::-1]
         number = known.setdefault((way, line.tobytes()), len(kept))
         if number == len(kept):
@@ -189,14 +192,25 @@ def find_inconsistency(arrays: Arrays) -> str | None:
     nodes, arcs, edges = len(arrays.node_osm), len(arrays.arc_from), len(arrays.edge_begin) - 1
     shapes: dict[str, tuple[int, ...]] = {name: (nodes,) for name in ("node_osm", "node_lon", "node_lat", "node_ends")}
     shapes.update((name, (arcs,)) for name in Arrays._fields if name.startswith("arc_"))
-    shapes.update(version=(1,), sizes=(2,), row_texts=(len(arrays.row_texts), index.TEXTS_PER_ROW), points=(len(arrays.points), 2))
+    shapes.update(
+        version=(1,), sizes=(2,), row_texts=(len(arrays.row_texts), indexes.TEXTS_PER_ROW), points=(len(arrays.points), 2)
+    )
     if len(arrays.node_texts):
         shapes["node_texts"] = (nodes,)
     for name, shape in shapes.items():
         if getattr(arrays, name).shape != shape:
             return f"{name} has another size"
-    for name, begin, end in (("edge", arrays.edge_begin, len(arrays.points)), ("text", arrays.text_begin, len(arrays.text_bytes))):
-        if begin.ndim != 1 or len(begin) < 1 or begin[0] != 0 or begin[-1] != end or (np.diff(begin) < (name == "edge") * 2).any():
+    for name, begin, end in (
+        ("edge", arrays.edge_begin, len(arrays.points)),
+        ("text", arrays.text_begin, len(arrays.text_bytes)),
+    ):
+        if (
+            begin.ndim != 1
+            or len(begin) < 1
+            or begin[0] != 0
+            or begin[-1] != end
+            or (np.diff(begin) < (name == "edge") * 2).any()
+        ):
             return f"{name}_begin has wrong offsets"
     for name, (low, high) in limits_of(nodes, edges, len(arrays.row_texts), len(arrays.text_begin) - 1).items():
         values = getattr(arrays, name)
@@ -210,7 +224,8 @@ def limits_of(nodes: int, edges: int, rows: int, texts: int) -> dict[str, tuple[
     return {
         "node_lon": (-180 * UNITS, 180 * UNITS), "node_lat": (-90 * UNITS, 90 * UNITS), "node_ends": (0, len(ENDS) - 1),
         "arc_from": (1, nodes), "arc_to": (1, nodes), "arc_weight": (0, MAX_WEIGHT), "arc_edge": (0, edges - 1),
-        "arc_row": (0, rows - 1), "row_texts": (0, texts - 1), "node_texts": (0, texts - 1), "arc_seconds": (0, 1e12), "arc_metres": (0, 1e12),
+        "arc_row": (0, rows - 1), "row_texts": (0, texts - 1), "node_texts": (0, texts - 1), "arc_seconds": (0, 1e12),
+        "arc_metres": (0, 1e12),
         "points": (-180 * UNITS, 180 * UNITS),
     }
 
@@ -223,14 +238,18 @@ ABOUT = (
 FILE_SCHEMA = {
     "about": ArraySpec("<i8"),
     "node_osm": ArraySpec("<i8"), "node_lon": ArraySpec("<i4"), "node_lat": ArraySpec("<i4"), "node_ends": ArraySpec("|u1"),
-    "arc_from": ArraySpec("<i4"), "arc_to": ArraySpec("<i4"), "arc_weight": ArraySpec("<i8"), "arc_seconds": ArraySpec("<f8"),
-    "arc_metres": ArraySpec("<f8"), "arc_osm": ArraySpec("<i8"), "arc_row": ArraySpec("<i4"), "arc_edge": ArraySpec("<i4"), "arc_along": ArraySpec("|b1"),
-    "row_texts": ArraySpec("<i4", index.TEXTS_PER_ROW), "edge_begin": ArraySpec("<i8"), "points": ArraySpec("<i4", 2),
+    "arc_from": ArraySpec("<i4"), "arc_to": ArraySpec("<i4"), "arc_weight": ArraySpec("<i8"),
+    "arc_seconds": ArraySpec("<f8"),
+    "arc_metres": ArraySpec("<f8"), "arc_osm": ArraySpec("<i8"), "arc_row": ArraySpec("<i4"), "arc_edge": ArraySpec("<i4"),
+    "arc_along": ArraySpec("|b1"),
+    "row_texts": ArraySpec("<i4", indexes.TEXTS_PER_ROW), "edge_begin": ArraySpec("<i8"), "points": ArraySpec("<i4", 2),
     "text_begin": ArraySpec("<i8"), "text_bytes": ArraySpec("|u1"),
-    "out_begin": ArraySpec("<i8"), "out_arcs": ArraySpec("<i4"), "edge_first": ArraySpec("<i8"), "edge_arcs": ArraySpec("<i4"), "degrees": ArraySpec("|u1"),
+    "out_begin": ArraySpec("<i8"), "out_arcs": ArraySpec("<i4"), "edge_first": ArraySpec("<i8"),
+    "edge_arcs": ArraySpec("<i4"), "degrees": ArraySpec("|u1"),
     "node_keys": ArraySpec("<i8"), "node_cells": ArraySpec("<i8"), "node_things": ArraySpec("<i4"),
     "edge_keys": ArraySpec("<i8"), "edge_cells": ArraySpec("<i8"), "edge_things": ArraySpec("<i4"),
-    "step_begin": ArraySpec("<i8"), "step_codes": ArraySpec("<u4"), "step_points": ArraySpec("<i4"), "step_edges": ArraySpec("<i4"),
+    "step_begin": ArraySpec("<i8"), "step_codes": ArraySpec("<u4"), "step_points": ArraySpec("<i4"),
+    "step_edges": ArraySpec("<i4"),
 }
 FORMS = {VERSION: FILE_SCHEMA, WITH_KEYS: FILE_SCHEMA | {"node_texts": ArraySpec("<i4")}}
 
@@ -241,27 +260,28 @@ def write(file: IO[bytes], arrays: Arrays) -> None:
     if problem := find_inconsistency(arrays):
         raise ValueError(problem)
     version = WITH_KEYS if len(arrays.node_texts) else VERSION
-    mapped.write(file, FORMS[version], version, iter_file_arrays(arrays))
+    column_file.write(file, FORMS[version], version, iter_file_arrays(arrays))
 
 
 def iter_file_arrays(arrays: Arrays) -> Iterator[tuple[str, NDArray[Any]]]:
     """The arrays of the file in their order."""
-    steps, edges = index.edge_segments(arrays.edge_begin)
-    levels = index.build_zoom_levels(arrays, steps, edges)
-    edge_grid = index.edge_grid(arrays.points, steps, edges)
+    steps, edges = indexes.edge_segments(arrays.edge_begin)
+    levels = indexes.build_zoom_levels(arrays, steps, edges)
+    edge_grid = indexes.edge_grid(arrays.points, steps, edges)
     del steps, edges
-    node_grid = index.node_grid(arrays.node_lon, arrays.node_lat)
+    node_grid = indexes.node_grid(arrays.node_lon, arrays.node_lat)
     side = np.bincount(arrays.node_ends, minlength=len(ENDS)).tolist()
     numbers = [
         *arrays.sizes.tolist(), UNITS_OF_WEIGHTS.index(weight_unit(arrays)), side[0] + side[1], side[0] + side[2],
-        round(node_grid.height * UNITS), round(edge_grid.height * UNITS), *index.bounding_box(arrays.points), *levels.shown_from,
+        round(node_grid.height * UNITS), round(edge_grid.height * UNITS), *indexes.bounding_box(arrays.points),
+        *levels.shown_from,
     ]
     yield "about", np.array(numbers, dtype=np.int64)
     for name in list(FILE_SCHEMA)[1 : list(FILE_SCHEMA).index("out_begin")]:
         yield name, getattr(arrays, name)
-    yield from zip(("out_begin", "out_arcs"), index.outgoing_arcs(arrays))
-    yield from zip(("edge_first", "edge_arcs"), index.arcs_by_edge(arrays))
-    yield "degrees", index.node_degrees(arrays)
+    yield from zip(("out_begin", "out_arcs"), indexes.outgoing_arcs(arrays))
+    yield from zip(("edge_first", "edge_arcs"), indexes.arcs_by_edge(arrays))
+    yield "degrees", indexes.node_degrees(arrays)
     yield from zip(("node_keys", "node_cells", "node_things"), node_grid[2:])
     yield from zip(("edge_keys", "edge_cells", "edge_things"), edge_grid[2:])
     yield from zip(("step_begin", "step_codes", "step_points", "step_edges"), levels[:4])
@@ -330,7 +350,9 @@ class MappedNetwork:
         self.path = path
         self.file = MappedFile(file, path, FORMS, REMEDY)
         found = self.file.columns
-        self.node_osm, self.node_lon, self.node_lat, self.node_ends = (found[f"node_{each}"] for each in ("osm", "lon", "lat", "ends"))
+        self.node_osm, self.node_lon, self.node_lat, self.node_ends = (
+            found[f"node_{each}"] for each in ("osm", "lon", "lat", "ends")
+        )
         self.arc_from, self.arc_to, self.arc_weight = found["arc_from"], found["arc_to"], found["arc_weight"]
         self.arc_seconds, self.arc_metres, self.arc_osm = found["arc_seconds"], found["arc_metres"], found["arc_osm"]
         self.arc_edge, self.arc_along = found["arc_edge"], found["arc_along"]
@@ -352,9 +374,11 @@ class MappedNetwork:
 
     def _grid(self, name: str) -> Grid:
         found, height = self.file.columns, self.about[f"{name}_height"] / UNITS
-        if not index.MIN_BAND_HEIGHT <= height <= 2 * index.MAX_BAND_HEIGHT or not 0 <= self.about["unit"] < len(UNITS_OF_WEIGHTS):
+        if not indexes.MIN_BAND_HEIGHT <= height <= 2 * indexes.MAX_BAND_HEIGHT or not 0 <= self.about["unit"] < len(
+            UNITS_OF_WEIGHTS
+        ):
             raise self.file.damaged_error("about has wrong numbers")
-        margin = 0.001 if name == "node" else index.grid_margin(height)
+        margin = 0.001 if name == "node" else indexes.grid_margin(height)
         return Grid(height, margin, found[f"{name}_keys"], found[f"{name}_cells"], found[f"{name}_things"])
 
     def _check_sizes(self) -> None:
@@ -381,7 +405,8 @@ class MappedNetwork:
         nodes, arcs, edges = size["node_osm"], size["arc_from"], size["edge_begin"] - 1
         limits: dict[str, tuple[float, float]] = {
             **limits_of(nodes, edges, size["row_texts"], size["text_begin"] - 1),
-            "out_arcs": (0, arcs - 1), "edge_arcs": (0, arcs - 1), "node_things": (0, nodes - 1), "edge_things": (0, edges - 1),
+            "out_arcs": (0, arcs - 1), "edge_arcs": (0, arcs - 1), "node_things": (0, nodes - 1),
+            "edge_things": (0, edges - 1),
             "step_points": (0, size["points"] - 2), "step_edges": (0, edges - 1),
         }
         offsets = {
@@ -426,8 +451,9 @@ class MappedNetwork:
         pair, rows = concat_ranges(begins, counts)
         arcs = self.out_arcs[rows]
         hits = np.flatnonzero(self.arc_to[arcs] == ends[pair])
+        hits = hits[differs_from_previous(pair[hits])]  # (pairs rise, and the first hit of each is its lightest)
         found = np.full(len(starts), -1, dtype=np.int64)
-        found[pair[hits][::-1]] = arcs[hits][::-1]  # (the first of several is written last)
+        found[pair[hits]] = arcs[hits]
         return found
 
     def line(self, arc: int) -> list[Point]:
@@ -481,7 +507,9 @@ def is_current(prefix: str) -> bool:
     if not os.path.exists(files.binary):
         if os.path.exists(files.old):
             made = f"`to_network {files.nodes} {files.arcs} {prefix}` makes {files.binary} of the tables"
-            raise NetworkError(f"is an archive of an earlier version, which isn't read: {made}, or convert the map anew", files.old)
+            raise NetworkError(
+                f"is an archive of an earlier version, which isn't read: {made}, or convert the map anew", files.old
+            )
         return False
     tables = {files.nodes: NODE_COLUMNS, files.arcs: ARC_COLUMNS}
     if not any(map(os.path.exists, tables)):

@@ -26,14 +26,22 @@ from typing import Any, NamedTuple
 import numpy as np
 from numpy.typing import NDArray
 
+from ..csv_tables import excerpt, open_input, open_table, parse_float, parse_int
+from ..dimacs import read_graph
 from ..errors import NetworkError
+from ..limits import MAX_LINES, MAX_NODES, MAX_WEIGHT
 from ..program import StrPath
-from ..texts import MAX_WEIGHT, MOST_LINES, MOST_NODES, parse_float, read_graph, open_input, excerpt, open_table, parse_int
-from .binary import NO_OSM, TEXTS, UNITS, VERSION, Arrays, MappedNetwork, load_network, encoded, map_tempfile, to_units, find_inconsistency
 from .columns import OF_ARCS, OF_NODES, Say, take_columns
-from .index import unique_text_rows
+from .geo import parse_linestring
+from .groups import expand, first_of_equal, offsets
+from .indexes import unique_text_rows
+from .net_file import (
+    NO_OSM, TEXTS, UNITS, VERSION, Arrays, MappedNetwork, encoded, find_inconsistency, load_network, map_tempfile,
+    to_units
+)
+from .reading import read_coordinates
 from .sphere import great_circle_metres, unit_vectors
-from .tables import ENDS, graph_of, is_coordinates, parse_linestring, read_coordinates
+from .tables import ENDS, graph_of, is_coordinates
 
 Ints = NDArray[np.int64]
 BLOCK = 1 << 24
@@ -114,14 +122,15 @@ def read_nodes(path: StrPath, say: Say = nothing) -> Nodes:
             for name, into in named:
                 if into.setdefault(fields[name], len(osm)) != len(osm):
                     raise NetworkError(f"{name} {excerpt(fields[name])} comes twice", path, row)
-    if not len(osm) or len(osm) > MOST_NODES:
-        raise NetworkError(f"has {len(osm)} nodes, and a network has from 1 to {MOST_NODES}", path)
+    if not len(osm) or len(osm) > MAX_NODES:
+        raise NetworkError(f"has {len(osm)} nodes, and a network has from 1 to {MAX_NODES}", path)
     lon, lat = np.array(degrees).reshape(-1, 2).T
     places = np.column_stack((to_units(lon, 180), to_units(lat, 90)))
     told = keys or rows
     shown_keys = () if all(name == str(row) for name, row in told.items()) else list(told)
     return Nodes(
-        np.array(osm, dtype=np.int64), places, np.array(ends, dtype=np.uint8), rows if is_named else None, shown_keys, path, columns
+        np.array(osm, dtype=np.int64), places, np.array(ends, dtype=np.uint8), rows if is_named else None, shown_keys, path,
+        columns
     )
 
 
@@ -148,8 +157,8 @@ def read_arcs(path: StrPath, nodes: Nodes, weight: str = "time", say: Say = noth
                 figures.extend(values)
                 lines.add(points)
     starts, stops, osm_ids, of_texts, of_rows = np.array(numbers, dtype=np.int64).reshape(-1, 5).T.copy()
-    if not len(starts) or len(starts) > MOST_LINES:
-        raise NetworkError(f"has {len(starts)} arcs, and a network has from 1 to {MOST_LINES}", path)
+    if not len(starts) or len(starts) > MAX_LINES:
+        raise NetworkError(f"has {len(starts)} arcs, and a network has from 1 to {MAX_LINES}", path)
     weights, seconds, lengths, speeds = np.array(figures).reshape(-1, 4).T.copy()
     begins, points_of_lines = lines.build()
     doubt_lengths(lengths, nodes.places[starts - 1], nodes.places[stops - 1], path, say)
@@ -160,7 +169,9 @@ def read_arcs(path: StrPath, nodes: Nodes, weight: str = "time", say: Say = noth
     if whole.max() > MAX_WEIGHT:
         raise NetworkError(f"would weigh more than {MAX_WEIGHT}", path, int(of_rows[whole.argmax()]))
     doubt_seconds(weights, seconds, lengths, weight, path, say)
-    return Arcs(starts, stops, whole.astype(np.int64), seconds, lengths, osm_ids, of_texts, list(known), begins, points_of_lines)
+    return Arcs(
+        starts, stops, whole.astype(np.int64), seconds, lengths, osm_ids, of_texts, list(known), begins, points_of_lines
+    )
 
 
 def directions_of(fields: dict[str, str], path: StrPath, row: int) -> tuple[bool, bool]:
@@ -173,7 +184,9 @@ def directions_of(fields: dict[str, str], path: StrPath, row: int) -> tuple[bool
     return ONE_WAY.get(text, BOTH)
 
 
-def doubt_lengths(ways: NDArray[np.float64], begins: NDArray[np.int32], ends: NDArray[np.int32], path: StrPath, say: Say) -> None:
+def doubt_lengths(
+    ways: NDArray[np.float64], begins: NDArray[np.int32], ends: NDArray[np.int32], path: StrPath, say: Say
+) -> None:
     """Says how many of the metres that are given are less than the straight line."""
     given = np.flatnonzero(~np.isnan(ways))
     both = (places[given].T / UNITS for places in (begins, ends))
@@ -183,7 +196,8 @@ def doubt_lengths(ways: NDArray[np.float64], begins: NDArray[np.int32], ends: ND
 
 
 def doubt_seconds(
-    weights: NDArray[np.float64], seconds: NDArray[np.float64], ways: NDArray[np.float64], weight: str, path: StrPath, say: Say
+    weights: NDArray[np.float64], seconds: NDArray[np.float64], ways: NDArray[np.float64], weight: str, path: StrPath,
+    say: Say
 ) -> None:
     """Says how many arcs are faster than FASTEST, and how many weigh 1 since they take no time."""
     if count := int(np.count_nonzero((seconds > 0) & (ways * 3.6 > FASTEST * seconds))):
@@ -196,7 +210,8 @@ def arc_values(fields: dict[str, str], weight: str, path: StrPath, row: int) -> 
     """The weight, seconds, metres and km/h of an arc; NaN where there are none."""
     own = float(parse_int(fields["weight"], "weight", path, row)) if fields.get("weight") else np.nan
     seconds, length, long_ways, speed = (
-        parse_float(fields[name], name, path, row, 0, 1e12) if fields.get(name) else np.nan for name in ("seconds", "metres", "km", "kmh")
+        parse_float(fields[name], name, path, row, 0, 1e12) if fields.get(name) else np.nan
+        for name in ("seconds", "metres", "km", "kmh")
     )
     length = 1000 * long_ways if np.isnan(length) else length
     if speed == 0:
@@ -224,7 +239,9 @@ class LineBuilder:
             raise NetworkError(f"WKT {excerpt(wkt)} has what are no degrees", path, row)
         away = great_circle_metres(unit_vectors(*places[[0, -1]].T), unit_vectors(*(ends / UNITS).T))
         if away.max() > FARTHEST_END:
-            raise NetworkError(f"its line ends {away.max():,.0f} m from its node: are from and to swapped?", path, row)
+            raise NetworkError(
+                f"its line ends {away.max():,.0f} m from its node: from and to in each other's place?", path, row
+            )
         line: NDArray[np.int32] = np.round(places * UNITS).astype(np.int32)
         return line
 
@@ -257,16 +274,17 @@ def straight_arcs(starts: Ints, ends: Ints, weights: Ints, nodes: Nodes) -> Arcs
         lengths[low : low + (1 << 20)] = np.round(great_circle_metres(sphere[::2], sphere[1::2]), 2)
     nothing = np.zeros(len(starts), np.int64)
     begins = np.arange(0, 2 * len(starts) + 1, 2)
-    return Arcs(starts, ends, weights, np.zeros(len(starts)), lengths, nothing, nothing, [("",) * len(TEXTS)], begins, points)
+    return Arcs(
+        starts, ends, weights, np.zeros(len(starts)), lengths, nothing, nothing, [("",) * len(TEXTS)], begins, points
+    )
 
 
 def build_arrays(nodes: Nodes, arcs: Arcs, attribution: str = "", sizes: tuple[int, int] = (0, 0)) -> Arrays:
     """The network of nodes and arcs. Raises ValueError where they don't fit together."""
     edge, is_along, first, backward = edges_from_arcs(arcs)
     counts = np.diff(arcs.begins)[first]
-    which = np.repeat(np.arange(len(first)), counts)
-    place = np.arange(len(which)) - np.repeat(np.cumsum(counts) - counts, counts)
-    rows = arcs.begins[first][which] + np.where(backward[which], counts[which] - 1 - place, place)
+    owner, position = expand(counts)
+    rows = arcs.begins[first][owner] + np.where(backward[owner], counts[owner] - 1 - position, position)
     names: dict[str, int] = {}
     texts = np.array([[names.setdefault(text, len(names) + 1) for text in row] for row in arcs.texts], dtype=np.int32)
     listed, keys = encoded(attribution, names, nodes.keys)
@@ -274,7 +292,7 @@ def build_arrays(nodes: Nodes, arcs: Arcs, attribution: str = "", sizes: tuple[i
     found = Arrays(
         np.array([VERSION]), np.array(sizes), nodes.osm, nodes.places[:, 0].copy(), nodes.places[:, 1].copy(), nodes.ends,
         arcs.starts.astype(np.int32), arcs.ends.astype(np.int32), arcs.weights, arcs.seconds, arcs.metres, arcs.osm,
-        row, edge, is_along, row_texts, np.append(0, np.cumsum(counts)), arcs.points[rows],
+        row, edge, is_along, row_texts, offsets(counts), arcs.points[rows],
         np.cumsum([0, *map(len, listed)], dtype=np.int64), np.frombuffer(b"".join(listed), dtype=np.uint8), keys,
     )
     if problem := find_inconsistency(found):
@@ -296,13 +314,9 @@ def edges_from_arcs(arcs: Arcs) -> tuple[NDArray[np.int32], NDArray[np.bool_], I
     # straight lines are told apart by their ends; of the others all points are compared
     is_straight = last - first == 1
     chosen = np.flatnonzero(is_straight)
-    rows = np.column_stack((np.sort(keys[chosen], axis=1), arcs.osm[chosen]))
-    order = np.lexsort((chosen, *rows.T))
-    is_other = np.append(True, (np.diff(rows[order], axis=0) != 0).any(axis=1))[: len(order)]
-    group = np.empty(len(order), dtype=np.int64)
-    group[order] = np.cumsum(is_other) - 1
+    ends_of_chosen = keys[chosen]
     leader = np.full(len(first), -1, dtype=np.int64)
-    leader[chosen] = chosen[order[np.flatnonzero(is_other)]][group] if len(chosen) else leader[chosen]
+    leader[chosen] = chosen[first_of_equal(ends_of_chosen.min(axis=1), ends_of_chosen.max(axis=1), arcs.osm[chosen])]
     for arc in np.flatnonzero(~is_straight).tolist():
         line = arcs.points[first[arc] : last[arc] + 1]
         key = (line if is_along[arc] else line[::-1]).tobytes() + int(arcs.osm[arc]).to_bytes(8, "little", signed=True)

@@ -1,10 +1,10 @@
 """Files to write that are whole after a with-block, or as they were before it. A write that fails raises OSError with the
 name of the file; the word `-` is standard output.
 
-    writing(path, mode="w")      a file; pipes, devices and standard output are written straight. Mode "w" is UTF-8 text, "wb"
+    atomic_write(path, mode="w")  a file; pipes, devices and standard output are written straight. Mode "w" is UTF-8 text, "wb"
                                  bytes.
-    whole_files(*paths)          several such files of text, all or none
-    named_faults(*paths)         an OSError of a full disk in the block names these files
+    atomic_write_all(*paths)     several such files of text, all or none
+    add_paths_to_errors(*paths)  an OSError of a full disk in the block names these files
 """
 import contextlib
 import errno

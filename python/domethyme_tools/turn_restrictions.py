@@ -14,20 +14,20 @@ A turn that has a penalty is kept by the same nodes: arcs that lead from them we
 
     Restriction(start, via, end, only)            from way `start` by the node `via` into way `end`
     restrictions_of(tags, members, access, keys)  those of a relation, or why it has none
-    fitting(restrictions, roads)                  those whose ways end at their node, by node
+    applicable_rules(restrictions, roads)         those whose ways end at their node, by node
     pairs_at(nodes, ..)                           the turns at nodes
-    split(nodes, pairs, cost, ..)                 the arcs with split junctions
+    split_nodes(nodes, pairs, cost, ..)           the arcs with split junctions
 """
 import collections
 from collections.abc import Callable, Iterable, Sequence
-from typing import Any, NamedTuple
+from typing import NamedTuple
 
 import numpy as np
 from numpy.typing import NDArray
 
+from domethyme.network.groups import Ints, expand, first_of_equal, offsets
 from domethyme.network.tables import ENDS
 
-Ints = NDArray[np.int64]
 Report = collections.Counter[str]
 NOT_LOOKED_AT = "turn restrictions not looked at: "
 START, PASSED, END = "from", "no", "to"
@@ -125,25 +125,14 @@ class TurnPairs(NamedTuple):
     turn_out: Ints
 
 
-def offsets(counts: NDArray[Any]) -> Ints:
-    """Where the items of each begin, by their counts; and at last where they end."""
-    return np.concatenate((np.zeros(1, np.int64), np.cumsum(counts, dtype=np.int64)))
-
-
-def index_within(counts: NDArray[Any]) -> Ints:
-    """For the items of each, by their counts, their numbers from 0."""
-    found: Ints = np.arange(int(counts.sum())) - np.repeat(offsets(counts)[:-1], counts)
-    return found
-
-
 def pairs_at(nodes: Ints, start: NDArray[np.int32], end: NDArray[np.int32], count: int) -> TurnPairs:
     """The turns at these nodes, of a graph with `count` nodes and arcs with these ends."""
     rank = np.full(count, -1, np.int32)
     rank[nodes] = np.arange(len(nodes), dtype=np.int32)
-    (into, into_begin), (out, out_begin) = (arcs_at(rank[side], len(nodes)) for side in (end, start))
-    out_count = np.diff(out_begin)[rank[end[into]]]
-    turn_into = np.repeat(np.arange(len(into)), out_count)
-    turn_out = np.repeat(out_begin[rank[end[into]]], out_count) + index_within(out_count)
+    (into, into_begin), (out, out_begin) = arcs_at(rank[end], len(nodes)), arcs_at(rank[start], len(nodes))
+    node = rank[end[into]]  # the place in `nodes` of the node that each arc leads to
+    turn_into, position = expand(np.diff(out_begin)[node])  # each of them with all that lead out of there
+    turn_out = out_begin[node][turn_into] + position
     return TurnPairs(into, out, into_begin, out_begin, turn_into, turn_out)
 
 
@@ -203,18 +192,24 @@ def split_nodes(
     found = start[arc], first_end[arc], np.zeros(len(arc), np.int32)
     # each start of those with several, with each end
     several = np.flatnonzero(total > 1)
-    starts_of, ends_of, total = starts_of[several], ends_of[several], total[several]
+    starts_of, ends_of = starts_of[several], ends_of[several]
     start_begin = offsets(starts_of)
     starts, penalties = np.repeat(start[several], starts_of), np.zeros(int(start_begin[-1]), np.int32)
     is_more = np.ones(len(starts), np.bool_)
     is_more[start_begin[:-1]] = False
     starts[is_more], penalties[is_more] = copies.made[pairs.turn_into[leaves]], cost[leaves]
-    which, number = np.repeat(np.arange(len(several)), total), index_within(total)
-    at = start_begin[which] + number // ends_of[which]
-    found[0][is_several], found[2][is_several] = starts[at], penalties[at]
-    found[1][is_several] = np.where(number % ends_of[which] == 0, first_end[several[which]], last_end[several[which]])
+    owner, start_row, end_number = product(starts_of, ends_of)
+    found[0][is_several], found[2][is_several] = starts[start_row], penalties[start_row]
+    found[1][is_several] = np.where(end_number == 0, first_end[several[owner]], last_end[several[owner]])
     touched = np.concatenate((arcs, pairs.out[np.repeat(copies.is_split, np.diff(pairs.out_begin))]))
     return Split(arc, *found, copies.beside, copies.ends, nodes[copies.is_split], touched)
+
+
+def product(starts_of: NDArray[np.int32], ends_of: NDArray[np.int8]) -> tuple[Ints, Ints, Ints]:
+    """Each start of an arc with each of its ends, by how many each arc has: the arc, the row of the start, and the number of the
+    end, where the rows of starts follow one another arc by arc."""
+    owner, number = expand(starts_of * ends_of)
+    return owner, offsets(starts_of)[owner] + number // ends_of[owner], number % ends_of[owner]
 
 
 def make_copies(nodes: Ints, pairs: TurnPairs, cost: NDArray[np.int32], count: int) -> Copies:
@@ -230,7 +225,7 @@ def make_copies(nodes: Ints, pairs: TurnPairs, cost: NDArray[np.int32], count: i
     made_at = np.bincount(node[is_made], minlength=len(nodes))
     begin = count + offsets(np.where(is_split, 1 + made_at, 0))
     made = np.zeros(len(pairs.into), np.int64)
-    made[is_made] = begin[:-1][node[is_made]] + 1 + index_within(made_at)
+    made[is_made] = begin[:-1][node[is_made]] + 1 + expand(made_at)[1]
     ends = np.full(int(begin[-1]) - count, ENDS.index(PASSED), np.uint8)
     ends[begin[:-1][is_split] - count] = ENDS.index(END)
     beside = np.repeat(nodes[is_split], 1 + made_at[is_split])
@@ -245,12 +240,7 @@ def first_equivalent(pairs: TurnPairs, cost: NDArray[np.int32], node: Ints) -> I
     has_turns = np.diff(begin) > 0
     codes = splitmix64(place * np.uint64(1 << 32) + (cost + 2).astype(np.uint64))
     key[has_turns] = np.add.reduceat(codes, begin[:-1][has_turns]) if len(codes) else 0
-    order = np.lexsort((key, node))
-    is_first = np.ones(len(order), np.bool_)
-    is_first[1:] = (key[order[1:]] != key[order[:-1]]) | (node[order[1:]] != node[order[:-1]])
-    found = np.empty(len(order), np.int64)
-    found[order] = order[is_first][np.cumsum(is_first) - 1]
-    return found
+    return first_of_equal(key, node)
 
 
 def splitmix64(values: NDArray[np.uint64]) -> NDArray[np.uint64]:

@@ -7,14 +7,15 @@ from typing import TYPE_CHECKING, Any
 import numpy as np
 from numpy.typing import NDArray
 
-from .grid import Grid, cell_keys, build_grid, pack_keys
-from .levels import Floats, Levels, morton_codes, road_class, sort_by_cell, to_mercator
-from .sphere import angles, unit_vectors, interpolate
-from .tables import EARTH_RADIUS
-from .threads import map_slices, differs_from_previous, parallel_argsort
+from .geo import EARTH_RADIUS
+from .grid import Grid, build_grid, cell_keys, pack_keys
+from .groups import expand
+from .parallel import differs_from_previous, map_slices, parallel_argsort
+from .sphere import angles, interpolate, unit_vectors
+from .zoom_levels import Floats, Levels, morton_codes, road_class, sort_by_cell, to_mercator
 
 if TYPE_CHECKING:
-    from .binary import Arrays
+    from .net_file import Arrays
 
 UNITS = 10_000_000
 FULL_CIRCLE = 360 * UNITS
@@ -131,10 +132,9 @@ def edge_grid(points: NDArray[Any], steps: NDArray[np.int32], edges: NDArray[np.
         counts = pieces_per_segment(whole, height)
         shares = np.array([0.5])
         if counts.max(initial=1) > 1:
-            row = np.repeat(np.arange(len(counts)), counts)
-            place = np.arange(len(row)) - np.repeat(np.cumsum(counts) - counts, counts)
+            row, position = expand(counts)
             begins, ends, whole, edge = begins[row], ends[row], whole[row], edge[row]
-            shares = (place + 0.5) / counts[row]
+            shares = (position + 0.5) / counts[row]
         middles = interpolate(begins, ends, shares, whole)
         lat = np.degrees(np.arctan2(middles[:, 2], np.hypot(middles[:, 0], middles[:, 1])))
         found = pack_keys(cell_keys(np.degrees(np.arctan2(middles[:, 1], middles[:, 0])), lat, height), edge)
@@ -198,7 +198,9 @@ def build_zoom_levels(arrays: "Arrays", steps: NDArray[np.int32], edges: NDArray
     kinds = np.array([road_class(text) for text in texts], dtype=np.uint8)
     of_edge = np.full(len(arrays.edge_begin) - 1, road_class(""), dtype=np.uint8)
     of_edge[arrays.arc_edge] = kinds[which][arrays.arc_row]
-    return sort_by_cell(lambda part: morton_codes(to_mercator(segment_middles(arrays.points, steps[part]))), of_edge, steps, edges)
+    return sort_by_cell(
+        lambda part: morton_codes(to_mercator(segment_middles(arrays.points, steps[part]))), of_edge, steps, edges
+    )
 
 
 def bounding_box(points: NDArray[Any]) -> list[int]:

@@ -1,19 +1,13 @@
-"""Texts that are read line by line: tables in CSV, and graphs and pairs in the formats of docs/FORMATS.md.
+"""Tables in CSV, read row by row, and the numbers in texts.
 
-    table(path, needed)          with-block: a Table of a CSV file; iterate for (row, {column: text}); `.columns` are the
-                                 names in order, those of `needed` are there
-    read_graph(path)             Graph(nodes, starts, ends, weights): a number and three lists, in the file's order
-    write_graph(file, nodes, arcs, comments=())     arcs are (start, end, weight)
-    write_pairs(file, pairs, comments=())           the query file
-    read_answers(path)           yields the lines.Answer of each line that `routecli route` prints
-    dimacs_lines, problem_number what lines of graphs, pairs and coordinates have in common
-    reading(path)                with-block: a stream of bytes, unpacked if the file is one of gzip
-    whole_number(text, what, path, row, low, high)  the int
-    number(text, what, path, row, low, high)        the float
-    safe(text), plain(text)      a text as a field of CSV that no program takes for a formula, and back
+    open_table(path, required)   with-block: a Table of a CSV file; iterate for (row, {column: text}); `.columns` are the
+                                 names in order, those of `required` are there
+    open_input(path)             with-block: a stream of bytes, unpacked if the file is one of gzip
+    parse_int(text, what, path, row, low, high)     the int
+    parse_float(text, what, path, row, low, high)   the float
+    escape_formula(text), unescape_formula(text)    a text as a field of CSV that no program takes for a formula, and back
 
-Nodes are numbered from 1, as in the texts. The word `-` is standard input. What is wrong is a NetworkError with file and row.
-Needs nothing but Python's own library.
+The path `-` is standard input. What is wrong is a NetworkError with file and row. Needs nothing but Python's own library.
 """
 import contextlib
 import csv
@@ -24,17 +18,14 @@ import math
 import re
 import sys
 import zlib
-from collections.abc import Collection, Iterable, Iterator
-from typing import IO, NamedTuple, cast
+from collections.abc import Iterable, Iterator
+from typing import IO, cast
 
 from .errors import NetworkError, os_reason
-from .lines import NO_WAY, NOT_A_REPLY, RouteReply, parse_reply
+from .limits import MAX_WEIGHT
 from .program import StrPath
 
-MOST_NODES = 1 << 25
-MOST_LINES = 1 << 27
-MAX_WEIGHT = (1 << 32) - 1
-MOST_COLUMNS = 12
+MAX_COLUMNS = 12
 GZIP = b"\x1f\x8b"
 # How alike two names of columns are, from 0 to 1, for one to be suggested in place of the other.
 ALIKE = 0.7
@@ -102,7 +93,7 @@ def need_columns(path: StrPath, columns: list[str], needed: Iterable[str]) -> No
         raise NetworkError(f"has two columns {twice[0]}", path, 1)
     if not (missing := [name for name in names if name not in columns]):
         return
-    found = ", ".join(columns[:MOST_COLUMNS]) + ", ..." * (len(columns) > MOST_COLUMNS)
+    found = ", ".join(columns[:MAX_COLUMNS]) + ", ..." * (len(columns) > MAX_COLUMNS)
     doubt = ""
     if len(columns) == 1 and (";" in columns[0] or "\t" in columns[0]):
         doubt = ": fields have to be separated by commas"
@@ -185,77 +176,3 @@ def excerpt(text: str | bytes) -> str:
 # Graphs, pairs and answers
 
 
-class GraphLists(NamedTuple):
-    """A graph: the number of its nodes, which count from 1, and its arcs in the file's order."""
-
-    nodes: int
-    starts: list[int]
-    ends: list[int]
-    weights: list[int]
-
-
-def dimacs_lines(path: StrPath, stream: IO[bytes]) -> Iterator[tuple[int, list[bytes]]]:
-    """The row and the fields of each line that is neither a comment nor blank."""
-    for row, line in enumerate(stream, 1):
-        fields = line.split()
-        if fields and not fields[0].startswith(b"c"):
-            yield row, fields
-
-
-def parse_problem_line(fields: list[bytes], names: tuple[bytes, ...], path: StrPath, row: int, most: int) -> int:
-    """The number at the end of a problem line `p NAMES NUMBER`."""
-    if tuple(fields[1:-1]) != names:
-        raise NetworkError(f"is no problem line `p {b' '.join(names).decode()} NUMBER`", path, row)
-    return parse_int(fields[-1], "the number", path, row, 0, most)
-
-
-def read_graph(path: StrPath) -> GraphLists:
-    """The graph of a .gr file (`-` is standard input)."""
-    graph: GraphLists | None = None
-    announced = 0
-    with open_input(path) as stream:
-        for row, fields in dimacs_lines(path, stream):
-            if fields[0] == b"a" and graph is not None and len(fields) == 4:
-                graph.starts.append(parse_int(fields[1], "node", path, row, 1, graph.nodes))
-                graph.ends.append(parse_int(fields[2], "node", path, row, 1, graph.nodes))
-                graph.weights.append(parse_int(fields[3], "weight", path, row))
-            elif fields[:2] == [b"p", b"sp"] and graph is None and len(fields) == 4:
-                graph = GraphLists(parse_int(fields[2], "the number of nodes", path, row, 0, MOST_NODES), [], [], [])
-                announced = parse_int(fields[3], "the number of arcs", path, row, 0, MOST_LINES)
-            else:
-                raise NetworkError("is no line of a graph", path, row)
-    if graph is None:
-        raise NetworkError("has no line `p sp NODES ARCS`", path)
-    if len(graph.starts) != announced:
-        raise NetworkError(f"has {len(graph.starts)} arcs and announces {announced}", path)
-    return graph
-
-
-def write_graph(
-    file: IO[str], nodes: int, arcs: Collection[Iterable[int]], comments: Iterable[str] = ()
-) -> None:
-    """Writes a .gr file: the comments, a line each, the problem line, and an arc line for each (start, end, weight)."""
-    for comment in comments:
-        file.write(f"c {comment}\n")
-    file.write(f"p sp {nodes} {len(arcs)}\n")
-    file.writelines(f"a {start} {end} {weight}\n" for start, end, weight in arcs)
-
-
-def write_pairs(file: IO[str], pairs: Collection[tuple[int, int]], comments: Iterable[str] = ()) -> None:
-    """Writes a query file, the comments first, a line each."""
-    file.writelines(f"c {comment}\n" for comment in comments)
-    file.write(f"p aux sp p2p {len(pairs)}\n")
-    file.writelines(f"q {source} {target}\n" for source, target in pairs)
-
-
-def read_answers(path: StrPath) -> Iterator[RouteReply]:
-    """The answers that `routecli route` prints, one after the other (`-` is standard input)."""
-    with open_input(path) as stream:
-        for row, line in enumerate(stream, 1):
-            try:
-                answer = parse_reply(line)
-            except ValueError as error:
-                raise NetworkError(str(error), path, row) from error
-            if answer.length != NO_WAY and not answer.nodes:
-                raise NetworkError(NOT_A_REPLY, path, row)
-            yield answer

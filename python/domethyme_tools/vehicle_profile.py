@@ -2,8 +2,8 @@
 
     read_profile(word)         the Profile of a file *.json, or of the folder profiles by its name
     way_keys(profile)          the keys of a way that the rules look at
-    judged(tags, profile)      what the rules say of a way with these tags
-    parts_a_way(tags, profile) whether a node with these tags is a barrier to the vehicle
+    judge(tags, profile)      what the rules say of a way with these tags
+    blocks_way(tags, profile) whether a node with these tags is a barrier to the vehicle
 """
 import json
 import math
@@ -14,10 +14,10 @@ import typing
 from collections.abc import Iterator
 from typing import Any
 
+from domethyme.csv_tables import open_input
 from domethyme.program import StrPath
-from domethyme.texts import open_input
 
-from .tool import ToolError
+from .cli import ToolError
 
 Tags = dict[str, str]
 
@@ -29,13 +29,15 @@ COUNTRY, ZONE = re.compile("[A-Z]{2}:(.+)"), re.compile("[A-Z]{2}:zone:?([0-9]+)
 SPEED = re.compile(r"([0-9]+(?:\.[0-9]+)?) *(km/h|kmh|kph|mph|knots)?")
 UNITS = {None: 1, "km/h": 1, "kmh": 1, "kph": 1, "mph": 1.609344, "knots": 1.852}
 # metres and tonnes
-LENGTH, WEIGHT = re.compile(r"([0-9]+(?:\.[0-9]+)?) *(m|cm|ft)?"), re.compile(r"([0-9]+(?:\.[0-9]+)?) *(t|kg|st|lt|lbs|cwt)?")
+LENGTH, WEIGHT = re.compile(r"([0-9]+(?:\.[0-9]+)?) *(m|cm|ft)?"), re.compile(
+    r"([0-9]+(?:\.[0-9]+)?) *(t|kg|st|lt|lbs|cwt)?"
+)
 FEET = re.compile(r"([0-9]+)' *(?:([0-9]+(?:\.[0-9]+)?)\")?")
 MEASURES = {None: 1, "m": 1, "cm": 0.01, "ft": 0.3048, "t": 1, "kg": 0.001, "st": 0.90718474, "lt": 1.0160469088,
             "lbs": 0.00045359237, "cwt": 0.05080234544}
 NO_LIMIT = ("none", "no", "default", "unsigned", "no_sign", "unspecified")
 # hundredths of a second
-TURNS, MOST_PENALTY = ("left", "right", "back"), 360_000
+TURNS, MAX_PENALTY = ("left", "right", "back"), 360_000
 ONEWAY = {"yes": "forward", "true": "forward", "1": "forward", "-1": "backward", "reverse": "backward"}
 
 
@@ -80,7 +82,9 @@ def read_profile(word: str) -> Profile:
     path = pathlib.Path(word) if word.endswith(".json") else PROFILES / f"{word}.json"
     if not word.endswith(".json") and not os.path.exists(path):
         known = ", ".join(sorted(each.stem for each in PROFILES.glob("*.json")))
-        raise ToolError(f"there is no profile {word}: there is {known}; for another vehicle copy its file and name the copy")
+        raise ToolError(
+            f"there is no profile {word}: there is {known}; for another vehicle copy its file and name the copy"
+        )
     with open_input(path) as stream:
         try:
             members = json.load(stream)
@@ -112,8 +116,8 @@ def member_error(name: str, value: Any) -> str:
     """What a member isn't and has to be, or the empty text."""
     if name == "turns":
         kinds = isinstance(value, dict) and all(kind in TURNS and type(value[kind]) is int for kind in value)
-        fits = kinds and all(0 <= penalty <= MOST_PENALTY for penalty in value.values())
-        return "" if fits else f"hundredths of a second from 0 to {MOST_PENALTY} by the words {', '.join(TURNS)}"
+        fits = kinds and all(0 <= penalty <= MAX_PENALTY for penalty in value.values())
+        return "" if fits else f"hundredths of a second from 0 to {MAX_PENALTY} by the words {', '.join(TURNS)}"
     if name == "fastest":
         return speed_error({"fastest": value}) and f"a speed from {SLOWEST} to {FASTEST}"
     if name in ("both_ways", "closed_by"):
@@ -264,7 +268,10 @@ def speed_of(tags: Tags, direction: str, profile: Profile) -> tuple[float, bool]
     text = next((tags[key] for key in keys if key in tags), None)
     limit = None if text is None else maxspeed_of(text, profile)
     speed = profile.speeds[tags["highway"]] if limit is None else limit
-    return min(speed, profile.fastest, profile.surfaces.get(tags.get("surface", ""), FASTEST)), text is None or limit is not None
+    return (
+        min(speed, profile.fastest, profile.surfaces.get(tags.get("surface", ""), FASTEST)),
+        text is None or limit is not None,
+    )
 
 
 def maxspeed_of(text: str, profile: Profile) -> float | None:

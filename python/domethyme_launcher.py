@@ -5,25 +5,24 @@ import importlib
 import pathlib
 import sys
 
-HERE = str(pathlib.Path(__file__).resolve().parent.parent)
+HERE = str(pathlib.Path(__file__).resolve().parent)
 if HERE not in sys.path:
     sys.path.insert(0, HERE)
 
-from domethyme_tools.tool import require_packages, run  # found by the path above
+from domethyme_tools.cli import require_packages, run  # found by the path above
 
 COMMANDS = (
-    "build_converter", "check_page", "compare_converters", "compare_turns", "draw", "fetch_extract", "nearest", "osm_to_gr",
-    "route_many", "serve", "to_geojson", "to_network",
+    "build_converter", "draw", "fetch_extract", "nearest", "osm_to_gr", "route_many", "serve", "to_geojson", "to_network",
 )
 
 
 def main() -> None:
     """Runs the command, and ends the process."""
-    if pathlib.Path(sys.argv[0]).name == "__main__.py":
+    if pathlib.Path(sys.argv[0]).name == "domethyme_launcher.py":
         del sys.argv[0]
     name = pathlib.Path(sys.argv[0]).name.removeprefix("domethyme-").replace("-", "_") if sys.argv else ""
     if name not in COMMANDS:
-        print(f"domethyme_tools: no command {name!r}: there are {', '.join(COMMANDS)}", file=sys.stderr)
+        print(f"domethyme_launcher: no command {name!r}: there are {', '.join(COMMANDS)}", file=sys.stderr)
         sys.exit(2)
     with require_packages():
         command = importlib.import_module("domethyme_service.command" if name == "serve" else f"domethyme_tools.{name}")

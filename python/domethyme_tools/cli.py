@@ -1,12 +1,12 @@
 """How the map tools take their arguments and end.
 
-    Fault(message, file=None, row=None, status=1)   what is wrong, as one line; rows are lines of the file, from 1
+    ToolError(message, file=None, row=None, status=1)  what is wrong, as one line; rows are lines of the file, from 1
     run(main)                    calls main() as a tool: 0, or an error's line on standard error and its status; 130 after
                                  an interrupt, 143 after SIGTERM; a reader of standard output that went away is status 1
                                  without a line. Arguments that argparse refuses are status 2.
     warn(text)                   a line on standard error, with the tool's name
-    words(doc, *examples)        an argparse parser whose `--help` begins with the docstring as it is and ends with examples
-    packages()                   `with packages(): import numpy` ends with one line and status 1 if one is missing
+    argument_parser(doc, *examples)  an argparse parser whose `--help` begins with the docstring as it is and ends with examples
+    require_packages()   `with require_packages(): import numpy` ends with one line and status 1 if one is missing
     add_hierarchy(parser)        the option --hierarchy, and need_hierarchy(options) compares it with NETWORK
     refuse_overwriting(parser, outputs, inputs)     status 2 where an output is an input
     tool(name)                   the words that begin another tool
@@ -18,7 +18,7 @@ import pathlib
 import signal
 import stat
 import sys
-from collections.abc import Callable, Iterable, Iterator
+from collections.abc import Callable, Iterable, Iterator, Mapping
 from types import FrameType
 from typing import NoReturn
 
@@ -100,6 +100,21 @@ def argument_parser(doc: str | None, *examples: str) -> argparse.ArgumentParser:
     return argparse.ArgumentParser(description=doc, epilog=epilog, formatter_class=argparse.RawDescriptionHelpFormatter)
 
 
+def current_arguments(parser: argparse.ArgumentParser, renamed: Mapping[str, str]) -> list[str]:
+    """The arguments of this call, with options by an old word as they are called now: a line says so for each. The old words go with
+    the next version."""
+    arguments = sys.argv[1:]
+    for place, word in enumerate(arguments[: arguments.index("--")] if "--" in arguments else arguments):
+        option, equals, value = word.partition("=")
+        if option in renamed:
+            print(
+                f"{parser.prog}: {option} is now {renamed[option]}; the old word goes with the next version",
+                file=sys.stderr,
+            )
+            arguments[place] = f"{renamed[option]}{equals}{value}"
+    return arguments
+
+
 def add_hierarchy(parser: argparse.ArgumentParser, option: str = "--hierarchy", what: str = "its hierarchy") -> None:
     """Adds the option by which a hierarchy and a network are compared."""
     parser.add_argument(option, metavar=option[2:].upper(), help=f"{what}, which is compared: another one is refused")
@@ -112,7 +127,9 @@ def need_hierarchy(options: argparse.Namespace) -> None:
         belonging.compare_files(options.hierarchy, options.network, options.compare_all)
 
 
-def refuse_overwriting(parser: argparse.ArgumentParser, outputs: Iterable[str | None], inputs: Iterable[str | None]) -> None:
+def refuse_overwriting(
+    parser: argparse.ArgumentParser, outputs: Iterable[str | None], inputs: Iterable[str | None]
+) -> None:
     """Ends with status 2 where an output is a file that is read too, by whatever name, or by standard input."""
     given = {path: file for path in inputs if path is not None and (file := file_at(path)) is not None}
     for output in outputs:
@@ -133,4 +150,4 @@ def file_at(path: str) -> os.stat_result | None:
 
 def tool_command(name: str) -> list[str]:
     """The words that begin another tool, by this Python."""
-    return [sys.executable, "-P", str(pathlib.Path(__file__).with_name("__main__.py")), name]
+    return [sys.executable, "-P", str(pathlib.Path(__file__).parents[1] / "domethyme_launcher.py"), name]

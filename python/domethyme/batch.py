@@ -7,7 +7,7 @@ from typing import NamedTuple, TypeVar
 import numpy as np
 from numpy.typing import NDArray
 
-from .lines import NO_WAY
+from .protocol import NO_PATH
 from .router import Router, Searcher
 
 # Questions that a thread asks in one call.
@@ -16,7 +16,7 @@ T = TypeVar("T")
 
 
 class BatchRoutes(NamedTuple):
-    """Routes: the length of each, NO_WAY where there is none, how many nodes it has, and the nodes of all."""
+    """Routes: the length of each, NO_PATH where there is none, how many nodes it has, and the nodes of all."""
 
     lengths: NDArray[np.int64]
     counts: NDArray[np.int64]
@@ -24,7 +24,7 @@ class BatchRoutes(NamedTuple):
 
 
 def lengths(router: Router, pairs: NDArray[np.int64]) -> NDArray[np.int64]:
-    """The least lengths of pairs of nodes, of shape (n, 2), NO_WAY where there is no path."""
+    """The least lengths of pairs of nodes, of shape (n, 2), NO_PATH where there is no path."""
     pairs_u32, found = np.ascontiguousarray(pairs, dtype=np.uint32), np.empty(len(pairs), np.int64)
 
     def query_chunk(part: slice, seat: Searcher) -> None:
@@ -36,7 +36,7 @@ def lengths(router: Router, pairs: NDArray[np.int64]) -> NDArray[np.int64]:
 
 
 def table(router: Router, sources: NDArray[np.int64], targets: NDArray[np.int64]) -> NDArray[np.int64]:
-    """The least lengths from each source to each target, NO_WAY where there is no path."""
+    """The least lengths from each source to each target, NO_PATH where there is no path."""
     rows, columns = (np.ascontiguousarray(nodes, dtype=np.uint32) for nodes in (sources, targets))
     found = np.empty((len(rows), len(columns)), np.int64)
 
@@ -57,7 +57,9 @@ def routes(router: Router, pairs: NDArray[np.int64]) -> BatchRoutes:
         lengths, nodes = zip(*found)
         return BatchRoutes(np.array(lengths, np.int64), np.array([*map(len, nodes)], np.int64), np.concatenate(nodes))
 
-    found = map_chunks(router, query_chunk, len(pairs)) or [BatchRoutes(np.empty(0, np.int64), np.empty(0, np.int64), np.empty(0, np.int32))]
+    found = map_chunks(router, query_chunk, len(pairs)) or [
+        BatchRoutes(np.empty(0, np.int64), np.empty(0, np.int64), np.empty(0, np.int32))
+    ]
     lengths, counts, nodes = zip(*found)
     return BatchRoutes(np.concatenate(lengths), np.concatenate(counts), np.concatenate(nodes))
 
@@ -65,12 +67,14 @@ def routes(router: Router, pairs: NDArray[np.int64]) -> BatchRoutes:
 def route_arrays(seat: Searcher, source: int, target: int) -> tuple[int, NDArray[np.int32]]:
     """The length and the nodes of a route."""
     if not seat.route(source, target):
-        return NO_WAY, np.empty(0, np.int32)
+        return NO_PATH, np.empty(0, np.int32)
     info = seat.route_info
     return info.length, np.frombuffer(memoryview(seat.nodes), np.int32, info.nodes).copy()
 
 
-def map_chunks(router: Router, query_chunk: Callable[[slice, Searcher], T], count: int, at_a_time: int = CHUNK_SIZE) -> list[T]:
+def map_chunks(
+    router: Router, query_chunk: Callable[[slice, Searcher], T], count: int, at_a_time: int = CHUNK_SIZE
+) -> list[T]:
     """What `query_chunk` returns for each part of so many questions, in order. Each part has a seat of its own while it is asked."""
     parts = [slice(begin, begin + at_a_time) for begin in range(0, count, at_a_time)]
 

@@ -1,0 +1,22 @@
+"""Old words of public names. Each works until the next version, and warns with the word that is used now."""
+import warnings
+from typing import Literal
+
+Side = Literal["from", "to"]
+
+
+def warn_renamed(old: str, new: str, level: int = 3) -> None:
+    """Warns (DeprecationWarning) the caller of the caller, or who is `level` - 1 calls away, that a name has another word."""
+    warnings.warn(f"{old} is now {new}; the old word goes with the next version", DeprecationWarning, stacklevel=level)
+
+
+def side_of(side: Side | bool, end: bool | None) -> Side:
+    """The side that a caller of `nearest` means, who may have given `end` in its place, by name or as the third argument. Raises
+    ValueError for any other word."""
+    old = side if isinstance(side, bool) else end
+    if old is not None:
+        warn_renamed("nearest(end=)", 'nearest(side="to")', 4)
+        return "to" if old else "from"
+    if side not in ("from", "to"):
+        raise ValueError(f"side has to be from or to, and is {side!r}")
+    return "from" if side == "from" else "to"

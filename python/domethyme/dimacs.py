@@ -1,0 +1,95 @@
+"""Graphs, pairs and answers as texts, in the formats of docs/FORMATS.md.
+
+    read_graph(path)             GraphLists(nodes, starts, ends, weights): a number and three lists, in the file's order
+    write_graph(file, nodes, arcs, comments=())     arcs are (start, end, weight)
+    write_pairs(file, pairs, comments=())           the query file
+    read_answers(path)           yields the protocol.RouteReply of each line that `routecli route` prints
+    dimacs_lines, parse_problem_line                what lines of graphs, pairs and coordinates have in common
+
+Nodes are numbered from 1, as in the texts. The path `-` is standard input. What is wrong is a NetworkError with file and row.
+Needs nothing but Python's own library.
+"""
+from collections.abc import Collection, Iterable, Iterator
+from typing import IO, NamedTuple
+
+from .csv_tables import open_input, parse_int
+from .errors import NetworkError
+from .limits import MAX_LINES, MAX_NODES
+from .program import StrPath
+from .protocol import NOT_A_REPLY, NO_PATH, RouteReply, parse_reply
+
+
+class GraphLists(NamedTuple):
+    """A graph: the number of its nodes, which count from 1, and its arcs in the file's order."""
+
+    nodes: int
+    starts: list[int]
+    ends: list[int]
+    weights: list[int]
+
+
+def dimacs_lines(path: StrPath, stream: IO[bytes]) -> Iterator[tuple[int, list[bytes]]]:
+    """The row and the fields of each line that is neither a comment nor blank."""
+    for row, line in enumerate(stream, 1):
+        fields = line.split()
+        if fields and not fields[0].startswith(b"c"):
+            yield row, fields
+
+
+def parse_problem_line(fields: list[bytes], names: tuple[bytes, ...], path: StrPath, row: int, most: int) -> int:
+    """The number at the end of a problem line `p NAMES NUMBER`."""
+    if tuple(fields[1:-1]) != names:
+        raise NetworkError(f"is no problem line `p {b' '.join(names).decode()} NUMBER`", path, row)
+    return parse_int(fields[-1], "the number", path, row, 0, most)
+
+
+def read_graph(path: StrPath) -> GraphLists:
+    """The graph of a .gr file (`-` is standard input)."""
+    graph: GraphLists | None = None
+    announced = 0
+    with open_input(path) as stream:
+        for row, fields in dimacs_lines(path, stream):
+            if fields[0] == b"a" and graph is not None and len(fields) == 4:
+                graph.starts.append(parse_int(fields[1], "node", path, row, 1, graph.nodes))
+                graph.ends.append(parse_int(fields[2], "node", path, row, 1, graph.nodes))
+                graph.weights.append(parse_int(fields[3], "weight", path, row))
+            elif fields[:2] == [b"p", b"sp"] and graph is None and len(fields) == 4:
+                graph = GraphLists(parse_int(fields[2], "the number of nodes", path, row, 0, MAX_NODES), [], [], [])
+                announced = parse_int(fields[3], "the number of arcs", path, row, 0, MAX_LINES)
+            else:
+                raise NetworkError("is no line of a graph", path, row)
+    if graph is None:
+        raise NetworkError("has no line `p sp NODES ARCS`", path)
+    if len(graph.starts) != announced:
+        raise NetworkError(f"has {len(graph.starts)} arcs and announces {announced}", path)
+    return graph
+
+
+def write_graph(
+    file: IO[str], nodes: int, arcs: Collection[Iterable[int]], comments: Iterable[str] = ()
+) -> None:
+    """Writes a .gr file: the comments, a line each, the problem line, and an arc line for each (start, end, weight)."""
+    for comment in comments:
+        file.write(f"c {comment}\n")
+    file.write(f"p sp {nodes} {len(arcs)}\n")
+    file.writelines(f"a {start} {end} {weight}\n" for start, end, weight in arcs)
+
+
+def write_pairs(file: IO[str], pairs: Collection[tuple[int, int]], comments: Iterable[str] = ()) -> None:
+    """Writes a query file, the comments first, a line each."""
+    file.writelines(f"c {comment}\n" for comment in comments)
+    file.write(f"p aux sp p2p {len(pairs)}\n")
+    file.writelines(f"q {source} {target}\n" for source, target in pairs)
+
+
+def read_answers(path: StrPath) -> Iterator[RouteReply]:
+    """The answers that `routecli route` prints, one after the other (`-` is standard input)."""
+    with open_input(path) as stream:
+        for row, line in enumerate(stream, 1):
+            try:
+                answer = parse_reply(line)
+            except ValueError as error:
+                raise NetworkError(str(error), path, row) from error
+            if answer.length != NO_PATH and not answer.nodes:
+                raise NetworkError(NOT_A_REPLY, path, row)
+            yield answer

@@ -1,0 +1,34 @@
+"""Arrays whose rows are in groups, one group after the other. Needs numpy.
+
+    offsets(counts)           where each group begins, and last where they end
+    expand(counts)            of each row the group and the position in it
+    first_of_equal(*columns)  for each row the first one that equals it
+"""
+from typing import Any
+
+import numpy as np
+from numpy.typing import NDArray
+
+Ints = NDArray[np.int64]
+
+
+def offsets(counts: NDArray[Any]) -> Ints:
+    """Where each group begins, by how many rows each has, and last where they end: [2, 0, 3] -> [0, 2, 2, 5]."""
+    return np.concatenate((np.zeros(1, np.int64), np.cumsum(counts, dtype=np.int64)))
+
+
+def expand(counts: NDArray[Any]) -> tuple[Ints, Ints]:
+    """Of each row its group, and its position in that, by how many rows each group has: [2, 0, 3] -> [0, 0, 2, 2, 2] and
+    [0, 1, 0, 1, 2]."""
+    group = np.arange(len(counts)).repeat(counts)
+    return group, np.arange(len(group)) - offsets(counts)[group]
+
+
+def first_of_equal(*columns: NDArray[Any]) -> Ints:
+    """For each row of columns of one length the first row that has the same value in each."""
+    order = np.lexsort(columns)  # (stable: equal rows stay in order)
+    is_first = np.ones(len(order), np.bool_)
+    is_first[1:] = np.any([column[order[1:]] != column[order[:-1]] for column in columns], axis=0)
+    found = np.empty(len(order), np.int64)
+    found[order] = order[is_first][np.cumsum(is_first) - 1]
+    return found

@@ -1,0 +1,107 @@
+"""The nodes and arcs of a network, from the file that is to be read: NETWORK.net where it is no older than the tables, the tables, or a
+DIMACS .co file and its graph.
+
+    read_nodes(path)             Nodes(osm, lon, lat, ends): lists, node n at n - 1; of a .nodes.csv or a DIMACS .co file
+    arcs_of(word)                the arcs that a tool's argument NETWORK means: of .arcs.csv, or of X.gr for a DIMACS file X.co
+    mapped_if_current(prefix)    NETWORK.net, mapped, where it is current and there is numpy
+"""
+import os
+from collections.abc import Iterator
+from typing import TYPE_CHECKING, Any
+
+from ..csv_tables import open_input, parse_int
+from ..dimacs import dimacs_lines, parse_problem_line, read_graph
+from ..errors import NetworkError
+from ..limits import MAX_NODES
+from ..program import StrPath
+from .geo import format_linestring, metres_between
+from .tables import ENDS, Arc, Files, Nodes, arcs_file, graph_of, is_coordinates, read_arcs, read_node_table
+
+if TYPE_CHECKING:
+    from . import net_file
+
+CHUNK = 1 << 14
+
+
+def read_nodes(path: StrPath) -> Nodes:
+    """The nodes of a .nodes.csv file, by the binary form beside it where that is current, or of a DIMACS .co file by its
+    ending."""
+    if is_coordinates(path):
+        return read_coordinates(path)
+    arrays = mapped_if_current(os.fspath(path).removesuffix(".nodes.csv")) if str(path).endswith(".nodes.csv") else None
+    return read_node_table(path) if arrays is None else nodes_from_net(arrays)
+
+
+def mapped_if_current(prefix: str) -> "net_file.MappedNetwork | None":
+    """A network's mapped file, where it is current and there is numpy."""
+    try:
+        from . import net_file
+    except ModuleNotFoundError:
+        return None
+    return net_file.read(Files(prefix).binary) if net_file.is_current(prefix) else None
+
+
+def nodes_from_net(arrays: "net_file.MappedNetwork") -> Nodes:
+    """The nodes of a mapped file, as those of the table."""
+    from .net_file import NO_OSM, UNITS
+
+    osm = [None if number == NO_OSM else number for number in arrays.node_osm[:].tolist()]
+    lon, lat = (arrays.node_lon[:] / UNITS).tolist(), (arrays.node_lat[:] / UNITS).tolist()
+    return Nodes(osm, lon, lat, [ENDS[place] for place in arrays.node_ends[:].tolist()], arrays.keys() or ())
+
+
+def arcs_from_net(arrays: "net_file.MappedNetwork") -> Iterator[Arc]:
+    """The arcs of a mapped file, as those of the table."""
+    for begin in range(0, len(arrays.arc_from), CHUNK):
+        part = slice(begin, begin + CHUNK)
+        figures: tuple[Any, ...] = (
+            arrays.arc_from, arrays.arc_to, arrays.arc_weight, arrays.arc_seconds, arrays.arc_metres, arrays.arc_osm,
+            arrays.arc_texts
+        )
+        rows = zip(*(values[part].tolist() for values in figures))
+        for place, (start, end, weight, seconds, metres, osm, row) in enumerate(rows, begin):
+            highway, name, ref, junction, destination, structure = (arrays.texts[text] for text in row)
+            line = format_linestring(arrays.line(place))
+            yield Arc(start, end, weight, seconds, metres, osm, highway, name, line, ref, junction, destination, structure)
+
+
+def read_coordinates(path: StrPath) -> Nodes:
+    """The nodes of a DIMACS .co file: `p aux sp co N`, and `v NODE X Y` in millionths of a degree, in any order."""
+    lon: list[float | None] | None = None
+    lat: list[float | None] = []
+    with open_input(path) as stream:
+        for row, fields in dimacs_lines(path, stream):
+            if fields[0] == b"p" and lon is None:
+                count = parse_problem_line(fields, (b"aux", b"sp", b"co"), path, row, MAX_NODES)
+                lon, lat = [None] * count, [None] * count
+            elif fields[0] == b"v" and lon is not None and len(fields) == 4:
+                place = parse_int(fields[1], "node", path, row, 1, len(lon)) - 1
+                lon[place] = parse_int(fields[2], "x", path, row, -180_000_000, 180_000_000) / 1e6
+                lat[place] = parse_int(fields[3], "y", path, row, -90_000_000, 90_000_000) / 1e6
+            else:
+                missing = " before the line `p aux sp co N`" if lon is None else ""
+                raise NetworkError(f"is no line of coordinates{missing}", path, row)
+    if lon is None:
+        raise NetworkError("has no line `p aux sp co N`", path)
+    if None in lon:
+        raise NetworkError(f"has no coordinates of node {lon.index(None) + 1}", path)
+    places = [(east, north) for east, north in zip(lon, lat) if east is not None and north is not None]
+    lons, lats = [east for east, _ in places], [north for _, north in places]
+    return Nodes([None] * len(lon), lons, lats, [""] * len(lon))
+
+
+def arcs_of(word: StrPath) -> Iterator[Arc]:
+    """The arcs of a tool's word NETWORK: those of its table, or for a DIMACS file X.co those of the graph X.gr as straight
+    lines, without a way, a name and seconds."""
+    if not is_coordinates(word):
+        path = arcs_file(word)
+        arrays = mapped_if_current(os.fspath(word))
+        yield from read_arcs(path) if arrays is None else arcs_from_net(arrays)
+        return
+    nodes, graph = read_nodes(word), read_graph(graph_of(word))
+    if len(nodes.lon) != graph.nodes:
+        raise NetworkError(f"has {len(nodes.lon)} nodes, and the graph beside it has {graph.nodes}", word)
+    places = list(zip(nodes.lon, nodes.lat))
+    for start, end, weight in zip(graph.starts, graph.ends, graph.weights):
+        line = [places[start - 1], places[end - 1]]
+        yield Arc(start, end, weight, 0.0, metres_between(*line[0], *line[1]), 0, "", "", format_linestring(line))

@@ -1,0 +1,44 @@
+"""One route of a hierarchy, and what pairs of nodes may come as."""
+from collections.abc import Hashable, Sequence
+from typing import TYPE_CHECKING, Any, NamedTuple, Union
+
+from .deprecated import warn_renamed
+
+if TYPE_CHECKING:
+    from numpy.typing import NDArray
+
+    from .network.network import Network
+
+Rows = Union["NDArray[Any]", Sequence[Any]]
+
+
+class Route(NamedTuple):
+    """A least walk.
+
+    source, target   its ends, nodes from 0 or keys
+    length           its length, in the unit of the graph's weights, with what `between` adds at its ends
+    nodes            its nodes from the first to the last, or their keys
+    node_indices     its nodes from 0, whatever keys there are
+    """
+
+    source: Hashable
+    target: Hashable
+    length: int
+    nodes: list[Any]
+    node_indices: list[int]
+
+    @property
+    def arcs(self) -> int:
+        """How many arcs it has."""
+        return len(self.node_indices) - 1
+
+    @property
+    def numbers(self) -> list[int]:
+        """The old word of `node_indices`."""
+        warn_renamed("Route.numbers", "Route.node_indices")
+        return self.node_indices
+
+    def geojson(self, network: "Network") -> dict[str, Any]:
+        """The route as a Feature along the real road; see Network.geojson."""
+        feature: dict[str, Any] = network.geojson(self)["features"][0]
+        return feature
