@@ -134,7 +134,7 @@ def parse_int(
 ) -> int:
     """The value of a text (or bytes) of decimal digits, maybe with a sign, from low to high."""
     if not (DIGITS.fullmatch(text) if isinstance(text, str) else BYTES_OF_DIGITS.fullmatch(text)):
-        raise NetworkError(f"{what} {excerpt(text)} is no whole number", path, row)
+        raise NetworkError(f"{what} {excerpt(text)} isn't an integer", path, row)
     value = int(text)
     if not low <= value <= high:
         raise NetworkError(f"{what} {value} isn't from {low} to {high}", path, row)

@@ -13,7 +13,7 @@ Rows = Union["NDArray[Any]", Sequence[Any]]
 
 
 class Route(NamedTuple):
-    """A least walk.
+    """A shortest path.
 
     source, target   its ends, nodes from 0 or keys
     length           its length, in the unit of the graph's weights, with what `between` adds at its ends

@@ -53,7 +53,7 @@ from .cli import ToolError, add_hierarchy, argument_parser, current_arguments, n
 SIDES: tuple[Side, Side] = ("from", "to")
 PREFIXES = ("from_", "to_")
 NO_PREFIX = ("",)
-SWAPPED = "are longitude and latitude in each other's place?"
+SWAPPED = "are longitude and latitude swapped?"
 
 
 def parse_args() -> argparse.Namespace:

@@ -240,7 +240,7 @@ class LineBuilder:
         away = great_circle_metres(unit_vectors(*places[[0, -1]].T), unit_vectors(*(ends / UNITS).T))
         if away.max() > FARTHEST_END:
             raise NetworkError(
-                f"its line ends {away.max():,.0f} m from its node: from and to in each other's place?", path, row
+                f"its line ends {away.max():,.0f} m from its node: are from and to swapped?", path, row
             )
         line: NDArray[np.int32] = np.round(places * UNITS).astype(np.int32)
         return line

@@ -120,7 +120,7 @@ class Network:
         if not (np.isfinite(east).all() and np.isfinite(north).all()):
             raise ValueError("lon and lat have to be numbers of degrees")
         if (np.abs(east) > 180).any() or (np.abs(north) > 90).any():
-            raise ValueError("lon has to be from -180 to 180 and lat from -90 to 90: are they in each other's place?")
+            raise ValueError("lon has to be from -180 to 180 and lat from -90 to 90: are they swapped?")
         nodes, away = self._places.nearest(east.ravel(), north.ravel(), side_of(side, end))
         if east.ndim == 0:
             return int(nodes[0]), float(away[0])
