@@ -169,7 +169,7 @@ class TooFar(NearestCase):
 
 class BadInput(NearestCase):
     def test_degrees(self):
-        self.assert_far("9.5,95", "row 4: from_lat '95' isn't from -90 to 90: are longitude and latitude in each other's")
+        self.assert_far("9.5,95", "row 4: from_lat '95' isn't from -90 to 90: are longitude and latitude swapped?")
         self.assert_far("181,0", "row 4: from_lon '181' isn't from -180 to 180: are these degrees?")
         self.assert_far("0,inf", "row 4: from_lat 'inf'")
         self.assert_far("0,north", "row 4: from_lat 'north' is no number")

@@ -1,10 +1,7 @@
 """Tests of a hierarchy in this process: threads, forks, its end, files that are refused, and what can't be found."""
 import collections
 import concurrent.futures
-import contextlib
-import ctypes
 import os
-import resource
 import signal
 import subprocess
 import sys
@@ -24,18 +21,32 @@ from domethyme.router import Router
 RING = ([*range(60)], [*range(1, 60), 0], [1] * 60)
 
 
-@contextlib.contextmanager
-def memory_for(more):
-    """In which this process gets so many bytes more, and none that it has freed."""
+# Asks a far question in each way, with 2 MB for it and then with as much as it takes, in a process that has freed nothing before.
+REFUSED = """
+import ctypes, resource, sys
+import domethyme
+
+hierarchy, last = domethyme.Hierarchy(sys.argv[1]), int(sys.argv[2])
+assert hierarchy.length(1, 2) is None and hierarchy.lengths([[1, 2]])[0] == -1 == hierarchy.matrix([1], [2])[0, 0]
+for ask in (
+    lambda: hierarchy.length(0, last),
+    lambda: hierarchy.route(0, last).length,
+    lambda: hierarchy.between({0: 0}, {last: 0}).length,
+    lambda: int(hierarchy.lengths([[0, last]])[0]),
+    lambda: int(hierarchy.matrix([0], [last])[0, 0]),
+):
     ctypes.CDLL(None).malloc_trim(0)
     with open("/proc/self/statm") as sizes:
         now = int(sizes.read().split()[0]) * resource.getpagesize()
     soft, hard = resource.getrlimit(resource.RLIMIT_AS)
-    resource.setrlimit(resource.RLIMIT_AS, (now + more, hard))
+    resource.setrlimit(resource.RLIMIT_AS, (now + (2 << 20), hard))
     try:
-        yield
-    finally:
-        resource.setrlimit(resource.RLIMIT_AS, (soft, hard))
+        print(ask())
+    except domethyme.OutOfMemory:
+        print("refused")
+    resource.setrlimit(resource.RLIMIT_AS, (soft, hard))
+    print(ask())
+"""
 
 
 class RouterTests(ToolCase):
@@ -168,19 +179,10 @@ class RouterTests(ToolCase):
         last = 499_999
         links = [(0, node, 2, 1, NONE) for node in range(1, last)] + [(0, last, 1, 1, NONE)]
         (self.folder / "fan.rch").write_bytes(spelled(range(last + 1), links, 2 * last))
-        hierarchy = domethyme.Hierarchy(self.folder / "fan.rch")
-        self.addCleanup(hierarchy.close)
-        self.assertIsNone(hierarchy.length(1, 2))
-        for ask in (
-            lambda: hierarchy.length(0, last),
-            lambda: hierarchy.route(0, last).length,
-            lambda: hierarchy.between({0: 0}, {last: 0}).length,
-            lambda: int(hierarchy.lengths([[0, last]])[0]),
-            lambda: int(hierarchy.matrix([0], [last])[0, 0]),
-        ):
-            with memory_for(2 << 20), self.assertRaises(domethyme.OutOfMemory):
-                ask()
-            self.assertEqual(ask(), 1)
+        command = [sys.executable, "-c", REFUSED, self.folder / "fan.rch", str(last)]
+        environment = {**os.environ, "PYTHONPATH": str(PYTHON), "OPENBLAS_NUM_THREADS": "1"}
+        ended = subprocess.run(command, env=environment, capture_output=True, text=True)
+        self.assertEqual((ended.stdout.split(), ended.stderr), (["refused", "1"] * 5, ""))
 
     def test_the_end(self):
         with self.ring() as hierarchy:

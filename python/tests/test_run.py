@@ -40,5 +40,5 @@ def test_one_hangs(tmp_path):
 
 
 def test_those_that_wait_begin_first(tmp_path):
-    ended = run(tmp_path, "def test_a(): pass\nclass TestSlowClientTests:\n def test_b(self): pass", "-n", "0", "-vv")
+    ended = run(tmp_path, "def test_a(): pass\nclass TestDaskTests:\n def test_b(self): pass", "-n", "0", "-vv")
     assert ended.stdout.index("::test_b") < ended.stdout.index("::test_a"), ended.stdout
