@@ -29,7 +29,7 @@ RUNS, FACTS, PICTURE = DOCS / "speed.csv", DOCS / "speed.json", DOCS / "speed.sv
 
 NOT_MEASURED = "not measured"
 KINDS = ["random", "near"]
-IN_CPP = {"plain": "Dijkstra in C++", "boost": "Boost"}
+IN_CPP = {"plain": "Dijkstra", "boost": "Boost"}
 OTHERS = {"igraph": "igraph", "networkx": "NetworkX", "pgrouting": "pgRouting"}
 SHOWN = "sparse-"  # the networks of README and the picture
 
@@ -63,11 +63,6 @@ class Measured:
         """Links of the hierarchy for each arc of the graph."""
         found = self.networks[network]["links"].get(f"{order} 1")
         return f"{found:.2f}" if found else NOT_MEASURED
-
-    def settled(self, network: str, job: str) -> str:
-        """Nodes that the C++ program settles for a pair."""
-        found = self.networks[network]["settled"].get(job)
-        return f"{found:,.0f}" if found else NOT_MEASURED
 
     def pair(self, network: str, order: str, kind: str, program: str = "route") -> Rounds:
         """What a pair takes beyond loading the file."""
@@ -142,50 +137,48 @@ def machine(measured: Measured) -> str:
 
 def preparing(measured: Measured) -> str:
     heads = ["Nodes", "`depth`, 1 worker", "4 workers", "4 / 1", "memory", "links an arc"]
-    heads += ["`edges`, 4 workers", "memory", "links an arc"]
+    heads += ["`edges`, 4 workers", "links an arc"]
     rows = []
     for name in measured.networks:
         one, four = (measured.rounds(name, f"prepare depth {workers}") for workers in (1, 4))
         cells = [written(median(one)), written(median(four)), ratio(four, one)]
         cells += [measured.memory(name, "prepare depth 4"), measured.links(name, "depth")]
-        cells += [measured.time(name, "prepare edges 4"), measured.memory(name, "prepare edges 4")]
-        rows.append([measured.title(name), *cells, measured.links(name, "edges")])
+        cells += [measured.time(name, "prepare edges 4"), measured.links(name, "edges")]
+        rows.append([measured.title(name), *cells])
     return table(heads, rows)
 
 
 def beside(measured: Measured) -> str:
     heads = ["Nodes", "`prepare`", "memory", "reference", "memory", "`prepare` / reference"]
-    heads += ["`check`", "memory", "`check` / `prepare`"]
+    heads += ["`check`", "memory"]
     jobs, rows = ["prepare depth 1", "textbook", "check depth"], []
     for name in measured.networks:
         ours, theirs, checked = (measured.rounds(name, job, "processor") for job in jobs)
         times = [written(median(each)) for each in (ours, theirs, checked)]
         memory = [measured.memory(name, job) for job in jobs]
-        cells = [times[0], memory[0], times[1], memory[1], ratio(ours, theirs), times[2], memory[2], ratio(checked, ours)]
+        cells = [times[0], memory[0], times[1], memory[1], ratio(ours, theirs), times[2], memory[2]]
         rows.append([measured.title(name), *cells])
     return table(heads, rows)
 
 
 def loading(measured: Measured) -> str:
-    heads = ["Nodes", "the hierarchy", "C++", "ratio", "memory", "the graph's text", "C++", "ratio"]
-    jobs, rows = ["route depth none", "route.cpp depth none", "read", "read.cpp"], []
+    jobs, rows = ["route depth none", "route.cpp depth none"], []
     for name in measured.networks:
-        ours, theirs, text, theirs_text = (measured.rounds(name, job) for job in jobs)
+        ours, theirs = (measured.rounds(name, job) for job in jobs)
         cells = [written(median(ours)), written(median(theirs)), ratio(ours, theirs), measured.memory(name, jobs[0])]
-        cells += [written(median(text)), written(median(theirs_text)), ratio(text, theirs_text)]
         rows.append([measured.title(name), *cells])
-    return table(heads, rows)
+    return table(["Nodes", "`route`", "C++", "ratio", "memory"], rows)
 
 
 def pairs(measured: Measured) -> str:
-    heads = ["Nodes, pairs", "`depth`", "C++", "ratio", "nodes settled", "`edges`", *IN_CPP.values()]
+    """A row for each network. Near pairs have no ratio, since loading takes longer than all pairs of a run."""
+    heads = ["Nodes", "random", "C++", "ratio", *IN_CPP.values(), "near", "C++", IN_CPP["plain"]]
     rows = []
-    for name, kind in measured.asked():
-        ours, theirs = (measured.pair(name, "depth", kind, program) for program in ["route", "route.cpp"])
-        cells = [written(median(ours)), written(median(theirs)), ratio(ours, theirs)]
-        cells.append(measured.settled(name, f"depth {kind}"))
-        others = [measured.pair(name, "edges", kind), *(measured.searched(name, each, kind) for each in IN_CPP)]
-        rows.append([f"{measured.title(name)}, {kind}", *cells, *(written(median(each)) for each in others)])
+    for name in measured.networks:
+        random, near = ([measured.pair(name, "depth", kind, program) for program in ("route", "route.cpp")] for kind in KINDS)
+        searched = [measured.searched(name, each, "random") for each in IN_CPP]
+        times = [written(median(each)) for each in [*random, *searched, *near, measured.searched(name, "plain", "near")]]
+        rows.append([measured.title(name), *times[:2], ratio(*random), *times[2:]])
     return table(heads, rows)
 
 
