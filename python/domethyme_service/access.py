@@ -12,7 +12,7 @@ from .errors import RequestError
 
 # The host of a request, and its port.
 HOST = re.compile(r"(\[[0-9A-Fa-f:.]{2,45}\]|[0-9A-Za-z._~-]{1,253})(?::[0-9]{0,5})?")
-TYPES = ("application/x-ndjson", "application/ndjson", "application/jsonl", "application/json")
+BATCH_TYPES = ("application/x-ndjson", "application/ndjson", "application/jsonl", "application/json")
 ANY_ORIGIN, NO_ORIGIN = "*", "none"
 ORIGIN = re.compile(r"[a-z][a-z0-9+.-]*://[^/?#\s]+")
 WRONG_HOST = "this service isn't for the host {}: --allowed-host names others"
@@ -27,7 +27,7 @@ class AccessPolicy(NamedTuple):
     origin: str
 
     @classmethod
-    def of(cls, hosts: Iterable[str], origin: str) -> "AccessPolicy":
+    def from_options(cls, hosts: Iterable[str], origin: str) -> "AccessPolicy":
         return cls(frozenset(host.lower() for host in hosts), origin)
 
     def check(self, host: str | None, local: str, environ: Mapping[str, Any], is_page: bool) -> None:
@@ -76,5 +76,6 @@ def is_address(name: str, local: str) -> bool:
 
 def check_content_type(kind: str) -> None:
     """Raises RequestError for the body of a batch that is of another type."""
-    if kind.partition(";")[0].strip().lower() not in TYPES:
-        raise RequestError(415, "InvalidQuery", f"the Content-Type has to be {TYPES[0]}, as by curl -H 'Content-Type: {TYPES[0]}'")
+    if kind.partition(";")[0].strip().lower() not in BATCH_TYPES:
+        hint = f"as by curl -H 'Content-Type: {BATCH_TYPES[0]}'"
+        raise RequestError(415, "InvalidQuery", f"the Content-Type has to be {BATCH_TYPES[0]}, {hint}")

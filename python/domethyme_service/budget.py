@@ -3,14 +3,14 @@ service."""
 from .errors import RequestError
 
 # Points of lines that the answer to a request may have, and those that may be looked at to simplify its line.
-MAX_POINTS, MAX_LOOKED_AT = 4_000_000, 80_000_000
+MAX_POINTS, MAX_EXAMINED = 4_000_000, 80_000_000
 
 
 class Budget:
     """What is left for a request."""
 
     def __init__(self) -> None:
-        self.points, self.looked_at = MAX_POINTS, MAX_LOOKED_AT
+        self.points, self.examined = MAX_POINTS, MAX_EXAMINED
 
     def spend(self, points: int) -> None:
         """Takes N points. Raises RequestError if fewer are left."""
@@ -19,9 +19,9 @@ class Budget:
             hint = "ask for fewer places, or overview=false"
             raise RequestError(400, "TooBig", f"the answer has more than {MAX_POINTS} points: {hint}")
 
-    def look_at(self, points: int) -> None:
+    def examine(self, points: int) -> None:
         """The same of points that are looked at."""
-        self.looked_at -= points
-        if self.looked_at < 0:
+        self.examined -= points
+        if self.examined < 0:
             hint = "ask for overview=full or false"
             raise RequestError(400, "TooBig", f"the line of the route takes too long to simplify: {hint}")

@@ -36,26 +36,26 @@ NGINX = "packaging/nginx/domethyme.conf (/usr/share/doc/domethyme/examples/nginx
 # Workers of a service: a long request holds one of them.
 MIN_WORKERS = 4
 # What is behind the path of a socket in that of the one for probes.
-PROBE = ".probe"
+PROBE_SUFFIX = ".probe"
 BACKLOG = 1024
 # Bytes that the kernel takes of a client: a worker looks at a whole head before it reads it.
 RECEIVE_BUFFER = 1 << 18
 # From this number on systemd hands over sockets.
-FIRST_SOCKET = 3
-GONE = {
+FIRST_SYSTEMD_DESCRIPTOR = 3
+REMOVED_OPTIONS = {
     "--connections": "worker_connections of nginx",
     "--client-connections": f"limit_conn in {NGINX}",
     "--head-seconds": f"client_header_timeout in {NGINX}",
 }
 
 
-class Gone(argparse.Action):
+class RemovedOption(argparse.Action):
     """An option that there was, and what there is in its place."""
 
     def __call__(
         self, parser: argparse.ArgumentParser, _args: argparse.Namespace, _values: Any, option: str | None = None
     ) -> None:
-        parser.error(f"{option} is no longer an option: use {GONE[option or '']}")
+        parser.error(f"{option} is no longer an option: use {REMOVED_OPTIONS[option or '']}")
 
 
 def argument_parser() -> argparse.ArgumentParser:
@@ -71,7 +71,7 @@ def argument_parser() -> argparse.ArgumentParser:
     add("--compare-all", action="store_true", help="compare all links with the network, also of more than ten million")
     radius = "metres from a place to a road (1000)"
     add("--default-radius", "--within", metavar="METRES", type=int_between(0, 10_000_000), default=1000, help=radius)
-    add("--bind", metavar="unix:PATH", help=f"listen at a unix socket, for nginx, and at PATH{PROBE}, for probes")
+    add("--bind", metavar="unix:PATH", help=f"listen at a unix socket, for nginx, and at PATH{PROBE_SUFFIX}, for probes")
     add("--host", metavar="ADDRESS", default="127.0.0.1", help="the address of the loopback to listen at (127.0.0.1)")
     add("--port", metavar="PORT", type=int_between(0, 65535), default=5000, help="the port, 0 for any that is free (5000)")
     workers = f"processes that answer, {MIN_WORKERS} or more ({MIN_WORKERS})"
@@ -82,11 +82,11 @@ def argument_parser() -> argparse.ArgumentParser:
     add("--program", metavar="FILE", help="routecli, for --verify: by default that of ROUTECLI, on PATH, or built here")
     host = "a host that requests may be for, * for any; several times"
     add("--allowed-host", metavar="NAME", action="append", default=[], help=host)
-    add("--cors", metavar="ORIGIN", type=origin, default="none", help="the origin whose pages may ask, * for any (none)")
+    add("--cors", metavar="ORIGIN", type=parse_origin, default="none", help="the origin whose pages may ask, * for any (none)")
     add("--access-log", action="store_true", help="a line of JSON on standard error for each request")
     add("--log-places", action="store_true", help="with the path and the caller's address in it")
-    for name in GONE:
-        add(name, action=Gone, nargs=1, help=argparse.SUPPRESS)
+    for name in REMOVED_OPTIONS:
+        add(name, action=RemovedOption, nargs=1, help=argparse.SUPPRESS)
     return parser
 
 
@@ -101,7 +101,7 @@ def bounded_int(low: int, high: int, text: str) -> int:
     return int(text)
 
 
-def origin(text: str) -> str:
+def parse_origin(text: str) -> str:
     """The origin of an argument, as browsers send it."""
     if text not in ("*", "none") and not ORIGIN.fullmatch(text):
         raise argparse.ArgumentTypeError("an origin is SCHEME://HOST, such as https://example.org")
@@ -119,26 +119,26 @@ def configure_logging(access: bool) -> None:
     logging.getLogger("domethyme_service").setLevel(logging.INFO)
 
 
-def sockets(args: argparse.Namespace) -> tuple[list[str], bool]:
+def open_sockets(args: argparse.Namespace) -> tuple[list[str], bool]:
     """Where the service listens, as gunicorn's `bind` has it, none where systemd hands over the sockets; and whether there
     is one for probes. Raises StartupError for an address that other machines reach."""
     if os.environ.get("LISTEN_PID") == str(os.getpid()):
-        handed_over = [FIRST_SOCKET + number for number in range(int(os.environ.get("LISTEN_FDS", "1")))]
-        for number in handed_over:
+        inherited = [FIRST_SYSTEMD_DESCRIPTOR + number for number in range(int(os.environ.get("LISTEN_FDS", "1")))]
+        for number in inherited:
             with socket.socket(fileno=os.dup(number)) as listening:
                 name = listening.getsockname()
             if isinstance(name, tuple):
                 check_loopback(name[0])
-        return [], len(handed_over) > 1
+        return [], len(inherited) > 1
     if args.bind is None:
-        return [listen_at_port(args.host, args.port)], False
+        return [listen_tcp(args.host, args.port)], False
     kind, _, path = args.bind.partition(":")
     if kind != "unix" or not path:
         raise StartupError(f"--bind {args.bind}: other machines ask through nginx, by {NGINX}, and --bind unix:PATH")
-    return [listen_at_path(path), listen_at_path(f"{path}{PROBE}")], True
+    return [listen_unix(path), listen_unix(f"{path}{PROBE_SUFFIX}")], True
 
 
-def listen_at_port(host: str, port: int) -> str:
+def listen_tcp(host: str, port: int) -> str:
     """A socket that listens at an address of the loopback, as gunicorn's `bind` has it. Raises StartupError."""
     try:
         family, _, _, _, address = socket.getaddrinfo(host, port, type=socket.SOCK_STREAM)[0]
@@ -149,7 +149,7 @@ def listen_at_port(host: str, port: int) -> str:
         raise StartupError(f"can't listen at {host}, port {port}: {error.strerror}{hint}") from error
 
 
-def listen_at_path(path: str) -> str:
+def listen_unix(path: str) -> str:
     """The same of a unix socket of mode 0660, in place of one that was left there. (gunicorn's own would be changed of
     owner, which the unit doesn't allow.) Raises StartupError."""
     before = os.umask(0o117)
@@ -185,8 +185,8 @@ def run(args: argparse.Namespace) -> None:
         print(f"domethyme-serve: --workers {args.workers}: {why}", file=sys.stderr)
     program = None if args.verify is None else find_program(args.program)
     paths = DatasetPaths(args.hierarchy, args.network, args.tables == "fast", args.verify, program, args.compare_all)
-    options = Options(AccessPolicy.of(args.allowed_host, args.cors), args.default_radius, args.max_table_cells)
-    bind, has_probe = sockets(args)
+    options = Options(AccessPolicy.from_options(args.allowed_host, args.cors), args.default_radius, args.max_table_cells)
+    bind, has_probe = open_sockets(args)
     setup = Setup(paths, options, bind, max(args.workers, MIN_WORKERS), has_probe, args.log_places)
     Application(setup, {"version": VERSION, "python": platform.python_version()}).run()
 

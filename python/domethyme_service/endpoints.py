@@ -6,31 +6,31 @@ from typing import Any, NamedTuple
 
 from .errors import RequestError
 from .parameters import (
-    Above, Absent, Alternatives, Annotations, Bearings, Chosen, Context, Flag, Key, Node, Number, Parameter, Radiuses, Straight,
-    Unused, Values, Word, values_of
+    Alternatives, Annotations, Bearings, Choice, Context, ContinueStraight, Flag, Ignored, IndexList, IntRange, Key, Node,
+    Parameter, PositiveNumber, Radiuses, Unsupported, Values, parse_parameters
 )
-from .static import FILES
+from .static import PAGE_FILES
 
-NOT_SAID = "snapping=any and flatbuffers aren't there"
+UNSUPPORTED_VALUES = "snapping=any and flatbuffers aren't there"
 RADIUSES, BEARINGS = Radiuses("radiuses"), Bearings("bearings")
-FALLBACK_SPEED, SCALE_FACTOR = Above("fallback_speed"), Above("scale_factor")
-FALLBACK_COORDINATE = Word("fallback_coordinate", "input", "snapped")
+FALLBACK_SPEED, SCALE_FACTOR = PositiveNumber("fallback_speed"), PositiveNumber("scale_factor")
+FALLBACK_COORDINATE = Choice("fallback_coordinate", "input", "snapped")
 GENERATE_HINTS, SKIP_WAYPOINTS = Flag("generate_hints", True), Flag("skip_waypoints", False)
-OVERVIEW = Word("overview", "simplified", "full", "false")
-GEOMETRIES = Word("geometries", "polyline", "polyline6", "geojson")
+OVERVIEW = Choice("overview", "simplified", "full", "false")
+GEOMETRIES = Choice("geometries", "polyline", "polyline6", "geojson")
 STEPS = Flag("steps", False)
 ANNOTATIONS = Annotations("annotations", ("duration", "weight", "distance", "datasources", "speed", "nodes"), "false")
-FIGURES = Annotations("annotations", ("duration", "distance", "weight"), "duration", is_plain=True)
-NUMBER = Number("number", 1, 100)
-SOURCES, DESTINATIONS = Chosen("sources"), Chosen("destinations")
+TABLE_ANNOTATIONS = Annotations("annotations", ("duration", "distance", "weight"), "duration", is_list_only=True)
+NUMBER = IntRange("number", 1, 100)
+SOURCES, DESTINATIONS = IndexList("sources"), IndexList("destinations")
 FROM, TO = Node("from"), Node("to")
 FROM_KEY, TO_KEY = Key("from_key"), Key("to_key")
 
 # Of all of OSRM's services.
 COMMON: tuple[Parameter[Any], ...] = (
-    RADIUSES, Unused("hints"), GENERATE_HINTS, SKIP_WAYPOINTS, BEARINGS, Absent("approaches", "unrestricted"),
-    Absent("exclude"), Word("snapping", "default", absent=["any"], says=NOT_SAID),
-    Word("format", "json", absent=["flatbuffers"], says=NOT_SAID),
+    RADIUSES, Ignored("hints"), GENERATE_HINTS, SKIP_WAYPOINTS, BEARINGS, Unsupported("approaches", "unrestricted"),
+    Unsupported("exclude"), Choice("snapping", "default", unsupported=["any"], message=UNSUPPORTED_VALUES),
+    Choice("format", "json", unsupported=["flatbuffers"], message=UNSUPPORTED_VALUES),
 )
 
 
@@ -47,10 +47,10 @@ class Endpoint(NamedTuple):
 
     def values(self, query: Mapping[str, str], context: Context = Context()) -> Values:
         """The values of its parameters. Raises RequestError."""
-        return Values({}) if self.parameters is None else values_of(self.parameters, query, context, self.unknown)
+        return Values({}) if self.parameters is None else parse_parameters(self.parameters, query, context, self.unknown)
 
 
-def osrm(service: str, path: str, answer: str, *parameters: Parameter[Any]) -> Endpoint:
+def osrm_endpoint(service: str, path: str, answer: str, *parameters: Parameter[Any]) -> Endpoint:
     return Endpoint(f"/{service}", path, answer, (*COMMON, *parameters), f"{service} has no parameter {{!r}}")
 
 
@@ -60,13 +60,14 @@ ENDPOINTS = (
     Endpoint("/map/about", "/map/about", "the box of the roads, the attribution, and a number that changes with the network",
              unknown="there is no such parameter"),
     Endpoint("/map/roads", "/map/roads/ZOOM/X/Y", "the roads in a square tile, as maps of the web number them, to zoom 16",
-             (Unused("v"),), "there is no such parameter"),
-    osrm("route", "/route/v1/PROFILE/PLACES", "a route by two places or more, to 500, a leg for each two",
-         Alternatives("alternatives"), Straight("continue_straight"), Absent("waypoints"), ANNOTATIONS, OVERVIEW, GEOMETRIES, STEPS),
-    osrm("nearest", "/nearest/v1/PROFILE/PLACE", "the nearest points of roads", NUMBER),
-    osrm("table", "/table/v1/PROFILE/PLACES", "durations, distances and weights, by up to 2,000 places",
-         FALLBACK_SPEED, FALLBACK_COORDINATE, SCALE_FACTOR, FIGURES, SOURCES, DESTINATIONS),
-    *(osrm(service, "", "") for service in ("match", "trip", "tile")),
+             (Ignored("v"),), "there is no such parameter"),
+    osrm_endpoint("route", "/route/v1/PROFILE/PLACES", "a route by two places or more, to 500, a leg for each two",
+                  Alternatives("alternatives"), ContinueStraight("continue_straight"), Unsupported("waypoints"), ANNOTATIONS,
+                  OVERVIEW, GEOMETRIES, STEPS),
+    osrm_endpoint("nearest", "/nearest/v1/PROFILE/PLACE", "the nearest points of roads", NUMBER),
+    osrm_endpoint("table", "/table/v1/PROFILE/PLACES", "durations, distances and weights, by up to 2,000 places",
+                  FALLBACK_SPEED, FALLBACK_COORDINATE, SCALE_FACTOR, TABLE_ANNOTATIONS, SOURCES, DESTINATIONS),
+    *(osrm_endpoint(service, "", "") for service in ("match", "trip", "tile")),
     Endpoint("/nodes/route", "/nodes/route", "a route between nodes by their numbers, from 1", (FROM, TO, FROM_KEY, TO_KEY)),
     Endpoint("/nodes/length", "/nodes/length", "its length alone; null if there is no path", (FROM, TO, FROM_KEY, TO_KEY)),
     Endpoint("/nodes/routes", "/nodes/routes", "a route for each line of the body, as a line of JSON", (),
@@ -77,9 +78,9 @@ ENDPOINTS = (
     Endpoint("/metrics", "/metrics", "the text format 0.0.4 of Prometheus", None),
 )
 BY_NAME = {endpoint.name: endpoint for endpoint in ENDPOINTS}
-OSRM = {endpoint.name[1:] for endpoint in ENDPOINTS if endpoint.parameters and endpoint.parameters[0] is RADIUSES}
+OSRM_SERVICES = {endpoint.name[1:] for endpoint in ENDPOINTS if endpoint.parameters and endpoint.parameters[0] is RADIUSES}
 BY_PATH = {
-    **{path: BY_NAME["/map/files"] for path in FILES},
+    **{path: BY_NAME["/map/files"] for path in PAGE_FILES},
     **{endpoint.path: endpoint for endpoint in ENDPOINTS if endpoint.path and not re.search("[A-Z]", endpoint.path)},
 }
 TILE = re.compile(r"/map/roads/([0-9]{1,2})/([0-9]{1,6})/([0-9]{1,6})")
@@ -90,32 +91,33 @@ def find_endpoint(path: str) -> Endpoint:
     if found := BY_PATH.get(path):
         return found
     words = path.split("/", 2)
-    if len(words) == 3 and words[1] in OSRM:
+    if len(words) == 3 and words[1] in OSRM_SERVICES:
         return BY_NAME[f"/{words[1]}"]
     if TILE.fullmatch(path):
         return BY_NAME["/map/roads"]
     raise RequestError(404, "InvalidUrl", "there is no such path")
 
 
-def table_of_endpoints() -> list[str]:
+def endpoint_table() -> list[str]:
     """The lines of the table of endpoints in docs/SERVICE.md."""
     shown = [endpoint for endpoint in ENDPOINTS if endpoint.path]
-    rows = [f"| `{endpoint.method} {endpoint.path}{query_of(endpoint)}` | {endpoint.answer} |" for endpoint in shown]
+    rows = [f"| `{endpoint.method} {endpoint.path}{required_query(endpoint)}` | {endpoint.answer} |" for endpoint in shown]
     return ["| Request | Answer |", "|---|---|", *rows]
 
 
-def query_of(endpoint: Endpoint) -> str:
+def required_query(endpoint: Endpoint) -> str:
     """What has to stand behind a path."""
     needed = [parameter.name for parameter in endpoint.parameters or () if isinstance(parameter, Node)]
     return "?" * bool(needed) + "&".join(f"{name}=NODE" for name in needed)
 
 
-def table_of_parameters() -> list[str]:
+def parameter_table() -> list[str]:
     """The lines of the table of the parameters of OSRM's API in docs/SERVICE.md."""
-    of = [("all", COMMON), *((name, (BY_NAME[f"/{name}"].parameters or ())[len(COMMON) :]) for name in ("route", "nearest", "table"))]
-    rows = [f"| {name} | `{each.name}` | {each.taken} | {each.refused} |" for name, some in of for each in some]
+    owners = [("all", COMMON)]
+    owners += [(name, (BY_NAME[f"/{name}"].parameters or ())[len(COMMON) :]) for name in ("route", "nearest", "table")]
+    rows = [f"| {name} | `{each.name}` | {each.accepted} | {each.rejected} |" for name, some in owners for each in some]
     return ["| Of | Parameter | Taken | Refused as `NotImplemented` |", "|---|---|---|---|", *rows]
 
 
 if __name__ == "__main__":
-    print("\n".join([*table_of_endpoints(), "", *table_of_parameters()]))
+    print("\n".join([*endpoint_table(), "", *parameter_table()]))

@@ -34,6 +34,6 @@ def malformed() -> RequestError:
     return RequestError(400, "InvalidUrl", "the request cannot be read")
 
 
-def too_late(seconds: float) -> RequestError:
+def timeout_error(seconds: float) -> RequestError:
     """An answer that took too long."""
     return RequestError(504, "Timeout", f"the answer took more than {seconds:g} s")

@@ -32,11 +32,11 @@ from .wsgi import Environ, Options, Service
 # service to end.
 TIMEOUT, GRACEFUL_SECONDS = 30, 30
 # How many loads of the files may have workers at once that each have a row of metrics.
-LOADS = 8
+MAX_GENERATIONS = 8
 # The parameter of mallopt for the number of heaps (M_ARENA_MAX in malloc.h).
 ARENA_MAX = -8
-ENDING = (signal.SIGTERM, signal.SIGINT, signal.SIGQUIT)
-FIXED = {
+END_SIGNALS = (signal.SIGTERM, signal.SIGINT, signal.SIGQUIT)
+FIXED_SETTINGS = {
     "worker_class": "domethyme_service.worker.Worker", "preload_app": True, "threads": 1, "timeout": TIMEOUT,
     "daemon": False, "reload": False, "limit_request_line": 0, "limit_request_fields": 100,
     "limit_request_field_size": 8190, "max_requests": 0, "reuse_port": False,
@@ -44,7 +44,7 @@ FIXED = {
 log = logging.getLogger("domethyme_service")
 
 
-class Interrupted(BaseException):
+class LoadInterrupted(BaseException):
     """The service was told to end while it opened files."""
 
 
@@ -67,7 +67,7 @@ class Application(BaseApplication):  # type: ignore[misc] # (gunicorn has no typ
     def __init__(self, setup: Setup, versions: dict[str, str]) -> None:
         self.setup = setup
         self.workers = setup.workers + setup.has_probe
-        self.metrics = SharedMetrics(1 + LOADS * self.workers, {**versions, "gunicorn": gunicorn.__version__})
+        self.metrics = SharedMetrics(1 + MAX_GENERATIONS * self.workers, {**versions, "gunicorn": gunicorn.__version__})
         self.slots = Slots(setup.workers // 2)
         self.generation = 0
         # (gunicorn would wait for whoever reads it)
@@ -83,14 +83,14 @@ class Application(BaseApplication):  # type: ignore[misc] # (gunicorn has no typ
             if value is not None and name != "args":
                 self.cfg.set(name, value)
         hooks = {hook.__name__: hook for hook in (pre_fork, post_fork, pre_request, post_request, child_exit, when_ready)}
-        for name, value in {**FIXED, **hooks, "bind": self.setup.bind, "workers": self.workers}.items():
+        for name, value in {**FIXED_SETTINGS, **hooks, "bind": self.setup.bind, "workers": self.workers}.items():
             self.cfg.set(name, value)
 
     def load(self) -> Service:
         """Opens the files. Raises StartupError or a DomethymeError."""
-        return self.opened(self.setup.paths)
+        return self.open_service(self.setup.paths)
 
-    def opened(self, paths: DatasetPaths) -> Service:
+    def open_service(self, paths: DatasetPaths) -> Service:
         return Service(open_dataset(paths), self.setup.options, self.metrics)
 
     def run(self) -> None:
@@ -109,15 +109,16 @@ class Trial(NamedTuple):
 class Arbiter(gunicorn.arbiter.Arbiter):  # type: ignore[misc] # (gunicorn has no types)
     """gunicorn's arbiter, which drops no signal, and reloads by files that were tried."""
 
+    app: Application
     trial: Trial | None = None
     wants_reload = is_opening = False
     # Reloads that aren't done, and the workers of files that were replaced: they are once none of these accepts
     # connections.
-    reloads, old = 0, list[Worker]()
+    pending_reloads, old_workers = 0, list[Worker]()
 
     def setup(self, app: Application) -> None:
         super().setup(app)
-        settle()
+        prepare_memory()
 
     def signal(self, sig: int, frame: object) -> None:
         """Keeps a signal until the loop comes to it, one of each kind. One that ends the service interrupts the opening of
@@ -125,8 +126,8 @@ class Arbiter(gunicorn.arbiter.Arbiter):  # type: ignore[misc] # (gunicorn has n
         if sig not in self.SIG_QUEUE:
             self.SIG_QUEUE.append(sig)
         self.wakeup()
-        if self.is_opening and sig in ENDING:
-            raise Interrupted
+        if self.is_opening and sig in END_SIGNALS:
+            raise LoadInterrupted
 
     def handle_hup(self) -> None:
         """Has a child open the files. A signal that comes while one does so has another one open them behind it."""
@@ -137,63 +138,63 @@ class Arbiter(gunicorn.arbiter.Arbiter):  # type: ignore[misc] # (gunicorn has n
         reads, writes = os.pipe()
         process = os.fork()
         if not process:
-            in_child(lambda: os.write(writes, self.tried()))
+            run_in_child(lambda: os.write(writes, self.trial_report()))
         os.close(writes)
         self.trial = Trial(process, reads)
 
     def handle_usr2(self) -> None:
         log.error("SIGUSR2 is not supported: SIGHUP reads the files again, and a restart takes another version")
 
-    def tried(self) -> bytes:
+    def trial_report(self) -> bytes:
         """How the opening of the files goes, in a child."""
         try:
-            return ready(self.app.load()).encode()
+            return ready_message(self.app.load()).encode()
         except Exception as fault:
-            return reason_of(fault).encode("utf-8", "replace")[:4000]
+            return failure_reason(fault).encode("utf-8", "replace")[:4000]
 
     def manage_workers(self) -> None:
         """Looks after the workers, a trial, and a reload that isn't done."""
         if self.trial is not None and select.select([self.trial.pipe], [], [], 0)[0]:
             self.end_trial(self.trial)
         super().manage_workers()
-        self.old = [worker for worker in self.old if worker.pid in self.WORKERS]
-        if self.reloads and not any(worker.row.workers for worker in self.old):
-            self.app.metrics.own.reloads += self.reloads
-            self.reloads = 0
+        self.old_workers = [worker for worker in self.old_workers if worker.pid in self.WORKERS]
+        if self.pending_reloads and not any(worker.row.workers for worker in self.old_workers):
+            self.app.metrics.own.reloads += self.pending_reloads
+            self.pending_reloads = 0
             log.info("reloaded, %d nodes", self.app.callable.queries.nodes)
 
     def end_trial(self, trial: Trial) -> None:
         """Reloads by files that a child has opened, or says why it couldn't."""
-        said = os.read(trial.pipe, 1 << 16).decode("utf-8", "replace")
+        report = os.read(trial.pipe, 1 << 16).decode("utf-8", "replace")
         os.close(trial.pipe)
         self.trial = None
-        if said.startswith("ready "):
-            self.reload_files(said)
+        if report.startswith("ready "):
+            self.reload_files(report)
         else:
-            self.refuse_reload(said or "the process that opens the files has ended")
+            self.refuse_reload(report or "the process that opens the files has ended")
         if self.wants_reload:
             self.wants_reload = False
             self.handle_hup()
 
-    def reload_files(self, tried: str) -> None:
+    def reload_files(self, report: str) -> None:
         """Opens the files that a child has tried, with their graph if it has, and replaces the workers."""
         self.is_opening = True
         try:
-            service = self.app.opened(self.app.setup.paths._replace(graph=None))
-            if ready(service) != tried:
+            service = self.app.open_service(self.app.setup.paths._replace(graph=None))
+            if ready_message(service) != report:
                 raise StartupError(f"{self.app.setup.paths.hierarchy}: has changed since it was tried")
         except Exception as fault:
-            return self.refuse_reload(reason_of(fault))
-        except Interrupted:
+            return self.refuse_reload(failure_reason(fault))
+        except LoadInterrupted:
             return
         finally:
             self.is_opening = False
-        self.old, self.reloads = list(self.WORKERS.values()), self.reloads + 1
+        self.old_workers, self.pending_reloads = list(self.WORKERS.values()), self.pending_reloads + 1
         gc.unfreeze()
         self.app.callable, self.app.generation = service, self.app.generation + 1
         del service
         self.reload()
-        note_load(self.app.metrics)
+        record_load(self.app.metrics)
 
     def refuse_reload(self, why: str) -> None:
         log.error("reload refused: %s", why)
@@ -205,7 +206,7 @@ class Arbiter(gunicorn.arbiter.Arbiter):  # type: ignore[misc] # (gunicorn has n
         if sig == signal.SIGABRT:
             self.app.metrics.own.worker_timeouts += 1
         elif pid in self.WORKERS and sig in (signal.SIGTERM, signal.SIGQUIT):
-            self.WORKERS[pid].told = True
+            self.WORKERS[pid].is_stopping = True
         super().kill_worker(pid, sig)
 
 
@@ -230,7 +231,7 @@ def post_fork(arbiter: Arbiter, worker: Worker) -> None:
 def child_exit(arbiter: Arbiter, worker: Worker) -> None:
     """A worker has ended: the arbiter starts another one if it wasn't told to."""
     worker.row.reset_gauges()
-    if not worker.told:
+    if not worker.is_stopping:
         arbiter.app.metrics.own.worker_restarts += 1
         log.error("worker %s has ended: another one is started", worker.pid)
 
@@ -248,28 +249,28 @@ def when_ready(arbiter: Arbiter) -> None:
     """The service listens."""
     own = arbiter.app.metrics.own
     own.process = os.getpid()
-    note_load(arbiter.app.metrics)
-    log.info("listens at %s, %d nodes", address_of(arbiter.LISTENERS[0]), arbiter.app.callable.queries.nodes)
-    notify(arbiter.app.notify_socket, "READY=1")
+    record_load(arbiter.app.metrics)
+    log.info("listens at %s, %d nodes", format_address(arbiter.LISTENERS[0]), arbiter.app.callable.queries.nodes)
+    notify_systemd(arbiter.app.notify_socket, "READY=1")
 
 
-def note_load(metrics: SharedMetrics) -> None:
+def record_load(metrics: SharedMetrics) -> None:
     """The files were opened that are served now."""
     metrics.own.last_reload_failed, metrics.own.last_reload_timestamp = 0, time.time()
 
 
-def ready(service: Service) -> str:
+def ready_message(service: Service) -> str:
     """What a trial says of a service whose files are open: the state of the hierarchy's file."""
     return f"ready {' '.join(map(str, service.dataset.stamp))}"
 
 
-def reason_of(fault: Exception) -> str:
+def failure_reason(error: Exception) -> str:
     """Why files can't be opened, in a line."""
-    kind = "" if isinstance(fault, (StartupError, DomethymeError, OSError)) else f"{type(fault).__name__}: "
-    return " ".join(f"{kind}{fault}".split())
+    kind = "" if isinstance(error, (StartupError, DomethymeError, OSError)) else f"{type(error).__name__}: "
+    return " ".join(f"{kind}{error}".split())
 
 
-def in_child(work: Callable[[], object]) -> NoReturn:
+def run_in_child(work: Callable[[], object]) -> NoReturn:
     """Does the work in a process that was forked for it, which ends with the arbiter and with the work."""
     try:
         for number in (signal.SIGHUP, signal.SIGINT, signal.SIGTERM, signal.SIGCHLD):
@@ -280,7 +281,7 @@ def in_child(work: Callable[[], object]) -> NoReturn:
         os._exit(0)
 
 
-def settle() -> None:
+def prepare_memory() -> None:
     """Prepares the memory of this process for its workers. What the opening of files took goes back to the system (glibc's
     malloc_trim), what is left is nothing that workers look for garbage in, and each has one heap."""
     gc.collect()
@@ -290,7 +291,7 @@ def settle() -> None:
     libc.malloc_trim(0)
 
 
-def address_of(listener: Any) -> str:
+def format_address(listener: Any) -> str:
     """The address of a socket as an URL has it, or `unix:PATH`."""
     name = listener.getsockname()
     if isinstance(name, (str, bytes)):
@@ -298,7 +299,7 @@ def address_of(listener: Any) -> str:
     return f"http://{f'[{name[0]}]' if ':' in name[0] else name[0]}:{name[1]}/"
 
 
-def notify(name: str, text: str) -> None:
+def notify_systemd(name: str, text: str) -> None:
     """Sends a line to the socket of systemd, if there is one. It doesn't wait where nobody reads that."""
     if name[:1] in ("/", "@"):
         with contextlib.suppress(OSError), socket.socket(socket.AF_UNIX, socket.SOCK_DGRAM) as stream:

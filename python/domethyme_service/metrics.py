@@ -14,7 +14,7 @@ from .endpoints import ENDPOINTS
 
 BUCKETS = (0.001, 0.0025, 0.005, 0.01, 0.025, 0.05, 0.1, 0.25, 0.5, 1.0, 2.5, 5.0, 10.0, 30.0)
 STATUSES = (200, 204, 400, 403, 404, 405, 408, 413, 415, 421, 500, 503, 504, 505)
-NAMES = (*(endpoint.name for endpoint in ENDPOINTS), "other")
+ENDPOINT_NAMES = (*(endpoint.name for endpoint in ENDPOINTS), "other")
 # Names without `domethyme_`. The first, a process, is for this module alone.
 GAUGES = ("process", "workers", "last_reload_failed", "last_reload_timestamp_seconds")
 COUNTERS = (
@@ -46,12 +46,12 @@ OLD_NAMES = {
     "requests_cancelled_total": "work_stopped_total",
 }
 REQUESTS_AT = len(UNLABELLED)
-TIMES_AT = REQUESTS_AT + len(NAMES) * len(STATUSES)
+HISTOGRAMS_AT = REQUESTS_AT + len(ENDPOINT_NAMES) * len(STATUSES)
 # Of each endpoint the counts of its times, and their sum.
-TIMES = len(BUCKETS) + 2
-WIDTH = TIMES_AT + len(NAMES) * TIMES
+HISTOGRAM_WIDTH = len(BUCKETS) + 2
+ROW_WIDTH = HISTOGRAMS_AT + len(ENDPOINT_NAMES) * HISTOGRAM_WIDTH
 Cells = ctypes.Array[ctypes.c_double]
-RowArray = ctypes.c_double * WIDTH
+RowArray = ctypes.c_double * ROW_WIDTH
 PAGE_SIZE = os.sysconf("SC_PAGE_SIZE")
 
 
@@ -85,11 +85,11 @@ class Row:
 
     def count(self, endpoint: str, status: int, seconds: float) -> None:
         """Counts one answer."""
-        name = NAMES.index(endpoint)
+        name = ENDPOINT_NAMES.index(endpoint)
         self.cells[REQUESTS_AT + name * len(STATUSES) + STATUSES.index(status)] += 1
-        begin = TIMES_AT + name * TIMES
+        begin = HISTOGRAMS_AT + name * HISTOGRAM_WIDTH
         self.cells[begin + bisect.bisect_left(BUCKETS, seconds)] += 1
-        self.cells[begin + TIMES - 1] += seconds
+        self.cells[begin + HISTOGRAM_WIDTH - 1] += seconds
 
     def reset_gauges(self) -> None:
         """Resets the gauges of a process that has ended."""
@@ -109,17 +109,17 @@ class SharedMetrics:
     def text(self, nodes: int) -> str:
         """The whole page, with the sums of all rows and the number of nodes."""
         rows = [row.cells[:] for row in self.rows]
-        sums = [sum(column) for column in zip(*filter(any, rows))] or [0.0] * WIDTH
-        memory = max((resident(int(row[0])) for row in rows if row[0]), default=0)
+        sums = [sum(column) for column in zip(*filter(any, rows))] or [0.0] * ROW_WIDTH
+        memory = max((resident_bytes(int(row[0])) for row in rows if row[0]), default=0)
         gauges = {**dict(zip(GAUGES[1:], sums[1:])), "nodes": float(nodes), "resident_memory_bytes": float(memory)}
         counters = dict(zip(COUNTERS, sums[len(GAUGES) :]))
         labels = ",".join(f'{name}="{version}"' for name, version in self.versions.items())
-        build = [*head_of("build_info", "gauge"), f"domethyme_build_info{{{labels}}} 1"]
+        build = [*format_header("build_info", "gauge"), f"domethyme_build_info{{{labels}}} 1"]
         unlabelled = [*format_unlabelled(gauges, "gauge"), *format_unlabelled(counters, "counter")]
-        return "\n".join([*format_requests(sums), *format_times(sums), *unlabelled, *build, ""])
+        return "\n".join([*format_requests(sums), *format_histogram(sums), *unlabelled, *build, ""])
 
 
-def resident(process: int) -> int:
+def resident_bytes(process: int) -> int:
     """The bytes of resident memory of a process; 0 for one that has ended."""
     try:
         return int(pathlib.Path(f"/proc/{process}/statm").read_text().split()[1]) * PAGE_SIZE
@@ -127,37 +127,37 @@ def resident(process: int) -> int:
         return 0
 
 
-def head_of(name: str, kind: str) -> Iterator[str]:
+def format_header(name: str, kind: str) -> Iterator[str]:
     """What a name means, and its kind."""
     yield f"# HELP domethyme_{name} {HELP[name]}"
     yield f"# TYPE domethyme_{name} {kind}"
 
 
 def format_requests(sums: list[float]) -> Iterator[str]:
-    yield from head_of("requests_total", "counter")
-    for index, count in enumerate(sums[REQUESTS_AT:TIMES_AT]):
+    yield from format_header("requests_total", "counter")
+    for index, count in enumerate(sums[REQUESTS_AT:HISTOGRAMS_AT]):
         if count:
-            name, status = NAMES[index // len(STATUSES)], STATUSES[index % len(STATUSES)]
+            name, status = ENDPOINT_NAMES[index // len(STATUSES)], STATUSES[index % len(STATUSES)]
             yield f'domethyme_requests_total{{endpoint="{name}",status="{status}"}} {count:.0f}'
 
 
-def format_times(sums: list[float]) -> Iterator[str]:
-    yield from head_of("request_seconds", "histogram")
-    for index, name in enumerate(NAMES):
-        begin, label, total = TIMES_AT + index * TIMES, f'endpoint="{name}"', 0.0
-        if not any(sums[begin : begin + TIMES]):
+def format_histogram(sums: list[float]) -> Iterator[str]:
+    yield from format_header("request_seconds", "histogram")
+    for index, name in enumerate(ENDPOINT_NAMES):
+        begin, label, total = HISTOGRAMS_AT + index * HISTOGRAM_WIDTH, f'endpoint="{name}"', 0.0
+        if not any(sums[begin : begin + HISTOGRAM_WIDTH]):
             continue
         for bound, count in zip((*map(str, BUCKETS), "+Inf"), sums[begin:]):
             total += count
             yield f'domethyme_request_seconds_bucket{{{label},le="{bound}"}} {total:.0f}'
-        yield f"domethyme_request_seconds_sum{{{label}}} {sums[begin + TIMES - 1]:.6f}"
+        yield f"domethyme_request_seconds_sum{{{label}}} {sums[begin + HISTOGRAM_WIDTH - 1]:.6f}"
         yield f"domethyme_request_seconds_count{{{label}}} {total:.0f}"
 
 
 def format_unlabelled(values: dict[str, float], kind: str) -> Iterator[str]:
     """The lines of values without labels, each also with its old name."""
     for name, value in values.items():
-        yield from head_of(name, kind)
+        yield from format_header(name, kind)
         yield f"domethyme_{name} {value:.15g}"
         if old := OLD_NAMES.get(name):
             yield f"# HELP domethyme_{old} The same as domethyme_{name}, for one version."

@@ -20,197 +20,207 @@ from .endpoints import (
 )
 from .errors import RequestError
 from .json_text import join_array, join_object, to_json
-from .osrm_geometry import annotation, joined, lines_of, shaped, simpler
+from .osrm_geometry import annotate, encode_geometries, join_lines, leg_lines, simplify_lines
 from .osrm_request import Request
-from .osrm_steps import steps_of_leg
+from .osrm_steps import build_steps
 from .osrm_tables import Wanted, table_by_cells, table_by_sweeps
 from .osrm_types import RouteLeg, Waypoint
 from .queries import Queries
 
 # A place is near the network within N degrees of the box of its roads.
-NEAR = 0.2
+NEAR_DEGREES = 0.2
 # Places that are looked for together.
-TOGETHER = 16
+SNAP_BATCH = 16
 
 
-class Means(NamedTuple):
+class Engine(NamedTuple):
     """What requests are answered by. Without `sweeps` the hierarchy is asked for all cells of tables; `cells` are those that a table
     may have."""
 
-    questions: Queries
+    queries: Queries
     roads: RoadIndex
     sweeps: Sweeps | None
-    cells: int
+    max_cells: int
 
 
-def answer(means: Means, request: Request) -> str:
+def answer(engine: Engine, request: Request) -> str:
     """The answer to a request. Raises RequestError, and NetworkError where the network isn't that of the hierarchy."""
     if request.service == "table":
-        return table(means, request)
-    return route(means, request) if request.service == "route" else nearest(means.roads, request)
+        return table(engine, request)
+    return route(engine, request) if request.service == "route" else nearest(engine.roads, request)
 
 
 def nearest(roads: RoadIndex, request: Request) -> str:
     """The nearest points of roads, with the ids of the nodes of OpenStreetMap at the ends of their pieces; 0 is none."""
-    spots = found_spots(roads, request, 0, request.values[NUMBER])
-    if not spots:
-        raise no_segment(roads, request, 0)
-    return to_json({"code": "Ok", "waypoints": [waypoint(request, spot, ends(roads, spot)) for spot in spots]})
+    snapped_points = snap_candidates(roads, request, 0, request.values[NUMBER])
+    if not snapped_points:
+        raise no_segment_error(roads, request, 0)
+    waypoints = [make_waypoint(request, snapped, edge_osm_ids(roads, snapped)) for snapped in snapped_points]
+    return to_json({"code": "Ok", "waypoints": waypoints})
 
 
-def ends(roads: RoadIndex, spot: SnappedPoint) -> list[int]:
-    arc = next(iter(roads.edge(spot.edge).arcs.values()))
+def edge_osm_ids(roads: RoadIndex, snapped: SnappedPoint) -> list[int]:
+    arc = next(iter(roads.edge(snapped.edge).arcs.values()))
     return [roads.osm_id(node) for node in (arc.start, arc.end)]
 
 
-def found_spots(roads: RoadIndex, request: Request, number: int, count: int) -> list[SnappedPoint]:
+def snap_candidates(roads: RoadIndex, request: Request, number: int, count: int) -> list[SnappedPoint]:
     """The nearest points of roads to a place, as near as they have to be."""
-    place, within, towards = request.places[number], request.values[RADIUSES][number], request.values[BEARINGS][number]
-    if towards is None:
-        spots = roads.nearest(place, count)
+    place, max_metres, bearing = request.places[number], request.values[RADIUSES][number], request.values[BEARINGS][number]
+    if bearing is None:
+        snapped_points = roads.nearest(place, count)
     else:
-        spots = nearest_with_bearing(roads, place, count, BearingRange(*towards), within)
-    return [spot for spot in spots if spot.metres <= within]
+        snapped_points = nearest_with_bearing(roads, place, count, BearingRange(*bearing), max_metres)
+    return [snapped for snapped in snapped_points if snapped.metres <= max_metres]
 
 
-def spots_of(roads: RoadIndex, request: Request) -> list[SnappedPoint]:
+def snap_places(roads: RoadIndex, request: Request) -> list[SnappedPoint]:
     """The nearest point of a road to each place. Raises RequestError."""
     found: list[SnappedPoint] = []
-    for spot in nearest_of_each(roads, request):
-        if spot is None or spot.metres > request.values[RADIUSES][len(found)]:
-            raise no_segment(roads, request, len(found))
-        found.append(spot)
+    for snapped in snap_each(roads, request):
+        if snapped is None or snapped.metres > request.values[RADIUSES][len(found)]:
+            raise no_segment_error(roads, request, len(found))
+        found.append(snapped)
     return found
 
 
-def nearest_of_each(roads: RoadIndex, request: Request) -> Iterator[SnappedPoint | None]:
+def snap_each(roads: RoadIndex, request: Request) -> Iterator[SnappedPoint | None]:
     """The nearest point to each place, by a road that leads as it has to."""
-    if is_plain(request):
-        for begin in range(0, len(request.places), TOGETHER):
-            yield from roads.nearest_batch(request.places[begin : begin + TOGETHER])
+    if has_no_bearings(request):
+        for begin in range(0, len(request.places), SNAP_BATCH):
+            yield from roads.nearest_batch(request.places[begin : begin + SNAP_BATCH])
         return
     for number in range(len(request.places)):
-        yield next(iter(found_spots(roads, request, number, 1)), None)
+        yield next(iter(snap_candidates(roads, request, number, 1)), None)
 
 
-def is_plain(request: Request) -> bool:
+def has_no_bearings(request: Request) -> bool:
     """Whether any road will do, whichever way it leads."""
     return all(each is None for each in request.values[BEARINGS])
 
 
-def is_near(roads: RoadIndex, places: Sequence[Point]) -> bool:
+def is_near_network(roads: RoadIndex, places: Sequence[Point]) -> bool:
     """Whether all places are in the box of the roads, or near it."""
     west, south, east, north = roads.box
-    return all(west - NEAR <= lon <= east + NEAR and south - NEAR <= lat <= north + NEAR for lon, lat in places)
+    return all(
+        west - NEAR_DEGREES <= lon <= east + NEAR_DEGREES and south - NEAR_DEGREES <= lat <= north + NEAR_DEGREES
+        for lon, lat in places
+    )
 
 
-def no_segment(roads: RoadIndex, request: Request, number: int) -> RequestError:
+def no_segment_error(roads: RoadIndex, request: Request, number: int) -> RequestError:
     """A place without a road: which, how far, and where the roads are."""
-    (lon, lat), within = request.places[number], request.values[RADIUSES][number]
+    (lon, lat), max_metres = request.places[number], request.values[RADIUSES][number]
     west, south, east, north = roads.box
-    is_turned = is_near(roads, [(lat, lon)]) and not is_near(roads, [(lon, lat)])
+    is_turned = is_near_network(roads, [(lat, lon)]) and not is_near_network(roads, [(lon, lat)])
     hint = "; is it LAT,LON?" if is_turned else ""
     within_what = " of that bearing" if request.values[BEARINGS][number] else ""
     return RequestError(
         400, "NoSegment",
-        f"there is no road{within_what} within {within:g} m of place {number}, {lon:g},{lat:g} (LON,LAT{hint}). "
+        f"there is no road{within_what} within {max_metres:g} m of place {number}, {lon:g},{lat:g} (LON,LAT{hint}). "
         f"The roads are from {west:.4f},{south:.4f} to {east:.4f},{north:.4f}. No segment for coordinate {number}",
     )
 
 
-def waypoint(request: Request, spot: SnappedPoint, nodes: list[int] | None = None) -> Waypoint:
+def make_waypoint(request: Request, snapped: SnappedPoint, nodes: list[int] | None = None) -> Waypoint:
     """A point as OSRM has it. The hint is read by nobody: clients send it back."""
-    found: Waypoint = {"name": spot.name, "location": [spot.lon, spot.lat], "distance": round(spot.metres, 6)}
+    found: Waypoint = {"name": snapped.name, "location": [snapped.lon, snapped.lat], "distance": round(snapped.metres, 6)}
     if request.values[GENERATE_HINTS]:
-        found["hint"] = base64.urlsafe_b64encode(f"{spot.lon:.6f},{spot.lat:.6f}".encode()).decode()
+        found["hint"] = base64.urlsafe_b64encode(f"{snapped.lon:.6f},{snapped.lat:.6f}".encode()).decode()
     if nodes is not None:
         found["nodes"] = nodes
     return found
 
 
-def route(means: Means, request: Request) -> str:
+def route(engine: Engine, request: Request) -> str:
     """One route by all places in order, a leg for each two."""
-    spots = spots_of(means.roads, request)
-    return route_told(means.roads, request, spots, legs_of(means, spots))
+    snapped_points = snap_places(engine.roads, request)
+    return route_response(engine.roads, request, snapped_points, find_legs(engine, snapped_points))
 
 
-def legs_of(means: Means, spots: Sequence[SnappedPoint]) -> list[Leg]:
+def find_legs(engine: Engine, snapped_points: Sequence[SnappedPoint]) -> list[Leg]:
     """The legs of a route by these points."""
     legs: list[Leg] = []
-    for number, (start, end) in enumerate(itertools.pairwise(spots)):
-        leg = find_leg(means.questions, means.roads, start, end)
+    for number, (start, end) in enumerate(itertools.pairwise(snapped_points)):
+        leg = find_leg(engine.queries, engine.roads, start, end)
         if leg is None:
             raise RequestError(400, "NoRoute", f"there is no route from place {number} to place {number + 1}")
         legs.append(leg)
     return legs
 
 
-def route_told(roads: RoadIndex, request: Request, spots: list[SnappedPoint], legs: list[Leg]) -> str:
+def route_response(roads: RoadIndex, request: Request, snapped_points: list[SnappedPoint], legs: list[Leg]) -> str:
     """The answer by its legs."""
-    budget, courses = Budget(), []
+    budget, geometries = Budget(), []
     for leg in legs:
-        courses.append(course := leg_geometry(roads, leg))
-        budget.spend(0 if course is None else len(course.points))
-    told, texts = [], []
-    for each in zip(spots, spots[1:], legs, courses):
-        leg_told = leg_as_told(roads, request, *each)
-        texts.append(to_json(leg_told))
-        told.append((leg_told["weight"], leg_told["duration"] or 0.0, leg_told["distance"]))
-    weight, duration, distance = (round(sum(values), 3) for values in zip(*told))
+        geometries.append(geometry := leg_geometry(roads, leg))
+        budget.spend(0 if geometry is None else len(geometry.points))
+    totals, texts = [], []
+    for each in zip(snapped_points, snapped_points[1:], legs, geometries):
+        leg_json = leg_response(roads, request, *each)
+        texts.append(to_json(leg_json))
+        totals.append((leg_json["weight"], leg_json["duration"] or 0.0, leg_json["distance"]))
+    weight, duration, distance = (round(sum(values), 3) for values in zip(*totals))
     whole = {
         "legs": join_array(texts), "weight_name": to_json(roads.unit), "weight": to_json(weight),
         "duration": to_json(duration if roads.has_seconds else None), "distance": to_json(distance),
     }
     if request.values[OVERVIEW] != "false":
-        whole["geometry"] = overview(request, spots, courses, budget)
+        whole["geometry"] = overview(request, snapped_points, geometries, budget)
     found = {"code": '"Ok"', "routes": join_array([join_object(whole)])}
     if not request.values[SKIP_WAYPOINTS]:
-        found["waypoints"] = to_json([waypoint(request, spot) for spot in spots])
+        found["waypoints"] = to_json([make_waypoint(request, snapped) for snapped in snapped_points])
     return join_object(found)
 
 
-def leg_as_told(roads: RoadIndex, request: Request, start: SnappedPoint, end: SnappedPoint, leg: Leg, course: LegGeometry | None) -> RouteLeg:
+def leg_response(
+    roads: RoadIndex, request: Request, start: SnappedPoint, end: SnappedPoint, leg: Leg, geometry: LegGeometry | None
+) -> RouteLeg:
     """A leg as OSRM has it."""
-    figures = leg_totals(roads, leg) if course is None else course.figures(0, len(leg.arcs))
+    totals = leg_totals(roads, leg) if geometry is None else geometry.figures(0, len(leg.arcs))
     names = request.values[ANNOTATIONS]
-    told: RouteLeg = {
-        "summary": "", "steps": [], "weight": figures["weight"], "duration": figures["duration"], "distance": figures["distance"]
+    response: RouteLeg = {
+        "summary": "", "steps": [],
+        "weight": totals["weight"], "duration": totals["duration"], "distance": totals["distance"],
     }
     if request.values[STEPS]:
-        shape = functools.partial(shaped, shape=request.values[GEOMETRIES])
-        told["steps"] = steps_of_leg(roads, course, (start.lon, start.lat), (end.lon, end.lat), shape)
-        told["summary"] = ", ".join(list(dict.fromkeys(step["name"] for step in told["steps"] if step["name"]))[:2])
+        encode = functools.partial(encode_geometries, format_=request.values[GEOMETRIES])
+        response["steps"] = build_steps(roads, geometry, (start.lon, start.lat), (end.lon, end.lat), encode)
+        response["summary"] = ", ".join(list(dict.fromkeys(step["name"] for step in response["steps"] if step["name"]))[:2])
     if names:
-        told["annotation"] = {name: [] for name in names} if course is None else annotation(course, names)
-    return told
+        response["annotation"] = {name: [] for name in names} if geometry is None else annotate(geometry, names)
+    return response
 
 
-def overview(request: Request, spots: list[SnappedPoint], courses: "list[LegGeometry | None]", budget: Budget) -> str:
+def overview(
+    request: Request, snapped_points: list[SnappedPoint], geometries: list[LegGeometry | None], budget: Budget
+) -> str:
     """The line of the whole route, simplified unless all of it is asked for."""
-    lines = lines_of(courses, [(spot.lon, spot.lat) for spot in spots])
+    lines = leg_lines(geometries, [(snapped.lon, snapped.lat) for snapped in snapped_points])
     if request.values[OVERVIEW] == "simplified":
-        lines = simpler(lines, budget)
-    line = joined(lines)
+        lines = simplify_lines(lines, budget)
+    line = join_lines(lines)
     if request.values[GEOMETRIES] != "geojson":
-        return to_json(shaped([line], request.values[GEOMETRIES])[0])
+        return to_json(encode_geometries([line], request.values[GEOMETRIES])[0])
     parts = (to_json(line[begin : begin + 1000])[1:-1] for begin in range(0, len(line), 1000))
     return join_object({"type": '"LineString"', "coordinates": join_array(parts)})
 
 
-def table(means: Means, request: Request) -> str:
+def table(engine: Engine, request: Request) -> str:
     """A table of durations, of distances, of weights, or some of these; null where there is no way."""
     sources, destinations = request.values[SOURCES], request.values[DESTINATIONS]
-    if len(sources) * len(destinations) > means.cells:
-        raise RequestError(400, "TooBig", f"a table may have {means.cells} cells (--table-cells), and this one would have more")
-    wanted = Wanted.by(request.values, means.roads, request.places)
-    is_swept = wanted.refuse_if_too_many(len(sources) * len(destinations), means.sweeps is not None)
-    spots = spots_of(means.roads, request)
-    starts, stops = [spots[place] for place in sources], [spots[place] for place in destinations]
-    if is_swept and means.sweeps is not None:
-        found = table_by_sweeps(means.sweeps, means.roads, wanted, starts, stops)
+    if len(sources) * len(destinations) > engine.max_cells:
+        message = f"a table may have {engine.max_cells} cells (--table-cells), and this one would have more"
+        raise RequestError(400, "TooBig", message)
+    wanted = Wanted.by(request.values, engine.roads, request.places)
+    is_swept = wanted.refuse_if_too_many(len(sources) * len(destinations), engine.sweeps is not None)
+    snapped_points = snap_places(engine.roads, request)
+    starts, stops = [snapped_points[place] for place in sources], [snapped_points[place] for place in destinations]
+    if is_swept and engine.sweeps is not None:
+        found = table_by_sweeps(engine.sweeps, engine.roads, wanted, starts, stops)
     else:
-        found = table_by_cells(means.questions, means.roads, wanted, starts, stops)
+        found = table_by_cells(engine.queries, engine.roads, wanted, starts, stops)
     if not request.values[SKIP_WAYPOINTS]:
-        found["sources"] = to_json([waypoint(request, spot) for spot in starts])
-        found["destinations"] = to_json([waypoint(request, spot) for spot in stops])
+        found["sources"] = to_json([make_waypoint(request, snapped) for snapped in starts])
+        found["destinations"] = to_json([make_waypoint(request, snapped) for snapped in stops])
     return join_object({"code": '"Ok"', **found})

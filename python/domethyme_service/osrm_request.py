@@ -12,12 +12,12 @@ from .endpoints import BY_NAME
 from .errors import RequestError, invalid_query, invalid_value
 from .parameters import Context, Values
 
-NUMBER = re.compile(r"[-+]?(?:[0-9]{1,3}(?:\.[0-9]{0,20})?|\.[0-9]{1,20})(?:[eE][-+]?[0-9]{1,2})?")
+DEGREES = re.compile(r"[-+]?(?:[0-9]{1,3}(?:\.[0-9]{0,20})?|\.[0-9]{1,20})(?:[eE][-+]?[0-9]{1,2})?")
 PROFILE = re.compile("[A-Za-z0-9_.-]{1,64}")
-LINE = re.compile(r"polyline(6?)\((.*)\)", re.DOTALL)
+POLYLINE = re.compile(r"polyline(6?)\((.*)\)", re.DOTALL)
 SERVICES = ("route", "nearest", "table")
 # How many places a request of each service may have.
-MOST_PLACES = {"route": 500, "nearest": 1, "table": 2000}
+MAX_PLACES = {"route": 500, "nearest": 1, "table": 2000}
 
 
 class Request(NamedTuple):
@@ -28,7 +28,7 @@ class Request(NamedTuple):
     values: Values
 
 
-def parse_request(path: str, query: Mapping[str, str], within: float) -> Request:
+def parse_request(path: str, query: Mapping[str, str], default_radius: float) -> Request:
     """The request of a path `/SERVICE/v1/PROFILE/PLACES`, still percent-encoded. `within` are the metres to a road of a place
     without a radius. Raises RequestError."""
     words = path.split("/", 4)
@@ -38,18 +38,18 @@ def parse_request(path: str, query: Mapping[str, str], within: float) -> Request
         raise RequestError(400, "InvalidVersion", "the path is /SERVICE/v1/PROFILE/PLACES")
     if len(words) != 5 or not PROFILE.fullmatch(words[3]):
         raise RequestError(400, "InvalidUrl", "the path is /SERVICE/v1/PROFILE/PLACES")
-    places = places_of(words[4], words[1])
-    return Request(words[1], places, BY_NAME[f"/{words[1]}"].values(query, Context(len(places), within)))
+    places = parse_coordinates(words[4], words[1])
+    return Request(words[1], places, BY_NAME[f"/{words[1]}"].values(query, Context(len(places), default_radius)))
 
 
-def places_of(text: str, service: str) -> list[Point]:
+def parse_coordinates(text: str, service: str) -> list[Point]:
     """The places of `LON,LAT;..`, `polyline(..)` or `polyline6(..)`. Raises RequestError."""
     try:
-        plain = urllib.parse.unquote(text, errors="strict").removesuffix(".json")
-        if found := LINE.fullmatch(plain):
+        decoded = urllib.parse.unquote(text, errors="strict").removesuffix(".json")
+        if found := POLYLINE.fullmatch(decoded):
             places = decode_polyline(found[2], 6 if found[1] else 5)
         else:
-            places = [place_of(word) for word in plain.split(";")[: MOST_PLACES["table"] + 1]]
+            places = [parse_coordinate(word) for word in decoded.split(";")[: MAX_PLACES["table"] + 1]]
     except ValueError:
         raise invalid_query("places are LON,LAT;LON,LAT;.. or polyline(..)") from None
     for number, (lon, lat) in enumerate(places):
@@ -57,15 +57,15 @@ def places_of(text: str, service: str) -> list[Point]:
             hint = "; is it LAT,LON?" if abs(lon) <= 90 and abs(lat) <= 180 else ""
             order = "longitude first, from -180 to 180, then latitude, from -90 to 90"
             raise invalid_value(f"place {number} is {lon:g},{lat:g}: {order}{hint}")
-    if service != "nearest" and len(places) > MOST_PLACES[service]:
-        raise RequestError(400, "TooBig", f"there may be {MOST_PLACES[service]} places")
+    if service != "nearest" and len(places) > MAX_PLACES[service]:
+        raise RequestError(400, "TooBig", f"there may be {MAX_PLACES[service]} places")
     if service == "nearest" and len(places) != 1 or service == "route" and len(places) < 2 or not places:
         raise invalid_query("nearest has one place, route two or more, table one or more")
     return places
 
 
-def place_of(word: str) -> Point:
+def parse_coordinate(word: str) -> Point:
     lon, comma, lat = word.partition(",")
-    if not comma or not NUMBER.fullmatch(lon) or not NUMBER.fullmatch(lat):
+    if not comma or not DEGREES.fullmatch(lon) or not DEGREES.fullmatch(lat):
         raise ValueError("no place")
     return float(lon), float(lat)

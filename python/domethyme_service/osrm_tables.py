@@ -14,7 +14,7 @@ from domethyme.network.legs import find_leg, is_same_node, leg_on_one_arc, leg_w
 from domethyme.network.snapping import RoadIndex, SnappedPoint
 from domethyme.sweeps import NO_PATH, Numbers, Seeds, Sweeps
 
-from .endpoints import DESTINATIONS, FALLBACK_COORDINATE, FALLBACK_SPEED, FIGURES, SCALE_FACTOR, SOURCES
+from .endpoints import DESTINATIONS, FALLBACK_COORDINATE, FALLBACK_SPEED, SCALE_FACTOR, SOURCES, TABLE_ANNOTATIONS
 from .errors import RequestError, not_implemented
 from .json_text import join_array, to_json
 from .parameters import Values
@@ -40,11 +40,11 @@ class Wanted(NamedTuple):
     @classmethod
     def by(cls, values: Values, roads: RoadIndex, places: Sequence[Point]) -> "Wanted":
         """What the values of the parameters say. Raises RequestError for durations where the network has none."""
-        if "duration" in values[FIGURES] and not roads.has_seconds:
+        if "duration" in values[TABLE_ANNOTATIONS] and not roads.has_seconds:
             raise not_implemented("this network has no seconds, so no durations: ask annotations=weight or distance")
         sources, destinations = ([places[number] for number in values[side]] for side in (SOURCES, DESTINATIONS))
         is_snapped = values[FALLBACK_COORDINATE] == "snapped"
-        return cls(values[FIGURES], roads.unit, sources, destinations, values[SCALE_FACTOR], values[FALLBACK_SPEED], is_snapped)
+        return cls(values[TABLE_ANNOTATIONS], roads.unit, sources, destinations, values[SCALE_FACTOR], values[FALLBACK_SPEED], is_snapped)
 
     @property
     def is_of_weights(self) -> bool:

@@ -7,7 +7,7 @@ from .errors import invalid_query, invalid_value, not_implemented
 
 T = TypeVar("T")
 METRES = re.compile(r"[0-9]{1,9}(?:\.[0-9]{0,20})?")
-DIRECTION = re.compile(r"([0-9]{1,3}),([0-9]{1,3})")
+BEARING = re.compile(r"([0-9]{1,3}),([0-9]{1,3})")
 INDEX = re.compile("[0-9]{1,4}")
 NODE = re.compile("[0-9]{1,10}")
 COUNT = re.compile("[0-9]{1,3}")
@@ -18,15 +18,15 @@ class Context(NamedTuple):
     allows, and the number of nodes."""
 
     places: int = 0
-    within: float = 0.0
+    default_radius: float = 0.0
     nodes: int = 0
 
 
 class Parameter(Generic[T]):
-    """A parameter. `taken` and `refused` are its cells in docs/SERVICE.md; the latter are values that OSRM has and the service
+    """A parameter. `accepted` and `rejected` are its cells in docs/SERVICE.md; the latter are values that OSRM has and the service
     refuses as NotImplemented."""
 
-    taken = refused = ""
+    accepted = rejected = ""
 
     def __init__(self, name: str) -> None:
         self.name = name
@@ -39,27 +39,27 @@ class Parameter(Generic[T]):
 class Values:
     """The values of a request's parameters."""
 
-    def __init__(self, found: dict[str, object]) -> None:
-        self._found = found
+    def __init__(self, values: dict[str, object]) -> None:
+        self._values = values
 
     def __getitem__(self, parameter: Parameter[T]) -> T:
-        return cast(T, self._found[parameter.name])
+        return cast(T, self._values[parameter.name])
 
 
-class Word(Parameter[str]):
-    """One of some words, the first without the parameter. Those of `absent` are refused, as `says` reports."""
+class Choice(Parameter[str]):
+    """One of some words, the first without the parameter. those of `unsupported` are rejected with `message`."""
 
-    def __init__(self, name: str, *words: str, absent: Sequence[str] = (), says: str = "") -> None:
+    def __init__(self, name: str, *words: str, unsupported: Sequence[str] = (), message: str = "") -> None:
         super().__init__(name)
-        self.words, self.absent, self.says = words, absent, says
-        self.taken, self.refused = (", ".join(f"`{word}`" for word in some) for some in (words, absent))
+        self.words, self.unsupported, self.message = words, unsupported, message
+        self.accepted, self.rejected = (", ".join(f"`{word}`" for word in some) for some in (words, unsupported))
 
     def read(self, text: str | None, context: Context) -> str:
         value = self.words[0] if text is None else text
-        if value in self.absent:
-            raise not_implemented(self.says)
+        if value in self.unsupported:
+            raise not_implemented(self.message)
         if value not in self.words:
-            raise invalid_value(f"{self.name} has to be one of {', '.join((*self.words, *self.absent))}")
+            raise invalid_value(f"{self.name} has to be one of {', '.join((*self.words, *self.unsupported))}")
         return value
 
 
@@ -69,50 +69,50 @@ class Flag(Parameter[bool]):
     def __init__(self, name: str, default: bool) -> None:
         super().__init__(name)
         self.words = ("true", "false") if default else ("false", "true")
-        self._word = Word(name, *self.words)
-        self.taken = self._word.taken
+        self._choice = Choice(name, *self.words)
+        self.accepted = self._choice.accepted
 
     def read(self, text: str | None, context: Context) -> bool:
-        return self._word.read(text, context) == "true"
+        return self._choice.read(text, context) == "true"
 
 
-class Unused(Parameter[None]):
+class Ignored(Parameter[None]):
     """A text that is read and changes nothing."""
 
-    taken = "any, not used"
+    accepted = "any, not used"
 
     def read(self, text: str | None, context: Context) -> None:
         return None
 
 
-class Absent(Parameter[None]):
+class Unsupported(Parameter[None]):
     """A parameter that isn't there: only without a value. A list that has no words but `harmless` changes nothing."""
 
-    def __init__(self, name: str, harmless: str | None = None) -> None:
+    def __init__(self, name: str, allowed: str | None = None) -> None:
         super().__init__(name)
-        self.harmless = harmless
-        self.taken = f"`{harmless}`" if harmless else ""
-        self.refused = "all others" if harmless else "all"
+        self.allowed = allowed
+        self.accepted = f"`{allowed}`" if allowed else ""
+        self.rejected = "all others" if allowed else "all"
 
     def read(self, text: str | None, context: Context) -> None:
-        words = [text or ""] if self.harmless is None else (text or "").split(";")
-        if any(word not in ("", self.harmless) for word in words):
+        words = [text or ""] if self.allowed is None else (text or "").split(";")
+        if any(word not in ("", self.allowed) for word in words):
             raise not_implemented(f"{self.name} isn't there")
 
 
 class Radiuses(Parameter[list[float]]):
     """The greatest metres to a road, for each place."""
 
-    taken = "for each place metres, `unlimited`, or nothing for that of `--default-radius`"
+    accepted = "for each place metres, `unlimited`, or nothing for that of `--default-radius`"
 
     def read(self, text: str | None, context: Context) -> list[float]:
         if not text:
-            return [context.within] * context.places
+            return [context.default_radius] * context.places
         found = []
         for word in text.split(";"):
             if word and word != "unlimited" and not METRES.fullmatch(word):
                 raise invalid_value("radiuses are metres, or unlimited")
-            found.append(context.within if not word else float("inf") if word == "unlimited" else float(word))
+            found.append(context.default_radius if not word else float("inf") if word == "unlimited" else float(word))
         if len(found) != context.places:
             raise invalid_query("there has to be a radius for each place")
         return found
@@ -121,14 +121,14 @@ class Radiuses(Parameter[list[float]]):
 class Bearings(Parameter[list[tuple[int, int] | None]]):
     """For each place the directions in which the road has to lead there: one, and how far from it, in degrees."""
 
-    taken = "for each place `DEGREES,RANGE`, from north, clockwise, to 360 and 180, or nothing"
+    accepted = "for each place `DEGREES,RANGE`, from north, clockwise, to 360 and 180, or nothing"
 
     def read(self, text: str | None, context: Context) -> list[tuple[int, int] | None]:
         if not text:
             return [None] * context.places
         found: list[tuple[int, int] | None] = []
         for word in text.split(";"):
-            both = DIRECTION.fullmatch(word)
+            both = BEARING.fullmatch(word)
             if word and (both is None or int(both[1]) > 360 or int(both[2]) > 180):
                 raise invalid_value(f"{self.name} are DEGREES,RANGE, from 0 to 360 and from 0 to 180")
             found.append(None if both is None else (int(both[1]), int(both[2])))
@@ -137,10 +137,10 @@ class Bearings(Parameter[list[tuple[int, int] | None]]):
         return found
 
 
-class Above(Parameter[float | None]):
+class PositiveNumber(Parameter[float | None]):
     """A number above 0, None without the parameter."""
 
-    taken = "a number above 0"
+    accepted = "a number above 0"
 
     def read(self, text: str | None, context: Context) -> float | None:
         if text is None:
@@ -153,37 +153,38 @@ class Above(Parameter[float | None]):
 class Annotations(Parameter[list[str]]):
     """Some of the figures that are known, `default` without the parameter. `true` is all, and `false` none, unless `is_plain`."""
 
-    def __init__(self, name: str, known: Sequence[str], default: str, is_plain: bool = False) -> None:
+    def __init__(self, name: str, known: Sequence[str], default: str, is_list_only: bool = False) -> None:
         super().__init__(name)
-        self.known, self.default, self.is_plain = known, default, is_plain
-        others = "" if is_plain else "`false`, `true`, or "
-        self.taken = f"{others}some of {', '.join(f'`{word}`' for word in known)}" + (f"; `{default}` without it" if is_plain else "")
+        self.known, self.default, self.is_list_only = known, default, is_list_only
+        others = "" if is_list_only else "`false`, `true`, or "
+        self.accepted = f"{others}some of {', '.join(f'`{word}`' for word in known)}"
+        self.accepted += f"; `{default}` without it" if is_list_only else ""
 
     def read(self, text: str | None, context: Context) -> list[str]:
         text = self.default if text is None else text
-        if text in ("true", "false") and not self.is_plain:
+        if text in ("true", "false") and not self.is_list_only:
             return list(self.known) if text == "true" else []
         words = text.split(",")
         if not set(words) <= set(self.known) or len(set(words)) < len(words):
             some = f"some of {', '.join(self.known)}, each once"
-            raise invalid_value(f"{self.name} are " + (some if self.is_plain else f"true, false, or {some}"))
+            raise invalid_value(f"{self.name} are " + (some if self.is_list_only else f"true, false, or {some}"))
         return words
 
 
 class Alternatives(Parameter[None]):
     """Other routes, of which there are none."""
 
-    taken = "`false`, `true` or a number; the answer has one route always"
+    accepted = "`false`, `true` or a number; the answer has one route always"
 
     def read(self, text: str | None, context: Context) -> None:
         if text not in (None, "true", "false") and not COUNT.fullmatch(text or ""):
             raise invalid_value(f"{self.name} is true, false or a number")
 
 
-class Straight(Parameter[None]):
+class ContinueStraight(Parameter[None]):
     """Whether a route may turn round at a place between."""
 
-    taken, refused = "`default`, `false`, and `true` for two places", "`true` for more"
+    accepted, rejected = "`default`, `false`, and `true` for two places", "`true` for more"
 
     def read(self, text: str | None, context: Context) -> None:
         if text not in (None, "default", "true", "false"):
@@ -192,13 +193,13 @@ class Straight(Parameter[None]):
             raise not_implemented(f"{self.name}=true isn't there for more than two places")
 
 
-class Number(Parameter[int]):
+class IntRange(Parameter[int]):
     """A whole number from `low` to `high`, `low` without the parameter."""
 
     def __init__(self, name: str, low: int, high: int) -> None:
         super().__init__(name)
         self.low, self.high = low, high
-        self.taken = f"{low} to {high}; {low} without it"
+        self.accepted = f"{low} to {high}; {low} without it"
 
     def read(self, text: str | None, context: Context) -> int:
         if text is None:
@@ -208,10 +209,10 @@ class Number(Parameter[int]):
         return int(text)
 
 
-class Chosen(Parameter[list[int]]):
+class IndexList(Parameter[list[int]]):
     """The places that are chosen, by their numbers from 0."""
 
-    taken = "`all`, or numbers of places, from 0"
+    accepted = "`all`, or numbers of places, from 0"
 
     def read(self, text: str | None, context: Context) -> list[int]:
         if text is None or text == "all":
@@ -225,22 +226,22 @@ class Chosen(Parameter[list[int]]):
 class Node(Parameter[int | None]):
     """A node, None without the parameter."""
 
-    taken = "a node, from 1 to the number of nodes"
+    accepted = "a node, from 1 to the number of nodes"
 
     def read(self, text: str | None, context: Context) -> int | None:
-        return None if text is None else node_of(text, self.name, context.nodes)
+        return None if text is None else parse_node(text, self.name, context.nodes)
 
 
 class Key(Parameter[str | None]):
     """The key of a node, None without the parameter."""
 
-    taken = "the key of a node, where the network has keys"
+    accepted = "the key of a node, where the network has keys"
 
     def read(self, text: str | None, context: Context) -> str | None:
         return text
 
 
-def node_of(text: object, name: str, nodes: int) -> int:
+def parse_node(text: object, name: str, nodes: int) -> int:
     """The node that a text or a number of JSON names, from 1 to `nodes`. Raises RequestError."""
     if text is None:
         raise invalid_query(f"{name} is missing")
@@ -250,8 +251,11 @@ def node_of(text: object, name: str, nodes: int) -> int:
     return int(digits)
 
 
-def values_of(parameters: Sequence[Parameter[object]], query: Mapping[str, str], context: Context, unknown: str) -> Values:
-    """The values of all parameters. Raises RequestError for a value, and by the message `unknown` for a parameter that isn't known."""
+def parse_parameters(
+    parameters: Sequence[Parameter[object]], query: Mapping[str, str], context: Context, unknown: str
+) -> Values:
+    """The values of all parameters. Raises RequestError for an invalid value, and for an unknown parameter one with the message
+    `unknown`."""
     names = {parameter.name for parameter in parameters}
     for name in query:
         if name not in names:

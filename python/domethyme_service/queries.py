@@ -6,7 +6,7 @@ from collections.abc import Sequence
 import numpy as np
 
 from domethyme import DomethymeError
-from domethyme.network.legs import Sides
+from domethyme.network.legs import SnapEnds
 from domethyme.protocol import RouteReply
 from domethyme.router import Router
 
@@ -21,20 +21,22 @@ class NodeKeys:
 
     def __init__(self, keys: Sequence[str] = ()) -> None:
         self._nodes = {key: node for node, key in enumerate(keys, 1)}
-        self._texts = [json.dumps(key, ensure_ascii=False).encode("utf-8", "replace") for key in keys]
+        self._json_keys = [json.dumps(key, ensure_ascii=False).encode("utf-8", "replace") for key in keys]
 
     def node(self, key: object, name: str) -> int:
         """The node of a key. Raises RequestError where there is none, with the name of the parameter."""
         found = self._nodes.get(key) if isinstance(key, str) else None
         if found is None:
-            raise invalid_value(f"{name} is the key of no node" if self._nodes else f"there is no {name}: the nodes have no keys")
+            raise invalid_value(
+                f"{name} is the key of no node" if self._nodes else f"there is no {name}: the nodes have no keys"
+            )
         return found
 
-    def put(self, told: bytes, pair: Pair) -> bytes:
+    def add_keys(self, answer: bytes, pair: Pair) -> bytes:
         """An answer about a pair, an object of JSON, with both keys, where nodes have keys."""
-        if not self._texts:
-            return told
-        return b'%b,"from_key":%b,"to_key":%b}' % (told[:-1], *(self._texts[node - 1] for node in pair))
+        if not self._json_keys:
+            return answer
+        return b'%b,"from_key":%b,"to_key":%b}' % (answer[:-1], *(self._json_keys[node - 1] for node in pair))
 
 
 class Queries:
@@ -57,7 +59,7 @@ class Queries:
         """A shortest path, None where there is no way."""
         return self.between({source: (0, 0)}, {target: (0, 0)})
 
-    def between(self, exits: Sides, entries: Sides, with_nodes: bool = True) -> RouteReply | None:
+    def between(self, exits: SnapEnds, entries: SnapEnds, with_nodes: bool = True) -> RouteReply | None:
         """The least way from one of several nodes to one of several, with the weights that lead there, or its length alone."""
         self._metrics.own.queries += 1
         sides = [[(node - 1, side[node][0]) for node in sorted(side)] for side in (exits, entries)]
@@ -75,8 +77,8 @@ class Queries:
             return []
         pairs_u32, out = np.array(pairs, np.uint32).reshape(-1, 2) - np.uint32(1), np.empty(len(pairs), np.int64)
         try:
-            with self.router.searcher() as seat:
-                seat.lengths(pairs_u32.ctypes.data, len(pairs_u32), out.ctypes.data)
+            with self.router.searcher() as searcher:
+                searcher.lengths(pairs_u32.ctypes.data, len(pairs_u32), out.ctypes.data)
         except DomethymeError as error:
             raise query_error(error) from error
         self._metrics.own.queries += len(pairs)

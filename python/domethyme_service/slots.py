@@ -8,21 +8,21 @@ class Slots:
     in memory, so that of a process that ends is free again, however it ends."""
 
     def __init__(self, count: int) -> None:
-        self.count, self._file, self._taken = count, os.memfd_create("slots"), -1
+        self.count, self._file, self._held = count, os.memfd_create("slots"), -1
 
-    def take(self) -> bool:
+    def acquire(self) -> bool:
         """Takes a slot for this process, which has one at most; returns whether one was free."""
         for slot in range(self.count):
             try:
                 fcntl.lockf(self._file, fcntl.LOCK_EX | fcntl.LOCK_NB, 1, slot)
             except OSError:
                 continue
-            self._taken = slot
+            self._held = slot
             return True
         return False
 
-    def free(self) -> None:
+    def release(self) -> None:
         """Frees the slot of this process, if it has one."""
-        if self._taken >= 0:
-            fcntl.lockf(self._file, fcntl.LOCK_UN, 1, self._taken)
-            self._taken = -1
+        if self._held >= 0:
+            fcntl.lockf(self._file, fcntl.LOCK_UN, 1, self._held)
+            self._held = -1

@@ -5,7 +5,7 @@ import pathlib
 from .errors import RequestError
 
 FOLDER = pathlib.Path(__file__).resolve().parent / "page"
-TYPES = {
+MEDIA_TYPES = {
     ".html": "text/html; charset=utf-8",
     ".css": "text/css; charset=utf-8",
     ".js": "text/javascript; charset=utf-8",
@@ -20,14 +20,15 @@ CACHE_ONE_DAY = {"Cache-Control": "public, max-age=86400"}
 NO_CACHE = {"Cache-Control": "no-cache"}
 
 
-def page_files() -> dict[str, tuple[str, bytes]]:
+def read_page_files() -> dict[str, tuple[str, bytes]]:
     """By path the type and the bytes of each file of the page."""
-    found = {f"/map/{file.name}": (TYPES[file.suffix], file.read_bytes()) for file in sorted(FOLDER.iterdir()) if file.suffix in TYPES}
+    files = [file for file in sorted(FOLDER.iterdir()) if file.suffix in MEDIA_TYPES]
+    found = {f"/map/{file.name}": (MEDIA_TYPES[file.suffix], file.read_bytes()) for file in files}
     found["/"] = found.pop("/map/index.html")
     return found
 
 
-FILES = page_files()
+PAGE_FILES = read_page_files()
 
 
 def no_network_error() -> RequestError:

@@ -19,7 +19,7 @@ from gunicorn.http import RequestParser
 from gunicorn.http.errors import NoMoreData
 from gunicorn.workers.sync import SyncWorker
 
-from .errors import RequestError, malformed, too_late
+from .errors import RequestError, malformed, timeout_error
 from .metrics import Row
 from .slots import Slots
 from .wsgi import JSON, STATUS_LINES, Environ, Service, StartResponse
@@ -28,28 +28,28 @@ from .wsgi import JSON, STATUS_LINES, Environ, Service, StartResponse
 # batch.
 HEAD_SECONDS, ANSWER_SECONDS, LONG_SECONDS = 10.0, 10.0, 25.0
 # Seconds for which a long request waits for a slot, and after which a worker looks for one again.
-SLOT_SECONDS, LOOK_SECONDS = 5.0, 0.05
+SLOT_SECONDS, SLOT_POLL_SECONDS = 5.0, 0.05
 # Seconds for clients that haven't sent a head as the worker ends, and for a body that nobody wants.
-LAST_SECONDS, LINGER_SECONDS = 1.0, 2.0
+DRAIN_SECONDS, LINGER_SECONDS = 1.0, 2.0
 # Milliseconds for which a worker waits for the head of a client that has just connected, before it looks after others.
-FIRST_MILLISECONDS = 2
+FIRST_WAIT_MILLISECONDS = 2
 # The greatest head, and its first line; and what a request has at most that isn't a long one: bytes of a body, of a path
 # (25 places have some 500), and of a whole target.
 MAX_HEAD, MAX_LINE, SHORT_BODY, SHORT_PATH, SHORT_TARGET = 1 << 17, 65_600, 2048, 512, 4096
 # Connections that may wait for their heads, in each worker.
 MAX_WAITING = 500
 # The control characters that no head has.
-CONTROLS = bytes([*range(9), 11, 12, *range(14, 32), 127])
+CONTROL_CHARACTERS = bytes([*range(9), 11, 12, *range(14, 32), 127])
 BODY_LENGTH = re.compile(rb"\ncontent-length:[ \t]*([0-9]{1,4})[ \t]*\r")
-GONE = select.EPOLLRDHUP | select.EPOLLHUP | select.EPOLLERR
+HANGUP_EVENTS = select.EPOLLRDHUP | select.EPOLLHUP | select.EPOLLERR
 access_log, log = logging.getLogger("domethyme_service.access"), logging.getLogger("domethyme_service")
 
 
-class Late(BaseException):
+class AnswerTimeout(BaseException):
     """The time for an answer is over."""
 
 
-class Head(enum.Enum):
+class HeadState(enum.Enum):
     """What has come of a request: its head and short body, less, nothing, since the client has closed, or what is no
     head."""
 
@@ -67,7 +67,7 @@ class Connection(NamedTuple):
     is_long: bool = False
 
 
-class HeadWithBody:
+class BufferedHead:
     """A client to which the head of an answer is sent with what follows it: one call of the kernel less, and of an answer
     whose worker is killed before its body nothing has gone, so that nginx may ask once more."""
 
@@ -99,13 +99,13 @@ class Worker(SyncWorker):  # type: ignore[misc] # (gunicorn has no types)
     log_places = False
     # What the arbiter knows of it: which load of the files it serves, whether it is the one for probes, and was told to
     # end.
-    generation, is_probe, told = 0, False, False
+    generation, is_probe, is_stopping = 0, False, False
 
     def init_process(self) -> None:
-        self.heads: dict[int, Connection] = {}
-        self.closing: dict[int, Connection] = {}
+        self.awaiting_head: dict[int, Connection] = {}
+        self.lingering: dict[int, Connection] = {}
         self.queue: collections.deque[Connection] = collections.deque()
-        self.seconds, self.begun, self.is_timed = ANSWER_SECONDS, 0.0, False
+        self.seconds, self.started, self.alarm_is_set = ANSWER_SECONDS, 0.0, False
         super().init_process()
 
     def init_signals(self) -> None:
@@ -113,8 +113,8 @@ class Worker(SyncWorker):  # type: ignore[misc] # (gunicorn has no types)
         signal.signal(signal.SIGALRM, self.handle_alarm)
 
     def handle_alarm(self, _number: int, _frame: object) -> None:
-        if self.is_timed:
-            raise Late
+        if self.alarm_is_set:
+            raise AnswerTimeout
 
     def load_wsgi(self) -> None:
         self.service: Service = self.app.wsgi()
@@ -129,23 +129,23 @@ class Worker(SyncWorker):  # type: ignore[misc] # (gunicorn has no types)
         self.row.workers = 1
         while self.alive and self.is_parent_alive():
             self.notify()
-            self.look_after_waiting()
+            self.check_deadlines()
             has_accepted = self.accept(listener)
-            if self.heads or self.closing or not has_accepted:
-                self.wait(0.0 if has_accepted else 1.0)
+            if self.awaiting_head or self.lingering or not has_accepted:
+                self.poll(0.0 if has_accepted else 1.0)
         self.row.workers = 0
         self.epoll.unregister(listener)
-        end = time.monotonic() + LAST_SECONDS
-        while self.queue or (self.heads or self.closing) and time.monotonic() < end:
+        end = time.monotonic() + DRAIN_SECONDS
+        while self.queue or (self.awaiting_head or self.lingering) and time.monotonic() < end:
             self.notify()
-            self.look_after_waiting()
-            self.wait(LOOK_SECONDS)
+            self.check_deadlines()
+            self.poll(SLOT_POLL_SECONDS)
 
     def accept(self, listener: Any) -> bool:
         """Takes the next connection; returns whether there was one."""
-        if len(self.heads) >= MAX_WAITING:
-            oldest = self.no_longer_waiting(next(iter(self.heads)))
-            self.refuse(oldest, RequestError(503, "Overloaded", "too many connections"))
+        if len(self.awaiting_head) >= MAX_WAITING:
+            oldest = self.stop_waiting(next(iter(self.awaiting_head)))
+            self.reject(oldest, RequestError(503, "Overloaded", "too many connections"))
         try:
             client, address = listener.accept()
         except (BlockingIOError, ConnectionAbortedError):
@@ -156,62 +156,62 @@ class Worker(SyncWorker):  # type: ignore[misc] # (gunicorn has no types)
             return False
         client.setblocking(True)
         connection = Connection(client, address, time.monotonic() + HEAD_SECONDS)
-        if (head := head_of(client)) is Head.PARTIAL:
-            wait_for(client)
-            head = head_of(client)
-        if head is Head.PARTIAL:
-            self.heads[client.fileno()] = connection
+        if (head := peek_head(client)) is HeadState.PARTIAL:
+            wait_readable(client)
+            head = peek_head(client)
+        if head is HeadState.PARTIAL:
+            self.awaiting_head[client.fileno()] = connection
             self.epoll.register(client, select.EPOLLIN | select.EPOLLRDHUP | select.EPOLLET)
         else:
-            self.begin(connection, head)
+            self.read_request(connection, head)
         return True
 
-    def wait(self, seconds: float) -> None:
+    def poll(self, seconds: float) -> None:
         """Waits for connections, for more of those that it has, and for signals."""
-        for number, events in self.epoll.poll(min(seconds, LOOK_SECONDS) if self.queue else seconds):
+        for number, events in self.epoll.poll(min(seconds, SLOT_POLL_SECONDS) if self.queue else seconds):
             if number == self.PIPE[0]:
                 os.read(number, 4096)
-            elif number in self.heads:
-                head = head_of(self.heads[number].client)
-                if head is not Head.PARTIAL or events & GONE:
-                    self.begin(self.no_longer_waiting(number), Head.CLOSED if head is Head.PARTIAL else head)
-            elif number in self.closing and not discard(self.closing[number].client):
-                self.closing.pop(number).client.close()
+            elif number in self.awaiting_head:
+                head = peek_head(self.awaiting_head[number].client)
+                if head is not HeadState.PARTIAL or events & HANGUP_EVENTS:
+                    self.read_request(self.stop_waiting(number), HeadState.CLOSED if head is HeadState.PARTIAL else head)
+            elif number in self.lingering and not discard(self.lingering[number].client):
+                self.lingering.pop(number).client.close()
 
-    def no_longer_waiting(self, number: int) -> Connection:
+    def stop_waiting(self, number: int) -> Connection:
         self.epoll.unregister(number)
-        return self.heads.pop(number)
+        return self.awaiting_head.pop(number)
 
-    def look_after_waiting(self) -> None:
+    def check_deadlines(self) -> None:
         """Refuses heads that are too late, and answers long requests for which there are slots."""
         now = time.monotonic()
-        while self.heads and (first := next(iter(self.heads.items())))[1].deadline < now:
-            late = self.no_longer_waiting(first[0])
-            self.refuse(late, RequestError(408, "Timeout", "the request's head has not come whole"))
-        while self.closing and (first := next(iter(self.closing.items())))[1].deadline < now:
-            self.closing.pop(first[0]).client.close()
+        while self.awaiting_head and (first := next(iter(self.awaiting_head.items())))[1].deadline < now:
+            late = self.stop_waiting(first[0])
+            self.reject(late, RequestError(408, "Timeout", "the request's head has not come whole"))
+        while self.lingering and (first := next(iter(self.lingering.items())))[1].deadline < now:
+            self.lingering.pop(first[0]).client.close()
         while self.queue:
-            if self.slots.take():
+            if self.slots.acquire():
                 self.serve(self.queue.popleft())
             elif self.queue[0].deadline < time.monotonic():
                 self.row.long_refused += 1
-                self.refuse(self.queue.popleft(), RequestError(503, "Overloaded", "too many long requests at once"))
+                self.reject(self.queue.popleft(), RequestError(503, "Overloaded", "too many long requests at once"))
             else:
                 return
 
-    def begin(self, connection: Connection, head: Head) -> None:
+    def read_request(self, connection: Connection, head: HeadState) -> None:
         """Reads the head of a request, and answers it, or has it wait for a slot."""
-        if head is not Head.WHOLE:
-            return connection.client.close() if head is Head.CLOSED else self.refuse(connection, malformed())
+        if head is not HeadState.WHOLE:
+            return connection.client.close() if head is HeadState.CLOSED else self.reject(connection, malformed())
         try:
             request = next(RequestParser(self.cfg, connection.client, connection.address))
         except (NoMoreData, StopIteration, OSError):
             return connection.client.close()
         except Exception:  # (gunicorn has an error for each fault, and no other for them)
-            return self.refuse(connection, malformed())
+            return self.reject(connection, malformed())
         until = time.monotonic() + SLOT_SECONDS
         connection = Connection(connection.client, connection.address, until, request, is_long(request))
-        if connection.is_long and (self.queue or not self.slots.take()):
+        if connection.is_long and (self.queue or not self.slots.acquire()):
             self.queue.append(connection)
         else:
             self.serve(connection)
@@ -219,37 +219,37 @@ class Worker(SyncWorker):  # type: ignore[misc] # (gunicorn has no types)
     def serve(self, connection: Connection) -> None:
         """Answers a request, and frees the slot that it has."""
         client, request = connection.client, connection.request
-        self.begun = time.monotonic()
+        self.started = time.monotonic()
         is_slow = connection.is_long or request.path.startswith(("/table/", "/nodes/routes", "/nodes/lengths"))
         self.start_alarm(LONG_SECONDS if is_slow else ANSWER_SECONDS)
         try:
-            sender = HeadWithBody(client)
+            sender = BufferedHead(client)
             self.handle_request(self.sockets[0], request, sender, connection.address)
             sender.flush()
         except (StopIteration, OSError):  # (the client has gone)
             pass
-        except Late:
+        except AnswerTimeout:
             self.end_after_alarm()
         except Exception as error:
             self.handle_error(request, client, connection.address, error)
         finally:
             self.stop_alarm()
-            self.slots.free()
+            self.slots.release()
             client.close() if request.method in ("GET", "HEAD") and not connection.is_long else self.linger(connection)
 
     def answer(self, environ: Environ, start_response: StartResponse) -> Iterable[bytes]:
         """What gunicorn calls: the service, and 504 in place of an answer that takes too long. A worker in which one was
         broken off ends behind it, since what that held may be lost."""
-        begun: list[tuple[object, ...]] = []
+        heads: list[tuple[object, ...]] = []
         try:
-            blocks = self.service(environ, lambda *head: begun.append(head))
-        except Late:
+            blocks = self.service(environ, lambda *head: heads.append(head))
+        except AnswerTimeout:
             self.end_after_alarm()
-            blocks = self.service.refuse(environ, lambda *head: begun.append(head), too_late(self.seconds))
-        start_response(*begun[-1])
-        return blocks if isinstance(blocks, list) else self.timed(blocks)
+            blocks = self.service.error_response(environ, lambda *head: heads.append(head), timeout_error(self.seconds))
+        start_response(*heads[-1])
+        return blocks if isinstance(blocks, list) else self.restart_alarm_per_block(blocks)
 
-    def timed(self, blocks: Iterable[bytes]) -> Iterator[bytes]:
+    def restart_alarm_per_block(self, blocks: Iterable[bytes]) -> Iterator[bytes]:
         """The blocks of an answer, each with the time that a whole one has."""
         for block in blocks:
             self.notify()
@@ -257,11 +257,11 @@ class Worker(SyncWorker):  # type: ignore[misc] # (gunicorn has no types)
             yield block
 
     def start_alarm(self, seconds: float) -> None:
-        self.seconds, self.is_timed = seconds, True
+        self.seconds, self.alarm_is_set = seconds, True
         signal.setitimer(signal.ITIMER_REAL, seconds)
 
     def stop_alarm(self) -> None:
-        self.is_timed = False
+        self.alarm_is_set = False
         signal.setitimer(signal.ITIMER_REAL, 0)
 
     def end_after_alarm(self) -> None:
@@ -271,13 +271,13 @@ class Worker(SyncWorker):  # type: ignore[misc] # (gunicorn has no types)
     def handle_error(self, request: Any, client: socket.socket, address: Any, error: Exception) -> None:
         """Answers an error inside of gunicorn or of the service, of which nothing was sent."""
         log.error("error while answering", exc_info=error)
-        write(client, RequestError(500, "InternalError", "an error inside"))
+        send_error(client, RequestError(500, "InternalError", "an error inside"))
 
-    def refuse(self, connection: Connection, error: RequestError) -> None:
+    def reject(self, connection: Connection, error: RequestError) -> None:
         """Answers a request that nothing was read of but its head, or not even that, and closes."""
         self.row.count("other", error.status, 0.0)
         discard(connection.client)
-        write(connection.client, error)
+        send_error(connection.client, error)
         connection.client.close() if connection.request is None else self.linger(connection)
 
     def linger(self, connection: Connection) -> None:
@@ -285,14 +285,14 @@ class Worker(SyncWorker):  # type: ignore[misc] # (gunicorn has no types)
         it, and the answer might be lost."""
         try:
             connection.client.shutdown(socket.SHUT_WR)
-            self.closing[connection.client.fileno()] = connection._replace(deadline=time.monotonic() + LINGER_SECONDS)
+            self.lingering[connection.client.fileno()] = connection._replace(deadline=time.monotonic() + LINGER_SECONDS)
             self.epoll.register(connection.client, select.EPOLLIN | select.EPOLLRDHUP)
         except OSError:
             connection.client.close()
 
     def record(self, environ: Environ, response: Any) -> None:
         """Counts and logs an answer."""
-        seconds, endpoint = time.monotonic() - self.begun, environ.get("domethyme.endpoint", "other")
+        seconds, endpoint = time.monotonic() - self.started, environ.get("domethyme.endpoint", "other")
         status = response.status_code if response is not None and response.status else 500
         self.row.count(endpoint, status, seconds)
         if not access_log.isEnabledFor(logging.INFO):
@@ -309,42 +309,44 @@ class Worker(SyncWorker):  # type: ignore[misc] # (gunicorn has no types)
         access_log.info(json.dumps(line))
 
 
-def wait_for(client: socket.socket) -> None:
+def wait_readable(client: socket.socket) -> None:
     """Waits a moment for what a client sends first."""
     coming = select.poll()
     coming.register(client, select.POLLIN)
-    coming.poll(FIRST_MILLISECONDS)
+    coming.poll(FIRST_WAIT_MILLISECONDS)
 
 
-def head_of(client: socket.socket) -> Head:
+def peek_head(client: socket.socket) -> HeadState:
     """What has come of a request. Nothing of it is taken."""
     try:
-        come = client.recv(MAX_HEAD, socket.MSG_PEEK | socket.MSG_DONTWAIT)
+        received = client.recv(MAX_HEAD, socket.MSG_PEEK | socket.MSG_DONTWAIT)
     except BlockingIOError:
-        return Head.PARTIAL
+        return HeadState.PARTIAL
     except OSError:
-        return Head.CLOSED
-    return judge_head(come) if come else Head.CLOSED
+        return HeadState.CLOSED
+    return classify_head(received) if received else HeadState.CLOSED
 
 
-def judge_head(come: bytes) -> Head:
+def classify_head(received: bytes) -> HeadState:
     """The same of the bytes that have come. What RFC 9112 lets a server refuse is malformed: a control character, a CR or
     an LF alone, and a line that goes on in the next."""
-    end = come.find(b"\r\n\r\n")
-    head = come.removesuffix(b"\r") if end < 0 else come[: end + 4]
+    end = received.find(b"\r\n\r\n")
+    head = received.removesuffix(b"\r") if end < 0 else received[: end + 4]
     lines = head.count(b"\r\n")
-    if not head.count(b"\r") == lines == head.count(b"\n") or len(head.translate(None, CONTROLS)) < len(head):
-        return Head.MALFORMED
+    if not head.count(b"\r") == lines == head.count(b"\n") or len(head.translate(None, CONTROL_CHARACTERS)) < len(head):
+        return HeadState.MALFORMED
     if b"\n " in head or b"\n\t" in head:
-        return Head.MALFORMED
+        return HeadState.MALFORMED
     if end < 0:
-        return Head.MALFORMED if len(come) == MAX_HEAD or not lines and len(come) > MAX_LINE else Head.PARTIAL
+        is_too_long = len(received) == MAX_HEAD or not lines and len(received) > MAX_LINE
+        return HeadState.MALFORMED if is_too_long else HeadState.PARTIAL
     lowered = head.lower()
     length = BODY_LENGTH.search(lowered)
-    if length is None or int(length[1]) > SHORT_BODY or len(come) - end - 4 >= int(length[1]):
-        return Head.WHOLE
+    if length is None or int(length[1]) > SHORT_BODY or len(received) - end - 4 >= int(length[1]):
+        return HeadState.WHOLE
     # (one with several lengths is refused by gunicorn)
-    return Head.WHOLE if b"\ntransfer-encoding" in lowered or lowered.count(b"\ncontent-length") > 1 else Head.PARTIAL
+    has_other_length = b"\ntransfer-encoding" in lowered or lowered.count(b"\ncontent-length") > 1
+    return HeadState.WHOLE if has_other_length else HeadState.PARTIAL
 
 
 def is_long(request: Any) -> bool:
@@ -356,7 +358,7 @@ def is_long(request: Any) -> bool:
     return any(not value.isdecimal() or int(value[:9]) > SHORT_BODY for value in lengths)
 
 
-def write(client: socket.socket, error: RequestError) -> None:
+def send_error(client: socket.socket, error: RequestError) -> None:
     """Writes an error as a whole answer."""
     body = json.dumps({"code": error.code, "message": error.message}, separators=(",", ":")).encode()
     more = "Retry-After: 1\r\n" if error.status == 503 else ""

@@ -20,14 +20,14 @@ from domethyme.network.snapping import RoadIndex
 from . import node_queries, osrm
 from .access import AccessPolicy, check_content_type
 from .dataset import Dataset
-from .endpoints import FROM, FROM_KEY, OSRM, TO, TO_KEY, Endpoint, find_endpoint
+from .endpoints import FROM, FROM_KEY, OSRM_SERVICES, TO, TO_KEY, Endpoint, find_endpoint
 from .errors import RequestError, invalid_query, malformed
 from .json_text import to_json
 from .metrics import SharedMetrics
 from .osrm_request import parse_request
 from .parameters import Context, Values
 from .queries import Queries
-from .static import CACHE_ONE_DAY, FILES, HEADERS, NO_CACHE, no_network_error
+from .static import CACHE_ONE_DAY, HEADERS, NO_CACHE, PAGE_FILES, no_network_error
 from .tiles import Tiles
 
 MAX_BODY, MAX_FIELDS = 4 << 20, 50
@@ -87,21 +87,21 @@ class Service:
         try:
             response = self.respond(environ)
         except RequestError as error:
-            return self.refuse(environ, start_response, error)
+            return self.error_response(environ, start_response, error)
         except DomethymeError as error:
             log.error("%s", error.message)
             message = "a file of the service can't be read: its log says why"
-            return self.refuse(environ, start_response, RequestError(500, "InternalError", message))
+            return self.error_response(environ, start_response, RequestError(500, "InternalError", message))
         except Exception:
             log.exception("error while answering")
-            return self.refuse(environ, start_response, RequestError(500, "InternalError", "an error inside"))
+            return self.error_response(environ, start_response, RequestError(500, "InternalError", "an error inside"))
         return send(environ, start_response, response)
 
-    def refuse(self, environ: Environ, start_response: StartResponse, error: RequestError) -> Iterable[bytes]:
+    def error_response(self, environ: Environ, start_response: StartResponse, error: RequestError) -> Iterable[bytes]:
         """Answers with an error."""
         environ["domethyme.error"] = error
         more = {"Retry-After": "1"} if error.status == 503 else {}
-        response = self.whole(error.status, to_json({"code": error.code, "message": error.message}), JSON, more)
+        response = self.make_response(error.status, to_json({"code": error.code, "message": error.message}), JSON, more)
         return send(environ, start_response, response)
 
     def respond(self, environ: Environ) -> Response:
@@ -117,40 +117,40 @@ class Service:
             raise RequestError(405, "MethodNotAllowed", f"the method of this path is {endpoint.method}")
         if endpoint.method == "GET" and (has_body(environ) or "HTTP_CONTENT_ENCODING" in environ):
             raise invalid_query("a GET has no body")
-        return ANSWERS[endpoint.name](self, Call(endpoint, path, query, environ))
+        return HANDLERS[endpoint.name](self, Call(endpoint, path, query, environ))
 
     def preflight(self) -> Response:
         """What a browser asks before a page whose origin is allowed sends a batch."""
-        asked = {"Access-Control-Allow-Methods": "GET, POST", "Access-Control-Allow-Headers": "Content-Type"}
-        return Response(204, {**self.headers, **asked, "Access-Control-Max-Age": "7200"}, [b""])
+        allowed = {"Access-Control-Allow-Methods": "GET, POST", "Access-Control-Allow-Headers": "Content-Type"}
+        return Response(204, {**self.headers, **allowed, "Access-Control-Max-Age": "7200"}, [b""])
 
-    def file(self, call: Call) -> Response:
+    def page_file(self, call: Call) -> Response:
         """A file of the page."""
-        kind, text = FILES[call.path]
-        return self.whole(200, text, kind, HEADERS)
+        kind, text = PAGE_FILES[call.path]
+        return self.make_response(200, text, kind, HEADERS)
 
     def map_about(self, call: Call) -> Response:
-        tiles = self.need_tiles()
+        tiles = self.require_tiles()
         call.values()
-        return self.whole(200, tiles.start, JSON, NO_CACHE)
+        return self.make_response(200, tiles.about_json, JSON, NO_CACHE)
 
     def map_roads(self, call: Call) -> Response:
-        tiles = self.need_tiles()
+        tiles = self.require_tiles()
         call.values()
-        return self.whole(200, tiles.at(call.path), JSON, CACHE_ONE_DAY)
+        return self.make_response(200, tiles.read(call.path), JSON, CACHE_ONE_DAY)
 
     def osrm(self, call: Call) -> Response:
         """An answer of OSRM's API."""
         request = parse_request(call.path, call.query, self.options.default_radius)
-        means = osrm.Means(self.queries, self.need_roads(), self.dataset.sweeps, self.options.max_table_cells)
-        return self.whole(200, osrm.answer(means, request), JSON)
+        engine = osrm.Engine(self.queries, self.require_roads(), self.dataset.sweeps, self.options.max_table_cells)
+        return self.make_response(200, osrm.answer(engine, request), JSON)
 
     def pair(self, call: Call) -> Response:
         """The answer for a pair of nodes."""
         values = call.values(Context(nodes=self.queries.nodes))
-        told = node_queries.route_between if call.endpoint.name == "/nodes/route" else node_queries.length_between
-        ends = (node_queries.node_asked(self.queries, values, *each) for each in ((FROM, FROM_KEY), (TO, TO_KEY)))
-        return self.whole(200, told(self.queries, *ends), JSON)
+        answer = node_queries.route_answer if call.endpoint.name == "/nodes/route" else node_queries.length_answer
+        ends = (node_queries.find_node(self.queries, values, *each) for each in ((FROM, FROM_KEY), (TO, TO_KEY)))
+        return self.make_response(200, answer(self.queries, *ends), JSON)
 
     def batch(self, call: Call) -> Response:
         """Reads the body whole, and answers block by block: a client may send all before it reads. An error before the
@@ -158,31 +158,32 @@ class Service:
         call.values()
         check_content_type(call.environ.get("CONTENT_TYPE", ""))
         body = read_body(call.environ)
-        blocks = node_queries.batch(self.queries, call.endpoint.name == "/nodes/routes", body)
+        blocks = node_queries.batch_answer(self.queries, call.endpoint.name == "/nodes/routes", body)
         first = next(blocks, b"")
         return Response(200, {"Content-Type": LINES, **self.headers}, itertools.chain([first], blocks))
 
     def health(self, _call: Call) -> Response:
         """Says that requests are answered."""
-        return self.whole(200, to_json({"status": "ok", "nodes": self.queries.nodes, "links": self.queries.links}), JSON)
+        found = {"status": "ok", "nodes": self.queries.nodes, "links": self.queries.links}
+        return self.make_response(200, to_json(found), JSON)
 
     def show_metrics(self, _call: Call) -> Response:
         """The metrics of the whole service."""
-        return self.whole(200, self.metrics.text(self.queries.nodes), METRICS)
+        return self.make_response(200, self.metrics.text(self.queries.nodes), METRICS)
 
-    def whole(self, status: int, text: str | bytes, kind: str, more: Mapping[str, str] | None = None) -> Response:
+    def make_response(self, status: int, text: str | bytes, kind: str, more: Mapping[str, str] | None = None) -> Response:
         """An answer whose body is known."""
         body = text if isinstance(text, bytes) else text.encode("utf-8", "replace")
         headers = {"Content-Type": kind, "Content-Length": str(len(body)), **self.headers, **(more or {})}
         return Response(status, headers, [body])
 
-    def need_roads(self) -> RoadIndex:
+    def require_roads(self) -> RoadIndex:
         """The network. Raises RequestError if the service has none."""
         if self.dataset.roads is None:
             raise no_network_error()
         return self.dataset.roads
 
-    def need_tiles(self) -> Tiles:
+    def require_tiles(self) -> Tiles:
         """The tiles of the network. Raises RequestError if the service has none."""
         if self.dataset.tiles is None:
             raise no_network_error()
@@ -255,12 +256,12 @@ def read_body(environ: Environ) -> bytes:
 
 
 # By the name of an endpoint, what answers it.
-ANSWERS: dict[str, Callable[[Service, Call], Response]] = {
-    "/": Service.file,
-    "/map/files": Service.file,
+HANDLERS: dict[str, Callable[[Service, Call], Response]] = {
+    "/": Service.page_file,
+    "/map/files": Service.page_file,
     "/map/about": Service.map_about,
     "/map/roads": Service.map_roads,
-    **{f"/{service}": Service.osrm for service in OSRM},
+    **{f"/{service}": Service.osrm for service in OSRM_SERVICES},
     "/nodes/route": Service.pair,
     "/nodes/length": Service.pair,
     "/nodes/routes": Service.batch,

@@ -1,13 +1,10 @@
-"""Words that went: no function, class, constant or member of the packages has one of renamed.txt, which has the new ones beside them."""
+"""Old names: no function, class, constant or member of the packages has a name of renamed.txt, which has the new names beside them."""
 import ast
 import pathlib
 
 PYTHON = pathlib.Path(__file__).resolve().parents[1]
 RENAMED = dict(line.split(" ", 1) for line in (PYTHON / "tests/renamed.txt").read_text(encoding="ascii").splitlines())
-# Packages whose names are as renamed.txt has them.
-FILES = sorted(
-    [*(PYTHON / "domethyme").rglob("*.py"), *(PYTHON / "domethyme_tools").rglob("*.py"), *PYTHON.glob("domethyme_*.py")]
-)
+FILES = sorted([*PYTHON.glob("domethyme*/**/*.py"), *PYTHON.glob("domethyme_*.py")])
 
 
 def definitions(body):

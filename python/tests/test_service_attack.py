@@ -42,7 +42,7 @@ class RestartTests(ServiceCase):
 
     def test_a_worker_that_is_silent_is_replaced(self):
         """One that hangs for good, as by a loop that lets no signal through, is killed after its time, and the service goes on."""
-        self.command = (sys.executable, "-c", f"{IMPORT}gunicorn_app.FIXED['timeout'] = 3\ncommand.main()")
+        self.command = (sys.executable, "-c", f"{IMPORT}gunicorn_app.FIXED_SETTINGS['timeout'] = 3\ncommand.main()")
         process = self.serve()
         hung = workers_of(process)[0]
         os.kill(hung, signal.SIGSTOP)
@@ -54,8 +54,8 @@ class RestartTests(ServiceCase):
 
     def test_an_answer_that_takes_too_long(self):
         """It ends with 504, and its worker is replaced; others are answered meanwhile. A batch may take its time for each block."""
-        slow = "node_queries.length_between = lambda *words: time.sleep(60)\nblocks = node_queries.blocks_of\n"
-        slow += "node_queries.blocks_of = lambda body: (time.sleep(0.7) or block for block in blocks(body))\n"
+        slow = "node_queries.length_answer = lambda *words: time.sleep(60)\nblocks = node_queries.split_blocks\n"
+        slow += "node_queries.split_blocks = lambda body: (time.sleep(0.7) or block for block in blocks(body))\n"
         slow += "worker.ANSWER_SECONDS, worker.LONG_SECONDS = 2.0, 2.0\n"
         self.command = (sys.executable, "-c", f"{IMPORT}import time\nfrom domethyme_service import node_queries, worker\n{slow}command.main()")
         process = self.serve()
@@ -274,7 +274,7 @@ class BrowserTests(ServiceCase):
     def test_addresses(self):
         self.assertTrue(access.is_address("[::1]", "::1") and access.is_address("10.0.0.7", "::ffff:10.0.0.7"))
         self.assertFalse(access.is_address("10.0.0.8", "10.0.0.7") or access.is_address("localhost", "10.0.0.7"))
-        allowed = access.AccessPolicy.of(["Routes.Example"], "none")
+        allowed = access.AccessPolicy.from_options(["Routes.Example"], "none")
         self.assertTrue(allowed.allows_host("routes.example:443", "10.0.0.7"))
 
 
@@ -419,8 +419,8 @@ class BudgetTests(unittest.TestCase):
 class PatternTests(unittest.TestCase):
     # By the name of each pattern that sees what a client sends the texts that are worst for it, of n signs.
     WORST = {
-        "METRES": ("9", "9.9", "0."), "DIRECTION": ("9", "9,", ","), "INDEX": ("9",), "NODE": ("9",), "COUNT": ("9",),
-        "NUMBER": ("9", "9.", "+9", "9e", ".9"), "PROFILE": ("a", "a.", "."), "LINE": ("polyline(", "(", "polyline6("),
+        "METRES": ("9", "9.9", "0."), "BEARING": ("9", "9,", ","), "INDEX": ("9",), "NODE": ("9",), "COUNT": ("9",),
+        "DEGREES": ("9", "9.", "+9", "9e", ".9"), "PROFILE": ("a", "a.", "."), "POLYLINE": ("polyline(", "(", "polyline6("),
         "TILE": ("/map/roads/9/", "9/", "/"), "HOST": ("a", "a.", "[:", "a:9", "["), "ORIGIN": ("a", "a:", "://"),
         "TARGET": ("/", "http://", "a"), "LENGTH": ("9",), "BODY_LENGTH": ("\r\ncontent-length:", " ", "9"),
     }
@@ -472,7 +472,7 @@ def hostile(whole, rows):
 
 def small():
     budget = Budget()
-    budget.looked_at = 100
+    budget.examined = 100
     return budget
 
 

@@ -15,24 +15,24 @@ PAGE = TOOLS.parent / "docs/SERVICE.md"
 class TableTests(unittest.TestCase):
     def test_the_page_has_the_tables(self):
         lines = PAGE.read_text(encoding="utf-8")
-        for table in (endpoints.table_of_endpoints(), endpoints.table_of_parameters()):
+        for table in (endpoints.endpoint_table(), endpoints.parameter_table()):
             text = "\n".join(table)
             self.assertIn(f"\n\n{text}\n\n", lines, f"docs/SERVICE.md has another table than this:\n{text}")
 
     def test_the_command_prints_them(self):
         words = [sys.executable, "-m", "domethyme_service.endpoints"]
         printed = subprocess.run(words, cwd=TOOLS.parent / "python", capture_output=True, text=True, check=True).stdout
-        self.assertEqual(printed.splitlines(), [*endpoints.table_of_endpoints(), "", *endpoints.table_of_parameters()])
+        self.assertEqual(printed.splitlines(), [*endpoints.endpoint_table(), "", *endpoints.parameter_table()])
 
     def test_statuses_are_counted(self):
         """Each status that the package answers has a place among the counters."""
         text = "".join(path.read_text() for path in (TOOLS.parent / "python/domethyme_service").glob("*.py"))
-        found = {int(number) for number in re.findall(r"(?:RequestError|Response|whole)\(\s*([1-5]\d\d),", text)}
+        found = {int(number) for number in re.findall(r"(?:RequestError|Response|make_response)\(\s*([1-5]\d\d),", text)}
         self.assertGreater(len(found), 9)
         self.assertLessEqual(found, {*metrics.STATUSES})
 
     def test_each_is_answered(self):
-        self.assertEqual(wsgi.ANSWERS.keys(), {endpoint.name for endpoint in endpoints.ENDPOINTS})
+        self.assertEqual(wsgi.HANDLERS.keys(), {endpoint.name for endpoint in endpoints.ENDPOINTS})
         self.assertEqual(len(endpoints.BY_NAME), len(endpoints.ENDPOINTS))
 
 

@@ -390,7 +390,7 @@ class NginxTests(NginxCase):
 
     def test_health_while_all_are_busy(self):
         """All four workers answer something that takes long: nginx asks a worker of its own for the service's health."""
-        script = "import time\nfrom domethyme_service import node_queries\nnode_queries.length_between = lambda *words: time.sleep(60)\n"
+        script = "import time\nfrom domethyme_service import node_queries\nnode_queries.length_answer = lambda *words: time.sleep(60)\n"
         self.command = slow_command(script)
         self.serve_behind_nginx()
         threads = [threading.Thread(target=self.give_up, daemon=True) for _ in range(6)]

@@ -19,11 +19,11 @@ from domethyme_service import endpoints
 from domethyme_service.access import AccessPolicy
 from domethyme_service.dataset import DatasetPaths, open_dataset
 from domethyme_service.errors import malformed
-from domethyme_service.gunicorn_app import FIXED
+from domethyme_service.gunicorn_app import FIXED_SETTINGS
 from domethyme_service.metrics import SharedMetrics
 from domethyme_service.osrm_request import SERVICES
-from domethyme_service.parameters import Flag, Word
-from domethyme_service.worker import MAX_HEAD, Head, judge_head
+from domethyme_service.parameters import Flag, Choice
+from domethyme_service.worker import MAX_HEAD, HeadState, classify_head
 from domethyme_service.wsgi import Options, Service
 
 # The names of parameters that all services have, and by service those of its own; those that aren't there; and words by name.
@@ -31,7 +31,7 @@ COMMON = [each.name for each in endpoints.COMMON]
 OWN = {service: endpoints.BY_NAME[f"/{service}"].parameters[len(COMMON) :] for service in SERVICES}
 KNOWN = {service: [each.name for each in some] for service, some in OWN.items()}
 ALL = [*endpoints.COMMON, *itertools.chain(*OWN.values())]
-WORDS = {each.name: (*each.words, *getattr(each, "absent", ())) for each in ALL if isinstance(each, (Flag, Word))}
+WORDS = {each.name: (*each.words, *getattr(each, "unsupported", ())) for each in ALL if isinstance(each, (Flag, Choice))}
 OF_TABLES = ("fallback_coordinate",)
 
 SEED, COUNT, FEW = 17, 10_000, 100
@@ -606,15 +606,15 @@ class InProcess:
 
     def __init__(self, folder) -> None:
         paths = DatasetPaths(str(folder / "v.rch"), str(folder / "v"), True)
-        self.service = Service(open_dataset(paths), Options(AccessPolicy.of(["x"], "none")), SharedMetrics())
+        self.service = Service(open_dataset(paths), Options(AccessPolicy.from_options(["x"], "none")), SharedMetrics())
         self.settings = Config()
-        for name, value in FIXED.items():
+        for name, value in FIXED_SETTINGS.items():
             self.settings.set(name, value)
 
     def answer(self, request: bytes) -> Answer:
         """What the bytes of a request are answered."""
         error, begun = malformed(), []
-        if judge_head(request[:MAX_HEAD]) is Head.WHOLE:
+        if classify_head(request[:MAX_HEAD]) is HeadState.WHOLE:
             with contextlib.suppress(ParseException, ValueError, OSError):
                 parsed = next(RequestParser(self.settings, [request], ("127.0.0.1", 9)))
                 _, environ = create(parsed, FakeSocket(), ("127.0.0.1", 9), ("127.0.0.1", 80), self.settings)

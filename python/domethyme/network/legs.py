@@ -11,13 +11,13 @@ from ..protocol import RouteReply
 from .snapping import NO_ARC, RoadIndex, SnappedPoint
 
 # Where a way begins or ends: nodes, and the weight and arc that lead there.
-Sides = dict[int, tuple[int, int]]
+SnapEnds = dict[int, tuple[int, int]]
 
 
 class Questions(Protocol):
     """What is asked for the ways between nodes, which are numbered from 1."""
 
-    def between(self, exits: Sides, entries: Sides, with_nodes: bool = True) -> RouteReply | None:
+    def between(self, exits: SnapEnds, entries: SnapEnds, with_nodes: bool = True) -> RouteReply | None:
         """The least way from one of several nodes to one of several, with the weights that lead there, or its length alone."""
 
 
