@@ -23,7 +23,7 @@ from .json_text import join_array, join_object, to_json
 from .osrm_geometry import annotate, encode_geometries, join_lines, leg_lines, simplify_lines
 from .osrm_request import Request
 from .osrm_steps import build_steps
-from .osrm_tables import Wanted, table_by_cells, table_by_sweeps
+from .osrm_tables import TableOptions, table_by_cells, table_by_sweeps
 from .osrm_types import RouteLeg, Waypoint
 from .queries import Queries
 
@@ -212,14 +212,14 @@ def table(engine: Engine, request: Request) -> str:
     if len(sources) * len(destinations) > engine.max_cells:
         message = f"a table may have {engine.max_cells} cells (--table-cells), and this one would have more"
         raise RequestError(400, "TooBig", message)
-    wanted = Wanted.by(request.values, engine.roads, request.places)
-    is_swept = wanted.refuse_if_too_many(len(sources) * len(destinations), engine.sweeps is not None)
+    options = TableOptions.from_values(request.values, engine.roads, request.places)
+    is_swept = options.refuse_if_too_many(len(sources) * len(destinations), engine.sweeps is not None)
     snapped_points = snap_places(engine.roads, request)
     starts, stops = [snapped_points[place] for place in sources], [snapped_points[place] for place in destinations]
     if is_swept and engine.sweeps is not None:
-        found = table_by_sweeps(engine.sweeps, engine.roads, wanted, starts, stops)
+        found = table_by_sweeps(engine.sweeps, engine.roads, options, starts, stops)
     else:
-        found = table_by_cells(engine.queries, engine.roads, wanted, starts, stops)
+        found = table_by_cells(engine.queries, engine.roads, options, starts, stops)
     if not request.values[SKIP_WAYPOINTS]:
         found["sources"] = to_json([make_waypoint(request, snapped) for snapped in starts])
         found["destinations"] = to_json([make_waypoint(request, snapped) for snapped in stops])

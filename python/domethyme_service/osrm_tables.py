@@ -21,11 +21,11 @@ from .parameters import Values
 from .queries import Queries
 
 # Tables of so many cells take no longer by questions, which are asked for them; and so many are asked in any case.
-FEW_CELLS, MOST_ASKED = 100, 10_000
+MIN_CELLS_BY_SWEEPS, MAX_QUERIED_CELLS = 100, 10_000
 Row = list[float | None]
 
 
-class Wanted(NamedTuple):
+class TableOptions(NamedTuple):
     """What a table has: the names of its figures, what weights are, the places as they were asked for by row and by column, and
     what becomes of durations, and of cells without a way."""
 
@@ -35,40 +35,41 @@ class Wanted(NamedTuple):
     destinations: list[Point]
     scale: float | None
     fallback: float | None
-    is_snapped: bool
+    fallback_is_snapped: bool
 
     @classmethod
-    def by(cls, values: Values, roads: RoadIndex, places: Sequence[Point]) -> "Wanted":
+    def from_values(cls, values: Values, roads: RoadIndex, places: Sequence[Point]) -> "TableOptions":
         """What the values of the parameters say. Raises RequestError for durations where the network has none."""
         if "duration" in values[TABLE_ANNOTATIONS] and not roads.has_seconds:
             raise not_implemented("this network has no seconds, so no durations: ask annotations=weight or distance")
         sources, destinations = ([places[number] for number in values[side]] for side in (SOURCES, DESTINATIONS))
         is_snapped = values[FALLBACK_COORDINATE] == "snapped"
-        return cls(values[TABLE_ANNOTATIONS], roads.unit, sources, destinations, values[SCALE_FACTOR], values[FALLBACK_SPEED], is_snapped)
+        scale, fallback = values[SCALE_FACTOR], values[FALLBACK_SPEED]
+        return cls(values[TABLE_ANNOTATIONS], roads.unit, sources, destinations, scale, fallback, is_snapped)
 
     @property
-    def is_of_weights(self) -> bool:
+    def wants_weights_only(self) -> bool:
         """Whether no figure but the weight is wanted."""
         return set(self.names) <= {self.unit, "weight"}
 
     def refuse_if_too_many(self, cells: int, has_sweeps: bool) -> bool:
         """Whether the table is computed by sweeps. Raises RequestError where too many questions would be asked."""
-        is_swept = has_sweeps and self.is_of_weights and cells > FEW_CELLS
-        if not is_swept and cells > MOST_ASKED:
+        is_swept = has_sweeps and self.wants_weights_only and cells > MIN_CELLS_BY_SWEEPS
+        if not is_swept and cells > MAX_QUERIED_CELLS:
             why = f"of annotations={self.unit} or weight alone" if has_sweeps else "under --tables fast"
-            raise RequestError(400, "TooBig", f"a table may have {MOST_ASKED} cells, unless it is {why}")
+            raise RequestError(400, "TooBig", f"a table may have {MAX_QUERIED_CELLS} cells, unless it is {why}")
         return is_swept
 
 
 def table_by_sweeps(
-    sweeps: Sweeps, roads: RoadIndex, wanted: Wanted, starts: Sequence[SnappedPoint], ends: Sequence[SnappedPoint]
+    sweeps: Sweeps, roads: RoadIndex, options: TableOptions, starts: Sequence[SnappedPoint], ends: Sequence[SnappedPoint]
 ) -> dict[str, str]:
     """The members of the answer, by sweeps."""
-    exits, entries = seeds([spot.exits for spot in starts]), seeds([spot.entries for spot in ends])
+    exits, entries = seeds([snapped.exits for snapped in starts]), seeds([snapped.entries for snapped in ends])
     weights = sweeps.between(exits, entries)
-    lower_where_near(weights, roads, starts, ends)
-    rows = (row_of(weights[row], UNITS_PER_OUTPUT_UNIT.get(wanted.unit, 1)) for row in range(len(starts)))
-    return told(wanted, starts, ends, (dict.fromkeys(wanted.names, row) for row in rows))
+    apply_same_edge_weights(weights, roads, starts, ends)
+    rows = (row_of(weights[row], UNITS_PER_OUTPUT_UNIT.get(options.unit, 1)) for row in range(len(starts)))
+    return table_json(options, starts, ends, (dict.fromkeys(options.names, row) for row in rows))
 
 
 def seeds(sides: Sequence[dict[int, tuple[int, int]]]) -> Seeds:
@@ -78,19 +79,21 @@ def seeds(sides: Sequence[dict[int, tuple[int, int]]]) -> Seeds:
     return Seeds(len(sides), places, nodes, added)
 
 
-def lower_where_near(table: Numbers, roads: RoadIndex, starts: Sequence[SnappedPoint], ends: Sequence[SnappedPoint]) -> None:
+def apply_same_edge_weights(
+    table: Numbers, roads: RoadIndex, starts: Sequence[SnappedPoint], ends: Sequence[SnappedPoint]
+) -> None:
     """Lowers the cells of points that are at one node, or one behind the other on an arc."""
     columns = collections.defaultdict(list)
     for column, end in enumerate(ends):
         columns[end.copies or end.edge].append(column)
     for row, start in enumerate(starts):
         for column in columns.get(start.copies or start.edge, ()):
-            weight = least_between(roads, start, ends[column])
+            weight = same_edge_weight(roads, start, ends[column])
             if weight is not None and not 0 <= table[row, column] <= weight:
                 table[row, column] = weight
 
 
-def least_between(roads: RoadIndex, start: SnappedPoint, end: SnappedPoint) -> int | None:
+def same_edge_weight(roads: RoadIndex, start: SnappedPoint, end: SnappedPoint) -> int | None:
     """The weight of the way that stays at a node, or on one arc; None where there is none."""
     if is_same_node(start, end):
         return 0
@@ -106,26 +109,30 @@ def row_of(weights: Numbers, unit: int) -> Row:
     return row
 
 
-def told(wanted: Wanted, starts: Sequence[SnappedPoint], ends: Sequence[SnappedPoint], rows: Iterator[dict[str, Row]]) -> dict[str, str]:
+def table_json(
+    options: TableOptions, starts: Sequence[SnappedPoint], ends: Sequence[SnappedPoint], rows: Iterator[dict[str, Row]]
+) -> dict[str, str]:
     """The members of the answer, by rows of the figures that are wanted."""
-    texts: dict[str, list[str]] = {name: [] for name in wanted.names}
-    guessed: list[list[int]] = []
+    texts: dict[str, list[str]] = {name: [] for name in options.names}
+    fallback_cells: list[list[int]] = []
     for number, figures in enumerate(rows):
-        if wanted.fallback is not None and any(None in row for row in figures.values()):
+        if options.fallback is not None and any(None in row for row in figures.values()):
             figures = {name: list(row) for name, row in figures.items()}
-            guessed += fallen_back(wanted, starts, ends, number, figures, wanted.fallback)
-        if wanted.scale is not None and "duration" in figures:
-            figures = figures | {"duration": [None if value is None else round(value * wanted.scale, 3) for value in figures["duration"]]}
-        for name in wanted.names:
+            fallback_cells += fill_fallback(options, starts, ends, number, figures, options.fallback)
+        if options.scale is not None and "duration" in figures:
+            scaled = [None if value is None else round(value * options.scale, 3) for value in figures["duration"]]
+            figures = figures | {"duration": scaled}
+        for name in options.names:
             texts[name].append(to_json(figures[name]))
     found = {f"{name}s": join_array(texts[name]) for name in ("duration", "distance", "weight") if name in texts}
-    if wanted.fallback is not None:
-        found["fallback_speed_cells"] = to_json(guessed)
+    if options.fallback is not None:
+        found["fallback_speed_cells"] = to_json(fallback_cells)
     return found
 
 
-def fallen_back(
-    wanted: Wanted, starts: Sequence[SnappedPoint], ends: Sequence[SnappedPoint], number: int, figures: dict[str, Row], speed: float
+def fill_fallback(
+    options: TableOptions, starts: Sequence[SnappedPoint], ends: Sequence[SnappedPoint], number: int,
+    figures: dict[str, Row], speed: float,
 ) -> list[list[int]]:
     """Puts the way of a bird at this speed, in metres a second, into the cells without a way; returns which they are. A weight that is
     neither time nor distance stays unknown."""
@@ -133,11 +140,13 @@ def fallen_back(
     for column in range(len(ends)):
         if any(row[column] is None for row in figures.values()):
             start, end = starts[number], ends[column]
-            snapped, asked = ((start.lon, start.lat), (end.lon, end.lat)), (wanted.sources[number], wanted.destinations[column])
-            way = metres_apart(*(snapped if wanted.is_snapped else asked))
-            guesses: dict[str, float | None] = {"duration": round(way / speed, 3), "distance": round(way, 2)}
+            snapped = (start.lon, start.lat), (end.lon, end.lat)
+            requested = options.sources[number], options.destinations[column]
+            direct_metres = metres_apart(*(snapped if options.fallback_is_snapped else requested))
+            duration, distance = round(direct_metres / speed, 3), round(direct_metres, 2)
+            guesses: dict[str, float | None] = {"duration": duration, "distance": distance}
             for name, row in figures.items():
-                row[column] = guesses.get(wanted.unit if name == "weight" else name)
+                row[column] = guesses.get(options.unit if name == "weight" else name)
             found.append([number, column])
     return found
 
@@ -150,16 +159,18 @@ def metres_apart(one: Point, other: Point) -> float:
 
 
 def table_by_cells(
-    questions: Queries, roads: RoadIndex, wanted: Wanted, starts: Sequence[SnappedPoint], ends: Sequence[SnappedPoint]
+    queries: Queries, roads: RoadIndex, options: TableOptions, starts: Sequence[SnappedPoint], ends: Sequence[SnappedPoint]
 ) -> dict[str, str]:
     """The members of the answer, by a question for each cell."""
-    return told(wanted, starts, ends, (row_by_cells(questions, roads, wanted, start, ends) for start in starts))
+    return table_json(options, starts, ends, (row_by_cells(queries, roads, options, start, ends) for start in starts))
 
 
-def row_by_cells(questions: Queries, roads: RoadIndex, wanted: Wanted, start: SnappedPoint, ends: Sequence[SnappedPoint]) -> dict[str, Row]:
+def row_by_cells(
+    queries: Queries, roads: RoadIndex, options: TableOptions, start: SnappedPoint, ends: Sequence[SnappedPoint]
+) -> dict[str, Row]:
     """The figures of a row. Where weights are all that is wanted, routes aren't looked at."""
-    found = [cell(questions, roads, start, end, wanted.is_of_weights) for end in ends]
-    return {name: [None if each is None else value_of(each, name) for each in found] for name in wanted.names}
+    found = [cell_totals(queries, roads, start, end, options.wants_weights_only) for end in ends]
+    return {name: [None if each is None else value_of(each, name) for each in found] for name in options.names}
 
 
 def value_of(figures: Figures, name: str) -> float | None:
@@ -167,10 +178,12 @@ def value_of(figures: Figures, name: str) -> float | None:
     return figures["duration"] if name == "duration" else figures["distance"] if name == "distance" else figures["weight"]
 
 
-def cell(questions: Queries, roads: RoadIndex, start: SnappedPoint, end: SnappedPoint, only_weights: bool) -> Figures | None:
+def cell_totals(
+    queries: Queries, roads: RoadIndex, start: SnappedPoint, end: SnappedPoint, only_weights: bool
+) -> Figures | None:
     """The figures of one cell, None where there is no way."""
     if only_weights:
-        weight = leg_weight(questions, roads, start, end)
+        weight = leg_weight(queries, roads, start, end)
         return None if weight is None else make_totals(roads, weight, 0.0, 0.0)
-    leg = find_leg(questions, roads, start, end)
+    leg = find_leg(queries, roads, start, end)
     return None if leg is None else leg_totals(roads, leg)
