@@ -11,8 +11,7 @@ scipy, is in no column.
     scipy      scipy.sparse.csgraph.dijkstra from each place, over a graph that is read
     opened     opening the hierarchy
     matrix     by the library, by as many threads as there are processors
-    sweeps     by sweeps, and reading the links before
-    again      by sweeps, of links that were read
+    again      the same once more, by what each thread has kept for the targets
 
 It needs Debian's python3-scipy, for the extract the packages of tools/packages.txt, and routecli. Status 1: a table isn't
 scipy's, or scipy took less time than `matrix`.
@@ -81,8 +80,7 @@ def measured(graph, file, places):
     with hierarchy:
         found = {
             "matrix": timed(lambda: hierarchy.matrix(places)),
-            "sweeps": timed(lambda: hierarchy.matrix(places, by="sweeps")),
-            "again": timed(lambda: hierarchy.matrix(places, by="sweeps")),
+            "again": timed(lambda: hierarchy.matrix(places)),
         }
     for name, (table, _) in found.items():
         if not np.array_equal(table, wanted):

@@ -7,11 +7,15 @@ from typing import NamedTuple, TypeVar
 import numpy as np
 from numpy.typing import NDArray
 
+from .errors import OutOfMemory
+from .limits import MAX_CELLS
 from .protocol import NO_PATH
 from .router import Router, Searcher
 
-# Questions that a thread asks in one call.
+# Questions that a thread asks in one call; and of a table rows and cells, which take some ten milliseconds. An interrupt waits
+# for the calls that are under way.
 CHUNK_SIZE = 512
+MAX_ROWS, MAX_CHUNK_CELLS = 256, 1 << 16
 T = TypeVar("T")
 
 
@@ -36,7 +40,11 @@ def lengths(router: Router, pairs: NDArray[np.int64]) -> NDArray[np.int64]:
 
 
 def table(router: Router, sources: NDArray[np.int64], targets: NDArray[np.int64]) -> NDArray[np.int64]:
-    """The least lengths from each source to each target, NO_PATH where there is no path."""
+    """The least lengths from each source to each target, NO_PATH where there is no path. A thread asks for whole rows, since its
+    seat keeps what the library has selected for the targets. Raises OutOfMemory for more than MAX_CELLS, before memory is taken."""
+    if len(sources) * len(targets) > MAX_CELLS:
+        size = f"a table of {len(sources)} x {len(targets)} lengths has more than {MAX_CELLS}"
+        raise OutOfMemory(f"{router.name}: {size}: ask for fewer sources at a time", 6)
     rows, columns = (np.ascontiguousarray(nodes, dtype=np.uint32) for nodes in (sources, targets))
     found = np.empty((len(rows), len(columns)), np.int64)
 
@@ -45,8 +53,14 @@ def table(router: Router, sources: NDArray[np.int64], targets: NDArray[np.int64]
         seat.table(chunk.ctypes.data, len(chunk), columns.ctypes.data, len(columns), out.ctypes.data)
 
     if found.size:
-        map_chunks(router, query_chunk, len(rows), max(1, CHUNK_SIZE // len(columns)))
+        map_chunks(router, query_chunk, len(rows), rows_at_a_time(*found.shape))
     return found
+
+
+def rows_at_a_time(rows: int, columns: int) -> int:
+    """How many rows of a table a thread asks for in one call: its share, as far as that takes neither long nor no time."""
+    share = -(-rows // cpu_count())
+    return max(1, CHUNK_SIZE // columns, min(share, MAX_ROWS, MAX_CHUNK_CELLS // columns))
 
 
 def routes(router: Router, pairs: NDArray[np.int64]) -> BatchRoutes:

@@ -1,4 +1,4 @@
-"""Old words of public names. Each works until the next version, and warns with the word that is used now."""
+"""Old words of public names. Each works until the next version, and warns with what is used now."""
 import warnings
 from typing import Literal
 
@@ -8,6 +8,15 @@ Side = Literal["from", "to"]
 def warn_renamed(old: str, new: str, level: int = 3) -> None:
     """Warns (DeprecationWarning) the caller of the caller, or who is `level` - 1 calls away, that a name has another word."""
     warnings.warn(f"{old} is now {new}; the old word goes with the next version", DeprecationWarning, stacklevel=level)
+
+
+def check_by(by: str | None) -> None:
+    """Warns who says how `matrix` makes a table. Raises ValueError for a word that it never had."""
+    if by not in ("library", "sweeps", None):
+        raise ValueError(f"a matrix is made by library or by sweeps, and not by {by!r}")
+    if by is not None:
+        says = "matrix(by=) goes with the next version: leave it out, since the library makes all tables"
+        warnings.warn(says, DeprecationWarning, stacklevel=3)
 
 
 def side_of(side: Side | bool, end: bool | None) -> Side:

@@ -1,11 +1,10 @@
 """A file of a hierarchy, and the questions that it answers."""
 import functools
 import os
-import threading
 from collections.abc import Hashable, Iterable, Mapping
 from typing import TYPE_CHECKING, Any, Literal, Union, overload
 
-from .deprecated import side_of
+from .deprecated import check_by, side_of
 from .errors import NoSuchNode
 from .extras import need
 from .hierarchy_file import open_hierarchy_file, pread_all, read_header
@@ -21,7 +20,6 @@ if TYPE_CHECKING:
 
     from .network.network import Network
     from .routes import Routes
-    from .sweeps import Sweeps
 
 MAX_ADDED = (1 << 32) - 1
 
@@ -69,32 +67,22 @@ class Hierarchy:
         network, and ValueError for keys that don't fit.
         """
         self.path, self._name = path, os.fspath(path)
-        self._file = open_hierarchy_file(self._name)
-        try:
-            self.nodes, self.links = read_header(self._file.fileno(), self._name)
-            data = pread_all(self._file.fileno(), 0, os.fstat(self._file.fileno()).st_size)
+        with open_hierarchy_file(self._name) as file:
+            self.nodes, self.links = read_header(file.fileno(), self._name)
+            data = pread_all(file.fileno(), 0, os.fstat(file.fileno()).st_size)
             self.keys = None if keys is None else Keys(keys, self.nodes)
             if self.keys is not None:
                 self.keys.check_consistent(path, data)
             self.network, self._compare_all = as_network(network), compare_all
             self._router = Router(data, self._name)
             if self.network is not None:
-                self.network.compare(self._file.fileno(), self._name, compare_all)
-        except BaseException:
-            self._file.close()
-            raise
-        self._sweeps: "Sweeps | None" = None
-        self._sweeps_lock = threading.Lock()
+                self.network.compare(file.fileno(), self._name, compare_all)
 
     def __enter__(self) -> "Hierarchy":
         return self
 
     def __exit__(self, *_: object) -> None:
         self.close()
-
-    def __del__(self) -> None:
-        if hasattr(self, "_file"):
-            self._file.close()
 
     def __repr__(self) -> str:
         return f"<Hierarchy {self._name} of {self.nodes} nodes and {self.links} links>"
@@ -106,7 +94,6 @@ class Hierarchy:
     def close(self) -> None:
         """Frees the memory. Questions then raise ValueError, as those of a closed file do."""
         self._router.close()
-        self._file.close()
 
     # One question
 
@@ -169,12 +156,15 @@ class Hierarchy:
         give an array, of keys too.
 
         missing   what a cell without a way has in place of these, as numpy.inf: take it for the nearest, since -1 is the least of all
-        by        "library" (None): the library is asked for each length, by as many threads as there are processors.
-                  "sweeps": all are computed here, by numpy, from the links of the file, which are read once. That is no part of
-                  what is proved, and is tested against it. For tables of many thousand places it is several times as fast.
+        by        an old argument, which changes nothing any more: leave it out
 
-        Raises NoSuchNode and ValueError.
+        The library computes all lengths, row by row, by as many threads as there are processors. Each thread selects what paths to
+        the targets take, and keeps that: further rows to the same targets, in this call or in later ones, take less time. A table
+        has 8 bytes a cell, and 2^29 cells at most: ask for some of the sources at a time beyond that.
+
+        Raises NoSuchNode, ValueError, and OutOfMemory for too many cells, before memory is taken.
         """
+        check_by(by)
         need("numpy")
         from . import arrays, batch
 
@@ -182,9 +172,7 @@ class Hierarchy:
         targets = sources if targets is None else targets if hasattr(targets, "__array__") else as_list(targets)
         starts = arrays.nodes_of("sources", sources, self.keys, self.nodes)
         ends = arrays.nodes_of("targets", targets, self.keys, self.nodes)
-        if by not in ("library", "sweeps", None):
-            raise ValueError(f"a matrix is made by library or by sweeps, and not by {by!r}")
-        table = self._swept().lengths(starts, ends) if by == "sweeps" else batch.table(self._router, starts, ends)
+        table = batch.table(self._router, starts, ends)
         return arrays.like_axes(table, sources, targets, self.keys is not None, missing)
 
     @overload
@@ -241,17 +229,6 @@ class Hierarchy:
         numbers = answer.nodes
         nodes: list[Any] = list(numbers) if self.keys is None else [self.keys.key(number) for number in numbers]
         return Route(nodes[0], nodes[-1], answer.length, nodes, numbers)
-
-    def _swept(self) -> "Sweeps":
-        """The Sweeps of the file, which is read for them once."""
-        from .sweeps import Sweeps
-
-        if self._file.closed:
-            raise ValueError(f"the hierarchy {self._name} is closed")
-        with self._sweeps_lock:
-            if self._sweeps is None:
-                self._sweeps = Sweeps.read(self._file.fileno(), self._name)
-            return self._sweeps
 
 
 def as_network(network: "Network | StrPath | None") -> "Network | None":

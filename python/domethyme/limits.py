@@ -1,5 +1,6 @@
-"""What graphs and their files may have at most."""
+"""What graphs, their files and tables of lengths may have at most."""
 
 MAX_NODES = 1 << 25
 MAX_LINES = 1 << 27
 MAX_WEIGHT = (1 << 32) - 1
+MAX_CELLS = 1 << 29

@@ -44,6 +44,15 @@ def test_frames():
         assert domethyme.Graph.of_frame(frame).weights.tolist() == [1, 2]
 
 
+@pytest.mark.parametrize("by", ["library", "sweeps"])
+def test_matrix(hierarchy, by):
+    with pytest.warns(DeprecationWarning, match=r"matrix\(by=\) goes with the next version: leave it out") as caught:
+        assert hierarchy.matrix(["a"], ["c"], by).loc["a", "c"] == 7
+    assert [each.filename for each in caught] == [__file__]
+    with pytest.raises(ValueError, match="not by 'hand'"):
+        hierarchy.matrix(["a"], by="hand")
+
+
 def test_prepare(tmp_path):
     domethyme.write_graph(tmp_path / "square.gr", *SQUARE)
     with pytest.warns(DeprecationWarning, match="switch_order_after"):

@@ -12,7 +12,7 @@ from tool_case import PYTHON, ROOT, ToolCase
 
 import domethyme
 from domethyme import batch, find_program
-from domethyme.sweeps import Seeds, Sweeps
+from domethyme.network.leg_tables import Ends, least_by_nodes
 
 # Four nodes: two ways from 0 to 2, of 3 + 4 = 7 and of 9; back from 2 to 0 by 5; node 3 leads to 0 by 6, and nothing to it.
 SQUARE = ([0, 1, 0, 2, 3], [1, 2, 2, 0, 0], [3, 4, 9, 5, 6])
@@ -64,8 +64,7 @@ class DomethymeTests(ToolCase):
         routes = hierarchy.routes([[0, 3]])
         self.assertEqual(routes.lengths.tolist(), [12884901885])
         self.assertEqual(routes[0].tolist(), [0, 1, 2, 3])
-        for by in ("library", "sweeps"):
-            self.assertEqual(hierarchy.matrix([0, 3], by=by).tolist(), [[0, 12884901885], [-1, 0]])
+        self.assertEqual(hierarchy.matrix([0, 3]).tolist(), [[0, 12884901885], [-1, 0]])
         self.assertEqual(hierarchy.between({0: 4294967295}, {3: 4294967295}).length, 5 * 4294967295)
 
     def test_random_networks_beside_a_plain_search(self):
@@ -81,24 +80,22 @@ class DomethymeTests(ToolCase):
                 self.assertEqual(hierarchy.lengths(pairs[:nodes]).tolist(), lengths.tolist())
                 wanted = dijkstra(least)
                 wanted = np.where(np.isinf(wanted), -1, wanted).astype(np.int64)
-                np.testing.assert_array_equal(hierarchy.matrix(np.arange(nodes), by="sweeps"), wanted)
+                np.testing.assert_array_equal(hierarchy.matrix(np.arange(nodes)), wanted)
                 some = draw.integers(0, nodes, 7)
-                np.testing.assert_array_equal(hierarchy.matrix(some, some[:3], by="library"), wanted[some][:, some[:3]])
-                np.testing.assert_array_equal(hierarchy.matrix(some, some[:3], by="sweeps"), wanted[some][:, some[:3]])
+                np.testing.assert_array_equal(hierarchy.matrix(some, some[:3]), wanted[some][:, some[:3]])
                 self.check_between(hierarchy, draw)
 
     def check_between(self, hierarchy, draw):
-        """Sweeps from and to places of several nodes with added lengths, beside `between` for each; a place may have no node."""
+        """A table from and to points of several nodes with added lengths, beside `between` for each; a point may have no node."""
         sides = []
         for size in (6, 4):
-            places, nodes = draw.integers(0, size - 1, 8), draw.integers(0, hierarchy.nodes, 8)
-            sides.append(Seeds(size, places, nodes, draw.integers(0, 100, 8)))
-        with open(self.folder / "network.rch", "rb") as file:
-            table = Sweeps.read(file.fileno(), "network.rch").between(*sides)
+            points, nodes = np.sort(draw.integers(0, size - 1, 8)), draw.integers(0, hierarchy.nodes, 8)
+            sides.append(Ends(points, nodes, draw.integers(0, 100, 8)))
+        table = least_by_nodes(hierarchy.matrix, *sides, (6, 4))
         self.assertEqual(table.shape, (6, 4))
         for (start, end), length in np.ndenumerate(table):
             some, others = ([*zip(nodes[at].tolist(), added[at].tolist())]
-                            for (_, places, nodes, added), place in zip(sides, (start, end)) for at in [places == place])
+                            for (points, nodes, added), point in zip(sides, (start, end)) for at in [points == point])
             route = hierarchy.between(some, others) if some and others else None
             self.assertEqual(length, -1 if route is None else route.length)
 
@@ -222,8 +219,6 @@ print(domethyme.Hierarchy("--help").length(0, 2))
         with self.assertRaisesRegex(domethyme.HierarchyError, r"cut.rch: has \d+ bytes, and its head"):
             domethyme.Hierarchy(cut)
         cut.write_bytes(whole[:24] + whole[28:32] * 2 + whole[32:])
-        with self.assertRaises(domethyme.HierarchyError), open(cut, "rb") as file:
-            Sweeps.read(file.fileno(), "cut.rch")
         with self.assertRaisesRegex(domethyme.HierarchyError, "cut.rch: two nodes have one rank") as caught:
             domethyme.Hierarchy(cut)
         self.assertEqual(caught.exception.status, 4)
@@ -312,9 +307,8 @@ print(domethyme.Hierarchy("--help").length(0, 2))
         with graph.prepare(self.folder / "scaled.rch", program=find_program()) as hierarchy:
             lengths = [hierarchy.length("a", "c"), hierarchy.length("c", "a")]
             self.assertEqual([domethyme.unscaled(length, 1000) for length in lengths], [2.5, float("inf")])
-            for by in ("library", "sweeps"):
-                table = domethyme.unscaled(hierarchy.matrix(np.array(["a", "c"]), by=by), 1000)
-                self.assertEqual(table.tolist(), [[0, 2.5], [float("inf"), 0]])
+            table = domethyme.unscaled(hierarchy.matrix(np.array(["a", "c"])), 1000)
+            self.assertEqual(table.tolist(), [[0, 2.5], [float("inf"), 0]])
             frame = domethyme.unscaled(hierarchy.matrix(pd.Series(["a", "c"])), 1000)
             self.assertEqual(frame.loc["c"].to_dict(), {"a": float("inf"), "c": 0})
             series = domethyme.unscaled(
@@ -364,10 +358,9 @@ print(domethyme.Hierarchy("--help").length(0, 2))
             self.assertEqual(
                 domethyme.unscaled(table).idxmin().to_dict(), {"shop": "north", "far": "north", "north": "north"}
             )
-            for by in ("library", "sweeps"):
-                lengths = hierarchy.matrix(np.array(depots), np.array(customers), by, missing=np.inf)
-                self.assertEqual(lengths.tolist(), [[13, 9, np.inf], [5, 7, 0]])
-                self.assertEqual([depots[row] for row in lengths.argmin(axis=0)], ["north"] * 3)
+            lengths = hierarchy.matrix(np.array(depots), np.array(customers), missing=np.inf)
+            self.assertEqual(lengths.tolist(), [[13, 9, np.inf], [5, 7, 0]])
+            self.assertEqual([depots[row] for row in lengths.argmin(axis=0)], ["north"] * 3)
             self.assertEqual(hierarchy.matrix(depots, customers, missing=np.inf).loc["south", "north"], np.inf)
             self.assertEqual(hierarchy.matrix(iter(depots), ["shop"]).index.tolist(), depots)
 
@@ -485,7 +478,7 @@ print(domethyme.Hierarchy("--help").length(0, 2))
             self.assertEqual(other.length(0, 2), 7)
         self.prepared("other", [0, 1], [1, 0], [8, 8])
         (self.folder / "other.rch").replace(self.folder / "square.rch")
-        self.assertEqual((hierarchy.length(0, 2), hierarchy.matrix([0], [2], by="sweeps").tolist()), (7, [[7]]))
+        self.assertEqual((hierarchy.length(0, 2), hierarchy.matrix([0], [2]).tolist()), (7, [[7]]))
 
 
 def least_weights(nodes, starts, ends, weights):

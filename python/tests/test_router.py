@@ -187,8 +187,7 @@ class RouterTests(ToolCase):
     def test_the_end(self):
         with self.ring() as hierarchy:
             hierarchy.length(0, 1)
-        for attempt in (lambda: hierarchy.length(0, 1), lambda: hierarchy.lengths([[0, 1]]), lambda: hierarchy.matrix([0]),
-                        lambda: hierarchy.matrix([0], by="sweeps")):
+        for attempt in (lambda: hierarchy.length(0, 1), lambda: hierarchy.lengths([[0, 1]]), lambda: hierarchy.matrix([0])):
             with self.assertRaisesRegex(ValueError, "is closed"):
                 attempt()
         hierarchy.close()
