@@ -4,9 +4,9 @@ NETWORK is the beginning of the names of a network's files, of which NETWORK.net
 or a file of coordinates of the DIMACS challenge, whose name ends in `.co`.
 
 TRIPS is a CSV file with a row for each trip and the columns from_lon, from_lat, to_lon and to_lat, in degrees; they
-are in any order, and other columns are the user's own. With --matrix it has a row for each place and the columns lon
-and lat, and the pairs lead from each place to each, itself included: K places make K * K pairs, first those from the
-first place, in the table's order. With --matrix TRIPS may be a `.co` file too. `-` is standard input.
+are in any order, and other columns are the user's own. `-` is standard input. With --matrix, which goes with the next version,
+it has a row for each place and the columns lon and lat, or is a `.co` file, and the pairs lead from each place to each: first
+those from the first place, in the table's order. For lengths `table` makes the same from one or two tables of places.
 
 PAIRS is a query file: a comment with the network's name and size, `p aux sp p2p K`, and a line `q S T` for each trip, in order.
 
@@ -48,7 +48,7 @@ from domethyme.network.network import load_node_index
 from domethyme.network.reading import read_nodes
 from domethyme.network.tables import ENDS, KEY, Side, is_coordinates, paths_of
 
-from .cli import ToolError, add_hierarchy, argument_parser, current_arguments, need_hierarchy, refuse_overwriting
+from .cli import ToolError, add_hierarchy, argument_parser, current_arguments, need_hierarchy, refuse_overwriting, warn
 
 SIDES: tuple[Side, Side] = ("from", "to")
 PREFIXES = ("from_", "to_")
@@ -60,7 +60,6 @@ def parse_args() -> argparse.Namespace:
     parser = argument_parser(
         __doc__,
         "%(prog)s out/li trips.csv > out/li.pairs",
-        "%(prog)s out/li places.csv --matrix -o out/li.pairs",
         "%(prog)s out/li trips.csv --on-roads | routecli serve out/li.rch",
     )
     parser.add_argument("network", metavar="NETWORK", help="the network, or a .co file")
@@ -74,7 +73,7 @@ def parse_args() -> argparse.Namespace:
         help="refuse a place that is further from each node (default: 1000)",
     )
     parser.add_argument("--skip-far", action="store_true", help="leave out trips with such a place, and report how many")
-    parser.add_argument("--matrix", action="store_true", help="from each place to each")
+    parser.add_argument("--matrix", action="store_true", help="from each place to each; goes with the next version: see table")
     parser.add_argument("--snapped", metavar="FILE", help="write the table of trips with their nodes too")
     parser.add_argument("--on-roads", action="store_true", help="write lines for routecli serve, with places on roads")
     add_hierarchy(parser)
@@ -303,3 +302,5 @@ def main() -> None:
         write_snapped(options.snapped, columns, snapped_rows(snapped, pairs, options.matrix, keys))
     with atomic_write(options.output) as file:
         write_pairs(file, pairs, [nearest.nodes.origin(options.network).comment])
+    if options.matrix:
+        warn("--matrix goes with the next version: table makes tables of lengths")

@@ -2,11 +2,12 @@
 
     request_lines(network, places, within, path)     a line `b S1 C1 .. : T1 D1 ..` of `routecli serve` for each trip
     routes_on_roads(network, replies, path, places)  a RoadRoute for each trip, by the replies to those lines, in order
+    snap_places(roads, places, within, path, rows)   the nearest point of a road to each place of a table
 
-Trips are (row, (lon, lat), (lon, lat)).
+Trips are (row, (lon, lat), (lon, lat)), and places (lon, lat).
 """
 import itertools
-from collections.abc import Iterable, Iterator
+from collections.abc import Iterable, Iterator, Sequence
 from typing import Any, NamedTuple
 
 from domethyme.csv_tables import open_input
@@ -26,6 +27,8 @@ with require_packages():
 Trip = tuple[int | None, Point, Point]
 # How many starts, and ends, a request has at most.
 MAX_SEEDS = 8
+# Places that are looked for together.
+TOGETHER = 16
 
 
 class RoadRoute(NamedTuple):
@@ -49,19 +52,34 @@ def open_road_index(network: StrPath) -> RoadIndex:
     return RoadIndex(str(network))
 
 
+def snap_places(
+    roads: RoadIndex, places: Sequence[Point], within: float, path: str, rows: Sequence[int | None]
+) -> list[SnappedPoint]:
+    """The points of roads that are nearest to the places of a table's rows. Raises ToolError for one that is too far."""
+    found: list[SnappedPoint] = []
+    for begin in range(0, len(places), TOGETHER):
+        for number, snapped in enumerate(roads.nearest_batch(places[begin : begin + TOGETHER]), begin):
+            found.append(check_near(snapped, places[number], "", within, path, rows[number]))
+    return found
+
+
 def snap_trip(roads: RoadIndex, trip: Trip, within: float, path: str) -> tuple[SnappedPoint, SnappedPoint]:
     """The points of roads that are nearest to a trip's places. Raises ToolError for one that is too far."""
-    row, *places = trip
-    found = []
-    for side, place in zip(("from", "to"), places):
-        snapped = roads.nearest(place)[0]
-        if snapped.metres > within:
-            where = f"{side}_lon {place[0]}, {side}_lat {place[1]}"
-            raise ToolError(
-                f"{where} is {snapped.metres:,.0f} m from the nearest road, and --max-distance is {within:g} m", path, row
-            )
-        found.append(snapped)
-    return found[0], found[1]
+    row, start, end = trip
+    first, last = roads.nearest(start)[0], roads.nearest(end)[0]
+    return check_near(first, start, "from_", within, path, row), check_near(last, end, "to_", within, path, row)
+
+
+def check_near(
+    snapped: SnappedPoint, place: Point, beginning: str, within: float, path: str, row: int | None
+) -> SnappedPoint:
+    """The point, where it is near enough to its place, which is in columns whose names begin so. Raises ToolError."""
+    if snapped.metres > within:
+        where = f"{beginning}lon {place[0]}, {beginning}lat {place[1]}"
+        raise ToolError(
+            f"{where} is {snapped.metres:,.0f} m from the nearest road, and --max-distance is {within:g} m", path, row
+        )
+    return snapped
 
 
 def format_request(start: SnappedPoint, end: SnappedPoint, path: str, row: int | None) -> bytes:

@@ -104,6 +104,14 @@ OLD_OPTIONS = [
 ]
 
 
+def test_matrix_of_nearest(village, tmp_path):
+    (tmp_path / "places.csv").write_text("lon,lat\n0,0\n0.002,0\n")
+    words = [TOOLS / "nearest", village[0] / "v", "places.csv", "--matrix"]
+    ended = subprocess.run(words, cwd=tmp_path, capture_output=True, text=True)
+    assert (ended.returncode, ended.stdout.count("\nq ")) == (0, 4)
+    assert ended.stderr == "nearest: --matrix goes with the next version: table makes tables of lengths\n"
+
+
 def test_options_of_osm_to_gr(village):
     lines = village[1].splitlines()
     assert "osm_to_gr: --islands is now --keep-islands; the old word goes with the next version" in lines

@@ -1,0 +1,158 @@
+"""Makes a table of lengths, from each place of one table to each of another.
+
+NETWORK is the beginning of the names of a network's files, or a file of coordinates of the DIMACS challenge, whose name ends
+in `.co`. HIERARCHY is the file that `routecli prepare` made of its graph: that of another network is refused.
+
+SOURCES and TARGETS are CSV files with a row for each place and the columns lon and lat, in degrees. They are in any order, and
+other columns are the user's own. One of the two may be `-`, standard input, and each may be a `.co` file.
+
+TABLE has a row for each source and a column for each target, in order. A length is that of a shortest path, in the unit of the
+graph's weights. It leads from the node nearest to the source to the one nearest to the target, along the great circle; where
+both are of one junction it is 0. With --on-roads places are taken at the nearest points of roads, which are cut there. If the
+name of TABLE ends in `.npy`, it is an array of numpy, of int64 and of shape (sources, targets), with -1 for no path. Else it
+is CSV. Its first row has the names of the targets behind the word `from`, and each other row begins with the name of its
+source; a field is empty for no path. Names are the numbers of places, from 1, or what the column --name of both tables has.
+
+The lengths between nodes are computed by the proved library; which nodes and points are nearest, and the parts of roads, are
+tested. Rows are written as they are made, so that a large table needs little memory; it has at most 2^29 lengths. A file that
+is written is whole or not there.
+
+Exit status: 0; 1 for bad input or a failed write, with one line on standard error that names file and row; 2 for
+arguments that are refused.
+"""
+import argparse
+import csv
+from collections.abc import Iterator
+
+import numpy
+import tqdm
+from numpy.typing import NDArray
+
+from domethyme import Hierarchy
+from domethyme.atomic_files import atomic_write
+from domethyme.csv_tables import escape_formula, need_columns
+from domethyme.limits import MAX_CELLS
+from domethyme.network.leg_tables import NodeTable, weight_rows
+from domethyme.network.tables import Side, is_coordinates, paths_of
+
+from .cli import ToolError, argument_parser, refuse_overwriting
+from .nearest import NO_PREFIX, NodeLookup, Trips, distance, places_of_coordinates, read_trips, too_far_error
+from .on_roads import open_road_index, snap_places
+
+Ints = NDArray[numpy.int64]
+# Lengths between nodes that are asked for together, 8 bytes each.
+CELLS = 1 << 20
+
+
+def parse_args() -> argparse.Namespace:
+    parser = argument_parser(
+        __doc__,
+        "%(prog)s out/li out/li.rch depots.csv customers.csv --name key -o out/li.csv",
+        "%(prog)s out/li out/li.rch depots.csv customers.csv --on-roads -o out/li.npy",
+    )
+    parser.add_argument("network", metavar="NETWORK", help="the network, or a .co file")
+    parser.add_argument("hierarchy", metavar="HIERARCHY", help="the file of its hierarchy")
+    parser.add_argument("sources", metavar="SOURCES", help="the table of the places where paths begin")
+    parser.add_argument("targets", metavar="TARGETS", help="the table of the places where they end")
+    parser.add_argument("-o", dest="output", metavar="TABLE", default="-", help="by default standard output, as CSV")
+    parser.add_argument("--name", metavar="COLUMN", help="the column with the names of places (default: their numbers)")
+    parser.add_argument(
+        "--max-distance",
+        metavar="METRES",
+        type=distance,
+        default=1000.0,
+        help="refuse a place that is further from each node, or road (default: 1000)",
+    )
+    parser.add_argument("--on-roads", action="store_true", help="take places on roads, and not at nodes")
+    parser.add_argument("--compare-all", action="store_true", help="compare all links, also of more than ten million")
+    options = parser.parse_args()
+    if options.sources == options.targets == "-":
+        parser.error("SOURCES and TARGETS can't both be standard input")
+    inputs = [options.sources, options.targets, options.hierarchy, *paths_of(options.network)]
+    refuse_overwriting(parser, [options.output], inputs)
+    return options
+
+
+def read_places(path: str, name: str | None) -> tuple[Trips, list[str]]:
+    """The places of a table, and their names."""
+    places = places_of_coordinates(path) if is_coordinates(path) else read_trips(path, NO_PREFIX)
+    if name is None:
+        return places, [str(number) for number in range(1, len(places.rows) + 1)]
+    need_columns(path, places.columns, [name])
+    column = places.columns.index(name)
+    return places, [str(fields[column]) for fields in places.fields]
+
+
+def rows_by_nodes(ask: NodeTable, network: str, sources: Trips, targets: Trips, within: float) -> Iterator[Ints]:
+    """The rows of the table between the nodes nearest to places, some at a time."""
+    nearest = NodeLookup(network)
+    starts, ends = nodes_near(nearest, sources, "from", within), nodes_near(nearest, targets, "to", within)
+    begins = nearest.begins_of(ends)
+
+    def rows(some: Ints) -> Ints:
+        found = ask(some - 1, ends - 1)
+        found[some[:, None] == begins] = 0
+        return found
+
+    at_a_time = max(1, CELLS // max(1, len(ends)))
+    return (rows(starts[begin : begin + at_a_time]) for begin in range(0, len(starts), at_a_time))
+
+
+def nodes_near(nearest: NodeLookup, places: Trips, side: Side, within: float) -> Ints:
+    """The node nearest to each place, from 1. Raises ToolError for one that is too far."""
+    found = nearest.nodes_at(places.ends[""], side)
+    is_far = found[1] > within
+    if is_far.any():
+        raise too_far_error(places, int(is_far.argmax()), {side: found}, nearest, within)
+    nodes: Ints = found[0]
+    return nodes
+
+
+def rows_on_roads(ask: NodeTable, network: str, sources: Trips, targets: Trips, within: float) -> Iterator[Ints]:
+    """The rows of the table between the nearest points of roads, some at a time."""
+    roads = open_road_index(network)
+    starts, ends = (
+        snap_places(roads, places.ends[""], within, places.path, places.rows) for places in (sources, targets)
+    )
+    return weight_rows(ask, roads, starts, ends, CELLS)
+
+
+def write_csv(path: str, rows: Iterator[Ints], sources: list[str], targets: list[str]) -> None:
+    names = map(escape_formula, sources)
+    with atomic_write(path) as file:
+        writer = csv.writer(file, lineterminator="\n")
+        writer.writerow(["from", *map(escape_formula, targets)])
+        for row in (row for some in rows for row in some.tolist()):
+            writer.writerow([next(names), *("" if length < 0 else length for length in row)])
+
+
+def write_npy(path: str, rows: Iterator[Ints], sources: list[str], targets: list[str]) -> None:
+    header = {"descr": "<i8", "fortran_order": False, "shape": (len(sources), len(targets))}
+    with atomic_write(path, "wb") as file:
+        numpy.lib.format.write_array_header_1_0(file, header)
+        for some in rows:
+            file.write(some.astype("<i8").tobytes())
+
+
+def shown(rows: Iterator[Ints], cells: int) -> Iterator[Ints]:
+    """The rows, with their progress at a terminal."""
+    with tqdm.tqdm(total=cells, unit="length", unit_scale=True, disable=None) as bar:
+        for some in rows:
+            yield some
+            bar.update(some.size)
+
+
+def main() -> None:
+    options = parse_args()
+    (sources, source_names), (targets, target_names) = (
+        read_places(path, options.name) for path in (options.sources, options.targets)
+    )
+    cells = len(source_names) * len(target_names)
+    if cells > MAX_CELLS:
+        message = f"has {len(source_names)} places, which with {len(target_names)} targets make more than {MAX_CELLS} lengths"
+        raise ToolError(message, options.sources)
+    with Hierarchy(options.hierarchy, network=options.network, compare_all=options.compare_all) as hierarchy:
+        make_rows = rows_on_roads if options.on_roads else rows_by_nodes
+        rows = make_rows(hierarchy.matrix, options.network, sources, targets, options.max_distance)
+        write = write_npy if options.output.endswith(".npy") else write_csv
+        write(options.output, shown(rows, cells), source_names, target_names)
