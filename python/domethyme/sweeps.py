@@ -1,7 +1,7 @@
 """Tables of lengths by sweeps over a hierarchy, for many sources at a time (after Delling, Goldberg, Nowatzyk and Werneck,
 PHAST, 2011, and Delling, Goldberg and Werneck, RPHAST, 2011). Needs numpy.
 
-A least walk goes up from its source, along links to nodes of higher rank, and then down to its target. So one pass over
+A shortest path goes up from its source, along links to nodes of higher rank, and then down to its target. So one pass over
 the nodes above the sources, lowest first, and one over the nodes above the targets, highest first, give all lengths. Here
 a node is a row of an array with a column for each source, and the nodes of one level are taken at a time. The nodes above
 the sources and the targets are looked for first, so the time depends on them and not on the size of the network.
