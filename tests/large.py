@@ -43,7 +43,7 @@ MANY = 1 << 20
 LONE, LINKED = 1 << 22, 2_000
 # Pairs of a query file, and of a call of the library.
 PAIRS, CALLED = 1_100_000, 70_000
-# How many nodes a search of `check` may settle, docs/CONTRACTS.md; fewer, and more.
+# How many nodes a search of `check` may settle (ch_check); fewer, and more.
 FOUND, NOT_FOUND = 65_000, 70_000
 # On a busy machine the greatest of 50 runs came to 1.002 by `edges`, 1.004 by `neighbours` and 1.004 by `depth`.
 MOST_LINKS = 1.1
