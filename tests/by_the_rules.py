@@ -167,7 +167,7 @@ class Estimator:
 
 def work(rows, seed, order, stint):
     """One worker's turns. With a stint it has all kinds of estimators, that of the order first, and goes on by the next
-    after so many of its commits."""
+    after that many of its commits."""
     queue, put_back, commits = Queue(seed), 0, 0
     current = Estimator(rows, order)
     later = [kind for kind in ORDERS if kind != order] if stint else []
@@ -239,7 +239,7 @@ class Preparing:
 
 
 def random_networks(preparing: Preparing, networks: int) -> None:
-    """Compares the files of so many networks, by the sweep and by one worker in each order."""
+    """Compares the files of this many networks, by the sweep and by one worker in each order."""
     draw = random.Random(1)
     for network in range(networks):
         preparing.network(*random_network(draw))

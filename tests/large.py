@@ -9,7 +9,7 @@ all answers are known by construction, and the route from one end to the other h
 
  1. Four workers prepare it. Its file is as long as its head says, `info` reads it to its end, `check` calls it right, and no
     tail of the order was left to the sweep, which contracts nodes in the order of their numbers.
- 2. `route` and `serve` print the whole route in both directions, its length, and what lies on both sides of node 2^20; `serve`
+ 2. `route` and `serve` print the whole route in both directions, its length, and the nodes on both sides of node 2^20; `serve`
     replies to a line of eight starts and eight ends, and `route` answers a query file of 1,100,000 pairs.
  3. The library, from C, answers the same and 70,000 pairs more, whose lengths it finds in one call.
  4. More than 2^22 nodes, all but the last 2,000 without arcs: four workers contract all, and the file is read and checked.
@@ -39,7 +39,7 @@ from kit.networks import HEAVIEST, made, pairs_text, text_of
 from kit.program import PROGRAM, ROOT, Runs, need_program
 
 MANY = 1 << 20
-# So many nodes that the numbers of their rows have 23 bits; and so many with arcs behind them.
+# Enough nodes that the numbers of their rows have 23 bits; and how many with arcs are behind them.
 LONE, LINKED = 1 << 22, 2_000
 # Pairs of a query file, and of a call of the library.
 PAIRS, CALLED = 1_100_000, 70_000
@@ -47,9 +47,9 @@ PAIRS, CALLED = 1_100_000, 70_000
 FOUND, NOT_FOUND = 65_000, 70_000
 # On a busy machine the greatest of 50 runs came to 1.002 by `edges`, 1.004 by `neighbours` and 1.004 by `depth`.
 MOST_LINKS = 1.1
-# So many nodes beyond MANY, that a sweep of what workers leave there can be seen.
+# Enough nodes beyond MANY that a sweep of what workers leave there can be seen.
 BEYOND = 100_000
-# No order of workers ends in so many nodes of ascending numbers by chance.
+# No order of workers ends in this many nodes of ascending numbers by chance.
 TAIL = 1_000
 # How many nodes a clique has, and how many cliques there are. 17 MB are needed, and 54 where no row is freed.
 CLIQUE, CLIQUES = 30, 100
@@ -87,7 +87,7 @@ def route_of(source: int, target: int) -> bytes:
 
 
 def near_pairs(count: int, nodes: int) -> list[tuple[int, int]]:
-    """So many pairs of neighbours, over the whole chain."""
+    """This many pairs of neighbours, over the whole chain."""
     return [(n, n + 1) if n % 2 else (n + 1, n) for n in (1 + number * 7919 % (nodes - 1) for number in range(count))]
 
 
@@ -103,7 +103,7 @@ def between(nodes: int) -> tuple[str, bytes]:
 
 
 def planned(nodes: int) -> tuple[bytes, bytes]:
-    """A graph, and a file for it that is right: a path of so many nodes, and a node more that joins both its ends by heavier
+    """A graph, and a file for it that is right: a path of this many nodes, and a node more that joins both its ends by heavier
     arcs. It is contracted first, and no link takes its place, since the path is shorter."""
     last = nodes
     arcs = [(n, n + 1, 1) for n in range(nodes - 1)] + [(n + 1, n, 1) for n in range(nodes - 1)]
@@ -169,7 +169,7 @@ class Checks:
         self.check(f"check {name}: {verdict.decode().strip()}", found == (status, verdict, b""), f"{found}")
 
     def whole(self, file: pathlib.Path, nodes: int, links: int, bound: int) -> bool:
-        """Whether a file has the bytes that it tells of, is read, and was made by workers to the end."""
+        """Whether a file has the bytes that its head says, is read, and was made by workers to the end."""
         data = file.read_bytes() if file.exists() else b""
         size = HEAD_BYTES + 4 * nodes + LINK_BYTES[2] * links
         self.check(f"a file of {links} links", len(data) == size, f"{len(data)} bytes, not {size}")

@@ -90,7 +90,7 @@ def need(holds: bool, what: str) -> None:
 
 
 def prepared(folder: pathlib.Path, name: str, text: str, workers: int) -> pathlib.Path:
-    """The file of a hierarchy of a graph's text, which so many workers build."""
+    """The file of a hierarchy of a graph's text, which this many workers build."""
     graph, hierarchy = folder / f"{name}.gr", folder / f"{name}.rch"
     graph.write_text(text)
     subprocess.run([PROGRAM, "prepare", "--workers", str(workers), graph, hierarchy], check=True)

@@ -4,7 +4,7 @@
     tests/verdicts.py [--long] [--jobs JOBS] [--seed SEED] [WORD]        only the parts whose names have WORD
 
 Each file is read by plain.py, and judged by kit/checked.py: 0 comes only if all distances by the file and all arcs that links
-stand for are those of the graph, and 9 only if they aren't and the pair shows it. A check doesn't get through only where the
+represent are those of the graph, and 9 only if they aren't and the pair shows it. A check doesn't get through only where the
 second program doesn't either, and ends at a place where that one does. A file that has a fault is refused for it, with status 4.
 
  prepared   Files that `prepare` makes by the sweep and by 1, 3 and 64 workers, in all orders, with and without a stint: all are
@@ -45,7 +45,7 @@ SECONDS = 60
 SMALL = [(0, 1, 2), (1, 2, 3), (1, 4, 1), (2, 1, 3), (2, 3, 5), (3, 2, 5), (3, 4, 1), (4, 1, 1), (4, 3, 1), (0, 5, 0)]
 LARGER = [*SMALL, (5, 6, 4), (6, 7, 1), (7, 8, 0), (8, 6, 2), (6, 9, 1), (9, 10, 7), (10, 11, 1), (11, 0, 9), (8, 11, 3)]
 
-# A check settles at most so many nodes for each link of a file, and so many beside (docs/REFERENCE.md).
+# How many nodes a check settles at most for each link of a file, and how many beside (docs/REFERENCE.md).
 FOR_A_LINK, FOR_ALL = 256, 4194304
 # How many nodes the circle has of files that take much work, and the weight of the arcs that lead to it from outside.
 AROUND, HEAVY = 3200, 1000000

@@ -1,9 +1,9 @@
 #!/usr/bin/env python3
-"""Runs the proved program where files, memory or time are refused, and looks at what stands in the files then.
+"""Runs the proved program where files, memory or time are refused, and looks at what is in the files then.
 
     tests/whole_files.py [--long] [WORD]        only the cases whose names have WORD; it is refused where none has it
 
-A file tells no contract what it keeps, so this is tested and not proved: OUT of `prepare` is whole, the old one or the
+No contract sees what a file keeps, so this is tested and not proved: OUT of `prepare` is whole, the old one or the
 new one, whatever happens; nothing is left beside it, but where the program is killed; and the statuses are those of
 docs/FORMATS.md. With --long the program's memory is limited too, and it is killed at many times: that takes minutes. Each case
 is a line, and the last line counts them; the exit status is 1 where one has failed.
@@ -31,7 +31,7 @@ from kit.networks import made
 from kit.program import PROGRAM, need_program, refuse_library
 
 PREPARE = ["prepare", "--workers", "1"]
-# So many bytes are offered to a file at once, at most.
+# How many bytes are offered to a file at once, at most.
 PIECE = 8192
 # A graph of one arc, and its hierarchy's file by docs/REFERENCE.md: two ranks, one link, and the bound.
 SMALL = b"p sp 2 1\na 1 2 7\n"
@@ -74,7 +74,7 @@ class Bench:
         self.left = {"x.gr"}
 
     def put(self, name="x.rch", data=None):
-        """Something old that stands there."""
+        """Something old that is there."""
         file = self.folder / name
         file.write_bytes(self.shared.old if data is None else data)
         self.left.add(name)
@@ -282,7 +282,7 @@ def one_file_by_standard_input(bench):
         bench.prepare("/dev/stdin", "x.gr", stdin=source).ends(2, ONE_FILE)
 
 
-# Two file systems of one kind, whose first files have one number. What it writes is told and copied, since both go with the
+# Two file systems of one kind, whose first files have one number. What it writes is printed and copied, since both go with the
 # namespace of the commands.
 TWO_SYSTEMS = """
 mkdir one two && mount -t tmpfs none one && mount -t tmpfs none two || exit 99
@@ -501,7 +501,7 @@ def size_of_the_answers(bench, limit):
 
 
 def killed(bench, wait, **how):
-    """Kills a preparation once the wait is over. What stands in OUT is whole, and a file may be left beside it."""
+    """Kills a preparation once the wait is over. What is in OUT is whole, and a file may be left beside it."""
     with subprocess.Popen([bench.shared.program, *PREPARE, "x.gr", "x.rch"], cwd=bench.folder, **how) as run:
         wait(run)
         run.kill()

@@ -10,7 +10,7 @@ LINK_BYTES = {1: 20, 2: 24}
 
 
 def head(nodes: int, links: int, bound: int = 0, version: int = 2) -> bytes:
-    """What stands before the ranks. The bound is a weight alone."""
+    """What is before the ranks. The bound is a weight alone."""
     return b"RCH%d" % version + struct.pack(">IQQ", nodes, links, bound)
 
 
@@ -19,7 +19,7 @@ def ranks(numbers: Sequence[int]) -> bytes:
 
 
 def link(start: int, end: int, weight: int, arcs: int = 1, middle: int = NONE, version: int = 2) -> bytes:
-    """A link, which in version 1 doesn't tell its arcs."""
+    """A link, which in version 1 doesn't have its arcs."""
     told = struct.pack(">I", arcs) if version == 2 else b""
     return struct.pack(">IIQ", start, end, weight) + told + struct.pack(">I", middle)
 
@@ -31,6 +31,6 @@ def spelled(numbers: Sequence[int], links: Iterable[tuple[int, int, int, int, in
 
 
 def links_in(file: Union[str, "os.PathLike[str]"]) -> int:
-    """How many links a file tells that it has."""
+    """How many links a file says that it has."""
     with open(file, "rb") as source:
         return int.from_bytes(source.read(16)[8:], "big")

@@ -28,7 +28,7 @@ WEIGHTS: list[Sequence[int]] = [
 
 
 def drawn_arcs(draw: random.Random, nodes: int, count: int) -> list[tuple[int, int, int]]:
-    """So many arcs as (start, end, weight), loops and parallel arcs among them. There is at least one node."""
+    """This many arcs as (start, end, weight), loops and parallel arcs among them. There is at least one node."""
     weights = draw.choice(WEIGHTS)
     return [(draw.randrange(nodes), draw.randrange(nodes), draw.choice(weights)) for _ in range(count)]
 
@@ -44,7 +44,7 @@ def pairs_text(pairs: Sequence[tuple[int, int]]) -> str:
 
 
 def made(side: int, pairs: int, graph: Path, queries: Path, *more: Any) -> None:
-    """A network of bench/make_network.py, and so many random pairs of it."""
+    """A network of bench/make_network.py, and this many random pairs of it."""
     words: list[Any] = [sys.executable, ROOT / "bench/make_network.py", str(side), str(pairs), "1", graph, queries, *map(str, more)]
     subprocess.run(words, check=True)
 

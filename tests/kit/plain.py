@@ -148,7 +148,7 @@ class Routes:
         return self.least(source, target, {ends: cost for ends, (cost, _) in self.hierarchy.links.items()})
 
     def arcs(self):
-        """How many links without a middle each link stands for."""
+        """How many links without a middle each link represents."""
         ranks, links, arcs = self.hierarchy.ranks, self.hierarchy.links, {}
         for start, end in sorted(links, key=lambda ends: min(ranks[ends[0]], ranks[ends[1]])):
             _, middle = links[start, end]
@@ -156,7 +156,7 @@ class Routes:
         return arcs
 
     def most_arcs(self, source, target):
-        """Of all walks of the least cost, the most links without a middle that one stands for, or none."""
+        """Of all walks of the least cost, the most links without a middle that one represents, or none."""
         arcs, links = self.arcs(), self.hierarchy.links
         if self.hierarchy.version == 1:
             found = self.least(source, target, {ends: (cost[0], -arcs[ends]) for ends, (cost, _) in links.items()})

@@ -30,7 +30,7 @@ def crates_of(root: pathlib.Path) -> dict[str, Crate]:
 
 
 def below(crates: dict[str, Crate], name: str) -> list[str]:
-    """The repository's crates that a crate stands on, directly or not."""
+    """The repository's crates that a crate uses, directly or not."""
     found: list[str] = []
     for used in crates[name].uses:
         found += [each for each in [used, *below(crates, used)] if each not in found]

@@ -5,9 +5,9 @@ every status, line and refusal with slow and plain readers (plain.py).
     tests/long/fuzz.py [--seconds SECONDS] [--jobs JOBS] [--seed SEED] [--services]      by default an hour, 2 jobs and seed 1
 
 Files and texts are drawn, from small networks that `prepare` made hierarchies of, and from well made hierarchies of both
-versions that stand for no graph; then bytes, numbers, links and lines of most are changed, exchanged, repeated, cut off or
+versions that represent no graph; then bytes, numbers, links and lines of most are changed, exchanged, repeated, cut off or
 left out. Many weights are 0, and many walks as long as others with more arcs: each route has to have the least length and,
-of the walks of this length, the fewest arcs, by a file of version 1 any number. By a file that stands for no graph these are
+of the walks of this length, the fewest arcs, by a file of version 1 any number. By a file that represents no graph these are
 the walks that its links rise and fall by. With --services each run is a service that is asked by 40 such texts. The output has
 the number of lines of requests, of runs, how they ended, crashes, hangs (no end within 30 seconds), answers that differ, and the
 greatest resident size, also for each byte of the longest input. Each finding is kept in out/fuzz, and the exit status is 1.
@@ -85,7 +85,7 @@ def drawn_hierarchy(draw):
 
 
 def link_bytes(data):
-    """How many bytes a link of this file has, by the version that it tells."""
+    """How many bytes a link of this file has, by the version in its head."""
     return LINK_BYTES[1 if data[3:4] == b"1" else 2]
 
 
@@ -218,7 +218,7 @@ class Runner:
         self.inputs = [folder / "first", folder / "second"]
 
     def run(self, command, inputs):
-        """The status (`crash` or `hang` in its place), what was written and told, and the greatest resident size."""
+        """The status (`crash` or `hang` in its place), what was written to both outputs, and the greatest resident size."""
         for path, data in zip(self.inputs, inputs):
             path.write_bytes(data)
         is_service = command == "serve"
@@ -242,7 +242,7 @@ def refusal_of(status, part, refused):
 
 
 def is_line(line, source, target, cost, is_route):
-    """Whether an answer line is right where the shortest path has this length and so many arcs, or any number for none of
+    """Whether an answer line is right where the shortest path has this length and this many arcs, or any number for none of
     them, or where there is no walk."""
     if cost is None:
         return line == b"n %d %d" % (source, target)
@@ -311,7 +311,7 @@ class Answers:
 
 
 def is_routed(hierarchy, pairs, status, written, told):
-    """Whether what `route` wrote and told is right for these pairs."""
+    """Whether what `route` wrote and reported is right for these pairs."""
     answers = Answers(hierarchy)
     lines = written.split(b"\n")
     if lines.pop() != b"" or len(lines) > len(pairs):

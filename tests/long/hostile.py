@@ -1,5 +1,5 @@
 #!/usr/bin/env python3
-"""Tells what memory `routecli route` takes for hierarchy files that announce much and bring little.
+"""Prints what memory `routecli route` takes for hierarchy files that announce much and bring little.
 
     tests/long/hostile.py
 
@@ -51,8 +51,8 @@ def files():
 def many_arcs():
     """A file, two pairs of nodes, and the answer of the first one.
 
-    A chain of nodes has a link from each to the next that stands for 2^16 + 2 arcs and weighs nothing. With six arcs behind
-    it, the last of which weighs 1, its links stand for 2^32 + 2 arcs. Its start and end are joined by three arcs too, the
+    A chain of nodes has a link from each to the next that represents 2^16 + 2 arcs and weighs nothing. With six arcs behind
+    it, the last of which weighs 1, its links represent 2^32 + 2 arcs. Its start and end are joined by three arcs too, the
     first of which weighs 1, so that the chain is gone along before. From the second node on there is the chain alone.
     """
     below, top, steps = 16, 17, 65_534
@@ -75,7 +75,7 @@ def many_arcs():
 def cascade():
     """A file of version 1, and a pair of nodes.
 
-    Of 38 nodes each two are linked, by way of the node below the lower one, so a link of the last two stands for 2^36 arcs.
+    Of 38 nodes each two are linked, by way of the node below the lower one, so a link of the last two represents 2^36 arcs.
     """
     ends = [(i, j) for i in range(38) for j in range(38) if i != j]
     links = [(i, j, 1 << min(i, j), 0, min(i, j) - 1 if min(i, j) else NONE) for i, j in ends]

@@ -9,7 +9,7 @@ likely, 0 among them; one in ten has up to 400 nodes. Each is prepared with anot
 in turn, and its pairs are routed, all of them in a small network: every length, and every number of arcs, which has to
 be the least of all walks of that length, is compared with the plain search, and every route has to be a walk of both.
 Meanwhile one process for each processor does nothing but count, so that workers are interrupted anywhere. A program
-that takes more than a minute is told as stuck. The network of a build is drawn by the seed and the build's number, so
+that takes more than a minute is reported as stuck. The network of a build is drawn by the seed and the build's number, so
 `--first` goes on where a run was ended. Each 50 builds a line on standard error says how far it has come. It needs g++
 and the proved program, which is crates/routecli/out/routecli (README.md says how to build it) or the path in the
 environment variable ROUTECLI.
