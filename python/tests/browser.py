@@ -1,24 +1,20 @@
 """A headless Chromium for the tests, by its DevTools protocol: https://chromedevtools.github.io/devtools-protocol/"""
-import asyncio
 import base64
 import contextlib
 import json
 import os
 import pathlib
-import re
 import shutil
 import signal
+import socket
 import subprocess
 import tempfile
-import threading
 import time
-
-import aiohttp
 
 PROGRAM = shutil.which("chromium")
 SECONDS = 60
 WORDS = ["--headless=new", "--no-sandbox", "--disable-gpu", "--disable-dev-shm-usage", "--disable-background-networking",
-         "--hide-scrollbars", "--no-first-run", "--remote-debugging-port=0"]
+         "--hide-scrollbars", "--no-first-run", "--remote-debugging-pipe"]
 KEYS = {"Enter": 13, "Tab": 9, "Delete": 46, "Home": 36, "ArrowLeft": 37, "ArrowUp": 38, "ArrowRight": 39, "ArrowDown": 40,
         "+": 187, "-": 189}
 TEXTS = {"Enter": "\r", "+": "+", "-": "-"}
@@ -29,60 +25,53 @@ class Browser:
 
     def __init__(self):
         self._folder = tempfile.mkdtemp(prefix="browser-")
-        words = [PROGRAM, *WORDS, f"--user-data-dir={self._folder}", "about:blank"]
+        self.faults, self.asked, self._number, self._received, self._session = [], [], 0, b"", {}
+        # (the program reads commands from descriptor 3, and writes to 4)
+        self._socket, theirs = socket.socketpair()
+        self._socket.settimeout(SECONDS)
+        shell = ["/bin/bash", "-c", f'exec "$@" 3<&{theirs.fileno()} 4>&{theirs.fileno()}', "bash"]
+        words = [*shell, PROGRAM, *WORDS, f"--user-data-dir={self._folder}", "about:blank"]
         environment = {**os.environ, "HOME": self._folder}
-        self._process = subprocess.Popen(words, stderr=subprocess.PIPE, text=True, env=environment, process_group=0)
-        self.faults, self.asked, self._number = [], [], 0
-        self._loop = asyncio.new_event_loop()
+        self._process = subprocess.Popen(
+            words, stderr=subprocess.DEVNULL, env=environment, process_group=0, pass_fds=[theirs.fileno()]
+        )
+        theirs.close()
         try:
-            self._loop.run_until_complete(asyncio.wait_for(self._begin(self._port()), SECONDS))
+            target = self.call("Target.createTarget", url="about:blank")["targetId"]
+            self._session = {"sessionId": self.call("Target.attachToTarget", targetId=target, flatten=True)["sessionId"]}
+            for domain in ("Page", "Runtime", "Log", "Network"):
+                self.call(f"{domain}.enable")
         except BaseException:
             self.close()
             raise
-        for domain in ("Page", "Runtime", "Log", "Network"):
-            self.call(f"{domain}.enable")
-
-    def _port(self):
-        timer = threading.Timer(SECONDS, self._process.kill)
-        timer.start()
-        for line in self._process.stderr:
-            if found := re.search(r"DevTools listening on ws://[^:]+:(\d+)/", line):
-                timer.cancel()
-                threading.Thread(target=self._process.stderr.read, daemon=True).start()
-                return found[1]
-        raise AssertionError("chromium didn't start")
-
-    async def _begin(self, port):
-        self._session = aiohttp.ClientSession()
-        async with self._session.get(f"http://127.0.0.1:{port}/json/list") as answer:
-            tabs = await answer.json()
-        address = next(tab["webSocketDebuggerUrl"] for tab in tabs if tab["type"] == "page")
-        self._socket = await self._session.ws_connect(address, max_msg_size=0)
 
     def close(self):
         with contextlib.suppress(ProcessLookupError):
             os.killpg(self._process.pid, signal.SIGKILL)
         self._process.wait()
-        if hasattr(self, "_session"):
-            self._loop.run_until_complete(self._session.close())
-        self._loop.close()
-        self._process.stderr.close()
+        self._socket.close()
         shutil.rmtree(self._folder, ignore_errors=True)
 
     def call(self, method, **words):
         """The answer to a command."""
-        return self._loop.run_until_complete(asyncio.wait_for(self._call(method, words), SECONDS))
-
-    async def _call(self, method, words):
         self._number += 1
-        await self._socket.send_json({"id": self._number, "method": method, "params": words})
-        while True:
-            message = json.loads((await self._socket.receive()).data)
-            if message.get("id") == self._number:
-                if "error" in message:
-                    raise AssertionError(f"{method}: {message['error']}")
-                return message["result"]
+        command = {"id": self._number, "method": method, "params": words, **self._session}
+        self._socket.sendall(json.dumps(command).encode() + b"\0")
+        while (message := self._read()).get("id") != self._number:
             self._note(message["method"], message["params"])
+        if "error" in message:
+            raise AssertionError(f"{method}: {message['error']}")
+        return message["result"]
+
+    def _read(self):
+        """The next message: JSON that ends with a zero byte."""
+        while b"\0" not in self._received:
+            part = self._socket.recv(1 << 20)
+            if not part:
+                raise AssertionError("chromium has ended")
+            self._received += part
+        text, _, self._received = self._received.partition(b"\0")
+        return json.loads(text)
 
     def _note(self, name, words):
         if name == "Network.requestWillBeSent":

@@ -35,7 +35,7 @@ class LauncherTests(ToolCase):
 
 class FolderTests(ServiceCase):
     def test_no_module_of_the_working_folder_is_taken(self):
-        for name in ("domethyme", "domethyme_tools", "numpy", "aiohttp", "json"):
+        for name in ("domethyme", "domethyme_tools", "numpy", "gunicorn", "json"):
             self.write(f"{name}.py", TAKEN)
         self.addCleanup(os.chdir, os.getcwd())
         os.chdir(self.folder)
