@@ -1,7 +1,7 @@
-"""Who may ask. A page in a browser on this machine can send requests to a service that listens here alone, and a name of
-its own may lead here too (DNS rebinding). So a request has to be for a host that is allowed, and one that a browser marks
-as another page's is refused, unless that page's origin is allowed. Batches need a Content-Type that makes the browser ask
-before it sends one (a CORS preflight)."""
+"""Which requests are allowed. Any page in a browser of this machine can send requests to a service on the loopback, also
+under a host name of the page's own (DNS rebinding). So a request has to be for an allowed host, and one that a browser
+marks as cross-origin is rejected unless its origin is allowed. Batches need a Content-Type that makes the browser send a
+CORS preflight."""
 import functools
 import ipaddress
 import re
@@ -10,7 +10,7 @@ from typing import Any, NamedTuple
 
 from .errors import RequestError
 
-# The host of a request, and its port.
+# A host and its port.
 HOST = re.compile(r"(\[[0-9A-Fa-f:.]{2,45}\]|[0-9A-Za-z._~-]{1,253})(?::[0-9]{0,5})?")
 BATCH_TYPES = ("application/x-ndjson", "application/ndjson", "application/jsonl", "application/json")
 ANY_ORIGIN, NO_ORIGIN = "*", "none"
@@ -20,8 +20,8 @@ WRONG_ORIGIN = "a page of another origin asks: --cors names one that may"
 
 
 class AccessPolicy(NamedTuple):
-    """The names that requests may be for besides the address that they come to, `*` for any; and the origin whose pages may
-    ask, `*` for any, or none."""
+    """The hosts that are allowed besides the address of the connection, `*` for any; and the allowed origin, `*` for any, or
+    none."""
 
     hosts: frozenset[str]
     origin: str
@@ -31,9 +31,8 @@ class AccessPolicy(NamedTuple):
         return cls(frozenset(host.lower() for host in hosts), origin)
 
     def check(self, host: str | None, local: str, environ: Mapping[str, Any], is_page: bool) -> None:
-        """Raises RequestError for a request that isn't allowed: `host` is the one that it is for, None for one of HTTP/1.0
-        that names none, `local` the address that it came to, and `environ` that of WSGI. Links of other pages may lead to
-        the page itself."""
+        """Raises RequestError if a request isn't allowed. `host` is its Host, None for HTTP/1.0 without one; `local` the
+        address of this end of the connection; `environ` WSGI's. Navigation from other sites to the page is allowed."""
         if host is not None and not self.allows_host(host, local):
             raise RequestError(421, "InvalidHost", WRONG_HOST.format(host[:100]))
         site: str = environ.get("HTTP_SEC_FETCH_SITE", "none")
@@ -46,7 +45,7 @@ class AccessPolicy(NamedTuple):
             raise RequestError(403, "Forbidden", WRONG_ORIGIN)
 
     def allows_host(self, host: str, local: str) -> bool:
-        """Whether requests may be for this host: a name that is allowed, or the address that they come to."""
+        """Whether a host is an allowed name, or the address of this end of the connection."""
         found = HOST.fullmatch(host)
         if found is None:
             return False
@@ -55,7 +54,7 @@ class AccessPolicy(NamedTuple):
 
     @property
     def headers(self) -> dict[str, str]:
-        """The headers that browsers look at in answers."""
+        """The CORS headers of responses."""
         if self.origin == NO_ORIGIN:
             return {}
         return {"Access-Control-Allow-Origin": self.origin, **({} if self.origin == ANY_ORIGIN else {"Vary": "Origin"})}
@@ -63,7 +62,7 @@ class AccessPolicy(NamedTuple):
 
 @functools.lru_cache(256)
 def is_address(name: str, local: str) -> bool:
-    """Whether a name is this address, or `localhost` where the address is this machine's own."""
+    """Whether a name is this address, or `localhost` and the address is of the loopback."""
     try:
         address = ipaddress.ip_address(local.partition("%")[0])
         mapped = getattr(address, "ipv4_mapped", None) or address
@@ -75,7 +74,7 @@ def is_address(name: str, local: str) -> bool:
 
 
 def check_content_type(kind: str) -> None:
-    """Raises RequestError for the body of a batch that is of another type."""
+    """Raises RequestError unless the Content-Type is one of BATCH_TYPES."""
     if kind.partition(";")[0].strip().lower() not in BATCH_TYPES:
         hint = f"as by curl -H 'Content-Type: {BATCH_TYPES[0]}'"
         raise RequestError(415, "InvalidQuery", f"the Content-Type has to be {BATCH_TYPES[0]}, {hint}")

@@ -1,5 +1,5 @@
 """The dataset that workers serve: a hierarchy, its network, and its links for tables. Its files are opened and compared
-with one another before the workers are forked, which then share it."""
+with one another before the workers are forked, so they share its memory."""
 import ctypes
 import os
 import signal
@@ -9,8 +9,7 @@ import numpy as np
 
 from domethyme import belonging
 from domethyme.checking import run_check
-from domethyme.hierarchy_file import pread_all, read_header
-from domethyme.hierarchy_file import open_hierarchy_file as open_hierarchy
+from domethyme.hierarchy_file import open_hierarchy_file, pread_all, read_header
 from domethyme.network.snapping import RoadIndex
 from domethyme.router import Router
 from domethyme.sweeps import Sweeps
@@ -23,17 +22,17 @@ from .tiles import Tiles
 SAMPLES = 50
 # The operation of prctl for the signal at the parent's end (PR_SET_PDEATHSIG in sys/prctl.h).
 PARENT_SIGNAL = 1
-# The bytes up to which a network's file is verified as a whole before it is used, in a quarter of a second. Of a larger one
-# blocks are verified when they are first read.
+# Network files up to this many bytes are verified completely at startup, in a quarter of a second; the blocks of larger ones
+# when they are first read.
 EAGER_VERIFY_BYTES = 1 << 28
-# What tells one state of a file from another: its device, its number there, its size, and the time of the last write.
+# The state of a file: device, inode, size, and modification time in nanoseconds.
 Stamp = tuple[int, int, int, int]
 
 
 class DatasetPaths(NamedTuple):
-    """What a dataset is read from: the file of the hierarchy, and the beginning of the names of its network's files, or
-    None; whether tables are computed by the links of the former; the graph that it is checked against, and by which
-    program, or None; and whether all links are compared with the network, however many there are."""
+    """Where a dataset is read from: the hierarchy's file; the prefix of its network's files, or None; whether tables are
+    computed from the links of the hierarchy; the graph that it is checked against and the program that does it, or None; and
+    whether all links are compared with the network, however many there are."""
 
     hierarchy: str
     network: str | None
@@ -44,8 +43,8 @@ class DatasetPaths(NamedTuple):
 
 
 class Dataset(NamedTuple):
-    """The files, opened. `links` are those of the hierarchy, `keys` those of the network's nodes, and `stamp` is the
-    hierarchy's."""
+    """The open files. `links` is the number of the hierarchy's links, `keys` are the keys of the network's nodes, `stamp` is of
+    the hierarchy's file."""
 
     router: Router
     links: int
@@ -57,8 +56,8 @@ class Dataset(NamedTuple):
 
 
 def open_dataset(paths: DatasetPaths) -> Dataset:
-    """Opens and compares the files; starts no thread. Raises StartupError, or a DomethymeError that names a file."""
-    with open_hierarchy(paths.hierarchy) as file:
+    """Opens and compares the files; starts no thread. Raises StartupError, or a DomethymeError that names the file."""
+    with open_hierarchy_file(paths.hierarchy) as file:
         number = file.fileno()
         stamp = file_stamp(number)
         _, links = read_header(number, paths.hierarchy)
@@ -78,7 +77,7 @@ def open_dataset(paths: DatasetPaths) -> Dataset:
 
 
 def end_with_parent(number: int = signal.SIGKILL) -> None:
-    """Has the kernel send a signal to this process when its parent ends."""
+    """Has the kernel send a signal to this process when its parent ends (PR_SET_PDEATHSIG)."""
     ctypes.CDLL(None).prctl(PARENT_SIGNAL, int(number))
 
 
@@ -89,15 +88,15 @@ def file_stamp(file: int) -> Stamp:
 
 
 def load_roads(network: str) -> RoadIndex:
-    """The network, verified as far as that is quick. Raises NetworkError."""
+    """Opens the network; verifies it if that is quick. Raises NetworkError."""
     roads = RoadIndex(network)
     roads.arrays.file.verify(EAGER_VERIFY_BYTES)
-    roads.box, roads.roundabout_texts  # (they are made here once, for all workers)
+    roads.box, roads.roundabout_texts  # (computed before the fork, for all workers)
     return roads
 
 
 def check_tables(queries: Queries, paths: DatasetPaths, roads: RoadIndex, sweeps: Sweeps) -> None:
-    """Raises StartupError where tables differ from the library's lengths, as far as SAMPLES of the network's arcs show."""
+    """Raises StartupError if tables differ from the library's lengths, for SAMPLES of the network's arcs."""
     rows = range(0, roads.count, max(1, roads.count // SAMPLES))[:SAMPLES]
     ends = [(roads.arc(row).start, roads.arc(row).end) for row in rows]
     starts, stops = (np.array(side) - 1 for side in zip(*ends))

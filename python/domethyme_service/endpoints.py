@@ -1,5 +1,5 @@
-"""The table of endpoints: the method, the path and the parameters of each. Requests are parsed by it, and docs/SERVICE.md has it:
-`python3 -m domethyme_service.endpoints` prints its tables. A parameter is added here alone, with a kind of `parameters`."""
+"""The table of endpoints: the method, path and parameters of each. Requests are parsed by it, and docs/SERVICE.md has its
+tables, which `python3 -m domethyme_service.endpoints` prints. A parameter is added here alone, with a kind of `parameters`."""
 import re
 from collections.abc import Mapping
 from typing import Any, NamedTuple
@@ -26,7 +26,7 @@ SOURCES, DESTINATIONS = IndexList("sources"), IndexList("destinations")
 FROM, TO = Node("from"), Node("to")
 FROM_KEY, TO_KEY = Key("from_key"), Key("to_key")
 
-# Of all of OSRM's services.
+# The parameters of all of OSRM's services.
 COMMON: tuple[Parameter[Any], ...] = (
     RADIUSES, Ignored("hints"), GENERATE_HINTS, SKIP_WAYPOINTS, BEARINGS, Unsupported("approaches", "unrestricted"),
     Unsupported("exclude"), Choice("snapping", "default", unsupported=["any"], message=UNSUPPORTED_VALUES),
@@ -35,8 +35,8 @@ COMMON: tuple[Parameter[Any], ...] = (
 
 
 class Endpoint(NamedTuple):
-    """name: by which requests are counted, and answered by a method of Service; path: as the documents have it, "" where it isn't
-    there; answer: what it answers; parameters: those that it has, None where all are ignored; unknown: the message for others."""
+    """name: of its counters, and of its handler in wsgi; path: as documented, "" for none; answer: what it answers;
+    parameters: None if all are ignored; unknown: the message for other parameters."""
 
     name: str
     path: str
@@ -87,7 +87,7 @@ TILE = re.compile(r"/map/roads/([0-9]{1,2})/([0-9]{1,6})/([0-9]{1,6})")
 
 
 def find_endpoint(path: str) -> Endpoint:
-    """The endpoint of a path. Raises RequestError where there is none."""
+    """The endpoint of a path. Raises RequestError if there is none."""
     if found := BY_PATH.get(path):
         return found
     words = path.split("/", 2)
@@ -106,7 +106,7 @@ def endpoint_table() -> list[str]:
 
 
 def required_query(endpoint: Endpoint) -> str:
-    """What has to stand behind a path."""
+    """The required part of a query."""
     needed = [parameter.name for parameter in endpoint.parameters or () if isinstance(parameter, Node)]
     return "?" * bool(needed) + "&".join(f"{name}=NODE" for name in needed)
 

@@ -1,9 +1,9 @@
-"""Errors that become HTTP error responses, and the one of a service that can't start."""
+"""Errors that become HTTP error responses, and the error of a service that can't start."""
 
 
 class RequestError(Exception):
-    """An answer `{"code": .., "message": ..}`: `status` of HTTP, 400 to 505, and `code`, OSRM's word, as InvalidQuery, or
-    one of this service."""
+    """The response `{"code": .., "message": ..}`. `status` is the HTTP status, 400 to 505; `code` is OSRM's, such as
+    InvalidQuery, or one of this service."""
 
     def __init__(self, status: int, code: str, message: str) -> None:
         super().__init__(message)
@@ -11,16 +11,16 @@ class RequestError(Exception):
 
 
 class StartupError(Exception):
-    """The service can't start, or not with new files: why, in a line."""
+    """The service can't start, or can't reload its files. Its text is one line."""
 
 
 def invalid_query(message: str) -> RequestError:
-    """A parameter that isn't known, or the wrong shape of a request."""
+    """An unknown parameter, or a request of the wrong shape."""
     return RequestError(400, "InvalidQuery", message)
 
 
 def invalid_value(message: str) -> RequestError:
-    """A value that a parameter can't have."""
+    """An invalid value of a parameter."""
     return RequestError(400, "InvalidValue", message)
 
 
@@ -30,7 +30,7 @@ def not_implemented(message: str) -> RequestError:
 
 
 def malformed() -> RequestError:
-    """A request that isn't HTTP as RFC 9112 has it."""
+    """A request that isn't valid HTTP (RFC 9112)."""
     return RequestError(400, "InvalidUrl", "the request cannot be read")
 
 

@@ -1,8 +1,8 @@
-"""JSON in parts: what is large is joined of texts that are made one by one."""
+"""JSON in parts: large arrays and objects are joined from texts that are encoded one by one."""
 import json
 from collections.abc import Iterable, Mapping
 
-# (no value has itself as a part)
+# (no value contains itself)
 ENCODER = json.JSONEncoder(separators=(",", ":"), allow_nan=False, ensure_ascii=False, check_circular=False)
 
 
@@ -12,10 +12,10 @@ def to_json(value: object) -> str:
 
 
 def join_object(members: Mapping[str, str]) -> str:
-    """An object, by the texts of its members."""
+    """An object, from the texts of its members."""
     return "{" + ",".join(f"{to_json(name)}:{text}" for name, text in members.items()) + "}"
 
 
 def join_array(items: Iterable[str]) -> str:
-    """An array, by the texts of its items."""
+    """An array, from the texts of its items."""
     return "[" + ",".join(items) + "]"

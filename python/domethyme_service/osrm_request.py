@@ -1,5 +1,5 @@
-"""What a request of OSRM's API asks: its places, and the values of its parameters (endpoints). A parameter that would change the
-answer and isn't there is refused, and never ignored."""
+"""Parses a request of OSRM's API: its places, and the values of its parameters (endpoints). An unsupported parameter that
+would change the answer is an error, never ignored."""
 import re
 import urllib.parse
 from collections.abc import Mapping
@@ -16,12 +16,12 @@ DEGREES = re.compile(r"[-+]?(?:[0-9]{1,3}(?:\.[0-9]{0,20})?|\.[0-9]{1,20})(?:[eE
 PROFILE = re.compile("[A-Za-z0-9_.-]{1,64}")
 POLYLINE = re.compile(r"polyline(6?)\((.*)\)", re.DOTALL)
 SERVICES = ("route", "nearest", "table")
-# How many places a request of each service may have.
+# Places of a request of each service.
 MAX_PLACES = {"route": 500, "nearest": 1, "table": 2000}
 
 
 class Request(NamedTuple):
-    """A request: the service's name, the places (lon, lat) in degrees, and the values of its parameters."""
+    """A request: the service, the places (lon, lat) in degrees, and the values of the parameters."""
 
     service: str
     places: list[Point]
@@ -29,8 +29,8 @@ class Request(NamedTuple):
 
 
 def parse_request(path: str, query: Mapping[str, str], default_radius: float) -> Request:
-    """The request of a path `/SERVICE/v1/PROFILE/PLACES`, still percent-encoded. `within` are the metres to a road of a place
-    without a radius. Raises RequestError."""
+    """The request of a path `/SERVICE/v1/PROFILE/PLACES`, percent-encoded. `default_radius` are the metres to a road of a
+    place without a radius. Raises RequestError."""
     words = path.split("/", 4)
     if words[1] not in SERVICES:
         raise RequestError(400, "InvalidService", f"the service {words[1]} isn't there")

@@ -1,6 +1,6 @@
-"""The parts of answers of OSRM's API, version 1, as they are in JSON. Coordinates are [longitude, latitude] in degrees, weights are in the
-unit of `weight_name` (seconds or metres), durations in seconds, distances in metres, bearings in degrees from north, clockwise. A
-duration is null where the network has no seconds."""
+"""The parts of answers of OSRM's API, version 1, as in JSON. Coordinates are [longitude, latitude] in degrees, weights in the
+unit of `weight_name` (seconds or metres), durations in seconds, distances in metres, bearings in degrees clockwise from
+north. A duration is null if the network has no seconds."""
 from typing import Literal, NotRequired, TypedDict, Union
 
 from domethyme.network.leg_geometry import Figures
@@ -9,7 +9,7 @@ Coordinates = list[float]
 
 
 class LineString(TypedDict):
-    """A line as GeoJSON."""
+    """A GeoJSON line."""
 
     type: Literal["LineString"]
     coordinates: list[Coordinates]
@@ -20,7 +20,7 @@ Geometry = Union[str, LineString]
 
 
 class Waypoint(TypedDict):
-    """A point of a road; `distance` is from the place to it. `nodes` are ids of OpenStreetMap, 0 where there is none."""
+    """A snapped point; `distance` is from the place to it. `nodes` are OpenStreetMap ids, 0 for none."""
 
     name: str
     location: Coordinates
@@ -30,7 +30,7 @@ class Waypoint(TypedDict):
 
 
 class Maneuver(TypedDict):
-    """What is done where a step begins; `exit` counts the exits of a roundabout from 1."""
+    """The maneuver at the start of a step; `exit` counts the exits of a roundabout from 1."""
 
     type: str
     modifier: NotRequired[str]
@@ -41,7 +41,7 @@ class Maneuver(TypedDict):
 
 
 class Intersection(TypedDict):
-    """The junction at which a step begins."""
+    """The junction at the start of a step."""
 
     location: Coordinates
     bearings: list[int]
@@ -50,7 +50,7 @@ class Intersection(TypedDict):
 
 
 class Step(Figures):
-    """A part of a leg on one road."""
+    """The part of a leg on one road."""
 
     maneuver: Maneuver
     name: str
@@ -63,7 +63,7 @@ class Step(Figures):
 
 
 class RouteLeg(Figures):
-    """A route's part from one place to the next. `annotation` has by name a value for each step of the line."""
+    """The part of a route between two places. `annotation` has by name a value for each segment of the line."""
 
     summary: str
     steps: list[Step]

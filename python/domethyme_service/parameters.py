@@ -1,4 +1,4 @@
-"""Kinds of parameters: how the text of each becomes a value, what is refused, and how the documents describe it."""
+"""Kinds of parameters: how the text of each becomes a value, what is rejected, and how the documents describe it."""
 import re
 from collections.abc import Mapping, Sequence
 from typing import Generic, NamedTuple, TypeVar, cast
@@ -14,8 +14,8 @@ COUNT = re.compile("[0-9]{1,3}")
 
 
 class Context(NamedTuple):
-    """What values are compared with: the number of places of the request, the metres from a place to a road that the service
-    allows, and the number of nodes."""
+    """What values depend on: the request's number of places, the default of the greatest metres from a place to a road, and
+    the number of nodes."""
 
     places: int = 0
     default_radius: float = 0.0
@@ -23,8 +23,8 @@ class Context(NamedTuple):
 
 
 class Parameter(Generic[T]):
-    """A parameter. `accepted` and `rejected` are its cells in docs/SERVICE.md; the latter are values that OSRM has and the service
-    refuses as NotImplemented."""
+    """A parameter. `accepted` and `rejected` are its cells in docs/SERVICE.md; rejected values are those of OSRM that the
+    service answers with NotImplemented."""
 
     accepted = rejected = ""
 
@@ -32,7 +32,7 @@ class Parameter(Generic[T]):
         self.name = name
 
     def read(self, text: str | None, context: Context) -> T:
-        """The value of a text, or of no such parameter (None). Raises RequestError."""
+        """The value of a text, or of a missing parameter (None). Raises RequestError."""
         raise NotImplementedError
 
 
@@ -47,7 +47,7 @@ class Values:
 
 
 class Choice(Parameter[str]):
-    """One of some words, the first without the parameter. those of `unsupported` are rejected with `message`."""
+    """One of `words`; the first is the default. Words of `unsupported` are rejected with `message`."""
 
     def __init__(self, name: str, *words: str, unsupported: Sequence[str] = (), message: str = "") -> None:
         super().__init__(name)
@@ -64,7 +64,7 @@ class Choice(Parameter[str]):
 
 
 class Flag(Parameter[bool]):
-    """`true` or `false`, and `default` without the parameter."""
+    """`true` or `false`."""
 
     def __init__(self, name: str, default: bool) -> None:
         super().__init__(name)
@@ -77,7 +77,7 @@ class Flag(Parameter[bool]):
 
 
 class Ignored(Parameter[None]):
-    """A text that is read and changes nothing."""
+    """Any text, without effect."""
 
     accepted = "any, not used"
 
@@ -86,7 +86,7 @@ class Ignored(Parameter[None]):
 
 
 class Unsupported(Parameter[None]):
-    """A parameter that isn't there: only without a value. A list that has no words but `harmless` changes nothing."""
+    """An unsupported parameter: only an empty value is accepted, or a list of the word `allowed`, which changes nothing."""
 
     def __init__(self, name: str, allowed: str | None = None) -> None:
         super().__init__(name)
@@ -100,45 +100,49 @@ class Unsupported(Parameter[None]):
             raise not_implemented(f"{self.name} isn't there")
 
 
-class Radiuses(Parameter[list[float]]):
-    """The greatest metres to a road, for each place."""
+class PerPlace(Parameter[list[T]]):
+    """A value for each place; `missing` is the message for another number of values."""
+
+    missing = ""
+
+    def read(self, text: str | None, context: Context) -> list[T]:
+        found = [self.read_one(word, context) for word in (text.split(";") if text else [""] * context.places)]
+        if len(found) != context.places:
+            raise invalid_query(self.missing)
+        return found
+
+    def read_one(self, word: str, context: Context) -> T:
+        """The value of a place; an empty word is the default. Raises RequestError."""
+        raise NotImplementedError
+
+
+class Radiuses(PerPlace[float]):
+    """The greatest metres to a road."""
 
     accepted = "for each place metres, `unlimited`, or nothing for that of `--default-radius`"
+    missing = "there has to be a radius for each place"
 
-    def read(self, text: str | None, context: Context) -> list[float]:
-        if not text:
-            return [context.default_radius] * context.places
-        found = []
-        for word in text.split(";"):
-            if word and word != "unlimited" and not METRES.fullmatch(word):
-                raise invalid_value("radiuses are metres, or unlimited")
-            found.append(context.default_radius if not word else float("inf") if word == "unlimited" else float(word))
-        if len(found) != context.places:
-            raise invalid_query("there has to be a radius for each place")
-        return found
+    def read_one(self, word: str, context: Context) -> float:
+        if word and word != "unlimited" and not METRES.fullmatch(word):
+            raise invalid_value("radiuses are metres, or unlimited")
+        return context.default_radius if not word else float("inf") if word == "unlimited" else float(word)
 
 
-class Bearings(Parameter[list[tuple[int, int] | None]]):
-    """For each place the directions in which the road has to lead there: one, and how far from it, in degrees."""
+class Bearings(PerPlace[tuple[int, int] | None]):
+    """The direction of the road at the place, and the greatest deviation from it, in degrees; None for any."""
 
     accepted = "for each place `DEGREES,RANGE`, from north, clockwise, to 360 and 180, or nothing"
+    missing = "there has to be a bearing for each place, or nothing between semicolons"
 
-    def read(self, text: str | None, context: Context) -> list[tuple[int, int] | None]:
-        if not text:
-            return [None] * context.places
-        found: list[tuple[int, int] | None] = []
-        for word in text.split(";"):
-            both = BEARING.fullmatch(word)
-            if word and (both is None or int(both[1]) > 360 or int(both[2]) > 180):
-                raise invalid_value(f"{self.name} are DEGREES,RANGE, from 0 to 360 and from 0 to 180")
-            found.append(None if both is None else (int(both[1]), int(both[2])))
-        if len(found) != context.places:
-            raise invalid_query("there has to be a bearing for each place, or nothing between semicolons")
-        return found
+    def read_one(self, word: str, context: Context) -> tuple[int, int] | None:
+        both = BEARING.fullmatch(word)
+        if word and (both is None or int(both[1]) > 360 or int(both[2]) > 180):
+            raise invalid_value(f"{self.name} are DEGREES,RANGE, from 0 to 360 and from 0 to 180")
+        return None if both is None else (int(both[1]), int(both[2]))
 
 
 class PositiveNumber(Parameter[float | None]):
-    """A number above 0, None without the parameter."""
+    """A number above 0; None without the parameter."""
 
     accepted = "a number above 0"
 
@@ -151,14 +155,13 @@ class PositiveNumber(Parameter[float | None]):
 
 
 class Annotations(Parameter[list[str]]):
-    """Some of the figures that are known, `default` without the parameter. `true` is all, and `false` none, unless `is_plain`."""
+    """A list of words of `known`. Unless `is_list_only`, `true` is all of them and `false` none."""
 
     def __init__(self, name: str, known: Sequence[str], default: str, is_list_only: bool = False) -> None:
         super().__init__(name)
         self.known, self.default, self.is_list_only = known, default, is_list_only
-        others = "" if is_list_only else "`false`, `true`, or "
-        self.accepted = f"{others}some of {', '.join(f'`{word}`' for word in known)}"
-        self.accepted += f"; `{default}` without it" if is_list_only else ""
+        words = f"some of {', '.join(f'`{word}`' for word in known)}"
+        self.accepted = f"{words}; `{default}` without it" if is_list_only else f"`false`, `true`, or {words}"
 
     def read(self, text: str | None, context: Context) -> list[str]:
         text = self.default if text is None else text
@@ -172,7 +175,7 @@ class Annotations(Parameter[list[str]]):
 
 
 class Alternatives(Parameter[None]):
-    """Other routes, of which there are none."""
+    """The number of alternative routes, without effect: the answer has one route."""
 
     accepted = "`false`, `true` or a number; the answer has one route always"
 
@@ -182,7 +185,7 @@ class Alternatives(Parameter[None]):
 
 
 class ContinueStraight(Parameter[None]):
-    """Whether a route may turn round at a place between."""
+    """Whether U-turns at intermediate places are forbidden, which the service doesn't support."""
 
     accepted, rejected = "`default`, `false`, and `true` for two places", "`true` for more"
 
@@ -194,7 +197,7 @@ class ContinueStraight(Parameter[None]):
 
 
 class IntRange(Parameter[int]):
-    """A whole number from `low` to `high`, `low` without the parameter."""
+    """An integer from `low` to `high`; the default is `low`."""
 
     def __init__(self, name: str, low: int, high: int) -> None:
         super().__init__(name)
@@ -210,7 +213,7 @@ class IntRange(Parameter[int]):
 
 
 class IndexList(Parameter[list[int]]):
-    """The places that are chosen, by their numbers from 0."""
+    """Indices of places, from 0; all of them without the parameter."""
 
     accepted = "`all`, or numbers of places, from 0"
 
@@ -224,7 +227,7 @@ class IndexList(Parameter[list[int]]):
 
 
 class Node(Parameter[int | None]):
-    """A node, None without the parameter."""
+    """A node from 1; None without the parameter."""
 
     accepted = "a node, from 1 to the number of nodes"
 
@@ -233,7 +236,7 @@ class Node(Parameter[int | None]):
 
 
 class Key(Parameter[str | None]):
-    """The key of a node, None without the parameter."""
+    """The key of a node; None without the parameter."""
 
     accepted = "the key of a node, where the network has keys"
 
@@ -242,7 +245,7 @@ class Key(Parameter[str | None]):
 
 
 def parse_node(text: object, name: str, nodes: int) -> int:
-    """The node that a text or a number of JSON names, from 1 to `nodes`. Raises RequestError."""
+    """The node of a text or of a JSON number, from 1 to `nodes`. Raises RequestError."""
     if text is None:
         raise invalid_query(f"{name} is missing")
     digits = str(text) if isinstance(text, (int, str)) and not isinstance(text, bool) else ""
@@ -254,8 +257,8 @@ def parse_node(text: object, name: str, nodes: int) -> int:
 def parse_parameters(
     parameters: Sequence[Parameter[object]], query: Mapping[str, str], context: Context, unknown: str
 ) -> Values:
-    """The values of all parameters. Raises RequestError for an invalid value, and for an unknown parameter one with the message
-    `unknown`."""
+    """The values of all parameters. Raises RequestError for an invalid value, and with the message `unknown` for an unknown
+    parameter."""
     names = {parameter.name for parameter in parameters}
     for name in query:
         if name not in names:

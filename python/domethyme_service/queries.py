@@ -1,5 +1,5 @@
-"""Queries to the hierarchy, which is in the memory of this process (domethyme.router): the library answers, and its answers
-are proved. Nodes are numbered from 1, as in files."""
+"""Queries to the hierarchy in the memory of this process (domethyme.router), whose answers the library proves. Nodes are
+numbered from 1, as in files."""
 import json
 from collections.abc import Sequence
 
@@ -17,38 +17,37 @@ Pair = tuple[int, int]
 
 
 class NodeKeys:
-    """The keys by which the user of a network knows its nodes, none where they have none."""
+    """The keys of a network's nodes, in order; empty if they have none."""
 
     def __init__(self, keys: Sequence[str] = ()) -> None:
         self._nodes = {key: node for node, key in enumerate(keys, 1)}
         self._json_keys = [json.dumps(key, ensure_ascii=False).encode("utf-8", "replace") for key in keys]
 
     def node(self, key: object, name: str) -> int:
-        """The node of a key. Raises RequestError where there is none, with the name of the parameter."""
+        """The node of a key. Raises RequestError, which names the parameter, if there is none."""
         found = self._nodes.get(key) if isinstance(key, str) else None
         if found is None:
-            raise invalid_value(
-                f"{name} is the key of no node" if self._nodes else f"there is no {name}: the nodes have no keys"
-            )
+            has_keys = f"{name} is the key of no node"
+            raise invalid_value(has_keys if self._nodes else f"there is no {name}: the nodes have no keys")
         return found
 
     def add_keys(self, answer: bytes, pair: Pair) -> bytes:
-        """An answer about a pair, an object of JSON, with both keys, where nodes have keys."""
+        """The JSON object of a pair's answer, with the keys of both nodes added if nodes have keys."""
         if not self._json_keys:
             return answer
         return b'%b,"from_key":%b,"to_key":%b}' % (answer[:-1], *(self._json_keys[node - 1] for node in pair))
 
 
 class Queries:
-    """Asks a router, and counts that. `nodes` and `links` are those of the hierarchy, and `keys` those of the network.
+    """A router whose queries are counted. `nodes` and `links` are the hierarchy's numbers of them, `keys` the network's.
 
-    All methods raise RequestError where memory runs out, or the file is of no graph."""
+    All methods raise RequestError if memory runs out, or the file is of no graph."""
 
     def __init__(self, router: Router, links: int, metrics: SharedMetrics, keys: NodeKeys = NodeKeys()) -> None:
         self.router, self.nodes, self.links, self._metrics, self.keys = router, router.nodes, links, metrics, keys
 
     def length(self, source: int, target: int) -> int | None:
-        """The least length, None where there is no way."""
+        """The length of a shortest path, None if there is no path."""
         self._metrics.own.queries += 1
         try:
             return self.router.length(source - 1, target - 1)
@@ -56,11 +55,12 @@ class Queries:
             raise query_error(error) from error
 
     def route(self, source: int, target: int) -> RouteReply | None:
-        """A shortest path, None where there is no way."""
+        """A shortest path, None if there is none."""
         return self.between({source: (0, 0)}, {target: (0, 0)})
 
     def between(self, exits: SnapEnds, entries: SnapEnds, with_nodes: bool = True) -> RouteReply | None:
-        """The least way from one of several nodes to one of several, with the weights that lead there, or its length alone."""
+        """A shortest path from one of several nodes to one of several, with the weights of both ends added; without its nodes
+        if `with_nodes` is False. None if there is none."""
         self._metrics.own.queries += 1
         sides = [[(node - 1, side[node][0]) for node in sorted(side)] for side in (exits, entries)]
         try:
@@ -72,7 +72,7 @@ class Queries:
         return RouteReply(found.source + 1, found.target + 1, found.length, tuple([node + 1 for node in found.nodes]))
 
     def lengths(self, pairs: Sequence[Pair]) -> list[int]:
-        """The least length of each pair, NO_PATH where there is no way."""
+        """The length of a shortest path of each pair, NO_PATH if there is none."""
         if not pairs:
             return []
         pairs_u32, out = np.array(pairs, np.uint32).reshape(-1, 2) - np.uint32(1), np.empty(len(pairs), np.int64)

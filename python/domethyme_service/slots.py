@@ -1,17 +1,17 @@
-"""Slots for long requests: no more of them are answered at once, whichever workers have them."""
+"""Slots for long requests: a limit of how many are answered at once, in all workers together."""
 import fcntl
 import os
 
 
 class Slots:
-    """N slots that processes share which are forked after it was made. A slot is a lock of the kernel on a byte of a file
-    in memory, so that of a process that ends is free again, however it ends."""
+    """N slots, shared with the processes that are forked after it was made. A slot is a kernel lock on a byte of a file in
+    memory, so the slot of a process that ends, however it ends, is free again."""
 
     def __init__(self, count: int) -> None:
         self.count, self._file, self._held = count, os.memfd_create("slots"), -1
 
     def acquire(self) -> bool:
-        """Takes a slot for this process, which has one at most; returns whether one was free."""
+        """Takes a slot for this process, which may have one; returns whether one was free."""
         for slot in range(self.count):
             try:
                 fcntl.lockf(self._file, fcntl.LOCK_EX | fcntl.LOCK_NB, 1, slot)

@@ -1,5 +1,5 @@
-"""The files of the page at `/`. They are read once, when the service starts, and are named in a list, so no path leads
-elsewhere. Their policy lets the page load nothing but them and ask nothing but this service."""
+"""The files of the page at `/`. They are read once, when the service starts, into a dictionary by path, so no path leads to
+another file. Their Content-Security-Policy lets the page load only them, and send requests to this service alone."""
 import pathlib
 
 from .errors import RequestError
@@ -21,7 +21,7 @@ NO_CACHE = {"Cache-Control": "no-cache"}
 
 
 def read_page_files() -> dict[str, tuple[str, bytes]]:
-    """By path the type and the bytes of each file of the page."""
+    """The media type and the bytes of each file of the page, by its path."""
     files = [file for file in sorted(FOLDER.iterdir()) if file.suffix in MEDIA_TYPES]
     found = {f"/map/{file.name}": (MEDIA_TYPES[file.suffix], file.read_bytes()) for file in files}
     found["/"] = found.pop("/map/index.html")
@@ -32,5 +32,5 @@ PAGE_FILES = read_page_files()
 
 
 def no_network_error() -> RequestError:
-    """The answer to a request for places from a service that has no network."""
+    """A request that needs a network, to a service without one."""
     return RequestError(400, "InvalidService", "the service has no network: start it with --network")
