@@ -1,7 +1,7 @@
-"""Routes and lengths between nodes by their numbers, from 1, as in files: one pair, or a batch of pairs as NDJSON.
+"""Routes and lengths between nodes by number, from 1, as in files: of one pair, or of a batch of pairs as NDJSON.
 
-A batch is answered in blocks of BLOCK_LINES lines. A block of good lines is parsed by one call of `json`. A block with a fault is parsed line
-by line.
+A batch is answered in blocks of BLOCK_LINES lines. A block of valid lines is parsed by one call of `json`, any other line by
+line.
 """
 import json
 from collections.abc import Iterator, Sequence
@@ -13,9 +13,9 @@ from .parameters import Parameter, Values, parse_node
 from .queries import NodeKeys, Pair, Queries
 
 MAX_LINE_BYTES = 256
-# Lines of a block, and the bytes of a body that are split at once.
+# Lines of a block, and bytes of a body that are split into lines at once.
 BLOCK_LINES, SPLIT_BYTES = 256, 1 << 14
-# So many lines with a fault are reported: the next one ends the answer.
+# Lines with an error that are reported: the next one ends the answer.
 MAX_ERRORS = 1000
 
 
@@ -25,13 +25,13 @@ def route_answer(queries: Queries, source: int, target: int) -> bytes:
 
 
 def length_answer(queries: Queries, source: int, target: int) -> bytes:
-    """The length alone. Raises RequestError."""
+    """The length of a pair's shortest path as JSON, null if there is no path. Raises RequestError."""
     length = queries.length(source, target)
     return queries.keys.add_keys(length_json((source, target), NO_PATH if length is None else length), (source, target))
 
 
 def find_node(queries: Queries, values: Values, number: Parameter[int | None], key: Parameter[str | None]) -> int:
-    """The node that one of two parameters names. Raises RequestError."""
+    """The node of one of two parameters, a number or a key. Raises RequestError."""
     node, name = values[number], values[key]
     if node is not None and name is not None:
         raise invalid_query(f"{number.name} and {key.name} are both given")
@@ -56,31 +56,31 @@ def length_json(pair: Pair, length: int) -> bytes:
 
 
 def batch_answer(queries: Queries, has_routes: bool, body: bytes) -> Iterator[bytes]:
-    """The answer to lines `{"from": S, "to": T}`, in order, a piece for each block; a fault is reported in its line, and too many end
-    the answer. Raises RequestError where a question can't be answered."""
+    """The answers to lines `{"from": S, "to": T}`, in order, in a part for each block. An error is reported in its line, and
+    too many end the answer. Raises RequestError if a query fails."""
     first, errors = 1, 0
     for lines in split_blocks(body):
         rows = parse_block(lines, queries.nodes, queries.keys)
-        error_rows = [place for place, ends in enumerate(rows) if isinstance(ends, RequestError)]
+        error_rows = [row for row, pair in enumerate(rows) if isinstance(pair, RequestError)]
         errors += len(error_rows)
         if is_last := errors > MAX_ERRORS:
             last = error_rows[MAX_ERRORS - errors]
             message = f"more than {MAX_ERRORS} lines have an error: this line and all behind it aren't answered"
             rows = [*rows[:last], RequestError(400, "TooBig", message)]
-        pairs = [ends for ends in rows if not isinstance(ends, RequestError)]
+        pairs = [pair for pair in rows if not isinstance(pair, RequestError)]
         if has_routes:
             bodies = [route_json(pair, queries.route(*pair)) for pair in pairs]
         else:
-            bodies = [length_json(*each) for each in zip(pairs, queries.lengths(pairs))]
+            bodies = list(map(length_json, pairs, queries.lengths(pairs)))
         answers = map(queries.keys.add_keys, bodies, pairs)
-        yield b"".join(answer_line(ends, answers, row) for row, ends in enumerate(rows, first))
+        yield b"".join(answer_line(pair, answers, number) for number, pair in enumerate(rows, first))
         first += len(lines)
         if is_last:
             return
 
 
 def split_blocks(body: bytes) -> Iterator[list[bytes]]:
-    """The lines of a body without their line feeds, up to BLOCK_LINES at once. Blanks behind the last line feed are no line."""
+    """The lines of a body without their line feeds, up to BLOCK_LINES at once. Blanks after the last line feed are no line."""
     begin = 0
     while begin < len(body):
         end = body.find(b"\n", begin + SPLIT_BYTES) + 1 or len(body)
@@ -93,22 +93,22 @@ def split_blocks(body: bytes) -> Iterator[list[bytes]]:
 
 
 def parse_block(lines: list[bytes], nodes: int, keys: NodeKeys) -> Sequence[Pair | RequestError]:
-    """For each line its pair, or what is wrong with it."""
+    """The pair of each line, or its error."""
     if (pairs := parse_pairs_fast(lines, nodes)) is not None:
         return pairs
     return [parse_pair(line, nodes, keys) for line in lines]
 
 
 def parse_pairs_fast(lines: list[bytes], nodes: int) -> list[Pair] | None:
-    """The pairs of lines that are all good and have their nodes as numbers; None for other lines.
+    """The pairs of lines if all are valid and have numbers of nodes; None otherwise.
 
-    The lines are parsed as one array, with a 0 between each two. With a brace and four quotes for each line and no bracket no
-    line's object, array or text goes on in the next, so each line is one object where the array has 2 n - 1 items.
+    The lines are parsed as one array, with a 0 between each two. If there are a brace and four quotes for each line and no
+    bracket, no line's object, array or string continues in the next; so each line is one object if the array has 2 n - 1
+    items.
     """
     text, count = b",0,".join(lines), len(lines)
-    if b"[" in text or text.count(b"{") != count or text.count(b'"') != 4 * count:
-        return None
-    if max(map(len, lines)) > MAX_LINE_BYTES:
+    is_flat = b"[" not in text and text.count(b"{") == count and text.count(b'"') == 4 * count
+    if not is_flat or max(map(len, lines)) > MAX_LINE_BYTES:
         return None
     try:
         found = json.loads(f"[{text.decode()}]")
@@ -120,7 +120,7 @@ def parse_pairs_fast(lines: list[bytes], nodes: int) -> list[Pair] | None:
 
 
 def parse_pair(line: bytes, nodes: int, keys: NodeKeys) -> Pair | RequestError:
-    """The pair of a line, or what is wrong with it."""
+    """The pair of a line, or its error."""
     try:
         if len(line) > MAX_LINE_BYTES:
             raise invalid_value(f"a line has at most {MAX_LINE_BYTES} bytes")
@@ -137,16 +137,16 @@ def parse_pair(line: bytes, nodes: int, keys: NodeKeys) -> Pair | RequestError:
 
 
 def object_without_duplicates(members: list[tuple[str, object]]) -> dict[str, object]:
-    """An object of JSON. Raises RequestError where a name is there twice."""
+    """A JSON object. Raises RequestError for a repeated name."""
     found = dict(members)
     if len(found) < len(members):
         raise invalid_query("a name is there twice")
     return found
 
 
-def answer_line(ends: Pair | RequestError, answers: Iterator[bytes], row: int) -> bytes:
-    """One output line: the next answer, or the error of an invalid input line."""
-    if not isinstance(ends, RequestError):
+def answer_line(pair: Pair | RequestError, answers: Iterator[bytes], number: int) -> bytes:
+    """One output line: the next answer, or the error of an invalid input line, by its number from 1."""
+    if not isinstance(pair, RequestError):
         return next(answers) + b"\n"
-    found = {"code": ends.code, "message": ends.message, "line": row}
+    found = {"code": pair.code, "message": pair.message, "line": number}
     return json.dumps(found, separators=(",", ":")).encode() + b"\n"

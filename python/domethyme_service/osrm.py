@@ -1,5 +1,5 @@
-"""OSRM's API, version 1: route, nearest and table. Answers have its members; `weight` and what follows from it are proved least
-between the points of roads that are nearest to the places. An answer is JSON."""
+"""OSRM's API, version 1: route, nearest and table. Answers are JSON with its members. A route is a shortest path, by
+`weight`, between the points of roads that are nearest to the places, as the library proves."""
 import base64
 import functools
 import itertools
@@ -7,7 +7,6 @@ from collections.abc import Iterator, Sequence
 from typing import NamedTuple
 
 from domethyme.network.bearings import BearingRange, nearest_with_bearing
-from domethyme.network.geo import Point
 from domethyme.network.leg_geometry import LegGeometry, leg_geometry, leg_totals
 from domethyme.network.legs import Leg, find_leg
 from domethyme.network.snapping import RoadIndex, SnappedPoint
@@ -27,15 +26,14 @@ from .osrm_tables import TableOptions, table_by_cells, table_by_sweeps
 from .osrm_types import RouteLeg, Waypoint
 from .queries import Queries
 
-# A place is near the network within N degrees of the box of its roads.
+# A place is near the network if it is within so many degrees of the bounding box of its roads.
 NEAR_DEGREES = 0.2
-# Places that are looked for together.
+# Places that are snapped at once.
 SNAP_BATCH = 16
 
 
 class Engine(NamedTuple):
-    """What requests are answered by. Without `sweeps` the hierarchy is asked for all cells of tables; `cells` are those that a table
-    may have."""
+    """What answers requests. Without `sweeps` each cell of a table is a query; `max_cells` is the limit of a table's cells."""
 
     queries: Queries
     roads: RoadIndex
@@ -44,14 +42,14 @@ class Engine(NamedTuple):
 
 
 def answer(engine: Engine, request: Request) -> str:
-    """The answer to a request. Raises RequestError, and NetworkError where the network isn't that of the hierarchy."""
+    """The answer to a request. Raises RequestError, and NetworkError if the network isn't the hierarchy's."""
     if request.service == "table":
         return table(engine, request)
     return route(engine, request) if request.service == "route" else nearest(engine.roads, request)
 
 
 def nearest(roads: RoadIndex, request: Request) -> str:
-    """The nearest points of roads, with the ids of the nodes of OpenStreetMap at the ends of their pieces; 0 is none."""
+    """The nearest points of roads, with the OpenStreetMap ids of the nodes at the ends of their edges; 0 is none."""
     snapped_points = snap_candidates(roads, request, 0, request.values[NUMBER])
     if not snapped_points:
         raise no_segment_error(roads, request, 0)
@@ -65,7 +63,7 @@ def edge_osm_ids(roads: RoadIndex, snapped: SnappedPoint) -> list[int]:
 
 
 def snap_candidates(roads: RoadIndex, request: Request, number: int, count: int) -> list[SnappedPoint]:
-    """The nearest points of roads to a place, as near as they have to be."""
+    """The nearest points of roads to a place, within its radius and its bearing."""
     place, max_metres, bearing = request.places[number], request.values[RADIUSES][number], request.values[BEARINGS][number]
     if bearing is None:
         snapped_points = roads.nearest(place, count)
@@ -75,7 +73,7 @@ def snap_candidates(roads: RoadIndex, request: Request, number: int, count: int)
 
 
 def snap_places(roads: RoadIndex, request: Request) -> list[SnappedPoint]:
-    """The nearest point of a road to each place. Raises RequestError."""
+    """The nearest point of a road to each place. Raises RequestError if there is none within a place's radius."""
     found: list[SnappedPoint] = []
     for snapped in snap_each(roads, request):
         if snapped is None or snapped.metres > request.values[RADIUSES][len(found)]:
@@ -85,8 +83,8 @@ def snap_places(roads: RoadIndex, request: Request) -> list[SnappedPoint]:
 
 
 def snap_each(roads: RoadIndex, request: Request) -> Iterator[SnappedPoint | None]:
-    """The nearest point to each place, by a road that leads as it has to."""
-    if has_no_bearings(request):
+    """The nearest point to each place, within its bearing; None if there is none."""
+    if all(each is None for each in request.values[BEARINGS]):
         for begin in range(0, len(request.places), SNAP_BATCH):
             yield from roads.nearest_batch(request.places[begin : begin + SNAP_BATCH])
         return
@@ -94,26 +92,19 @@ def snap_each(roads: RoadIndex, request: Request) -> Iterator[SnappedPoint | Non
         yield next(iter(snap_candidates(roads, request, number, 1)), None)
 
 
-def has_no_bearings(request: Request) -> bool:
-    """Whether any road will do, whichever way it leads."""
-    return all(each is None for each in request.values[BEARINGS])
-
-
-def is_near_network(roads: RoadIndex, places: Sequence[Point]) -> bool:
-    """Whether all places are in the box of the roads, or near it."""
+def is_near_network(roads: RoadIndex, lon: float, lat: float) -> bool:
+    """Whether a place is in the bounding box of the roads, or near it."""
     west, south, east, north = roads.box
-    return all(
-        west - NEAR_DEGREES <= lon <= east + NEAR_DEGREES and south - NEAR_DEGREES <= lat <= north + NEAR_DEGREES
-        for lon, lat in places
-    )
+    is_near_lon: bool = west - NEAR_DEGREES <= lon <= east + NEAR_DEGREES
+    return is_near_lon and south - NEAR_DEGREES <= lat <= north + NEAR_DEGREES
 
 
 def no_segment_error(roads: RoadIndex, request: Request, number: int) -> RequestError:
-    """A place without a road: which, how far, and where the roads are."""
+    """A place without a road near it: which place, its radius, and the bounding box of the roads."""
     (lon, lat), max_metres = request.places[number], request.values[RADIUSES][number]
     west, south, east, north = roads.box
-    is_turned = is_near_network(roads, [(lat, lon)]) and not is_near_network(roads, [(lon, lat)])
-    hint = "; is it LAT,LON?" if is_turned else ""
+    is_swapped = is_near_network(roads, lat, lon) and not is_near_network(roads, lon, lat)
+    hint = "; is it LAT,LON?" if is_swapped else ""
     within_what = " of that bearing" if request.values[BEARINGS][number] else ""
     return RequestError(
         400, "NoSegment",
@@ -123,7 +114,7 @@ def no_segment_error(roads: RoadIndex, request: Request, number: int) -> Request
 
 
 def make_waypoint(request: Request, snapped: SnappedPoint, nodes: list[int] | None = None) -> Waypoint:
-    """A point as OSRM has it. The hint is read by nobody: clients send it back."""
+    """An OSRM waypoint. Clients send its hint back, and the service ignores it."""
     found: Waypoint = {"name": snapped.name, "location": [snapped.lon, snapped.lat], "distance": round(snapped.metres, 6)}
     if request.values[GENERATE_HINTS]:
         found["hint"] = base64.urlsafe_b64encode(f"{snapped.lon:.6f},{snapped.lat:.6f}".encode()).decode()
@@ -133,13 +124,13 @@ def make_waypoint(request: Request, snapped: SnappedPoint, nodes: list[int] | No
 
 
 def route(engine: Engine, request: Request) -> str:
-    """One route by all places in order, a leg for each two."""
+    """The route by all places in order, a leg between each two."""
     snapped_points = snap_places(engine.roads, request)
     return route_response(engine.roads, request, snapped_points, find_legs(engine, snapped_points))
 
 
 def find_legs(engine: Engine, snapped_points: Sequence[SnappedPoint]) -> list[Leg]:
-    """The legs of a route by these points."""
+    """The legs of a route by these points. Raises RequestError if a leg has no path."""
     legs: list[Leg] = []
     for number, (start, end) in enumerate(itertools.pairwise(snapped_points)):
         leg = find_leg(engine.queries, engine.roads, start, end)
@@ -150,7 +141,7 @@ def find_legs(engine: Engine, snapped_points: Sequence[SnappedPoint]) -> list[Le
 
 
 def route_response(roads: RoadIndex, request: Request, snapped_points: list[SnappedPoint], legs: list[Leg]) -> str:
-    """The answer by its legs."""
+    """The answer, from the legs."""
     budget, geometries = Budget(), []
     for leg in legs:
         geometries.append(geometry := leg_geometry(roads, leg))
@@ -176,7 +167,7 @@ def route_response(roads: RoadIndex, request: Request, snapped_points: list[Snap
 def leg_response(
     roads: RoadIndex, request: Request, start: SnappedPoint, end: SnappedPoint, leg: Leg, geometry: LegGeometry | None
 ) -> RouteLeg:
-    """A leg as OSRM has it."""
+    """An OSRM route leg; `geometry` is None for a leg that stays at its point."""
     totals = leg_totals(roads, leg) if geometry is None else geometry.figures(0, len(leg.arcs))
     names = request.values[ANNOTATIONS]
     response: RouteLeg = {
@@ -195,7 +186,7 @@ def leg_response(
 def overview(
     request: Request, snapped_points: list[SnappedPoint], geometries: list[LegGeometry | None], budget: Budget
 ) -> str:
-    """The line of the whole route, simplified unless all of it is asked for."""
+    """The line of the whole route as JSON, simplified by default."""
     lines = leg_lines(geometries, [(snapped.lon, snapped.lat) for snapped in snapped_points])
     if request.values[OVERVIEW] == "simplified":
         lines = simplify_lines(lines, budget)
@@ -207,7 +198,7 @@ def overview(
 
 
 def table(engine: Engine, request: Request) -> str:
-    """A table of durations, of distances, of weights, or some of these; null where there is no way."""
+    """Tables of durations, distances or weights, null for pairs without a path. Raises RequestError for too many cells."""
     sources, destinations = request.values[SOURCES], request.values[DESTINATIONS]
     if len(sources) * len(destinations) > engine.max_cells:
         message = f"a table may have {engine.max_cells} cells (--table-cells), and this one would have more"

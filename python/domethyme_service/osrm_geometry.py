@@ -1,4 +1,4 @@
-"""The lines of OSRM's answers: simplified, as polylines or GeoJSON, and the annotations of their steps."""
+"""The lines of OSRM's answers, simplified, as polylines or GeoJSON; and annotations of their segments."""
 import itertools
 import math
 from collections.abc import Iterable, Sequence
@@ -17,19 +17,19 @@ from .osrm_types import Geometry
 
 
 def leg_lines(geometries: "Sequence[LegGeometry | None]", ends: list[Point]) -> list[Line]:
-    """The line along each course, from a place to the next."""
+    """The line of each leg, from a place to the next."""
     inner = ([] if geometry is None else geometry.line(0, len(geometry.arcs)) for geometry in geometries)
     return [[list(begin), *some, list(end)] for begin, some, end in zip(ends, inner, ends[1:])]
 
 
 def join_lines(lines: Iterable[Line]) -> Line:
-    """One line of several, without a point that follows itself; two points at least."""
+    """One line of several, without repeated points; at least two points."""
     line = [point for point, _ in itertools.groupby(itertools.chain.from_iterable(lines))]
     return line if len(line) > 1 else line * 2
 
 
 def simplify_lines(lines: Sequence[Line], budget: Budget) -> list[Line]:
-    """The lines with fewer points, none of the others further off than a thousandth of the extent of all."""
+    """The lines simplified with a tolerance of a thousandth of the extent of all."""
     arrays = [points_array(line) for line in lines]
     shrink = np.array([math.cos(math.radians(arrays[0][0, 1])), 1.0])
     low, high = (side([side(array, axis=0) for array in arrays], axis=0) for side in (np.min, np.max))
@@ -38,16 +38,16 @@ def simplify_lines(lines: Sequence[Line], budget: Budget) -> list[Line]:
 
 
 def encode_geometries(lines: Sequence[Line], format_: str) -> list[Geometry]:
-    """Lines as polylines, or as GeoJSON."""
+    """Lines as polyline, polyline6 or geojson."""
     if format_ == "geojson":
         return [{"type": "LineString", "coordinates": line} for line in lines]
     return list(encode_polylines(lines, 6 if format_ == "polyline6" else 5))
 
 
 def annotate(geometry: LegGeometry, names: list[str]) -> dict[str, list[float | None]]:
-    """For each step of the leg's line the metres, seconds, weight and speed, an arc's shared out by metres; and for each point of
-    it the id of OpenStreetMap of its node, 0 where that isn't known, as between junctions. Without seconds there are no durations and
-    speeds: they are None."""
+    """The annotations of these names: for each segment of the leg's line its metres, seconds, weight and speed, an arc's
+    divided in proportion to metres; for each point the OpenStreetMap id of its node, 0 for none, as between junctions.
+    Durations and speeds are None if the network has no seconds."""
     found: dict[str, list[float | None]] = {name: [] for name in names}
     computed = [name for name in names if name != "nodes"]
     for arc_index, steps in segments_by_arc(geometry):
@@ -69,21 +69,17 @@ def annotate(geometry: LegGeometry, names: list[str]) -> dict[str, list[float | 
 
 
 def osm_node_ids(geometry: LegGeometry) -> list[float]:
-    """The id of each point, one more than there are steps."""
+    """The OpenStreetMap id of each point of the line, one more than segments; 0 for none."""
     roads, arrays = geometry.roads, geometry.roads.arrays
     counts = [len(steps) for _, steps in segments_by_arc(geometry)]
     starts, last = arrays.arc_from[geometry.arcs].tolist(), int(arrays.arc_to[geometry.arcs[-1]])
     found = [id_ for node, count in zip(starts, counts) for id_ in [roads.osm_id(node), *[0] * (count - 1)]]
-    found.append(roads.osm_id(last))
-    if geometry.leg.begin > 0.0:
-        found[0] = 0
-    if geometry.leg.end < 1.0:
-        found[-1] = 0
-    return list(found)
+    found[0] *= geometry.leg.begin == 0.0
+    return [*found, roads.osm_id(last) * (geometry.leg.end == 1.0)]
 
 
 def segments_by_arc(geometry: LegGeometry) -> list[tuple[int, list[float]]]:
-    """Each arc with the metres of its steps; where they have no length they are equal."""
+    """Each arc's position in the leg, with the metres of its segments; of an arc of no length they are equal, above 0."""
     found = []
     for arc_index, (low, high) in enumerate(itertools.pairwise(geometry.begins.tolist())):
         line = [(lon / UNITS, lat / UNITS) for lon, lat in geometry.points[low:high].tolist()]
@@ -93,8 +89,8 @@ def segments_by_arc(geometry: LegGeometry) -> list[tuple[int, list[float]]]:
 
 
 def simplified(points: Floats, tolerance: float, budget: Budget) -> Floats:
-    """The line of points, of shape (count, 2), with fewer of them, none of the others further off than `far` (Douglas, Peucker
-    1973), in degrees of latitude."""
+    """A line of shape (count, 2) without points that are within `tolerance`, in degrees of latitude, of what is left
+    (Douglas, Peucker 1973)."""
     flat: list[complex] = (points[:, 0] * math.cos(math.radians(points[0, 1])) + 1j * points[:, 1]).tolist()
     is_kept = np.zeros(len(points), dtype=bool)
     is_kept[[0, -1]] = True
@@ -113,8 +109,8 @@ def simplified(points: Floats, tolerance: float, budget: Budget) -> Floats:
 
 
 def farthest_point(flat: list[complex], low: int, high: int, tolerance: float) -> int:
-    """Which point between two others is furthest from the line between them; `low` where none is further off than `far`. Most lines
-    are short, for which arrays take several times as long."""
+    """The index of the point between two others that is farthest from the segment between them; `low` if none is beyond
+    `tolerance`. (Most lines are short: numpy would take several times as long.)"""
     begin, along = flat[low], flat[high] - flat[low]
     direction = along.conjugate() / (abs(along) ** 2 or 1.0)
     greatest, farthest = tolerance, low

@@ -1,9 +1,9 @@
-"""The steps of a leg, in OSRM's words. A step begins where the name of the road changes, at a turn of more than 45 degrees at a
-junction, and at a roundabout, which it goes round and leaves. Types are depart, turn, new name, continue, roundabout and arrive."""
+"""The steps of a leg. A step begins where the name of the road changes, at a turn of more than 45 degrees at a junction, and
+at a roundabout, until after its exit. Types are depart, turn, new name, continue, roundabout and arrive."""
 import bisect
 import itertools
 from collections.abc import Callable
-from typing import NamedTuple
+from typing import NamedTuple, cast
 
 import numpy as np
 from numpy.typing import NDArray
@@ -17,18 +17,18 @@ from domethyme.network.snapping import RoadIndex
 from .osrm_types import Coordinates, Geometry, Maneuver, Step
 
 MIN_TURN_DEGREES = 45
-# The degrees from which on a turn has the next one of the words for turns to the left, and to the right.
+# The least degrees of each of MODIFIERS but the first, which has its words for turns to the left, and to the right.
 MODIFIER_LIMITS = (20, 45, 120, 170)
 MODIFIERS = [("straight", f"slight {side}", side, f"sharp {side}", "uturn") for side in ("left", "right")]
 MIN_JUNCTION_DEGREE = 3
-# The texts of an arc that steps have.
+# The columns of arc_texts that steps have.
 NAME_COLUMNS = [TEXTS.index(name) for name in ("name", "ref", "destination")]
-# The geometries of lines.
+# Encodes lines as geometries.
 Encoder = Callable[[list[Line]], list[Geometry]]
 
 
 class Names(NamedTuple):
-    """The texts of the map for a step's road."""
+    """The names of a step's road."""
 
     name: str
     ref: str = ""
@@ -36,30 +36,23 @@ class Names(NamedTuple):
 
 
 class TurnInstruction(NamedTuple):
-    """What is done where a step begins: its type, its modifier, and the exit of a roundabout."""
+    """The type and the modifier of a maneuver, and the exit of a roundabout."""
 
     kind: str
     modifier: str | None = None
     exit: int | None = None
 
     def to_maneuver(self, location: Coordinates, before: int, after: int) -> Maneuver:
-        """The maneuver at a place, with the bearings before and after it."""
-        if self.modifier is None:
-            return {"type": self.kind, "location": location, "bearing_before": before, "bearing_after": after}
-        if self.exit is None:
-            return {
-                "type": self.kind, "modifier": self.modifier,
-                "location": location, "bearing_before": before, "bearing_after": after,
-            }
-        return {
-            "type": self.kind, "modifier": self.modifier, "exit": self.exit,
-            "location": location, "bearing_before": before, "bearing_after": after,
-        }
+        """The maneuver at a location, with the bearings before and after it."""
+        optional = {"modifier": self.modifier, "exit": self.exit}
+        known = {name: value for name, value in optional.items() if value is not None}
+        rest = {"location": location, "bearing_before": before, "bearing_after": after}
+        return cast(Maneuver, {"type": self.kind, **known, **rest})
 
 
 class StepBuilder:
-    """The steps along a course. `starts` are the first arcs of them, and the number of arcs; of each arc there are its `texts`,
-    whether it is of a roundabout, and the directions in which it begins and ends."""
+    """The steps of a leg. `step_begins` are the positions of their first arcs, and the number of arcs. For each arc there are
+    the numbers of its texts, whether it is on a roundabout, and its bearings at the start and at the end."""
 
     def __init__(self, geometry: LegGeometry) -> None:
         self.geometry, self.roads = geometry, geometry.roads
@@ -83,10 +76,10 @@ class StepBuilder:
         return [self.geometry.line(begin, end) for begin, end in itertools.pairwise(self.step_begins)]
 
     def steps(self, lines: list[Line], shapes: list[Geometry]) -> list[Step]:
-        """The steps, without the arrival, by their lines and the geometries of these."""
+        """The steps without the arrival, from their lines and encoded geometries."""
         found = []
         for begin, end, line, shape in zip(self.step_begins, self.step_begins[1:], lines, shapes):
-            # (the arc that the step is named by, behind a roundabout)
+            # (a step that enters a roundabout is named after the first arc behind it)
             named = begin
             if begin and self.is_on_roundabout[begin]:
                 named = next((arc for arc in range(begin, end) if not self.is_on_roundabout[arc]), begin)
@@ -97,7 +90,7 @@ class StepBuilder:
         return found
 
     def instruction(self, begin: int, end: int, named: int) -> TurnInstruction:
-        """The type and the modifier of the maneuver with which a step begins, and of a roundabout the exit that it takes."""
+        """The maneuver of the step of arcs `begin` to `end`, whose name is that of arc `named`."""
         if not begin:
             return TurnInstruction("depart")
         if self.is_on_roundabout[begin]:
@@ -110,24 +103,24 @@ class StepBuilder:
         return TurnInstruction(kind, turn_modifier(angle))
 
     def exit_number(self, begin: int, named: int) -> int:
-        """The number of the exit by which arc `named` leaves a roundabout that is entered at arc `begin`."""
+        """Which exit arc `named` takes out of the roundabout that arc `begin` enters, from 1."""
         ends = self.roads.arrays.arc_to[self.geometry.arcs[begin:named]].tolist()
         return 1 + sum(self.roads.count_exits(node) for node in ends[:-1])
 
 
 def mark_roundabout_steps(is_new: NDArray[np.bool_], is_on_roundabout: NDArray[np.bool_]) -> None:
-    """Sets behind which arcs a step begins: where a roundabout does, and not within it nor where it is left."""
+    """Sets after which arcs a step begins: before a roundabout, but not on it or after it."""
     before, after = is_on_roundabout[:-1], is_on_roundabout[1:]
     is_new[before & after] = False
     is_new[~before & after] = True
     leaves = before & ~after
-    if is_on_roundabout[0]:  # (the leg begins in this one, so it leaves it as any road)
+    if is_on_roundabout[0]:  # (the leg begins on this one, so no step has entered it)
         leaves[: int(np.argmin(is_on_roundabout))] = False
     is_new[leaves] = False
 
 
 def build_steps(roads: RoadIndex, geometry: LegGeometry | None, start: Point, end: Point, encode: Encoder) -> list[Step]:
-    """The steps from a point to another."""
+    """The steps of a leg; `geometry` is None for a leg that stays at its point."""
     nothing = make_totals(roads, 0, 0.0, 0.0)
     builder = None if geometry is None else StepBuilder(geometry)
     lines = [[list(start)] * 2] if builder is None else builder.lines()
@@ -142,7 +135,7 @@ def build_steps(roads: RoadIndex, geometry: LegGeometry | None, start: Point, en
 
 
 def turn_angle(before: int, after: int) -> int:
-    """The angle from a bearing to another, from -180 to 180; to the right it is above 0."""
+    """The angle between two bearings, from -180 to 180; positive to the right."""
     return (after - before + 180) % 360 - 180
 
 
@@ -151,8 +144,8 @@ def turn_modifier(angle: int) -> str:
 
 
 def make_step(maneuver: Maneuver, names: Names, totals: Figures, geometry: Geometry) -> Step:
-    """A step as OSRM has it, with the one intersection at which it begins. Of names that are lists the parts are told apart by
-    commas, and those that are empty left out, but for the first."""
+    """An OSRM step, with the intersection at its start. Semicolons between refs and destinations become "; " and ", "; empty
+    ones are left out."""
     found: Step = {
         "maneuver": maneuver,
         "name": names.name,

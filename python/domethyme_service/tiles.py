@@ -1,7 +1,6 @@
-"""The roads for the page's map, in square tiles of the Mercator plane as maps of the web have them: at zoom z the world is 2**z
-tiles wide. Levels of detail keep a tile small: a kind of road is shown from the zoom on from which a tile has no more than MANY
-segments of the kinds that are shown, and what a tile's grid can't part is drawn once.
-"""
+"""The roads of the page's map, in square tiles of the Mercator projection, as web maps have them: at zoom z the world is 2**z
+tiles wide. Levels of detail keep tiles small: each class of roads has a least zoom (zoom_levels), and segments that coincide
+on the tile's grid are drawn once."""
 import functools
 import itertools
 import json
@@ -9,6 +8,7 @@ from typing import Any
 
 import numpy as np
 
+from domethyme.network.groups import first_of_equal
 from domethyme.network.indexes import segment_middles, wrapped_difference
 from domethyme.network.net_file import TEXTS, UNITS, MappedNetwork
 from domethyme.network.zoom_levels import CODE_ZOOM, ROAD_CLASSES, Ints, spread_bits, to_mercator
@@ -19,7 +19,7 @@ MAX_ZOOM = 16
 EXTENT = 1024
 MIN_NAME_ZOOM = 14
 KEPT = 64
-# Steps that are drawn together: those of a square may be very many where it is large.
+# Segments that are projected at once, which bounds memory: a large tile may have very many.
 SEGMENTS_PER_CHUNK = 1 << 16
 NAME_COLUMN = TEXTS.index("name")
 
@@ -33,8 +33,8 @@ class Tiles:
 
     @functools.cached_property
     def about(self) -> dict[str, Any]:
-        """What the page asks first: the box of the roads, of which the east may lie beyond 180 degrees, what has to be said of the data,
-        the deepest zoom of tiles, and a number that changes with the network."""
+        """The bounding box of the roads, whose east may be beyond 180 degrees; the attribution that the data's licence
+        requires; the greatest zoom and the extent of tiles; and a version that changes with the network."""
         return {
             "box": [self.arrays.about[side] / UNITS for side in ("west", "south", "east", "north")],
             "attribution": self.arrays.texts[0],
@@ -45,19 +45,19 @@ class Tiles:
 
     @property
     def about_json(self) -> bytes:
-        """What the page asks first, with the unit of weights, as JSON."""
+        """The same as JSON, with the unit of weights."""
         return json.dumps({**self.about, "unit": self.arrays.unit}, ensure_ascii=False).encode("utf-8", "replace")
 
     def read(self, path: str) -> bytes:
-        """The tile of a path `/map/roads/ZOOM/X/Y`, as JSON. Raises RequestError."""
+        """The tile of a path `/map/roads/ZOOM/X/Y` as JSON. Raises RequestError."""
         zoom, x, y = map(int, path.split("/")[3:])
         if zoom > MAX_ZOOM or max(x, y) >= 1 << zoom:
             raise invalid_value(f"a tile is ZOOM/X/Y, with a zoom from 0 to {MAX_ZOOM}")
         return self.tile(zoom, x, y)
 
     def _tile(self, zoom: int, x: int, y: int) -> bytes:
-        """The roads of a tile as JSON: for each kind lines, whose figures are those of the first point and then the segments, in parts of
-        GRID of the tile's width; and the names along them, by their lines."""
+        """A tile as JSON: for each class its lines, as the coordinates of the first point and then the steps to the others, in
+        units of 1/EXTENT of the tile's width; and the name of each line."""
         self.arrays.file.check_unchanged()
         shown = [kind for kind in range(len(ROAD_CLASSES)) if zoom >= self.arrays.about[f"shown_{kind}"]]
         found: list[dict[str, Any]] = []
@@ -68,7 +68,7 @@ class Tiles:
         return json.dumps({"roads": found}, separators=(",", ":"), ensure_ascii=False).encode("utf-8", "replace")
 
     def _segments(self, kind: int, zoom: int, x: int, y: int) -> tuple[Ints, Ints]:
-        """The segments of a kind whose middles are in the tile, in the order of their lines, and their edges."""
+        """The segments of a class whose middles are in the tile, in the order of their lines, and their edges."""
         if zoom <= CODE_ZOOM:
             code = int(spread_bits(np.array([x]))[0] | spread_bits(np.array([y]))[0] << 1)
             low, high = (self._lower_bound(kind, each << 2 * (CODE_ZOOM - zoom)) for each in (code, code + 1))
@@ -81,7 +81,7 @@ class Tiles:
         return above[is_inside], edges[is_inside]
 
     def _lower_bound(self, kind: int, code: int) -> int:
-        """Where in the kind's segments those begin whose codes are at least this one."""
+        """The first segment of a class whose code is at least this one (bisection: `step_codes` is mapped)."""
         low, high = self.arrays.step_begin[kind : kind + 2].tolist()
         while low < high:
             middle = (low + high) // 2
@@ -89,11 +89,11 @@ class Tiles:
         return int(low)
 
     def _to_tile_grid(self, segments: Ints, zoom: int, x: int, y: int) -> tuple[Ints, Ints]:
-        """Both ends of segments on the tile's grid."""
+        """Both ends of segments, in units of the tile's grid."""
         begins, moves = self.arrays.points[segments].astype(np.int64), self.arrays.points[segments + 1].astype(np.int64)
         moves[:, 0] = begins[:, 0] + wrapped_difference(moves[:, 0] - begins[:, 0])
         found = [(to_mercator(each / UNITS) * (1 << zoom) - (x, y)) for each in (begins, moves)]
-        # (a step over the 180th meridian is drawn on the side where the tile is)
+        # (a segment across the antimeridian is drawn on the tile's side of it)
         round_the_world = np.round(((found[0][:, 0] + found[1][:, 0]) / 2 - 0.5) / (1 << zoom)) * (1 << zoom)
         for each in found:
             each[:, 0] -= round_the_world
@@ -101,7 +101,7 @@ class Tiles:
         return one, other
 
     def _lines(self, segments: Ints, edges: Ints, zoom: int, x: int, y: int) -> dict[str, Any]:
-        """The segments as lines, the points to the tile's grid; a step between places that are parted by one before isn't drawn."""
+        """The segments as lines on the tile's grid, without those that coincide with earlier ones."""
         lows = range(0, len(segments), SEGMENTS_PER_CHUNK)
         parts = [self._visible_segments(segments[low : low + SEGMENTS_PER_CHUNK], zoom, x, y) for low in lows]
         begins, ends = (np.concatenate([part[side] for part in parts]) for side in (0, 1))
@@ -125,7 +125,8 @@ class Tiles:
         return {"lines": lines, "names": names_used, "name": [name_index[number] for number in numbers]}
 
     def _visible_segments(self, segments: Ints, zoom: int, x: int, y: int) -> tuple[Ints, Ints, Ints]:
-        """Both ends of the segments that have a length on the tile's grid, and their places; below MIN_NAME_ZOOM each comes once."""
+        """Both ends of the segments that have a length on the tile's grid, and their indices; below MIN_NAME_ZOOM without
+        duplicates."""
         begins, ends = self._to_tile_grid(segments, zoom, x, y)
         kept = np.flatnonzero((begins != ends).any(axis=1))
         if zoom < MIN_NAME_ZOOM:
@@ -133,18 +134,14 @@ class Tiles:
         return begins[kept], ends[kept], kept
 
     def _names(self, edges: Ints) -> Ints:
-        """The text that is the name of each edge, that of one of its arcs."""
+        """The number of the text with the name of each edge, that of one of its arcs."""
         arcs = self.arrays.edge_arcs[np.minimum(self.arrays.edge_first[edges], len(self.arrays.edge_arcs) - 1)]
         found: Ints = self.arrays.arc_texts[arcs, NAME_COLUMN]
         return found
 
 
 def unique_segments(begins: Ints, ends: Ints) -> Ints:
-    """Of segments on the grid, in either direction, the first of those that are equal."""
-    span = np.int64(1 << 30)
-    keys = [each[:, 0] * span + each[:, 1] for each in (begins, ends)]
-    low, high = np.minimum(*keys), np.maximum(*keys)
-    order = np.lexsort((high, low))
-    is_other = np.ones(len(order), dtype=bool)
-    is_other[1:] = (np.diff(low[order]) != 0) | (np.diff(high[order]) != 0)
-    return np.sort(order[is_other])
+    """The indices of segments without those that equal an earlier one, in either direction."""
+    keys = [each[:, 0] * np.int64(1 << 30) + each[:, 1] for each in (begins, ends)]
+    first = first_of_equal(np.minimum(*keys), np.maximum(*keys))
+    return np.flatnonzero(first == np.arange(len(first)))
