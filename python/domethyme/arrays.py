@@ -118,6 +118,15 @@ def like_axes(table: Numbers, sources: Any, targets: Any, has_keys: bool, missin
     return frame
 
 
+def by_keys(lengths: Numbers, keys: Keys) -> Any:
+    """The length of each node as a Series of Int64 by the nodes' keys, missing where there is none."""
+    need("pandas")
+    import pandas
+
+    index = pandas.Index(keys.of(np.arange(len(lengths))), tupleize_cols=False)
+    return pandas.Series(with_missing(lengths), index=index, name="length")
+
+
 def axis(values: Any) -> Any:
     """The labels of an axis for values that a caller gave."""
     import pandas

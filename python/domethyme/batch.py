@@ -1,7 +1,7 @@
-"""Lengths and routes of many pairs, and tables, by as many threads as there are processors. Needs numpy."""
+"""Lengths and routes of many pairs, tables, by as many threads as there are processors, and what is reached. Needs numpy."""
 import concurrent.futures
 import os
-from collections.abc import Callable
+from collections.abc import Callable, Sequence
 from typing import NamedTuple, TypeVar
 
 import numpy as np
@@ -10,7 +10,7 @@ from numpy.typing import NDArray
 from .errors import OutOfMemory
 from .limits import MAX_CELLS
 from .protocol import NO_PATH
-from .router import Router, Searcher
+from .router import Router, Searcher, seed_array
 
 # Questions that a thread asks in one call; and of a table rows and cells, which take some ten milliseconds. An interrupt waits
 # for the calls that are under way.
@@ -61,6 +61,15 @@ def rows_at_a_time(rows: int, columns: int) -> int:
     """How many rows of a table a thread asks for in one call: its share, as far as that takes neither long nor no time."""
     share = -(-rows // cpu_count())
     return max(1, CHUNK_SIZE // columns, min(share, MAX_ROWS, MAX_CHUNK_CELLS // columns))
+
+
+def reach(router: Router, starts: Sequence[tuple[int, int]], limit: int | None) -> NDArray[np.int64]:
+    """The least length of each node from the nearest of several starts, each a node and a length that is added there; NO_PATH
+    where it is above the limit. An array of shape (nodes,)."""
+    found = np.empty(router.nodes, np.int64)
+    with router.searcher() as seat:
+        seat.reach(seed_array(starts), limit, found.ctypes.data, router.nodes)
+    return found
 
 
 def routes(router: Router, pairs: NDArray[np.int64]) -> BatchRoutes:

@@ -3,7 +3,7 @@ import importlib.util
 import sys
 
 # By the name of a package the extra of this one that installs it.
-EXTRAS = {"numpy": "arrays", "pandas": "frames"}
+EXTRAS = {"numpy": "arrays", "pandas": "frames", "scipy": "reach", "contourpy": "reach", "shapely": "reach"}
 
 
 def need(name: str) -> None:

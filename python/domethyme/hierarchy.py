@@ -1,7 +1,7 @@
 """A file of a hierarchy, and the questions that it answers."""
 import functools
 import os
-from collections.abc import Hashable, Iterable, Mapping
+from collections.abc import Hashable, Iterable, Mapping, Sequence
 from typing import TYPE_CHECKING, Any, Literal, Union, overload
 
 from .deprecated import check_by, side_of
@@ -18,6 +18,7 @@ if TYPE_CHECKING:
     import numpy as np
     from numpy.typing import NDArray
 
+    from .network.isochrones import Shape
     from .network.network import Network
     from .routes import Routes
 
@@ -25,6 +26,9 @@ MAX_ADDED = (1 << 32) - 1
 
 # How many metres away the nearest node may be.
 DEFAULT_MAX_METRES = 1000.0
+# The greatest limit of what is reached, and the minutes of contours that nobody chose.
+MAX_LIMIT = 1 << 62
+DEFAULT_MINUTES = (5, 10, 15)
 
 Ends = Union[Mapping[Any, int], Iterable[Any]]
 By = Literal["library", "sweeps"]
@@ -200,6 +204,67 @@ class Hierarchy:
             return nodes, metres
         return (self.keys.key(nodes) if isinstance(nodes, int) else self.keys.of(nodes)), metres
 
+    # What is reached
+
+    def reach(self, starts: Ends, limit: int | None = None, towards: bool = False) -> Any:
+        """The least length of each node from the nearest of several starts, which are given as for `between`: an array of int64 of
+        shape (nodes,), -1 for a node without a path or above the limit. With keys it is a Series of Int64 with the nodes' keys as
+        its index, missing for these.
+
+        limit   the greatest length that is asked for, from 0 to 2^62; None for all
+        towards lengths to the nearest instead: the library has none yet, so True raises ValueError
+
+        The library answers by one search, whose time grows with the links of the nodes above those that are reached. Memory: 8
+        bytes for each node. Raises NoSuchNode, ValueError, and LibraryNotFound for a library that is older and lacks the call.
+        """
+        need("numpy")
+        from . import arrays, batch
+
+        refuse_towards(towards)
+        if limit is not None and not (is_whole(limit) and 0 <= limit <= MAX_LIMIT):
+            raise ValueError(f"limit has to be a whole number from 0 to 2^62, or None, and is {limit!r}")
+        lengths = batch.reach(self._router, self._ends("starts", starts), limit)
+        return lengths if self.keys is None else arrays.by_keys(lengths, self.keys)
+
+    def within(
+        self, place: Rows, minutes: Sequence[float] = (), *, metres: Sequence[float] = (), shape: "Shape" = "polygons",
+        generalize: float = 0.0, denoise: float = 0.0, colors: Sequence[str] = (), towards: bool = False,
+        max_metres: float = DEFAULT_MAX_METRES
+    ) -> dict[str, Any]:
+        """What is reached from a place (lon, lat) in degrees, or from the nearest of several, as GeoJSON: a FeatureCollection
+        with a Feature for each number of minutes, the most first, with the properties of Mapbox's Isochrone API. It begins at the
+        nearest point of a road, in both directions. Needs the network, scipy, contourpy and shapely.
+
+        minutes     numbers that rise, (5, 10, 15) without them and without `metres`; weights have to be milliseconds
+        metres      the same in metres, where weights are centimetres
+        shape       "polygons", "lines" (their outlines) or "roads" (those that are reached)
+        generalize  simplified by this many metres
+        denoise     without parts and holes smaller than this share, from 0 to 1, of the largest part
+        colors      six hexadecimal digits for each number
+        towards     as for `reach`
+        max_metres  how far away a road may be
+
+        The lengths are the library's. Polygons and lines are drawn from them and aren't proved. Raises NoSuchNode where no road is
+        near enough, ValueError, and what `reach` does.
+        """
+        if self.network is None:
+            raise ValueError("the hierarchy has no network: give Hierarchy the word network=")
+        for name in ("numpy", "scipy", "contourpy", "shapely"):
+            need(name)
+        from . import batch
+        from .network import isochrones
+
+        refuse_towards(towards)
+        asked = list(metres) or list(minutes) or list(DEFAULT_MINUTES)
+        roads, is_metres = self.network.roads, len(metres) > 0
+        limits = isochrones.limits(roads.unit, minutes if is_metres else asked, metres)
+        if max(limits) > MAX_LIMIT:
+            raise ValueError(f"{max(asked):g} is too much: lengths are asked for up to 2^62")
+        points = self.network.points_on_roads(place, max_metres)
+        reach = isochrones.reach_from(roads, points, limits, functools.partial(batch.reach, self._router))
+        style = isochrones.Style(shape, generalize, denoise, colors, roads.texts[0])
+        return isochrones.features(reach, asked, "distance" if is_metres else "time", style)
+
     # What they share
 
     def _node(self, node: Hashable) -> int:
@@ -249,6 +314,12 @@ def check_within(metres: Any, within: float) -> None:
         place, away = int(far[0]), float(np.ravel(metres)[far[0]])
         message = f"place {place} has no node within {within:g} m: the nearest is {away:,.0f} m away; lon comes before lat"
         raise NoSuchNode(message, place)
+
+
+def refuse_towards(towards: bool) -> None:
+    """Raises ValueError for lengths that the library doesn't have."""
+    if towards:
+        raise ValueError("towards=True isn't there: the library has lengths from starts, and none towards places")
 
 
 def as_int(name: str, added: Any) -> int:

@@ -3,6 +3,7 @@ import ctypes
 import functools
 import os
 import pathlib
+from typing import Any
 
 from .errors import LibraryNotFound
 from .program import StrPath
@@ -61,6 +62,9 @@ ARGUMENTS: dict[str, list[type]] = {
     "text": [ctypes.c_uint32, ctypes.c_char_p, COUNT],
 }
 RETURNS: dict[str, type | None] = {"close": None, "text": COUNT}
+# Calls that older libraries lack.
+LATER_ARGUMENTS: dict[str, list[type]] = {"reach": [A_HANDLE, ARRAY, COUNT, ctypes.c_uint64, ARRAY, COUNT]}
+GET_IT = "install libdomethyme1, build it by packaging/build-library, or set DOMETHYME_LIBRARY"
 
 
 def find_library(named: StrPath | None = None) -> str:
@@ -88,9 +92,18 @@ def load_library() -> ctypes.CDLL:
             call.argtypes, call.restype = arguments, RETURNS.get(name, ctypes.c_uint32)
     except (OSError, AttributeError) as error:
         why = str(error).removeprefix(f"{path}: ")
-        message = f"{path}: {why}; install libdomethyme1, build it by packaging/build-library, or set DOMETHYME_LIBRARY"
-        raise LibraryNotFound(message) from None
+        raise LibraryNotFound(f"{path}: {why}; {GET_IT}") from None
     return found
+
+
+@functools.cache
+def load_later_call(name: str) -> Any:
+    """A call that older libraries lack. Raises LibraryNotFound, also if the library is one of these."""
+    call = getattr(load_library(), f"domethyme_{name}", None)
+    if call is None:
+        raise LibraryNotFound(f"{find_library()}: is older than this package, and has no domethyme_{name}; {GET_IT}")
+    call.argtypes, call.restype = LATER_ARGUMENTS[name], ctypes.c_uint32
+    return call
 
 
 def error_message(code: int) -> str:

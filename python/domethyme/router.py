@@ -17,8 +17,8 @@ from typing import NamedTuple
 
 from .errors import DomethymeError, HierarchyError, LibraryError, OutOfMemory
 from .library import (
-    FIRST_FAULT, NO_PATH, NO_ROOM, OK, OUT_OF_MEMORY, TOO_LONG, BetweenInfo, Handle, RouteInfo, Seed, error_message,
-    load_library
+    FIRST_FAULT, NO_LENGTH, NO_PATH, NO_ROOM, OK, OUT_OF_MEMORY, TOO_LONG, BetweenInfo, Handle, RouteInfo, Seed,
+    error_message, load_later_call, load_library
 )
 
 # How many nodes of a route a seat has room for at first.
@@ -110,6 +110,12 @@ class Searcher:
     def table(self, sources: int, rows: int, targets: int, columns: int, lengths: int) -> None:
         """The same of each source and target, row by row."""
         self._check(self._library.domethyme_table(self._at, sources, rows, targets, columns, lengths, rows * columns))
+
+    def reach(self, starts: "ctypes.Array[Seed]", limit: int | None, lengths: int, count: int) -> None:
+        """Writes the least length of each node from the nearest start, with what is added there, NO_LENGTH for one above the
+        limit, to an array of as many as there are nodes, by its address. Raises LibraryNotFound for an older library."""
+        most = NO_LENGTH if limit is None else limit
+        self._check(load_later_call("reach")(self._at, addressof(starts), len(starts), most, lengths, count))
 
     def _resize_buffer(self, room: int) -> None:
         self.nodes, self._capacity = (ctypes.c_uint32 * room)(), room

@@ -6,6 +6,7 @@ import numpy as np
 from scipy.sparse import coo_array
 from scipy.sparse.csgraph import dijkstra
 
+import domethyme
 from domethyme.network import net_file
 from domethyme.network.geo import metres_between
 from domethyme.network.tables import Arc
@@ -24,13 +25,13 @@ class Road(NamedTuple):
     between: tuple = ()
 
 
-class Place(NamedTuple):
-    edge: int
-    fraction: float
-
-
 def network(nodes, roads):
     """A network of nodes (lon, lat) or (lon, lat, ends, osm), and of roads, each a way by itself."""
+    return net_file.map_tempfile(arrays(nodes, roads), "town")
+
+
+def arrays(nodes, roads):
+    """The arrays of such a network."""
     builder = net_file.Builder("© the town")
     for number, (lon, lat, *more) in enumerate(nodes):
         ends, osm = more or ("", number)
@@ -43,7 +44,17 @@ def network(nodes, roads):
             if weight is not None:
                 figures = weight, weight / 1000, metres, way
                 builder.add_arc(Arc(start + 1, end + 1, *figures, "residential", "", f"LINESTRING ({wkt(points)})"))
-    return net_file.map_tempfile(builder.build(), "town")
+    return builder.build()
+
+
+def prepared(nodes, roads, prefix, **words):
+    """The hierarchy of such a network, with its file."""
+    built = arrays(nodes, roads)
+    with open(f"{prefix}.net", "wb") as file:
+        net_file.write(file, built)
+    graph = domethyme.Graph(built.arc_from - 1, built.arc_to - 1, built.arc_weight, len(built.node_lon))
+    graph.prepare(f"{prefix}.rch", workers=1).close()
+    return domethyme.Hierarchy(f"{prefix}.rch", network=prefix, **words)
 
 
 def wkt(points):
@@ -94,6 +105,12 @@ def town():
 
     Returns the network, and by names the nodes of the island and of the road apart.
     """
+    nodes, roads, names = town_map()
+    return network(nodes, roads), names
+
+
+def town_map():
+    """The nodes and roads of the town, and these names."""
     draw = np.random.default_rng(5)
     places, number = [], {}
 
@@ -131,4 +148,4 @@ def town():
         join(node, other)
     east = MILLI * 1000 * math.cos(math.radians(SOUTH))
     nodes = [(round(WEST + x / east, 7), round(SOUTH + y / MILLI / 1000, 7)) for x, y in places]
-    return network(nodes, roads), {ISLAND: island, APART: apart}
+    return nodes, roads, {ISLAND: island, APART: apart}

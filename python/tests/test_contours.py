@@ -7,7 +7,7 @@ import sys
 
 import numpy as np
 import pytest
-from reach_case import APART, ISLAND, MILLI, Place, Road, lengths, network, starts_at, town
+from reach_case import APART, ISLAND, MILLI, Road, lengths, network, starts_at, town
 from shapely import vectorized
 from shapely.affinity import scale, translate
 from shapely.geometry import LineString, MultiPolygon, Point, Polygon, box as rectangle, shape
@@ -16,7 +16,7 @@ from domethyme.network import contour_shapes, isochrones, net_file
 from domethyme.network.contours import Field, contours, meshes_of
 from domethyme.network.indexes import UNITS
 from domethyme.network.isochrones import Style, features
-from domethyme.network.reach import DECIMALS, METRES_OF_DEGREE, Reach
+from domethyme.network.reach import DECIMALS, METRES_OF_DEGREE, PlaceOnRoad, Reach
 
 BENCH = pathlib.Path(__file__).resolve().parents[2] / "bench"
 
@@ -155,7 +155,7 @@ def test_a_bridge_with_a_node_above_one_of_the_road():
 def test_places_on_roads(made_town):
     """A place on a road whose ends aren't reached is in its contour."""
     net, _ = made_town
-    place = Place(250, 0.4)
+    place = PlaceOnRoad(250, 0.4)
     reach = Reach(net, lengths(net, starts_at(net, place)), [2000, 100_000], [place])
     small, large = contours(reach)
     x, y = reach.vertices(np.array([250])).at(np.array([0]), np.array([0.4]))[0]

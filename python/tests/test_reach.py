@@ -1,9 +1,9 @@
 """Tests of which roads are reached. A thousandth of a degree is 111.195 m along the equator, and weighs 1000 there."""
 import numpy as np
 import pytest
-from reach_case import Place, Road, lengths, network, starts_at, town
+from reach_case import Road, lengths, network, starts_at, town
 
-from domethyme.network.reach import Reach
+from domethyme.network.reach import PlaceOnRoad, Reach
 
 # Four nodes in a row, a thousandth of a degree apart: a road, one to the east alone, and one with a bend.
 ROW = [(0, 0), (0.001, 0), (0.002, 0), (0.003, 0)]
@@ -66,22 +66,22 @@ def test_the_lightest_arc_of_a_direction_counts():
 ])
 def test_a_place_on_a_road(edge, towards, limit, found):
     """From 0.3 of it, both ways; on a road of one way forward, or backward towards the place."""
-    net, place = network(ROW, ROADS), Place(edge, 0.3)
+    net, place = network(ROW, ROADS), PlaceOnRoad(edge, 0.3)
     assert roads(net, starts_at(net, place, towards), limit, [place], towards) == found
 
 
 def test_two_places_on_one_road_and_one_at_a_node():
-    net, places = network(ROW[:2], ROADS[:1]), [Place(0, 0.2), Place(0, 0.6)]
+    net, places = network(ROW[:2], ROADS[:1]), [PlaceOnRoad(0, 0.2), PlaceOnRoad(0, 0.6)]
     starts = {0: 200, 1: 400}
     assert roads(net, starts, 100, places) == [line(0.0001, 0.0003), line(0.0005, 0.0007)]
     assert roads(net, starts, 200, places) == [line(0, 0.0008)]
-    assert roads(net, {0: 0}, 300, [Place(0, 0.0)]) == [line(0, 0.0003)]
+    assert roads(net, {0: 0}, 300, [PlaceOnRoad(0, 0.0)]) == [line(0, 0.0003)]
 
 
 def test_roads_without_weight_are_reached_whole():
     net = network(ROW[:3], [Road(0, 1, 0, None), Road(1, 2, 0, 0)])
     assert roads(net, {0: 0}, 0) == [line(0, 0.001), line(0.001, 0.002)]
-    assert roads(net, starts_at(net, Place(0, 0.5)), 0, [Place(0, 0.5)]) == [line(0.0005, 0.001), line(0.001, 0.002)]
+    assert roads(net, starts_at(net, PlaceOnRoad(0, 0.5)), 0, [PlaceOnRoad(0, 0.5)]) == [line(0.0005, 0.001), line(0.001, 0.002)]
 
 
 def test_levels_of_nodes():

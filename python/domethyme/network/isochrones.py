@@ -1,26 +1,33 @@
 """What is reached, as GeoJSON: a FeatureCollection with the properties that Mapbox's Isochrone API gives contours. Needs
 numpy, scipy, contourpy and shapely.
 
-    features(reach, asked, "time")   a Feature for each contour
     limits(unit, minutes=..)         minutes or metres in the unit of a network's weights
+    reach_from(roads, points, ..)    what is reached from points of roads
+    features(reach, asked, "time")   a Feature for each contour
 """
-from collections.abc import Sequence
-from typing import Any, Literal, NamedTuple
+import re
+from collections.abc import Callable, Sequence
+from typing import Any, Literal, NamedTuple, get_args
 
 from shapely.geometry import Polygon
 
 from .contour_shapes import denoised, generalized, split
 from .contours import contours
 from .geo import Point
-from .reach import Reach
+from .grid import Ints
+from .reach import PlaceOnRoad, Reach
+from .snapping import NO_ARC, RoadIndex, SnappedPoint
 
 # Of the palette of Okabe and Ito (Color Universal Design, 2008), whose colours differ for the colour-blind.
 COLORS = ("0072B2", "E69F00", "009E73", "CC79A7")
 OPACITY = 0.33
+COLOR = re.compile("[0-9A-Fa-f]{6}")
 # By the unit of weights: the metric of contours, and how many weights are a minute or a metre.
 METRICS: dict[str, tuple["Metric", int]] = {"duration": ("time", 60_000), "distance": ("distance", 100)}
 
 Metric = Literal["time", "distance"]
+# The least length of each node from the nearest of several, from 0, each with a length that is added; -1 above a limit.
+Lengths = Callable[[Sequence[tuple[int, int]], int], Ints]
 Shape = Literal["polygons", "lines", "roads"]
 
 
@@ -43,14 +50,29 @@ class Style(NamedTuple):
 
 def limits(unit: str, minutes: Sequence[float] = (), metres: Sequence[float] = ()) -> list[int]:
     """Minutes or metres in the unit of a network's weights (Mapped.unit). Raises ValueError for minutes if weights aren't
-    durations, for metres if they aren't distances, and if neither or both are given."""
+    durations, for metres if they aren't distances, if neither or both are given, and for numbers that aren't above 0."""
     metric, factor = METRICS.get(unit, (None, 1))
     if bool(len(minutes)) == bool(len(metres)):
         raise ValueError("give minutes or metres, one of both")
     wanted, asked = ("time", minutes) if len(minutes) else ("distance", metres)
+    if not all(0 < value < float("inf") for value in asked):
+        raise ValueError("minutes, or metres, have to be numbers above 0")
     if metric != wanted:
         raise ValueError(f"the weights of the network aren't a {wanted}: they are {unit}s")
     return [round(value * factor) for value in asked]
+
+
+def reach_from(roads: RoadIndex, points: Sequence[SnappedPoint], within: Sequence[int], lengths: Lengths) -> Reach:
+    """What is reached from the nearest of several points of roads within limits, each greater than the one before. Raises
+    ValueError for other limits, and what `lengths` does."""
+    starts = sorted((node - 1, weight) for point in points for node, (weight, _) in point.exits.items())
+    return Reach(roads.arrays, lengths(starts, max(within, default=0)), within, [place_of(point) for point in points])
+
+
+def place_of(point: SnappedPoint) -> PlaceOnRoad:
+    """A point as a place on its road. One at a node that is left by some roads alone lies just inside of its road."""
+    arcs = [arc for _, arc in point.exits.values() if arc != NO_ARC]
+    return PlaceOnRoad(point.edge, min(max(point.fraction, 1e-9), 1 - 1e-9) if arcs else point.fraction, arcs)
 
 
 def features(reach: Reach, asked: Sequence[float], metric: Metric, style: Style = Style()) -> dict[str, Any]:
@@ -67,6 +89,10 @@ def features(reach: Reach, asked: Sequence[float], metric: Metric, style: Style 
     colors = style.colors or [COLORS[place % len(COLORS)] for place in range(count)]
     if len(asked) != count or len(colors) != count:
         raise ValueError(f"there are {count} limits, and {len(asked)} numbers and {len(colors)} colours for them")
+    if not all(map(COLOR.fullmatch, colors)):
+        raise ValueError("colours are six hexadecimal digits each")
+    if style.shape not in get_args(Shape):
+        raise ValueError(f"the shape has to be one of {', '.join(get_args(Shape))}, and is {style.shape!r}")
     shapes = geometries(reach, style)
     found = [
         {"type": "Feature", "properties": properties(value, metric, color), "geometry": shape}

@@ -3,7 +3,7 @@ import functools
 import itertools
 import os
 from collections.abc import Iterator, Sequence
-from typing import Any, overload
+from typing import TYPE_CHECKING, Any, overload
 
 import numpy as np
 from numpy.typing import ArrayLike, NDArray
@@ -11,7 +11,7 @@ from numpy.typing import ArrayLike, NDArray
 from .. import belonging
 from ..csv_tables import unescape_formula
 from ..deprecated import side_of
-from ..errors import NetworkError
+from ..errors import NetworkError, NoSuchNode
 from ..extras import need
 from ..keys import Keys, parse_key
 from ..links import Links
@@ -28,6 +28,9 @@ from .tables import (
     ALL_ARC_COLUMNS, ARC_COLUMNS, ENDS, KEY, NODE_COLUMNS, Files, Side, arcs_file, has_columns, is_coordinates,
     need_nodes
 )
+
+if TYPE_CHECKING:
+    from .snapping import RoadIndex, SnappedPoint
 
 
 class Network:
@@ -117,10 +120,7 @@ class Network:
         junctions with turn restrictions. Two numbers give an int and a float, two arrays of one shape give two arrays of that shape.
         Raises ValueError for what are no degrees."""
         east, north = np.broadcast_arrays(np.asarray(lon, float), np.asarray(lat, float))
-        if not (np.isfinite(east).all() and np.isfinite(north).all()):
-            raise ValueError("lon and lat have to be numbers of degrees")
-        if (np.abs(east) > 180).any() or (np.abs(north) > 90).any():
-            raise ValueError("lon has to be from -180 to 180 and lat from -90 to 90: are they swapped?")
+        check_degrees(east, north)
         nodes, away = self._places.nearest(east.ravel(), north.ravel(), side_of(side, end))
         if east.ndim == 0:
             return int(nodes[0]), float(away[0])
@@ -185,8 +185,38 @@ class Network:
         return from_tables.load_network_or_dimacs(self.prefix)
 
     @functools.cached_property
+    def roads(self) -> "RoadIndex":
+        """Its roads, for points on them. Raises NetworkError where there are no arcs."""
+        from .snapping import RoadIndex
+
+        return RoadIndex(self.prefix)
+
+    def points_on_roads(self, places: Rows, max_metres: float) -> "list[SnappedPoint]":
+        """The nearest point of a road to a place (lon, lat) in degrees, or to each of several. Raises NoSuchNode where none is
+        within this many metres, ValueError for what are no degrees, and NetworkError."""
+        rows = np.asarray(places, float)
+        if rows.shape[-1:] != (2,) or rows.ndim > 2 or not rows.size:
+            raise ValueError("a place is (lon, lat), and several are rows of these")
+        rows = rows.reshape(-1, 2)
+        check_degrees(rows[:, 0], rows[:, 1])
+        found = list(self.roads.nearest_batch([(lon, lat) for lon, lat in rows.tolist()]))
+        for number, point in enumerate(found):
+            if not point.metres <= max_metres:
+                away = f"the nearest is {point.metres:,.0f} m away; lon comes before lat"
+                raise NoSuchNode(f"place {number} has no road within {max_metres:g} m: {away}", number)
+        return found
+
+    @functools.cached_property
     def _places(self) -> "NodeIndex":
         return load_node_index(self.prefix)
+
+
+def check_degrees(lon: Floats, lat: Floats) -> None:
+    """Raises ValueError for what are no degrees."""
+    if not (np.isfinite(lon).all() and np.isfinite(lat).all()):
+        raise ValueError("lon and lat have to be numbers of degrees")
+    if (np.abs(lon) > 180).any() or (np.abs(lat) > 90).any():
+        raise ValueError("lon has to be from -180 to 180 and lat from -90 to 90: are they swapped?")
 
 
 class NodeIndex:

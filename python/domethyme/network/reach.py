@@ -7,8 +7,8 @@ road is reached from its first point, from its last point, and from the places o
 Limits are in the unit of weights and rise. A level is the number, from 0, of the first limit within which something is
 reached; what isn't reached within any has the number of limits as its level.
 """
-from collections.abc import Iterator, Sequence
-from typing import NamedTuple, Protocol
+from collections.abc import Collection, Iterator, Sequence
+from typing import NamedTuple
 
 import numpy as np
 from numpy.typing import NDArray
@@ -32,13 +32,13 @@ DECIMALS = 6
 Levels = NDArray[np.uint8]
 
 
-class PlaceOnRoad(Protocol):
-    """A point of a road: its edge, and the share of the edge's metres before the point. At 0 and 1 it is a node."""
+class PlaceOnRoad(NamedTuple):
+    """A point of a road: its edge, and the share of the edge's metres before the point. At 0 and 1 it is a node. `arcs` are
+    those of the edge by which it is left, or come to; None for all."""
 
-    @property
-    def edge(self) -> int: ...
-    @property
-    def fraction(self) -> float: ...
+    edge: int
+    fraction: float
+    arcs: Collection[int] | None = None
 
 
 class Plane(NamedTuple):
@@ -314,6 +314,8 @@ class Reach:
         network, limits = self.network, np.array(self.limits, dtype=float)
         begin, end = network.edge_first[place.edge : place.edge + 2].tolist()
         for arc in network.edge_arcs[begin:end].tolist():
+            if place.arcs is not None and arc not in place.arcs:
+                continue
             is_along, weight = bool(network.arc_along[arc]), int(network.arc_weight[arc])
             share = place.fraction if is_along else 1 - place.fraction
             before = round(share * weight)  # (as both parts of the arc weigh)
