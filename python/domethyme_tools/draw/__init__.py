@@ -1,13 +1,15 @@
-"""Draws routes over their network: a picture, or a page for a browser that needs no connection.
+"""Draws routes, or what is reached, over their network: a picture, or a page for a browser that needs no connection.
 
 NETWORK is the beginning of the names of the network's files, of which NETWORK.net is read, or without it the tables, and
-NETWORK.gr for what the data asks to be said wherever it is shown. ROUTES is what `to_geojson` wrote as a collection or as lines (`-` is
-standard input). OUT is a picture (SVG) where its name ends in .svg, and a page (HTML) where it ends in .html.
+NETWORK.gr for what the data asks to be said wherever it is shown. ROUTES is what `to_geojson` wrote as a collection or as lines, or
+what `reach` wrote as polygons (`-` is standard input). OUT is a picture (SVG) where its name ends in .svg, and a page (HTML) where
+it ends in .html.
 
 Both show the roads in grey, around the routes or with --full-network all of them; each route in a colour, from a ring to a
 dot, with arrows where there are no more than 20; a legend with kilometres and minutes; a scale; and the attribution of
 the network and of ROUTES. Routes that begin or end outside of the network's roads are refused: they are another network's.
-Where routes overlap, earlier ones are drawn wider, so up to four remain visible. Colours repeat after eight routes.
+Where routes overlap, earlier ones are drawn wider, so up to four remain visible. Colours repeat after eight routes. Polygons are
+filled, each over those before it, and lie below the roads.
 
 In the picture a browser shows a route's streets where the pointer rests on it. Routes that the legend has no room for are
 counted in its last line. In the page a click on a route opens its streets with their metres, and a click on the

@@ -42,6 +42,23 @@ function drawRoads() {
   }
 }
 
+// A colour as it is on the map's ground with a third of it.
+function tint(colour) {
+  const parts = [1, 3, 5].map(at => [colour, isDark ? "#1b1c1f" : "#fbfaf8"].map(text => parseInt(text.slice(at, at + 2), 16)));
+  return `rgb(${parts.map(([own, under]) => Math.round((own + 2 * under) / 3))})`;
+}
+
+// Areas below the roads, each over those before it, but for a background of tiles. Rings within rings are holes.
+function drawAreas() {
+  map.createPane("areas").style.zIndex = 340;
+  for (const {area, label} of data.routes) {
+    if (!area.rings) continue;
+    const look = {pane: "areas", color: area.colour, weight: 1, fillRule: "evenodd", smoothFactor: 0.5};
+    Object.assign(look, data.tiles ? {fillOpacity: 0.33} : {fillOpacity: 1, fillColor: tint(area.colour)});
+    L.polygon(area.rings.map(places), look).bindTooltip(element("span", label), {sticky: true}).addTo(map);
+  }
+}
+
 function pieces(route, more, look) {
   const lines = route.pieces.map(([width, line]) => L.polyline(places(line), {...look, weight: width + more}));
   return L.featureGroup(lines).addTo(map);
@@ -154,6 +171,10 @@ function sample(route) {
   const picture = document.createElementNS("http://www.w3.org/2000/svg", "svg");
   picture.setAttribute("class", "colour-" + route.colour);
   picture.setAttribute("aria-hidden", "true");
+  if (route.area.rings) {
+    picture.style.background = tint(route.area.colour);
+    picture.style.outline = "1px solid " + route.area.colour;
+  }
   const shapes = [["path", {class: "route", d: "M7 8H27"}], ["circle", {class: "ring", cx: 7, cy: 8, r: 5}],
     ["circle", {class: "dot", cx: 27, cy: 8, r: 6}]];
   for (const [name, attributes] of route.ends ? shapes : []) {
@@ -190,7 +211,8 @@ function drawLegend() {
   const legend = L.control({position: "topright"});
   legend.onAdd = () => {
     const said = data.routes.length === 1 ? "1 route" : data.routes.length + " routes";
-    const box = element("details", "", element("summary", said + ", from ring to dot"), ...data.routes.map(legendRow));
+    const title = data.routes.some(route => route.area.rings) ? "What is reached" : said + ", from ring to dot";
+    const box = element("details", "", element("summary", title), ...data.routes.map(legendRow));
     box.className = "legend";
     box.open = map.getSize().x > 640 || data.routes.length <= 4;
     L.DomEvent.disableClickPropagation(box).disableScrollPropagation(box);
@@ -239,6 +261,7 @@ map.fitBounds(data.bounds, room());  // before the layers, which are drawn by th
 L.control.scale({imperial: false}).addTo(map);
 if (data.tiles) L.tileLayer(data.tiles, {maxZoom: 20}).addTo(map);
 if (data.attribution) map.attributionControl.addAttribution(data.attribution);
+drawAreas();
 drawRoads();
 routes.forEach(drawEdge);
 for (const route of routes) {

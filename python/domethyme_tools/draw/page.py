@@ -80,7 +80,7 @@ def package_text(path: pathlib.Path) -> str:
 
 def data_of(routes: list[DrawnRoute], roads: Lines, attribution: str, tiles: str | None) -> str:
     """What the page's script draws, as JSON that may be a part of HTML."""
-    places = list(itertools.chain.from_iterable(route.line for route in routes if route.line)) or all_places(roads)
+    places = list(itertools.chain.from_iterable(route.places for route in routes)) or all_places(roads)
     west, south, east, north = box_of(places)
     data = {
         "bounds": [[south, west], [north, east]],
@@ -112,7 +112,8 @@ def route_data(route: DrawnRoute) -> dict[str, Any]:
         "label": route.label,
         "figures": route.figures,
         "steps": route.steps,
-        "colour": COLOURS.index(route.colour),
+        "colour": 0 if route.rings else COLOURS.index(route.colour),
+        "area": route.rings and {"colour": route.colour, "rings": [delta_encode(ring) for ring in route.rings]},
         "names": [[name, *delta_encode([place])] for name, place in route.names],
         "ends": route.line and delta_encode([route.line[0], route.line[-1]]),
         "pieces": [(width, delta_encode(line)) for width, line in route.pieces],

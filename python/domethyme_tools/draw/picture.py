@@ -18,7 +18,7 @@ LETTER, BOLD_LETTER = 7.8, 8.8
 ROW, SWATCH, MARGIN, FOOT = 24, 58, 14, 36
 LONGEST_LABEL, SHORTEST_LABEL, MAX_ROWS = 48, 12, 40
 SECOND_LINE, ROUND_ENDS, CLOSE = 18, 8, 10
-MAX_OF_WIDTH = 0.4
+MAX_OF_WIDTH, AREA_OPACITY = 0.4, 0.33
 BETWEEN_ARROWS, FROM_ENDS, MAX_WITH_ARROWS = 130, 16, 20
 HALO = f' paint-order="stroke" stroke="{PAPER}" stroke-width="3" stroke-linejoin="round"'
 
@@ -34,9 +34,10 @@ def picture_of(routes: list[DrawnRoute], roads: Lines, view: View, attribution: 
             f'<clipPath id="frame"><rect width="{view.width}" height="{view.height}"/></clipPath>',
             f'<rect width="{view.width}" height="{height}" fill="{PAPER}"/>',
             '<g clip-path="url(#frame)" fill="none" stroke-linecap="round" stroke-linejoin="round">',
+            *(draw_area(route, view) for route in routes if route.rings),
             *draw_roads(roads, view),
-            *(draw_casing(route, view) for route in routes),
-            *(draw_route(route, view) for route in routes),
+            *(draw_casing(route, view) for route in routes if not route.rings),
+            *(draw_route(route, view) for route in routes if not route.rings),
             *(draw_arrows(route, view) for route in routes if route.line and len(routes) <= MAX_WITH_ARROWS),
             *(draw_ends(route, view) for route in routes if route.line),
             "</g>",
@@ -72,6 +73,19 @@ def draw_roads(roads: Lines, view: View) -> Iterator[str]:
             data = "".join(path_through(line, view) for line in lines)
             caps = ' stroke-linecap="butt"' if dashes else ""
             yield f'<path stroke="{kind.colour}" stroke-width="{kind.width * thinner:g}"{dashes}{caps} d="{data}"/>'
+
+
+def draw_area(area: DrawnRoute, view: View) -> str:
+    """An area below the roads, in its colour, over those before it."""
+    data = "".join(path_through(ring, view) + "Z" for ring in area.rings)
+    look = f'fill="{tint(area.colour)}" fill-rule="evenodd" stroke="{area.colour}"'
+    return f'<g><title>{escaped(area.label)}</title><path {look} d="{data}"/></g>'
+
+
+def tint(colour: str) -> str:
+    """A colour as it is on paper with AREA_OPACITY."""
+    pairs = [(int(colour[at : at + 2], 16), int(PAPER[at : at + 2], 16)) for at in (1, 3, 5)]
+    return "#" + "".join(f"{round(own * AREA_OPACITY + under * (1 - AREA_OPACITY)):02x}" for own, under in pairs)
 
 
 def draw_casing(route: DrawnRoute, view: View) -> str:
@@ -123,11 +137,11 @@ def dot(x: float, y: float, colour: str) -> str:
     return f'<circle cx="{x:.1f}" cy="{y:.1f}" r="7" fill="{colour}" stroke="#fff" stroke-width="2"/>'
 
 
-Row = tuple[Union[str, None], str, str]
+Row = tuple[Union[str, None], str, str, bool]
 
 
 class Legend(typing.NamedTuple):
-    """The legend of a picture: its rows as (colour, label, figures), whether figures are below labels, and where it is."""
+    """The legend of a picture: its rows as (colour, label, figures, whether it is an area), whether figures are below labels, and where it is."""
 
     rows: list[Row]
     is_tall: bool
@@ -177,7 +191,7 @@ def legend_below(routes: list[DrawnRoute], view: View) -> Legend:
 
 def width_of(rows: list[Row]) -> float:
     """How wide a legend is with labels and figures side by side."""
-    letters = max(len(label) for _, label, _ in rows) * BOLD_LETTER + max(len(figures) for _, _, figures in rows) * LETTER
+    letters = max(len(row[1]) for row in rows) * BOLD_LETTER + max(len(row[2]) for row in rows) * LETTER
     return SWATCH + letters + 3 * MARGIN
 
 
@@ -191,9 +205,12 @@ def draw_legend(legend: Legend) -> Iterator[str]:
 
 
 def draw_row(row: Row, middle: float, legend: Legend) -> Iterator[str]:
-    """A row of the legend: a short route in its colour, if it has one, the label and the figures."""
-    colour, label, figures = row
-    if colour:
+    """A row of the legend: a short route, or a small area, in its colour, if it has one, the label and the figures."""
+    colour, label, figures, is_area = row
+    if colour and is_area:
+        box = f'x="{MARGIN + 4}" y="{middle - 8:g}" width="{SWATCH - 22}" height="16"'
+        yield f'<rect {box} fill="{tint(colour)}" stroke="{colour}"/>'
+    elif colour:
         left, right = MARGIN + 4, MARGIN + SWATCH - 18
         yield f'<path stroke="{colour}" stroke-width="{NARROWEST}" d="M{left} {middle:g}H{right}"/>'
         yield ring(left, middle, colour) + dot(right, middle, colour)
@@ -209,9 +226,12 @@ def draw_row(row: Row, middle: float, legend: Legend) -> Iterator[str]:
 def legend_rows(routes: list[DrawnRoute], most: int, letters: int) -> list[Row]:
     """Colour, label and figures of each row; the last counts the routes that there is no room for."""
     shown = routes if len(routes) <= most else routes[: most - 1]
-    rows = [(route.colour if route.line else None, shortened(route.label, letters), route.figures) for route in shown]
+    rows: list[Row] = [
+        (route.colour if route.places else None, shortened(route.label, letters), route.figures, bool(route.rings))
+        for route in shown
+    ]
     if len(shown) < len(routes):
-        rows.append((None, f"and {len(routes) - len(shown)} more", ""))
+        rows.append((None, f"and {len(routes) - len(shown)} more", "", False))
     return rows
 
 

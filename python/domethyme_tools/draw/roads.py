@@ -36,8 +36,8 @@ TUNNEL = "tunnel"
 DASHES = "5 4"
 # Edges that are read together, and the share of the world from which on a box has all of them.
 PART, WIDE = 1 << 14, 0.25
-# The degrees within which a route lies beside the roads: those of a picture begin and end on them.
-BESIDE = 0.001
+# The degrees within which a route lies beside the roads, on which it begins and ends, and those within which an area does.
+BESIDE, AREA_BESIDE = 0.001, 0.1
 
 
 def road_style(highway: str) -> int:
@@ -91,8 +91,8 @@ def wrapped_lon(lon: float) -> float:
 
 
 def box_around(routes: list[DrawnRoute]) -> Box | None:
-    """The box around the routes with room on each side, or None where none has a line."""
-    places = list(itertools.chain.from_iterable(route.line for route in routes if route.line))
+    """The box around the routes and areas with room on each side, or None where there is none."""
+    places = list(itertools.chain.from_iterable(route.places for route in routes))
     return padded_box(places) if places else None
 
 
@@ -127,9 +127,10 @@ def need_inside(arrays: MappedNetwork, routes: list[DrawnRoute], network: str, p
     """A ToolError where a route isn't in the box of the network's roads."""
     west, south, east, north = (arrays.about[side] / UNITS for side in ("west", "south", "east", "north"))
     for number, route in enumerate(routes, 1):
-        for lon, lat in route.line or ():
-            is_beside = (lon - west + BESIDE) % 360 <= east - west + 2 * BESIDE
-            if not (is_beside and south - BESIDE <= lat <= north + BESIDE):
+        beside = AREA_BESIDE if route.rings else BESIDE
+        for lon, lat in route.places:
+            is_beside = (lon - west + beside) % 360 <= east - west + 2 * beside
+            if not (is_beside and south - beside <= lat <= north + beside):
                 box = f"{west:.4f},{south:.4f} to {east:.4f},{north:.4f}"
                 where = f"leads by {wrapped_lon(lon):.4f},{lat:.4f}, and the roads of {network} are from {box}"
                 raise ToolError(f"feature {number} {where}: is it of another network?", path)

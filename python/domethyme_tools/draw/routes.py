@@ -1,4 +1,4 @@
-"""The routes that are drawn, of a file of GeoJSON."""
+"""The routes and areas that are drawn, of a file of GeoJSON."""
 import itertools
 import json
 import re
@@ -17,12 +17,16 @@ NARROWEST, STEP_OF_WIDTH, MAX_NESTED = 4.5, 4, 3
 TOO_LARGE = 1e12
 NO_WAY = "no way"
 NO_NAME = "unnamed road"
+# The units of contours by their metrics, and a colour that an area may bring.
+CONTOURS = {"time": "min", "distance": "m"}
+COLOUR = re.compile("#[0-9A-Fa-f]{6}")
 BLANKS = re.compile(r"\s*")
 
 
 class DrawnRoute(typing.NamedTuple):
     """A route as it is shown: its streets with their ways, its places, or None where there is no route, the names of its
-    streets with a place in the middle of each, and the pieces of its line with their widths."""
+    streets with a place in the middle of each, and the pieces of its line with their widths. An area has rings in place of a
+    line."""
 
     label: str
     figures: str
@@ -31,6 +35,12 @@ class DrawnRoute(typing.NamedTuple):
     names: list[tuple[str, Point]]
     colour: str
     pieces: list[tuple[float, list[Point]]]
+    rings: list[list[Point]] = []
+
+    @property
+    def places(self) -> list[Point]:
+        """Where it lies."""
+        return self.line or list(itertools.chain.from_iterable(self.rings))
 
 
 def read_routes(path: str, label: str | None) -> tuple[list[DrawnRoute], list[str]]:
@@ -50,12 +60,13 @@ def read_routes(path: str, label: str | None) -> tuple[list[DrawnRoute], list[st
 
 def unwrap_all(routes: list[DrawnRoute]) -> list[DrawnRoute]:
     """The routes with longitudes beyond 180 degrees where they cross that meridian, all on one side of the first one's begin."""
-    near = next((route.line[0][0] for route in routes if route.line), 0.0)
+    near = next((route.places[0][0] for route in routes if route.places), 0.0)
     found = []
     for route in routes:
         names = [(name, unwrapped([place], near)[0]) for name, place in route.names]
         line = route.line and unwrapped(route.line, near)
-        found.append(route._replace(line=line * 2 if line and len(line) < 2 else line, names=names))
+        rings = [unwrapped(ring, near) for ring in route.rings]
+        found.append(route._replace(line=line * 2 if line and len(line) < 2 else line, names=names, rings=rings))
     return found
 
 
@@ -116,6 +127,8 @@ def make_route(feature: Any, place: FeatureRef, label: str | None, colour: str) 
     place.require(isinstance(feature, dict) and isinstance(feature.get("properties"), dict), "has no properties")
     properties = feature["properties"]
     place.require(label is None or label in properties, f"has no property {label}")
+    if is_area(feature.get("geometry")):
+        return make_area(feature, place, label, colour)
     name = f"route {place.number}" if label is None else str(properties[label])
     line = read_line(feature.get("geometry"), place)
     if line is None:
@@ -127,6 +140,29 @@ def make_route(feature: Any, place: FeatureRef, label: str | None, colour: str) 
     line = line if len(line) > 1 else line * 2
     shown = [(street or NO_NAME, way_of(way)) for street, way in steps]
     return DrawnRoute(name, figures, shown, line, names_along(line, steps), colour, [])
+
+
+def is_area(geometry: Any) -> bool:
+    return isinstance(geometry, dict) and geometry.get("type") in ("Polygon", "MultiPolygon")
+
+
+def make_area(feature: Any, place: FeatureRef, label: str | None, colour: str) -> DrawnRoute:
+    """A feature with polygons, by its own colour where it has one, and called by its contour."""
+    properties, geometry = feature["properties"], feature["geometry"]
+    whole = geometry.get("coordinates")
+    polygons: Any = [whole] if geometry["type"] == "Polygon" else whole
+    place.require(isinstance(polygons, list) and polygons and all(map(is_polygon, polygons)), "has no polygon of places")
+    contour, unit = properties.get("contour"), CONTOURS.get(str(properties.get("metric")), "")
+    name = f"{contour:g} {unit}".strip() if is_number(contour) else f"area {place.number}"
+    fill = properties.get("fill")
+    own = fill if isinstance(fill, str) and COLOUR.fullmatch(fill) else colour
+    rings = [[(lon, lat) for lon, lat, *_ in ring] for polygon in polygons for ring in polygon]
+    return DrawnRoute(name if label is None else str(properties[label]), "", [], None, [], own, [], rings)
+
+
+def is_polygon(value: Any) -> bool:
+    """Whether a value of JSON is the rings of a polygon."""
+    return isinstance(value, list) and len(value) > 0 and all(is_line(ring) and len(ring) > 3 for ring in value)
 
 
 def read_line(geometry: Any, place: FeatureRef) -> list[Point] | None:

@@ -1,0 +1,108 @@
+"""Tests of the tool reach, and of what draw and GDAL make of its files."""
+import json
+import re
+import shutil
+import xml.etree.ElementTree as xml
+
+from reach_case import Road, prepared, town_map
+from shapely.geometry import shape
+from tool_case import ToolCase
+
+import domethyme
+
+SVG = "{http://www.w3.org/2000/svg}"
+PLACES = "name,lon,lat\nhere,9.004,47.004\n"
+
+
+class ReachCase(ToolCase):
+    def setUp(self):
+        super().setUp()
+        nodes, roads, _ = town_map()
+        self.hierarchy = prepared(nodes, roads, self.folder / "town")
+        self.addCleanup(self.hierarchy.close)
+        self.write("places.csv", PLACES)
+
+    def reach(self, *words, given=None):
+        return json.loads(self.run_tool("reach", "town", "town.rch", *words, given=given).stdout)
+
+
+class ReachToolTests(ReachCase):
+    def test_what_within_returns(self):
+        """Of a file and of standard input, in each shape, with all options."""
+        place = (9.004, 47.004)
+        self.assertEqual(self.reach("places.csv", "--minutes", "1,1.5"), self.hierarchy.within(place, [1, 1.5]))
+        words = ("--minutes", "1", "--shape", "roads", "--max-distance", "500")
+        self.assertEqual(self.reach("-", *words, given=PLACES), self.hierarchy.within(place, [1], shape="roads"))
+        words = ("--minutes", "1,2", "--generalize", "20", "--denoise", "0.1", "--colors", "ff0000,00ff00", "--shape", "lines")
+        style = {"generalize": 20, "denoise": 0.1, "colors": ["ff0000", "00ff00"], "shape": "lines"}
+        self.assertEqual(self.reach("places.csv", *words), self.hierarchy.within(place, [1, 2], **style))
+        self.run_tool("reach", "town", "town.rch", "places.csv", "-o", "out")
+        text = (self.folder / "out").read_text()
+        self.assertEqual(json.loads(text), self.hierarchy.within(place))
+        self.assertEqual(len(text.splitlines()), 5)  # (a feature on each line)
+
+    def test_several_places(self):
+        """From the nearest of two, and from one alone."""
+        self.write("both.csv", f"{PLACES}there,9.02,47.015\n")
+        (one,), (both,) = (self.reach(name, "--minutes", "0.5")["features"] for name in ("places.csv", "both.csv"))
+        self.assertEqual(one["geometry"]["type"], "Polygon")
+        self.assertEqual(both["geometry"]["type"], "MultiPolygon")
+
+    def test_metres(self):
+        prepared([(0, 0), (0.01, 0)], [Road(0, 1, 111_195, 111_195)], self.folder / "road").close()
+        self.assert_refused("reach", "road", "road.rch", "places.csv", says="places.csv, row 2: has no road within 1000 m")
+        self.write("at.csv", "lon,lat\n0,0\n")
+        self.assert_refused("reach", "road", "road.rch", "at.csv", "--metres", "5", says="road: the weights of the network aren't")
+
+    def test_refusals(self):
+        for name, text, says in (("far", "lon,lat\n9,47\n9.004,48\n", "far, row 3: has no road within 1000 m"),
+                                 ("none", "lon,lat\n", "none: has no place"), ("odd", "lon,lat\n9,x\n", "odd, row 2"),
+                                 ("names", "x,y\n9,47\n", "lon")):
+            self.write(name, text)
+            self.assert_refused("reach", "town", "town.rch", name, says=says)
+        domethyme.write_graph(self.folder / "other.gr", [0, 1], [1, 0], [5, 5])
+        domethyme.prepare(self.folder / "other.gr", self.folder / "other.rch", workers=1).close()
+        self.assert_refused("reach", "town", "other.rch", "places.csv", says="nodes")
+        for words in (["--minutes", "5,5"], ["--minutes", "0"], ["--minutes", "5", "--metres", "5"], ["--denoise", "2"],
+                      ["--colors", "red,red,red"], ["--colors", "ff0000"], ["-o", "places.csv"]):
+            self.run_tool("reach", "town", "town.rch", "places.csv", *words, status=2)
+
+    def test_pictures(self):
+        """Each area in its colour, with its holes, below the roads and in the legend; pages have them too."""
+        self.run_tool("reach", "town", "town.rch", "places.csv", "--minutes", "1,2", "-o", "out")
+        self.run_tool("draw", "town", "out", "out.svg")
+        self.run_tool("draw", "town", "out", "out.html")
+        features = json.loads((self.folder / "out").read_text())["features"]
+        groups = [each for each in xml.parse(self.folder / "out.svg").iter(f"{SVG}g") if each.find("{*}title") is not None]
+        self.assertEqual([each.find("{*}title").text for each in groups], ["2 min", "1 min"])
+        for group, feature in zip(groups, features):
+            path = group.find("{*}path")
+            self.assertEqual(path.get("stroke"), feature["properties"]["fill"])
+            geometry = shape(feature["geometry"])
+            rings = sum(1 + len(part.interiors) for part in getattr(geometry, "geoms", [geometry]))
+            self.assertEqual(path.get("d").count("Z"), rings)
+        svg, page = ((self.folder / name).read_text() for name in ("out.svg", "out.html"))
+        self.assertLess(svg.index("<title>1 min"), svg.index('stroke="#918d86"'))
+        self.assertEqual(re.findall(r'font-weight="bold">([^<]*)<', svg), ["2 min", "1 min"])
+        areas = [route["area"] for route in json.loads(re.search(r'id="data">\n(.*)', page)[1])["routes"]]
+        self.assertEqual([area["colour"] for area in areas], ["#E69F00", "#0072B2"])
+
+    def test_areas_of_another_network(self):
+        text = json.dumps({"type": "Feature", "properties": {}, "geometry": {"type": "Polygon", "coordinates": [[[0, 0]]]}})
+        self.write("odd", text)
+        self.assert_refused("draw", "town", "odd", "odd.svg", says="feature 1 has no polygon of places")
+        self.write("odd", text.replace("[[[0, 0]]]", "[[[0, 0], [1, 0], [1, 1], [0, 0]]]"))
+        self.assert_refused("draw", "town", "odd", "odd.svg", says="of another network")
+
+
+class GdalTests(ReachCase):
+    def test_gdal_opens_it(self):
+        """As QGIS does: a layer of polygons in degrees, with the numbers as a column."""
+        self.run_tool("reach", "town", "town.rch", "places.csv", "--minutes", "1,2", "-o", "out.geojson")
+        told = self.run_program(["ogrinfo", "-ro", "-al", "out.geojson"]).stdout
+        for text in ("Feature Count: 2", "WGS 84", "contour (Integer)", "fill-opacity (Real)"):
+            self.assertIn(text, told)
+
+
+if not shutil.which("ogrinfo"):
+    del GdalTests  # (python/tests/run says that it is left out)
