@@ -1,11 +1,11 @@
 -- The least over all pairs of a start and an end: by a hierarchy that is right by weight, and by a right one.
 use Rattle.std.proofs.Common.{ℕ, ◌≡◌, ◌+◌, ◌-◌, ◌<◌, ◌≤◌, ◌^◌, true, false, ltb, List, length, Contains, Option, Some, None, option_map, slice_get, refl, sym, ap, subst, inl, inr, arith}
-use Rattle.std.proofs.lemmas.Bool.{ltb-false, ltb-true}
+use Rattle.std.proofs.lemmas.Bool.{cases_lt, ltb-false, ltb-true}
 use Rattle.std.proofs.lemmas.List.Elements.{All-contains}
 use Rattle.std.proofs.lemmas.Option.{slice_get_within, get_or_from_slice_get}
 use Rattle.ch_cost.specs.declared.cost.Cost.{Cost}
-use Rattle.ch_cost.specs.Cost.{◌⊕◌, ◌≺◌, ◌≼◌, length_of, zero_cost, cost_of_arcs}
-use Rattle.ch_cost.specs.Cost.Laws.{at_most_refl, cases_cost, below_not_at_most, sum_below_left, sum_below_right, length_of-at_most, length_of-sum, cost-induction}
+use Rattle.ch_cost.specs.Cost.{◌⊕◌, ◌≺◌, ◌≼◌, length_of, zero_cost, cost_of_arcs, of_walk}
+use Rattle.ch_cost.specs.Cost.Laws.{at_most_refl, cases_cost, below-from_lengths, at_most-from_below, below_not_at_most, sum_below_left, sum_below_right, length_of-at_most, length_of-sum, cost-induction}
 use Rattle.ch_cost.specs.Cost.Numbers.{length_of-cost_of_arcs, length_of-of_walk, lengths-from_no_longer, lengths-from_within, no_longer-from_lengths}
 use Rattle.ch_graph.specs.declared.link.Link.{Link}
 use Rattle.ch_graph.specs.Walk.{Walk, Walk.stay, IsLeastOrNone}
@@ -15,8 +15,8 @@ use Rattle.ch_graph.specs.Hierarchy.{Hierarchy, Chain, Chain.nothing, Chain.then
 use Rattle.ch_laws.specs.ByWeight.{IsArcByWeight, IsRightByWeight, RightIsRightByWeight}
 use Rattle.ch_query.specs.declared.seed.Seed.{Seed}
 use Rattle.ch_query.specs.Seeds.{IsSeed, AreSeeds, HasWalkBetween, HasPair, IsValueBetween, IsDistanceBetween, cost_between, longest}
-use Rattle.ch_route.specs.Between.{RouteBetween, HasTooLongBetween, IsLeastLengthBetween, IsRouteBetweenBy, IsShortestBetween, IsUnfoldedBetween, LeadsBetween}
-use Rattle.ch_route.specs.Laws.{LengthsBetweenAreLeast, NoneTooLong, NoneTooLongBetween, NoneTooLongBetweenByWeight, NoneTooLongByWeight, RoutesAreFewest, RoutesAreLeastByWeight, RoutesBetweenAreFewest, RoutesBetweenAreLeast, RoutesBetweenAreLeastByWeight}
+use Rattle.ch_route.specs.Between.{RouteBetween, HasTooLongBetween, IsLeastLengthBetween, IsLeastLengthWithin, IsRouteBetweenBy, IsShortestBetween, IsUnfoldedBetween, LeadsBetween}
+use Rattle.ch_route.specs.Laws.{LengthsBetweenAreLeast, LengthsWithinAreLeast, NoneTooLong, NoneTooLongBetween, NoneTooLongBetweenByWeight, NoneTooLongByWeight, RoutesAreFewest, RoutesAreLeastByWeight, RoutesBetweenAreFewest, RoutesBetweenAreLeast, RoutesBetweenAreLeastByWeight}
 use Rattle.ch_route.specs.Routes.{Route, HasTooLong, IsFewestWalk, IsLeastWalk, IsUnfoldedRoute}
 
 -- Some cost is the least of its kind, or there is none: it can't be that neither is so
@@ -72,6 +72,20 @@ between_below start stop below = sum_below_left (sum_below_right (at_most_refl s
 
 length_between : (start stop : Seed) (way : Cost) → length_of (cost_between start way stop) ≡ length_of start.cost + length_of way + length_of stop.cost
 length_between start stop way = omega (arith, length_of-sum (start.cost ⊕ way) stop.cost, length_of-sum start.cost way)
+
+-- a walk of one bound is one of any other that isn't shorter than it
+shortened : {h : Hierarchy} {starts ends : List Seed} {bound c : Cost} (other : Cost) → length_of c ≤ length_of other → HasWalkBetween h starts ends bound c → HasWalkBetween h starts ends other c
+shortened {c = c} other short walk = record {
+  start = walk.start;
+  stop = walk.stop;
+  begins = walk.begins;
+  stops = walk.stops;
+  links = walk.links;
+  way = walk.way;
+  leads = walk.leads;
+  sum = walk.sum;
+  short = no_longer-from_lengths c other short;
+}
 
 module _ (g : Graph) (h : Hierarchy) (right : IsRightByWeight g h) where
   link-long : (l : Link) → Contains h.links l → HasLength g l.from l.to (length_of l.cost)
@@ -180,6 +194,27 @@ module _ (g : Graph) (h : Hierarchy) (right : IsRightByWeight g h) where
         same : length_of c ≡ length_of (cost_between own.start own.way own.stop)
         same = ap length_of own.sum
 
+    -- and within a limit: what costs more than the least within it is either within it too, or longer
+    pub least_within : (limit : ℕ) → limit ≤ 2 ^ 62 → (v : Option Cost) → IsValueBetween h starts ends (of_walk limit 0) v → IsLeastLengthWithin g starts ends limit (option_map length_of v)
+    least_within limit most None none = λ n pair. elim (cases_lt limit n) [
+      | inl above ↦ above
+      | inr low ↦ absurd (no_pair pair.start pair.stop pair.begins pair.stops pair.way pair.walk (λ e between no_longer.
+          let sum = pair.sum in
+          none (cost_between pair.start e pair.stop) (shortened (of_walk limit 0) (omega (arith, low, sum, no_longer, length_between pair.start pair.stop e, length_of-of_walk limit 0)) between)))
+    ]
+    least_within limit most (Some c) least =
+        let no_longer = lengths-from_no_longer c (of_walk limit 0) least.0.short in
+        let within : length_of c ≤ limit = omega (arith, no_longer, length_of-of_walk limit 0) in (
+          least_length (Some c) (
+            shortened longest (omega (arith, within, most, length_of-of_walk (2 ^ 62) 0)) least.0,
+            λ d other. elim (cases_lt limit (length_of d)) [
+              | inl far ↦ at_most-from_below (below-from_lengths c d (omega (arith, within, far)))
+              | inr near ↦ least.1 d (shortened (of_walk limit 0) (omega (arith, near, length_of-of_walk limit 0)) other)
+            ],
+          ),
+          within,
+        )
+
     -- the nodes that were found are those of a route by the hierarchy between the two that were taken
     route_of : (r : RouteBetween) → IsValueBetween h starts ends longest (Some r.cost) → (found : IsUnfoldedBetween h starts ends r) → IsUnfoldedRoute h found.start.node found.stop.node (record { cost = found.way.way; nodes = r.nodes })
     route_of r least found =
@@ -258,6 +293,9 @@ module _ (law : RightIsRightByWeight) (g : Graph) (h : Hierarchy) (right : IsRig
 
 pub lengths-between : LengthsBetweenAreLeast
 lengths-between g h starts ends v right made begins stops value = least_length g h right made starts ends begins stops v value
+
+pub lengths-within : LengthsWithinAreLeast
+lengths-within g h starts ends limit v right made begins stops most value = least_within g h right made starts ends begins stops limit most v value
 
 pub routes-between-least : RightIsRightByWeight → RoutesAreFewest → RoutesBetweenAreLeast
 routes-between-least weight law g h starts ends None graph right made begins stops none = least_cost weight g h right made starts ends begins stops None none

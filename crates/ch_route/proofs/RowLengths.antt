@@ -1,16 +1,18 @@
 -- The numbers of a row are lengths of least walks.
-use Rattle.std.proofs.Common.{ℕ, ◌≡◌, ◌<◌, ◌^◌, List, [], ◌∷◌, length, Option, Some, None, option_map, All, refl, subst, ◌∙◌, arith}
+use Rattle.std.proofs.Common.{ℕ, ◌≡◌, ◌<◌, ◌≤◌, ◌^◌, List, [], ◌∷◌, length, Option, Some, None, option_map, All, refl, subst, ◌∙◌, arith}
 use Rattle.ch_cost.specs.declared.cost.Cost.{Cost}
 use Rattle.ch_cost.specs.Cost.{length_of, of_walk}
+use Rattle.ch_graph.specs.Graph.{Graph}
 use Rattle.ch_graph.specs.Hierarchy.{Hierarchy, IsWellMade}
+use Rattle.ch_laws.specs.ByWeight.{IsRightByWeight, RightIsRightByWeight}
 use Rattle.ch_query.specs.declared.seed.Seed.{Seed}
 use Rattle.ch_query.specs.Seeds.{AreSeeds, longest}
 use Rattle.ch_query.specs.Seeds.Laws.{seed-node, seeds-none, seeds-cons}
 use Rattle.ch_query.specs.Ways.{free, LongestIsExact}
 use Rattle.ch_table.specs.Lengths.{IsLengthFrom, IsLengthFromAny, IsRow, length_or_none}
 use Rattle.ch_table.specs.Lengths.Laws.{row-weaker}
-use Rattle.ch_route.specs.Between.{IsRowLengthFrom}
-use Rattle.ch_route.specs.Laws.{LengthsAreLeast, LengthsAreLeastByWeight, LengthsBetweenAreLeast}
+use Rattle.ch_route.specs.Between.{IsRowLengthFrom, IsRowLengthWithin}
+use Rattle.ch_route.specs.Laws.{LengthsAreLeast, LengthsAreLeastByWeight, LengthsBetweenAreLeast, LengthsWithinAreLeast}
 use Rattle.ch_route.specs.Routes.{IsLengthBy, IsRowLength, or_none}
 use Rattle.ch_route.proofs.Least.{length_over}
 use Rattle.ch_route.proofs.Betweens.{shortest_length}
@@ -53,3 +55,22 @@ module _ (between : LengthsBetweenAreLeast) (exact : LongestIsExact) (h : Hierar
   row-lengths_from k same limit whole targets from old new targets_in row =
       row-weaker (IsLengthFromAny h starts longest) (IsRowLengthFrom h starts) h targets from old new targets_in row-length_from
       (subst (λ m. IsRow (IsLengthFromAny h starts (of_walk m 0)) targets from old new) whole (subst (λ (x : Hierarchy). IsRow (IsLengthFromAny x starts (of_walk limit 0)) targets from old new) same row))
+
+  module _ (within : LengthsWithinAreLeast) (weight : RightIsRightByWeight) where
+    row-length_within : (limit t n : ℕ) → limit ≤ 2 ^ 62 → t < length h.ranks → IsLengthFromAny h starts (of_walk limit 0) t n → IsRowLengthWithin h starts limit t n
+    row-length_within limit t n most t_in number =
+        let stops : AreSeeds h (free t ∷ []) = seeds-cons h (free t) [] (seed-node h t t_in) (seeds-none h) in
+        let least = λ (g : Graph) (right : IsRightByWeight g h). within g h starts (free t ∷ []) limit number.cost right made begins stops most number.is in
+        record {
+          length = option_map length_of number.cost;
+          found = record { value = number.cost; least = number.is; long = refl };
+          exact = λ g right. least g (weight g h right);
+          by_weight = least;
+          written = number.written ∙ same_number number.cost;
+        }
+
+    pub row-lengths_within : (k : Hierarchy) → k ≡ h → (limit : ℕ) → limit ≤ 2 ^ 62 → (targets : List ℕ) (from : ℕ) (old new : List ℕ) → All (λ t. t < length h.ranks) targets
+        → IsRow (IsLengthFromAny k starts (of_walk limit 0)) targets from old new → IsRow (IsRowLengthWithin h starts limit) targets from old new
+    row-lengths_within k same limit most targets from old new targets_in row =
+        row-weaker (IsLengthFromAny h starts (of_walk limit 0)) (IsRowLengthWithin h starts limit) h targets from old new targets_in (λ t n t_in. row-length_within limit t n most t_in)
+        (subst (λ (x : Hierarchy). IsRow (IsLengthFromAny x starts (of_walk limit 0)) targets from old new) same row)

@@ -1,7 +1,7 @@
 -- Routes between several starts and several ends, each with a cost of its own.
 use Rattle.std.specs.Prelude.{ℕ, ◌≡◌, ◌+◌, ◌-◌, ◌<◌, ◌≤◌, List, [], ◌∷◌, length, map, Contains, Option, Some, None, option_map, slice_get}
 use Rattle.ch_cost.specs.declared.cost.Cost.{Cost}
-use Rattle.ch_cost.specs.Cost.{length_of}
+use Rattle.ch_cost.specs.Cost.{length_of, of_walk}
 use Rattle.ch_graph.specs.declared.link.Link.{Link}
 use Rattle.ch_graph.specs.Walk.{Walk}
 use Rattle.ch_graph.specs.Graph.{Graph, ArcOf}
@@ -61,6 +61,11 @@ abbrev pub IsLeastLengthBetween : Graph → List Seed → List Seed → Option �
 IsLeastLengthBetween g starts ends (Some n) = HasLengthBetween g starts ends n × ((m : ℕ) → HasLengthBetween g starts ends m → n ≤ m)
 IsLeastLengthBetween g starts ends None = (m : ℕ) → HasLengthBetween g starts ends m → ⊥
 
+-- that least length where it is at most the limit, or none where each such length is above the limit
+abbrev pub IsLeastLengthWithin : Graph → List Seed → List Seed → ℕ → Option ℕ → Type 0
+IsLeastLengthWithin g starts ends limit (Some n) = IsLeastLengthBetween g starts ends (Some n) × (n ≤ limit)
+IsLeastLengthWithin g starts ends limit None = (m : ℕ) → HasLengthBetween g starts ends m → limit < m
+
 -- It is that long, and the nodes are those of a route of this kind between the start and the end that were taken; or no
 -- walk leads from a start to an end.
 abbrev pub IsShortestBetween : (Graph → ℕ → ℕ → Option Route → Type 0) → Graph → List Seed → List Seed → Option RouteBetween → Type 0
@@ -108,11 +113,15 @@ pub record HasTooLongBetween (h : Hierarchy) (starts ends : List Seed) : Type 0 
   pub way : IsUnfoldedWay h start stop cost arcs
   pub many : length h.ranks - 1 < length arcs
 
--- the length of that least cost over all pairs, or none where there is none
-pub record IsLengthBetweenBy (h : Hierarchy) (starts ends : List Seed) (n : Option ℕ) : Type 0 where
+-- the length of the least cost over all pairs that is no longer than the bound, or none where there is none
+pub record IsLengthWithinBy (h : Hierarchy) (starts ends : List Seed) (bound : Cost) (n : Option ℕ) : Type 0 where
   pub value : Option Cost
-  pub least : IsValueBetween h starts ends longest value
+  pub least : IsValueBetween h starts ends bound value
   pub long : n ≡ option_map length_of value
+
+-- and that of any length
+abbrev pub IsLengthBetweenBy : Hierarchy → List Seed → List Seed → Option ℕ → Type 0
+IsLengthBetweenBy h starts ends = IsLengthWithinBy h starts ends longest
 
 -- In a row of lengths
 
@@ -122,4 +131,12 @@ pub record IsRowLengthFrom (h : Hierarchy) (starts : List Seed) (t n : ℕ) : Ty
   pub found : IsLengthBetweenBy h starts (free t ∷ []) length
   pub exact : (g : Graph) → IsRight g h → IsLengthBetween g starts (free t ∷ []) length
   pub by_weight : (g : Graph) → IsRightByWeight g h → IsLeastLengthBetween g starts (free t ∷ []) length
+  pub written : n ≡ or_none length
+
+-- likewise where the length is at most the limit, and none where it is above
+pub record IsRowLengthWithin (h : Hierarchy) (starts : List Seed) (limit t n : ℕ) : Type 0 where
+  pub length : Option ℕ
+  pub found : IsLengthWithinBy h starts (free t ∷ []) (of_walk limit 0) length
+  pub exact : (g : Graph) → IsRight g h → IsLeastLengthWithin g starts (free t ∷ []) limit length
+  pub by_weight : (g : Graph) → IsRightByWeight g h → IsLeastLengthWithin g starts (free t ∷ []) limit length
   pub written : n ≡ or_none length

@@ -1,7 +1,7 @@
 -- Why routes of a hierarchy that is right for a graph are least walks of it, as statements.
-use Rattle.std.specs.Prelude.{ℕ, ◌≡◌, ◌<◌, List, Option, option_map}
+use Rattle.std.specs.Prelude.{ℕ, ◌≡◌, ◌<◌, ◌≤◌, ◌^◌, List, Option, option_map}
 use Rattle.ch_cost.specs.declared.cost.Cost.{Cost}
-use Rattle.ch_cost.specs.Cost.{length_of}
+use Rattle.ch_cost.specs.Cost.{length_of, of_walk}
 use Rattle.ch_graph.specs.declared.version.Version.TheVariants.{One}
 use Rattle.ch_graph.specs.Graph.{Graph, IsLeastLength}
 use Rattle.ch_graph.specs.Limits.{IsGraph}
@@ -9,7 +9,7 @@ use Rattle.ch_graph.specs.Hierarchy.{Hierarchy, IsWellMade, IsRight}
 use Rattle.ch_laws.specs.ByWeight.{IsRightByWeight}
 use Rattle.ch_query.specs.declared.seed.Seed.{Seed}
 use Rattle.ch_query.specs.Seeds.{AreSeeds, IsValueBetween, longest}
-use Rattle.ch_route.specs.Between.{RouteBetween, HasTooLongBetween, IsLeastBetween, IsLeastLengthBetween, IsRouteBetweenBy, IsShortestBetween}
+use Rattle.ch_route.specs.Between.{RouteBetween, HasTooLongBetween, IsLeastBetween, IsLeastLengthBetween, IsLeastLengthWithin, IsRouteBetweenBy, IsShortestBetween}
 use Rattle.ch_route.specs.Routes.{Route, IsFewestWalk, IsLeastWalk, IsRouteBy, HasTooLong, IsLengthBy}
 
 -- of a right hierarchy they are least walks with the fewest arcs
@@ -53,6 +53,12 @@ RoutesBetweenAreLeastByWeight = (g : Graph) (h : Hierarchy) (starts ends : List 
 -- the length alone
 abbrev pub LengthsBetweenAreLeast : Type 0
 LengthsBetweenAreLeast = (g : Graph) (h : Hierarchy) (starts ends : List Seed) (v : Option Cost) → IsRightByWeight g h → IsWellMade h → AreSeeds h starts → AreSeeds h ends → IsValueBetween h starts ends longest v → IsLeastLengthBetween g starts ends (option_map length_of v)
+
+-- and within a limit
+abbrev pub LengthsWithinAreLeast : Type 0
+LengthsWithinAreLeast =
+    (g : Graph) (h : Hierarchy) (starts ends : List Seed) (limit : ℕ) (v : Option Cost) → IsRightByWeight g h → IsWellMade h → AreSeeds h starts → AreSeeds h ends → limit ≤ 2 ^ 62 → IsValueBetween h starts ends (of_walk limit 0) v
+    → IsLeastLengthWithin g starts ends limit (option_map length_of v)
 
 -- and no route is too long, by a right hierarchy
 abbrev pub NoneTooLongBetween : Type 0

@@ -1,5 +1,5 @@
 ghost use Rattle.ch_route.specs.Laws.{LengthsAreLeast, LengthsAreLeastByWeight, NoneTooLong, NoneTooLongByWeight, RoutesAreFewest, RoutesAreLeastByWeight};
-ghost use Rattle.ch_route.specs.Laws.{LengthsBetweenAreLeast, NoneTooLongBetween, NoneTooLongBetweenByWeight, RoutesBetweenAreFewest, RoutesBetweenAreLeast, RoutesBetweenAreLeastByWeight};
+ghost use Rattle.ch_route.specs.Laws.{LengthsBetweenAreLeast, LengthsWithinAreLeast, NoneTooLongBetween, NoneTooLongBetweenByWeight, RoutesBetweenAreFewest, RoutesBetweenAreLeast, RoutesBetweenAreLeastByWeight};
 
 use ch_laws::{
     least_route_is_a_least_walk, least_route_is_never_too_long, right_is_right_by_weight,
@@ -21,6 +21,7 @@ pub fn routes_are_least()
     ensures between_fewest { RoutesBetweenAreFewest }
     ensures between_by_weight { RoutesBetweenAreLeastByWeight }
     ensures between_lengths { LengthsBetweenAreLeast }
+    ensures within_lengths { LengthsWithinAreLeast }
     ensures between_never_long { NoneTooLongBetween }
     ensures between_never_long_by_weight { NoneTooLongBetweenByWeight }
 {

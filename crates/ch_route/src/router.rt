@@ -1,14 +1,14 @@
 ghost use Rattle.std.specs.Prelude.{◌≡◌, ◌+◌, ◌<◌, ◌≤◌, ◌^◌, length, option_map, All, Err, IfOk, OnErr, OnOk, ℕ};
-ghost use Rattle.ch_cost.specs.Cost.{length_of, of_walk};
+ghost use Rattle.ch_cost.specs.Cost.{length_of};
 ghost use Rattle.ch_graph.specs.declared.version.Version.TheVariants.{One};
 ghost use Rattle.ch_graph.specs.Graph.{Graph, IsLeastLength};
 ghost use Rattle.ch_graph.specs.Hierarchy.{IsRight, IsWellMade};
 ghost use Rattle.ch_graph.specs.Limits.{IsGraph};
 ghost use Rattle.ch_laws.specs.ByWeight.{IsRightByWeight};
 ghost use Rattle.ch_query.specs.Seeds.{AreSeeds};
-ghost use Rattle.ch_route.specs.Between.{HasTooLongBetween, IsLeastBetween, IsLeastLengthBetween, IsLengthBetween, IsLengthBetweenBy, IsRouteBetweenBy, IsRowLengthFrom, IsShortestBetween};
+ghost use Rattle.ch_route.specs.Between.{HasTooLongBetween, IsLeastBetween, IsLeastLengthBetween, IsLengthBetween, IsLengthBetweenBy, IsRouteBetweenBy, IsRowLengthFrom, IsRowLengthWithin, IsShortestBetween};
 ghost use Rattle.ch_route.specs.Routes.{HasTooLong, IsFewestWalk, IsLeastWalk, IsLengthBy, IsRouteBy, IsRowLength};
-ghost use Rattle.ch_table.specs.Lengths.{IsLengthFromAny, IsRow};
+ghost use Rattle.ch_table.specs.Lengths.{IsRow};
 ghost use Rattle.ch_table.specs.Selection.{IsSelection};
 ghost use Rattle.ch_unpack.specs.declared.error.UnpackError.TheVariants.{TooLong};
 
@@ -16,6 +16,7 @@ use crate::laws::routes_are_least;
 use crate::route::{Route, RouteBetween};
 use ch_cost::Cost;
 use ch_graph::{Hierarchy, places_name_links};
+use ch_laws::right_is_right_by_weight;
 use ch_query::{HierarchyRef, SearchOf, Seed, ways_are_walks};
 use ch_table::Selection;
 use ch_unpack::{UnpackError, unpack};
@@ -212,9 +213,9 @@ impl<H: HierarchyRef> RouterOf<H> {
         selection.lengths(&mut self.search, source, row, from)
     }
 
-    /// The same from several starts, each with a cost of its own, of paths that are no longer than a limit with their
-    /// start: what [`Router::length_between`] returns for each target alone, where it is within the limit. A limit of 2^62
-    /// cuts no path off.
+    /// The same from several starts, each with a cost of its own, where the length is at most the limit with its start:
+    /// what [`Router::length_between`] returns for each target alone, or [`NO_LENGTH`](ch_table::NO_LENGTH) where that is
+    /// more. A limit of 2^62 cuts no path off.
     pub fn lengths_from(
         &mut self,
         starts: &[Seed],
@@ -227,12 +228,13 @@ impl<H: HierarchyRef> RouterOf<H> {
         requires limit { limit ≤ 2 ^ 62 }
         requires selection { IsSelection self.old selection.now }
         requires room { from + length selection.now.targets ≤ length row.old }
-        ensures within { OnOk result (IsRow (IsLengthFromAny self.old starts.now (of_walk limit 0)) selection.now.targets from row.old row.new) }
+        ensures within { OnOk result (IsRow (IsRowLengthWithin self.old starts.now limit) selection.now.targets from row.old row.new) }
         ensures row { OnOk result (limit ≡ 2 ^ 62 → IsRow (IsRowLengthFrom self.old starts.now) selection.now.targets from row.old row.new) }
         ensures refused { OnErr result (row.new ≡ row.old) }
         ensures kept { self.new ≡ self.old }
     {
         routes_are_least();
+        right_is_right_by_weight();
         ways_are_walks();
         let _well_made = self.nodes();
         selection.lengths_from(&mut self.search, starts, limit, row, from)

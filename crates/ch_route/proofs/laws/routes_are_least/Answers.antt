@@ -1,5 +1,5 @@
 use Rattle.ch_route.proofs.Least.{routes-fewest, routes-least, lengths-least, lengths-least-by_weight, none-too_long, none-too_long-by_weight}
-use Rattle.ch_route.proofs.Pairs.{lengths-between, none-too_long-between, none-too_long-between-by_weight, routes-between-by_weight, routes-between-fewest, routes-between-least}
+use Rattle.ch_route.proofs.Pairs.{lengths-between, lengths-within, none-too_long-between, none-too_long-between-by_weight, routes-between-by_weight, routes-between-fewest, routes-between-least}
 use Rattle.ch_route.proofs.laws.routes_are_least.Goals as goal
 
 pub returns-clause-fewest : goal.returns-clause-fewest
@@ -31,6 +31,9 @@ returns-clause-between_by_weight c = routes-between-by_weight (routes-least c.ro
 
 pub returns-clause-between_lengths : goal.returns-clause-between_lengths
 returns-clause-between_lengths c = lengths-between
+
+pub returns-clause-within_lengths : goal.returns-clause-within_lengths
+returns-clause-within_lengths c = lengths-within
 
 pub returns-clause-between_never_long : goal.returns-clause-between_never_long
 returns-clause-between_never_long c = none-too_long-between c.right_is_right_by_weight.ensures (none-too_long c.least_route_is_never_too_long.ensures)
