@@ -34,7 +34,7 @@ extern "C" {
  * takes a code that isn't listed here for an error. A major version changes or removes some, in another file,
  * libdomethyme.so.2. */
 #define DOMETHYME_VERSION_MAJOR 1
-#define DOMETHYME_VERSION_MINOR 0
+#define DOMETHYME_VERSION_MINOR 1
 
 /* What calls return. A call that returns another code than DOMETHYME_OK has written nothing, except where it says so. */
 enum {
@@ -46,6 +46,7 @@ enum {
     DOMETHYME_OUT_OF_MEMORY = 5, /* memory was refused */
     DOMETHYME_TOO_LONG = 6,      /* the route would repeat a node: the file isn't right for any graph */
     DOMETHYME_SEED_COST = 7,     /* a start or an end has a length above 2^57, or more than 2^25 arcs */
+    DOMETHYME_BAD_LIMIT = 8,     /* a limit is above 2^62 and isn't DOMETHYME_NO_LENGTH; since 1.1 */
 
     /* Faults of a hierarchy file, as docs/FORMATS.md has them. */
     DOMETHYME_READ = 34,          /* a reader failed, which bytes in memory don't */
@@ -145,6 +146,20 @@ uint32_t domethyme_lengths(domethyme *handle, const domethyme_pair *pairs, size_
  * the next table to the same targets, in the same order, until one to others comes; a call with no targets frees it. */
 uint32_t domethyme_table(domethyme *handle, const uint32_t *sources, size_t source_count,
                          const uint32_t *targets, size_t target_count, uint64_t *lengths, size_t room);
+
+/* The least length from a start to each node, with the start's own length added: that of node v is lengths[v]. Where it is
+ * above the limit, or where there is no path, it is DOMETHYME_NO_LENGTH. A limit is at most 2^62, and a length that is the
+ * limit is within it; DOMETHYME_NO_LENGTH means no limit. With several starts each node has the least over all of them, and
+ * with none all are DOMETHYME_NO_LENGTH. `room` is at least the number of nodes; what is behind that isn't written.
+ *
+ * The first of these that holds is the result, and nothing is written: DOMETHYME_NO_HANDLE, DOMETHYME_BAD_LIMIT,
+ * DOMETHYME_NO_ROOM, then of the first start that has a fault DOMETHYME_NODE_RANGE or DOMETHYME_SEED_COST.
+ * DOMETHYME_OUT_OF_MEMORY comes after the first three, and writes nothing either.
+ *
+ * It selects all nodes, as domethyme_table does for its targets, and the handle keeps that in the place of a table's. Each call
+ * goes over all of the selection, whatever the limit. Since 1.1. */
+uint32_t domethyme_reach(domethyme *handle, const domethyme_seed *starts, size_t start_count, uint64_t limit,
+                         uint64_t *lengths, size_t room);
 
 /* What a code means, in English, with a zero at its end. Returns how many bytes that takes, at most DOMETHYME_TEXT; where
  * there is no room for them it writes nothing. */

@@ -41,6 +41,7 @@ static void closed(domethyme *handle)
     WANT(is_untouched(&found));
     WANT(domethyme_lengths(handle, &pair, 1, &found.length, 1) == DOMETHYME_NO_HANDLE && is_untouched(&found));
     WANT(domethyme_table(handle, &node, 1, &node, 1, &found.length, 1) == DOMETHYME_NO_HANDLE && is_untouched(&found));
+    WANT(domethyme_reach(handle, &seed, 1, UINT64_C(1) << 63, &found.length, 0) == DOMETHYME_NO_HANDLE && is_untouched(&found));
     WANT(domethyme_beside(handle, &other) == DOMETHYME_NO_HANDLE && other.router == NULL);
     domethyme_close(handle);
 }
@@ -152,6 +153,51 @@ static void rows(domethyme *handle)
     WANT(domethyme_table(handle, sources, 3, targets, 24, lengths, 72) == DOMETHYME_NODE_RANGE);
 }
 
+/* The lengths of the three nodes from some starts. */
+static int is_reach(domethyme *handle, const domethyme_seed *starts, size_t count, uint64_t limit, uint64_t a, uint64_t b, uint64_t c)
+{
+    uint64_t lengths[4] = {42, 42, 42, 42};
+    const uint64_t wanted[] = {a, b, c, 42};
+    return domethyme_reach(handle, starts, count, limit, lengths, 4) == DOMETHYME_OK && memcmp(lengths, wanted, sizeof wanted) == 0;
+}
+
+/* From node 0, from 0 with 500 or 1 with 250, and from none. */
+static void reaches(domethyme *handle)
+{
+    const uint64_t none = DOMETHYME_NO_LENGTH, greatest = UINT64_C(1) << 62;
+    domethyme_seed start = {5, 0, 0}, far_off = {UINT64_C(1) << 57, 0, 1 << 25}, starts[] = {{500, 0, 0}, {250, 1, 0}};
+    WANT(is_reach(handle, &start, 1, none, 5, 305, 705));
+    WANT(is_reach(handle, &start, 1, greatest, 5, 305, 705));
+    WANT(is_reach(handle, &start, 1, 705, 5, 305, 705));
+    WANT(is_reach(handle, &start, 1, 704, 5, 305, none));
+    WANT(is_reach(handle, &start, 1, 5, 5, none, none));
+    WANT(is_reach(handle, &start, 1, 4, none, none, none));
+    WANT(is_reach(handle, &start, 1, 0, none, none, none));
+    WANT(is_reach(handle, starts, 2, none, 500, 250, 650));
+    WANT(is_reach(handle, starts, 2, 499, none, 250, none));
+    WANT(is_reach(handle, starts, 0, none, none, none, none));
+    WANT(is_reach(handle, &far_off, 1, none, far_off.length, far_off.length + 300, far_off.length + 700));
+    WANT(is_reach(handle, &far_off, 1, far_off.length + 300, far_off.length, far_off.length + 300, none));
+    start.length = 0;
+    WANT(is_reach(handle, &start, 1, 0, 0, none, none));
+    start.node = 2;
+    WANT(is_reach(handle, &start, 1, none, none, none, 0));
+
+    /* Which refusal comes first, and that none writes. */
+    uint64_t lengths[3] = {42, 42, 42};
+    domethyme_seed away = {0, 3, 0}, costly = {(UINT64_C(1) << 57) + 1, 0, 0}, many = {0, 0, (1 << 25) + 1};
+    domethyme_seed first[] = {costly, away}, second[] = {start, away, costly};
+    WANT(domethyme_reach(handle, &away, 1, greatest + 1, lengths, 2) == DOMETHYME_BAD_LIMIT);
+    WANT(domethyme_reach(handle, &start, 1, none - 1, lengths, 3) == DOMETHYME_BAD_LIMIT);
+    WANT(domethyme_reach(handle, &away, 1, 10, lengths, 2) == DOMETHYME_NO_ROOM);
+    WANT(domethyme_reach(handle, &start, 1, none, lengths, 0) == DOMETHYME_NO_ROOM);
+    WANT(domethyme_reach(handle, first, 2, none, lengths, 3) == DOMETHYME_SEED_COST);
+    WANT(domethyme_reach(handle, second, 3, 0, lengths, 3) == DOMETHYME_NODE_RANGE);
+    WANT(domethyme_reach(handle, &many, 1, 0, lengths, 3) == DOMETHYME_SEED_COST);
+    WANT(lengths[0] == 42 && lengths[1] == 42 && lengths[2] == 42);
+    WANT(domethyme_reach(handle, &start, 1, 10, lengths, 3) == DOMETHYME_OK && lengths[2] == 0);
+}
+
 /* A code and its text. */
 typedef struct meaning {
     uint32_t code;
@@ -167,6 +213,7 @@ static const meaning MEANINGS[] = {
     {DOMETHYME_OUT_OF_MEMORY, "out of memory"},
     {DOMETHYME_TOO_LONG, "the route would repeat a node: the file isn't right for any graph"},
     {DOMETHYME_SEED_COST, "a start or an end has a length above 2^57, or more than 2^25 arcs"},
+    {DOMETHYME_BAD_LIMIT, "a limit is above 2^62 and isn't the number that means none"},
     {DOMETHYME_READ, "the file couldn't be read"},
     {DOMETHYME_BAD_MAGIC, "the bytes are no hierarchy file"},
     {DOMETHYME_TRUNCATED, "the bytes end too early"},
@@ -216,6 +263,8 @@ int main(int count, char **words)
     several(&handle);
     depots(&handle);
     many(&handle);
+    rows(&handle);
+    reaches(&handle);
     rows(&handle);
     /* A second handle lives on behind the first; a handle that is opened again closes what it had. */
     WANT(domethyme_beside(&handle, &other) == DOMETHYME_OK);

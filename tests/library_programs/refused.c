@@ -96,6 +96,10 @@ static void run(const uint8_t *bytes, size_t count)
     while (is_out(domethyme_table(&handle, ends, 2, many, 40, rows, 80)))
         ;
     WANT(rows[0] == 0 && rows[38] == 700 && rows[40] == DOMETHYME_NO_LENGTH && rows[79] == DOMETHYME_NO_LENGTH);
+    uint64_t reached[3] = {42, 42, 42};
+    while (is_out(domethyme_reach(&handle, &start, 1, 704, reached, 3)))
+        WANT(reached[0] == 42 && reached[1] == 42 && reached[2] == 42);
+    WANT(reached[0] == 5 && reached[1] == 305 && reached[2] == DOMETHYME_NO_LENGTH);
     domethyme_close(&handle);
     domethyme_close(&other);
 }

@@ -1,4 +1,5 @@
-mod Seeds
+mod SeedFaults
 pub mod Steps
 mod Boxes
+pub mod AllNodes
 pub mod TableRows

@@ -1,26 +1,25 @@
 -- What each call answers, of the hierarchy that its handle has.
-use Rattle.std.specs.Prelude.{ℕ, ◌≡◌, ◌+◌, ◌*◌, ◌<◌, ◌≤◌, List, ◌++◌, ◌∷◌, ◌/◌, ◌%◌, All, map, length, slice_index, slice_index_or, drop, Option, Some, None, IsSome}
-use Rattle.ch_cost.specs.declared.cost.Cost.{Cost}
-use Rattle.ch_cost.specs.Cost.{length_of, arcs_of, of_walk}
+use Rattle.std.specs.Prelude.{ℕ, ◌≡◌, ◌+◌, ◌*◌, ◌<◌, ◌≤◌, List, ◌++◌, ◌∷◌, ◌/◌, ◌%◌, ◌^◌, ◌⊎◌, All, map, length, slice_index, slice_index_or, drop, Option, Some, None, IsSome}
+use Rattle.ch_cost.specs.Cost.{length_of, of_walk}
 use Rattle.ch_graph.specs.declared.version.Version.TheVariants.{One}
 use Rattle.ch_graph.specs.Graph.{Graph, IsLeastLength}
-use Rattle.ch_graph.specs.Hierarchy.{Hierarchy, IsRight, version_number}
+use Rattle.ch_graph.specs.Hierarchy.{Hierarchy, IsRight}
 use Rattle.ch_graph.specs.Limits.{IsGraph}
 use Rattle.ch_laws.specs.ByWeight.{IsRightByWeight}
 use Rattle.ch_query.specs.declared.seed.Seed.{Seed}
 use Rattle.ch_query.specs.Seeds.{AreSeeds, IsSeed}
-use Rattle.ch_route.specs.Between.{RouteBetween, HasTooLongBetween, IsLeastBetween, IsRouteBetweenBy, IsShortestBetween}
+use Rattle.ch_route.specs.Between.{RouteBetween, HasTooLongBetween, IsLeastBetween, IsRouteBetweenBy, IsRowLengthFrom, IsRowLengthWithin, IsShortestBetween}
 use Rattle.ch_route.specs.Routes.{Route, HasTooLong, IsFewestWalk, IsLeastWalk, IsLengthBy, IsRouteBy}
 use Rattle.hierfile.specs.Bytes.{OfBytes}
 use Rattle.hierfile.specs.Fault.{first_fault}
 use Rattle.hierfile.specs.Spelling.{bytes_of}
 use Rattle.hierfile.specs.declared.error.HierError.{HierError}
 use Rattle.domethyme_c.specs.Codes.{fault_code}
-use Rattle.domethyme_c.specs.declared.code.TheConstants.{OK, NO_PATH, NO_HANDLE, NODE_RANGE, NO_ROOM, OUT_OF_MEMORY, TOO_LONG, SEED_COST, NO_LENGTH}
+use Rattle.domethyme_c.specs.declared.code.TheConstants.{OK, NO_PATH, NO_HANDLE, NODE_RANGE, NO_ROOM, OUT_OF_MEMORY, TOO_LONG, SEED_COST, BAD_LIMIT, NO_LENGTH}
 use Rattle.domethyme_c.specs.declared.lengths.Pair.{Pair}
 use Rattle.domethyme_c.specs.declared.route.RouteInfo.{RouteInfo}
 use Rattle.domethyme_c.specs.declared.between.BetweenInfo.{BetweenInfo}
-use Rattle.domethyme_c.specs.declared.between.SeedInfo.{SeedInfo}
+use Rattle.domethyme_c.specs.declared.seeds.SeedInfo.{SeedInfo}
 
 -- a call of an open handle answers by its hierarchy; of a closed one it says so
 abbrev pub Answers : Option Hierarchy → ℕ → (Hierarchy → Type 0) → Type 0
@@ -163,6 +162,32 @@ pub data IsBetweenAnswer (h : Hierarchy) (starts ends : List SeedInfo) (code : �
   answered : IsFoundBetween h (map seed_of starts) (map seed_of ends) code old new nodes written → IsBetweenAnswer h starts ends code old new nodes written
   no_start : IsSeedRefusal h starts code → new ≡ old → written ≡ nodes → IsBetweenAnswer h starts ends code old new nodes written
   no_end : IsSeedRefusal h ends code → new ≡ old → written ≡ nodes → IsBetweenAnswer h starts ends code old new nodes written
+
+-- Within a limit
+
+-- a limit is a length of at most 2^62, or the number that stands for none
+abbrev pub IsLimit : ℕ → Type 0
+IsLimit limit = (limit ≤ 2 ^ 62) ⊎ (limit ≡ NO_LENGTH)
+
+-- how long a path may be at most: no path is as long as 2^62
+pub record IsMostOf (limit most : ℕ) : Type 0 where
+  pub allowed : IsLimit limit
+  pub short : most ≤ 2 ^ 62
+  pub same : limit ≤ 2 ^ 62 → most ≡ limit
+  pub unlimited : limit ≡ NO_LENGTH → most ≡ 2 ^ 62
+
+-- the least length from a start to a node, where it is within the limit; and where there is no limit, any
+pub record IsReached (h : Hierarchy) (starts : List Seed) (limit node n : ℕ) : Type 0 where
+  pub within : limit ≤ 2 ^ 62 → IsRowLengthWithin h starts limit node n
+  pub unlimited : limit ≡ NO_LENGTH → IsRowLengthFrom h starts node n
+
+-- The length of each node. Refusals come in this order, and each has written nothing.
+pub data IsReachAnswer (h : Hierarchy) (starts : List SeedInfo) (limit code : ℕ) (old new : List ℕ) : Type 0 where
+  found : code ≡ OK → AreWritten (length h.ranks) (IsReached h (map seed_of starts) limit) old new → IsReachAnswer h starts limit code old new
+  bad_limit : code ≡ BAD_LIMIT → (IsLimit limit → ⊥) → new ≡ old → IsReachAnswer h starts limit code old new
+  no_room : code ≡ NO_ROOM → IsLimit limit → length old < length h.ranks → new ≡ old → IsReachAnswer h starts limit code old new
+  no_start : IsSeedRefusal h starts code → IsLimit limit → length h.ranks ≤ length old → new ≡ old → IsReachAnswer h starts limit code old new
+  no_memory : code ≡ OUT_OF_MEMORY → IsLimit limit → length h.ranks ≤ length old → AreSeeds h (map seed_of starts) → new ≡ old → IsReachAnswer h starts limit code old new
 
 -- Texts
 

@@ -19,6 +19,8 @@ pub const OUT_OF_MEMORY: u32 = 5;
 pub const TOO_LONG: u32 = 6;
 /// A start or an end has a length above 2^57, or more than 2^25 arcs.
 pub const SEED_COST: u32 = 7;
+/// A limit is above 2^62 and isn't the number that stands for none.
+pub const BAD_LIMIT: u32 = 8;
 
 /// Stands for a length where there is no path.
 pub const NO_LENGTH: u64 = 0xffff_ffff_ffff_ffff;

@@ -1,11 +1,11 @@
-ghost use Rattle.std.specs.Prelude.{◌≡◌, ◌↔◌, ◌+◌, ◌<◌, ◌≤◌, All, Err, IfErr, IfOk, IsTrue, OnOk, length, Some};
+ghost use Rattle.std.specs.Prelude.{◌≡◌, ◌↔◌, ◌+◌, ◌<◌, ◌≤◌, ◌^◌, All, Err, IfErr, IfOk, IsTrue, OnErr, OnOk, length, Some};
 ghost use Rattle.ch_graph.specs.Hierarchy.{version_number};
 ghost use Rattle.hierfile.specs.Bytes.{IsFaultOf};
 ghost use Rattle.hierfile.specs.Fault.{first_fault};
 ghost use Rattle.hierfile.specs.Spelling.{bytes_of};
 ghost use Rattle.domethyme_c.specs.Answers.{AreNodes, IsBetween, IsLength, IsRoute, IsWrong};
 ghost use Rattle.ch_query.specs.Seeds.{AreSeeds};
-ghost use Rattle.ch_route.specs.Between.{HasTooLongBetween};
+ghost use Rattle.ch_route.specs.Between.{HasTooLongBetween, IsRowLengthFrom, IsRowLengthWithin};
 ghost use Rattle.ch_route.specs.Routes.{HasTooLong, IsRowLength};
 ghost use Rattle.ch_table.specs.Lengths.{IsRow};
 ghost use Rattle.ch_table.specs.Selection.{IsSelection};
@@ -157,6 +157,26 @@ impl Engine {
         ensures kept { self.new ≡ self.old }
     {
         self.router.lengths(source, selection, row, from)
+    }
+
+    /// Writes the least length of a path from one of the starts to each target of a selection, where it is at most `most`.
+    pub(crate) fn lengths_from(
+        &mut self,
+        starts: &[Seed],
+        most: u64,
+        selection: &Selection,
+        row: &mut [u64],
+    ) -> Result<(), AllocError>
+        requires starts { AreSeeds self.old starts.now }
+        requires most { most ≤ 2 ^ 62 }
+        requires selection { IsSelection self.old selection.now }
+        requires room { length selection.now.targets ≤ length row.old }
+        ensures within { OnOk result (IsRow (IsRowLengthWithin self.old starts.now most) selection.now.targets 0 row.old row.new) }
+        ensures row { OnOk result (most ≡ 2 ^ 62 → IsRow (IsRowLengthFrom self.old starts.now) selection.now.targets 0 row.old row.new) }
+        ensures refused { OnErr result (row.new ≡ row.old) }
+        ensures kept { self.new ≡ self.old }
+    {
+        self.router.lengths_from(starts, most, selection, row, 0)
     }
 
     /// Another engine of the same hierarchy.

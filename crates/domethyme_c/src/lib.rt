@@ -11,13 +11,17 @@ mod handle;
 mod held;
 mod lengths;
 mod opening;
+mod reach;
 mod route;
+mod seeds;
 mod text;
 
-pub use between::{BetweenInfo, SeedInfo};
+pub use between::BetweenInfo;
 pub use code::{
-    NO_HANDLE, NO_LENGTH, NO_PATH, NO_ROOM, NODE_RANGE, OK, OUT_OF_MEMORY, SEED_COST, TOO_LONG,
+    BAD_LIMIT, NO_HANDLE, NO_LENGTH, NO_PATH, NO_ROOM, NODE_RANGE, OK, OUT_OF_MEMORY, SEED_COST,
+    TOO_LONG,
 };
 pub use handle::Handle;
 pub use lengths::Pair;
 pub use route::RouteInfo;
+pub use seeds::SeedInfo;

@@ -1,12 +1,11 @@
-use Rattle.std.proofs.Common.{arith, ◌≡◌, All, List, length, map, take, subst, sym, ap, ◌∙◌}
+use Rattle.std.proofs.Common.{arith, ◌≡◌, All, map, subst, sym, ap, ◌∙◌}
 use Rattle.std.proofs.lemmas.Grind.{common_steps}
 use Rattle.std.proofs.lemmas.List.{take_all}
 use Rattle.std.proofs.lemmas.List.Elements.{All-map, All-more}
-use Rattle.ch_query.specs.declared.seed.Seed.{Seed}
 use Rattle.ch_query.specs.Seeds.{IsSeed}
 use Rattle.domethyme_c.specs.Answers.{seed_of}
-use Rattle.domethyme_c.specs.declared.between.SeedInfo.{SeedInfo}
-use Rattle.domethyme_c.proofs.between.seeds_of.Goals as goal
+use Rattle.domethyme_c.specs.declared.seeds.SeedInfo.{SeedInfo}
+use Rattle.domethyme_c.proofs.seeds.seeds_of.Goals as goal
 
 pub infos-preserved : goal.infos-preserved
 infos-preserved c = (

@@ -1,0 +1,105 @@
+ghost use Rattle.std.specs.Prelude.{◌≡◌, ◌≤◌, ◌^◌, IfNone, IfOk, IfSome, OnErr, OnOk, length};
+ghost use Rattle.std.specs.List.{range_with_len};
+ghost use Rattle.ch_query.specs.Seeds.{AreSeeds};
+ghost use Rattle.ch_route.specs.Between.{IsRowLengthFrom, IsRowLengthWithin};
+ghost use Rattle.domethyme_c.specs.Answers.{Answers, AreWritten, IsLimit, IsMostOf, IsReachAnswer};
+
+use crate::code::{BAD_LIMIT, NO_HANDLE, NO_LENGTH, NO_ROOM, OK, OUT_OF_MEMORY};
+use crate::engine::Engine;
+use crate::handle::Handle;
+use crate::seeds::{SeedInfo, seeds_of};
+use ch_route::Seed;
+use std::alloc::{AllocError, Global};
+
+// The greatest limit, which no path is longer than.
+const GREATEST: u64 = 1 << 62;
+
+/// The least length from a start to each node, where it is within a limit.
+#[unsafe(no_mangle)]
+pub extern "C" fn domethyme_reach(
+    alloc: Global,
+    handle: &mut Handle,
+    starts: &[SeedInfo],
+    limit: u64,
+    lengths: &mut [u64],
+) -> u32
+    ensures kept { handle.new.held.hierarchy ≡ handle.old.held.hierarchy }
+    ensures answer { Answers handle.old.held.hierarchy result (λ h. IsReachAnswer h starts.now limit result lengths.old lengths.new) }
+{
+    let Some(mut engine) = handle.take(alloc) else {
+        return NO_HANDLE;
+    };
+    let code = answer_reach(alloc, &mut engine, starts, limit, lengths);
+    handle.put(alloc, engine);
+    code
+}
+
+fn answer_reach(
+    alloc: Global,
+    engine: &mut Engine,
+    starts: &[SeedInfo],
+    limit: u64,
+    lengths: &mut [u64],
+) -> u32
+    ensures kept { engine.new ≡ engine.old }
+    ensures answer { IsReachAnswer engine.old starts.now limit result lengths.old lengths.new }
+{
+    let Some(most) = most_of(limit) else {
+        return BAD_LIMIT;
+    };
+    if lengths.len() < engine.nodes() as usize {
+        return NO_ROOM;
+    }
+    let starts = match seeds_of(alloc, engine, starts) {
+        Ok(starts) => starts,
+        Err(code) => return code,
+    };
+    match fill_reach(alloc, engine, starts.as_slice(), most, lengths) {
+        Ok(()) => OK,
+        Err(_) => OUT_OF_MEMORY,
+    }
+}
+
+// How long a path may be at most, or `None` for a number that is no limit.
+fn most_of(limit: u64) -> Option<u64>
+    ensures none { IfNone result (IsLimit limit → ⊥) }
+    ensures some { IfSome result (IsMostOf limit) }
+{
+    if limit == NO_LENGTH {
+        return Some(GREATEST);
+    }
+    if limit > GREATEST {
+        return None;
+    }
+    Some(limit)
+}
+
+// Writes the length of each node, by a selection of all, which the engine keeps.
+fn fill_reach(
+    alloc: Global,
+    engine: &mut Engine,
+    starts: &[Seed],
+    most: u64,
+    lengths: &mut [u64],
+) -> Result<(), AllocError>
+    requires starts { AreSeeds engine.old starts.now }
+    requires most { most ≤ 2 ^ 62 }
+    requires room { length engine.old.ranks ≤ length lengths.old }
+    ensures kept { engine.new ≡ engine.old }
+    ensures within { OnOk result (AreWritten (length engine.old.ranks) (IsRowLengthWithin engine.old starts.now most) lengths.old lengths.new) }
+    ensures all { OnOk result (most ≡ 2 ^ 62 → AreWritten (length engine.old.ranks) (IsRowLengthFrom engine.old starts.now) lengths.old lengths.new) }
+    ensures refused { OnErr result (lengths.new ≡ lengths.old) }
+{
+    let nodes = all_nodes(alloc, engine.nodes())?;
+    let selection = engine.selection(nodes.as_slice())?;
+    let done = engine.lengths_from(starts, most, &selection, lengths);
+    engine.keep(selection);
+    done
+}
+
+// All nodes, in order.
+fn all_nodes(alloc: Global, count: u32) -> Result<Vec<u32>, AllocError>
+    ensures { IfOk result (λ nodes. nodes.items ≡ range_with_len 0 count) }
+{
+    (0..count).collect(alloc)
+}
