@@ -89,17 +89,14 @@ class Searcher:
                 return self._is_path(code)
             self._resize_buffer(2 * info.nodes)
 
-    def between(self, starts: "ctypes.Array[Seed]", ends: "ctypes.Array[Seed]", with_nodes: bool = True) -> bool:
-        """The same from one of several starts to one of several ends, of the least whole length, in `between_info` and `nodes`, or
-        without nodes."""
+    def between(self, starts: "ctypes.Array[Seed]", ends: "ctypes.Array[Seed]") -> bool:
+        """The same from one of several starts to one of several ends, of the least whole length. It is in `between_info` and
+        `nodes`."""
         info, sides = self.between_info, (addressof(starts), len(starts), addressof(ends), len(ends))
         while True:
-            room = self._capacity if with_nodes else 0
-            code = self._library.domethyme_between(self._at, *sides, byref(info), self._nodes_at, room)
+            code = self._library.domethyme_between(self._at, *sides, byref(info), self._nodes_at, self._capacity)
             if code != NO_ROOM:
                 return self._is_path(code)
-            if not with_nodes:
-                return True
             self._resize_buffer(2 * info.nodes)
 
     def lengths(self, pairs: int, count: int, lengths: int) -> None:
@@ -187,18 +184,14 @@ class Router:
                 return None
             return RouterResult(source, target, seat.route_info.length, seat.nodes[: seat.route_info.nodes])
 
-    def between(
-        self, starts: Sequence[tuple[int, int]], ends: Sequence[tuple[int, int]], with_nodes: bool = True
-    ) -> RouterResult | None:
-        """The same from one of several nodes to one of several, each with a length that is added there, of the least whole length;
-        or without its nodes."""
+    def between(self, starts: Sequence[tuple[int, int]], ends: Sequence[tuple[int, int]]) -> RouterResult | None:
+        """The same from one of several nodes to one of several, of the least whole length, with what is added at each."""
         start_seeds, end_seeds = seed_array(starts), seed_array(ends)
         with self.searcher() as seat:
-            if not seat.between(start_seeds, end_seeds, with_nodes):
+            if not seat.between(start_seeds, end_seeds):
                 return None
             info = seat.between_info
-            nodes = seat.nodes[: info.nodes] if with_nodes else []
-            return RouterResult(starts[info.start][0], ends[info.end][0], info.length, nodes)
+            return RouterResult(starts[info.start][0], ends[info.end][0], info.length, seat.nodes[: info.nodes])
 
     def _acquire(self) -> Searcher:
         """A seat: one that is idle, or another one."""

@@ -76,7 +76,7 @@ def argument_parser() -> argparse.ArgumentParser:
     add("--port", metavar="PORT", type=int_between(0, 65535), default=5000, help="the port, 0 for any that is free (5000)")
     workers = f"processes that answer, {MIN_WORKERS} or more ({MIN_WORKERS})"
     add("--workers", "--fronts", metavar="N", type=int_between(1, 64), default=MIN_WORKERS, help=workers)
-    add("--tables", choices=("fast", "proved"), default="fast", help="how tables of many cells are made (fast)")
+    add("--tables", choices=("fast", "proved"), help=argparse.SUPPRESS)
     cells = "cells of a table (1000000)"
     add("--max-table-cells", "--table-cells", metavar="N", type=int_between(1, 4_000_000), default=1_000_000, help=cells)
     add("--program", metavar="FILE", help="routecli, for --verify: by default that of ROUTECLI, on PATH, or built here")
@@ -183,8 +183,10 @@ def run(args: argparse.Namespace) -> None:
     if args.workers < MIN_WORKERS:
         why = f"there are {MIN_WORKERS}, since a long request holds one"
         print(f"domethyme-serve: --workers {args.workers}: {why}", file=sys.stderr)
+    if args.tables is not None:
+        print("domethyme-serve: --tables goes with the next version: leave it out, since all tables are proved", file=sys.stderr)
     program = None if args.verify is None else find_program(args.program)
-    paths = DatasetPaths(args.hierarchy, args.network, args.tables == "fast", args.verify, program, args.compare_all)
+    paths = DatasetPaths(args.hierarchy, args.network, args.verify, program, args.compare_all)
     options = Options(AccessPolicy.from_options(args.allowed_host, args.cors), args.default_radius, args.max_table_cells)
     bind, has_probe = open_sockets(args)
     setup = Setup(paths, options, bind, max(args.workers, MIN_WORKERS), has_probe, args.log_places)

@@ -1,25 +1,20 @@
-"""The dataset that workers serve: a hierarchy, its network, and its links for tables. Its files are opened and compared
-with one another before the workers are forked, so they share its memory."""
+"""The dataset that workers serve: a hierarchy and its network. Its files are opened and compared with one another before the
+workers are forked, so they share its memory."""
 import ctypes
 import os
 import signal
 from typing import NamedTuple
-
-import numpy as np
 
 from domethyme import belonging
 from domethyme.checking import run_check
 from domethyme.hierarchy_file import open_hierarchy_file, pread_all, read_header
 from domethyme.network.snapping import RoadIndex
 from domethyme.router import Router
-from domethyme.sweeps import Sweeps
 
 from .errors import StartupError
-from .metrics import SharedMetrics
-from .queries import NodeKeys, Queries
+from .queries import NodeKeys
 from .tiles import Tiles
 
-SAMPLES = 50
 # The operation of prctl for the signal at the parent's end (PR_SET_PDEATHSIG in sys/prctl.h).
 PARENT_SIGNAL = 1
 # Network files up to this many bytes are verified completely at startup, in a quarter of a second; the blocks of larger ones
@@ -30,13 +25,12 @@ Stamp = tuple[int, int, int, int]
 
 
 class DatasetPaths(NamedTuple):
-    """Where a dataset is read from: the hierarchy's file; the prefix of its network's files, or None; whether tables are
-    computed from the links of the hierarchy; the graph that it is checked against and the program that does it, or None; and
-    whether all links are compared with the network, however many there are."""
+    """Where a dataset is read from: the hierarchy's file; the prefix of its network's files, or None; the graph that the
+    hierarchy is checked against and the program that does it, or None; and whether all links are compared with the network,
+    however many there are."""
 
     hierarchy: str
     network: str | None
-    has_tables: bool
     graph: str | None = None
     program: str | None = None
     compare_all: bool = False
@@ -50,7 +44,6 @@ class Dataset(NamedTuple):
     links: int
     roads: RoadIndex | None
     tiles: Tiles | None
-    sweeps: Sweeps | None
     keys: NodeKeys
     stamp: Stamp
 
@@ -67,13 +60,10 @@ def open_dataset(paths: DatasetPaths) -> Dataset:
         roads = None if paths.network is None else load_roads(paths.network)
         if roads is not None:
             belonging.compare(number, paths.hierarchy, roads.arrays, paths.compare_all)
-        sweeps = Sweeps.read(number, paths.hierarchy) if roads is not None and paths.has_tables else None
         if file_stamp(number) != stamp:
             raise StartupError(f"{paths.hierarchy}: has changed while it was read")
-    if roads is not None and sweeps is not None:
-        check_tables(Queries(router, links, SharedMetrics()), paths, roads, sweeps)
     tiles = None if roads is None else Tiles(roads.arrays)
-    return Dataset(router, links, roads, tiles, sweeps, NodeKeys(() if roads is None else roads.arrays.keys()), stamp)
+    return Dataset(router, links, roads, tiles, NodeKeys(() if roads is None else roads.arrays.keys()), stamp)
 
 
 def end_with_parent(number: int = signal.SIGKILL) -> None:
@@ -93,12 +83,3 @@ def load_roads(network: str) -> RoadIndex:
     roads.arrays.file.verify(EAGER_VERIFY_BYTES)
     roads.box, roads.roundabout_texts  # (computed before the fork, for all workers)
     return roads
-
-
-def check_tables(queries: Queries, paths: DatasetPaths, roads: RoadIndex, sweeps: Sweeps) -> None:
-    """Raises StartupError if tables differ from the library's lengths, for SAMPLES of the network's arcs."""
-    rows = range(0, roads.count, max(1, roads.count // SAMPLES))[:SAMPLES]
-    ends = [(roads.arc(row).start, roads.arc(row).end) for row in rows]
-    starts, stops = (np.array(side) - 1 for side in zip(*ends))
-    if sweeps.lengths(starts, stops).diagonal().tolist() != [queries.length(*pair) for pair in ends]:
-        raise StartupError(f"{paths.hierarchy}: tables differ from the library's lengths: start with --tables proved")

@@ -10,7 +10,6 @@ from domethyme.network.bearings import BearingRange, nearest_with_bearing
 from domethyme.network.leg_geometry import LegGeometry, leg_geometry, leg_totals
 from domethyme.network.legs import Leg, find_leg
 from domethyme.network.snapping import RoadIndex, SnappedPoint
-from domethyme.sweeps import Sweeps
 
 from .budget import Budget
 from .endpoints import (
@@ -22,7 +21,7 @@ from .json_text import join_array, join_object, to_json
 from .osrm_geometry import annotate, encode_geometries, join_lines, leg_lines, simplify_lines
 from .osrm_request import Request
 from .osrm_steps import build_steps
-from .osrm_tables import TableOptions, table_by_cells, table_by_sweeps
+from .osrm_tables import TableOptions, table_by_routes, table_of_weights
 from .osrm_types import RouteLeg, Waypoint
 from .queries import Queries
 
@@ -33,11 +32,10 @@ SNAP_BATCH = 16
 
 
 class Engine(NamedTuple):
-    """What answers requests. Without `sweeps` each cell of a table is a query; `max_cells` is the limit of a table's cells."""
+    """What answers requests. `max_cells` is the limit of a table's cells."""
 
     queries: Queries
     roads: RoadIndex
-    sweeps: Sweeps | None
     max_cells: int
 
 
@@ -204,13 +202,11 @@ def table(engine: Engine, request: Request) -> str:
         message = f"a table may have {engine.max_cells} cells (--table-cells), and this one would have more"
         raise RequestError(400, "TooBig", message)
     options = TableOptions.from_values(request.values, engine.roads, request.places)
-    is_swept = options.refuse_if_too_many(len(sources) * len(destinations), engine.sweeps is not None)
+    options.refuse_if_too_many(len(sources) * len(destinations))
     snapped_points = snap_places(engine.roads, request)
     starts, stops = [snapped_points[place] for place in sources], [snapped_points[place] for place in destinations]
-    if is_swept and engine.sweeps is not None:
-        found = table_by_sweeps(engine.sweeps, engine.roads, options, starts, stops)
-    else:
-        found = table_by_cells(engine.queries, engine.roads, options, starts, stops)
+    make_table = table_of_weights if options.wants_weights_only else table_by_routes
+    found = make_table(engine.queries, engine.roads, options, starts, stops)
     if not request.values[SKIP_WAYPOINTS]:
         found["sources"] = to_json([make_waypoint(request, snapped) for snapped in starts])
         found["destinations"] = to_json([make_waypoint(request, snapped) for snapped in stops])

@@ -1,18 +1,18 @@
-"""Tables of durations and distances between points on roads. Where only weights are wanted, and there are many cells, they are
-computed from the links of the hierarchy's file by sweeps (domethyme.sweeps), many times as fast as by a question for each cell.
-That is no part of what is proved, and is tested against it. Else the hierarchy is asked for each cell."""
-import collections
+"""Tables of durations and distances between points on roads. Weights come of the library's tables between nodes, which are
+proved (domethyme.network.leg_tables). Other figures are sums along routes, and a route is asked for each cell."""
 import math
 from collections.abc import Iterator, Sequence
 from typing import NamedTuple
 
 import numpy as np
+from numpy.typing import NDArray
 
 from domethyme.network.geo import EARTH_RADIUS, Point
-from domethyme.network.leg_geometry import UNITS_PER_OUTPUT_UNIT, Figures, leg_totals, make_totals
-from domethyme.network.legs import find_leg, is_same_node, leg_on_one_arc, leg_weight
+from domethyme.network.leg_geometry import UNITS_PER_OUTPUT_UNIT, Figures, leg_totals
+from domethyme.network.leg_tables import weight_rows
+from domethyme.network.legs import find_leg
 from domethyme.network.snapping import RoadIndex, SnappedPoint
-from domethyme.sweeps import NO_PATH, Numbers, Seeds, Sweeps
+from domethyme.protocol import NO_PATH
 
 from .endpoints import DESTINATIONS, FALLBACK_COORDINATE, FALLBACK_SPEED, SCALE_FACTOR, SOURCES, TABLE_ANNOTATIONS
 from .errors import RequestError, not_implemented
@@ -20,8 +20,10 @@ from .json_text import join_array, to_json
 from .parameters import Values
 from .queries import Queries
 
-# Tables of so many cells take no longer by questions, which are asked for them; and so many are asked in any case.
-MIN_CELLS_BY_SWEEPS, MAX_QUERIED_CELLS = 100, 10_000
+# Cells that a table may have for which routes are asked.
+MAX_ROUTED_CELLS = 10_000
+# Lengths between nodes that are asked for together, in some ten milliseconds: an alarm is seen between them.
+NODE_CELLS = 1 << 16
 Row = list[float | None]
 
 
@@ -52,56 +54,24 @@ class TableOptions(NamedTuple):
         """Whether no figure but the weight is wanted."""
         return set(self.names) <= {self.unit, "weight"}
 
-    def refuse_if_too_many(self, cells: int, has_sweeps: bool) -> bool:
-        """Whether the table is computed by sweeps. Raises RequestError where too many questions would be asked."""
-        is_swept = has_sweeps and self.wants_weights_only and cells > MIN_CELLS_BY_SWEEPS
-        if not is_swept and cells > MAX_QUERIED_CELLS:
-            why = f"of annotations={self.unit} or weight alone" if has_sweeps else "under --tables fast"
-            raise RequestError(400, "TooBig", f"a table may have {MAX_QUERIED_CELLS} cells, unless it is {why}")
-        return is_swept
+    def refuse_if_too_many(self, cells: int) -> None:
+        """Raises RequestError where too many routes would be asked for."""
+        if cells > MAX_ROUTED_CELLS and not self.wants_weights_only:
+            why = f"unless it is of annotations={self.unit} or weight alone"
+            raise RequestError(400, "TooBig", f"a table may have {MAX_ROUTED_CELLS} cells, {why}")
 
 
-def table_by_sweeps(
-    sweeps: Sweeps, roads: RoadIndex, options: TableOptions, starts: Sequence[SnappedPoint], ends: Sequence[SnappedPoint]
+def table_of_weights(
+    queries: Queries, roads: RoadIndex, options: TableOptions, starts: Sequence[SnappedPoint], ends: Sequence[SnappedPoint]
 ) -> dict[str, str]:
-    """The members of the answer, by sweeps."""
-    exits, entries = seeds([snapped.exits for snapped in starts]), seeds([snapped.entries for snapped in ends])
-    weights = sweeps.between(exits, entries)
-    apply_same_edge_weights(weights, roads, starts, ends)
-    rows = (row_of(weights[row], UNITS_PER_OUTPUT_UNIT.get(options.unit, 1)) for row in range(len(starts)))
+    """The members of the answer, of weights alone."""
+    unit = UNITS_PER_OUTPUT_UNIT.get(options.unit, 1)
+    some_rows = weight_rows(queries.table, roads, starts, ends, NODE_CELLS)
+    rows = (row_of(weights, unit) for some in some_rows for weights in some)
     return table_json(options, starts, ends, (dict.fromkeys(options.names, row) for row in rows))
 
 
-def seeds(sides: Sequence[dict[int, tuple[int, int]]]) -> Seeds:
-    """The exits or entries of points, whose nodes are numbered from 1, for a sweep, which numbers them from 0."""
-    rows = [(place, node - 1, side[node][0]) for place, side in enumerate(sides) for node in side]
-    places, nodes, added = np.array(rows, dtype=np.int64).reshape(-1, 3).T
-    return Seeds(len(sides), places, nodes, added)
-
-
-def apply_same_edge_weights(
-    table: Numbers, roads: RoadIndex, starts: Sequence[SnappedPoint], ends: Sequence[SnappedPoint]
-) -> None:
-    """Lowers the cells of points that are at one node, or one behind the other on an arc."""
-    columns = collections.defaultdict(list)
-    for column, end in enumerate(ends):
-        columns[end.copies or end.edge].append(column)
-    for row, start in enumerate(starts):
-        for column in columns.get(start.copies or start.edge, ()):
-            weight = same_edge_weight(roads, start, ends[column])
-            if weight is not None and not 0 <= table[row, column] <= weight:
-                table[row, column] = weight
-
-
-def same_edge_weight(roads: RoadIndex, start: SnappedPoint, end: SnappedPoint) -> int | None:
-    """The weight of the way that stays at a node, or on one arc; None where there is none."""
-    if is_same_node(start, end):
-        return 0
-    straight = leg_on_one_arc(roads, start, end)
-    return None if straight is None else straight.weight
-
-
-def row_of(weights: Numbers, unit: int) -> Row:
+def row_of(weights: NDArray[np.int64], unit: int) -> Row:
     """A row in a larger unit, with None where there is no way."""
     found = (weights / unit).astype(object)
     found[weights == NO_PATH] = None
@@ -158,32 +128,22 @@ def metres_apart(one: Point, other: Point) -> float:
     return 2 * EARTH_RADIUS * math.asin(math.sqrt(min(1.0, half)))
 
 
-def table_by_cells(
+def table_by_routes(
     queries: Queries, roads: RoadIndex, options: TableOptions, starts: Sequence[SnappedPoint], ends: Sequence[SnappedPoint]
 ) -> dict[str, str]:
-    """The members of the answer, by a question for each cell."""
-    return table_json(options, starts, ends, (row_by_cells(queries, roads, options, start, ends) for start in starts))
+    """The members of the answer, by a route for each cell."""
+    return table_json(options, starts, ends, (row_by_routes(queries, roads, options, start, ends) for start in starts))
 
 
-def row_by_cells(
+def row_by_routes(
     queries: Queries, roads: RoadIndex, options: TableOptions, start: SnappedPoint, ends: Sequence[SnappedPoint]
 ) -> dict[str, Row]:
-    """The figures of a row. Where weights are all that is wanted, routes aren't looked at."""
-    found = [cell_totals(queries, roads, start, end, options.wants_weights_only) for end in ends]
-    return {name: [None if each is None else value_of(each, name) for each in found] for name in options.names}
+    """The figures of a row."""
+    legs = [find_leg(queries, roads, start, end) for end in ends]
+    totals = [None if leg is None else leg_totals(roads, leg) for leg in legs]
+    return {name: [None if each is None else value_of(each, name) for each in totals] for name in options.names}
 
 
 def value_of(figures: Figures, name: str) -> float | None:
     """One of the figures, by its name."""
     return figures["duration"] if name == "duration" else figures["distance"] if name == "distance" else figures["weight"]
-
-
-def cell_totals(
-    queries: Queries, roads: RoadIndex, start: SnappedPoint, end: SnappedPoint, only_weights: bool
-) -> Figures | None:
-    """The figures of one cell, None where there is no way."""
-    if only_weights:
-        weight = leg_weight(queries, roads, start, end)
-        return None if weight is None else make_totals(roads, weight, 0.0, 0.0)
-    leg = find_leg(queries, roads, start, end)
-    return None if leg is None else leg_totals(roads, leg)

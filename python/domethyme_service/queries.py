@@ -6,6 +6,7 @@ from collections.abc import Sequence
 import numpy as np
 
 from domethyme import DomethymeError
+from domethyme.network.leg_tables import Ints
 from domethyme.network.legs import SnapEnds
 from domethyme.protocol import RouteReply
 from domethyme.router import Router
@@ -58,13 +59,12 @@ class Queries:
         """A shortest path, None if there is none."""
         return self.between({source: (0, 0)}, {target: (0, 0)})
 
-    def between(self, exits: SnapEnds, entries: SnapEnds, with_nodes: bool = True) -> RouteReply | None:
-        """A shortest path from one of several nodes to one of several, with the weights of both ends added; without its nodes
-        if `with_nodes` is False. None if there is none."""
+    def between(self, exits: SnapEnds, entries: SnapEnds) -> RouteReply | None:
+        """A shortest path from one of several nodes to one of several, with the weights of both ends added. None if there is none."""
         self._metrics.own.queries += 1
         sides = [[(node - 1, side[node][0]) for node in sorted(side)] for side in (exits, entries)]
         try:
-            found = self.router.between(sides[0], sides[1], with_nodes)
+            found = self.router.between(sides[0], sides[1])
         except DomethymeError as error:
             raise query_error(error) from error
         if found is None:
@@ -84,6 +84,20 @@ class Queries:
         self._metrics.own.queries += len(pairs)
         found: list[int] = out.tolist()
         return found
+
+    def table(self, sources: Ints, targets: Ints) -> Ints:
+        """The length of a shortest path from each source to each target, NO_PATH if there is none: a new array with a row for each
+        source. Here nodes are numbered from 0. More rows to the same targets take less time. Each row counts as a query."""
+        sources_u32, targets_u32 = (np.ascontiguousarray(nodes, np.uint32) for nodes in (sources, targets))
+        out = np.empty((len(sources), len(targets)), np.int64)
+        try:
+            with self.router.searcher() as searcher:
+                addresses = sources_u32.ctypes.data, len(sources), targets_u32.ctypes.data, len(targets), out.ctypes.data
+                searcher.table(*addresses)
+        except DomethymeError as error:
+            raise query_error(error) from error
+        self._metrics.own.queries += len(sources)
+        return out
 
 
 def query_error(error: DomethymeError) -> RequestError:

@@ -142,7 +142,7 @@ class Service:
     def osrm(self, call: Call) -> Response:
         """An answer of OSRM's API."""
         request = parse_request(call.path, call.query, self.options.default_radius)
-        engine = osrm.Engine(self.queries, self.require_roads(), self.dataset.sweeps, self.options.max_table_cells)
+        engine = osrm.Engine(self.queries, self.require_roads(), self.options.max_table_cells)
         return self.make_response(200, osrm.answer(engine, request), JSON)
 
     def pair(self, call: Call) -> Response:

@@ -28,7 +28,7 @@ Trip = tuple[int | None, Point, Point]
 # How many starts, and ends, a request has at most.
 MAX_SEEDS = 8
 # Places that are looked for together.
-TOGETHER = 16
+SNAP_BATCH = 16
 
 
 class RoadRoute(NamedTuple):
@@ -57,8 +57,8 @@ def snap_places(
 ) -> list[SnappedPoint]:
     """The points of roads that are nearest to the places of a table's rows. Raises ToolError for one that is too far."""
     found: list[SnappedPoint] = []
-    for begin in range(0, len(places), TOGETHER):
-        for number, snapped in enumerate(roads.nearest_batch(places[begin : begin + TOGETHER]), begin):
+    for begin in range(0, len(places), SNAP_BATCH):
+        for number, snapped in enumerate(roads.nearest_batch(places[begin : begin + SNAP_BATCH]), begin):
             found.append(check_near(snapped, places[number], "", within, path, rows[number]))
     return found
 

@@ -205,7 +205,7 @@ class ServiceTests(ServiceCase):
         process.send_signal(1)
         self.wait_for(lambda: any("reload refused: " in line and says in line for line in self.said))
         self.assertEqual(self.ask("/route/v1/car/0,0;0.008,0"), answer)
-        for words in ((), ("--tables", "proved"), ("--compare-all",)):
+        for words in ((), ("--compare-all",)):
             ended = self.run_tool("domethyme-serve", "v.rch", "--network", self.folder / "v", "--port", "0", *words, status=1)
             self.assertIn(says, ended.stderr)
         ended = self.run_tool("domethyme-serve", "v.rch", "--network", "nonet", "--port", "0", status=1)

@@ -124,7 +124,7 @@ class CompletionTests(ToolCase):
         self.assertEqual(self.completed("domethyme-nearest", "--max"), ["--max-distance"])
         self.assertEqual(self.completed("domethyme-serve", "net.rch", "--log"), ["--log-places"])
         self.assertEqual(self.completed("domethyme-to-geojson", "--format", "l"), ["lines"])
-        self.assertEqual(self.completed("domethyme-serve", "--tables", ""), ["fast", "proved"])
+        self.assertEqual(self.completed("domethyme-osm-to-gr", "--weight", ""), ["length", "time"])
         self.assertEqual(self.completed("domethyme-route-many", "net"), [])
         self.assertIn("-h", self.completed("domethyme-fetch-extract", "-"))
 

@@ -605,7 +605,7 @@ class InProcess:
     """The service as a function, with gunicorn's parser before it, and without a socket."""
 
     def __init__(self, folder) -> None:
-        paths = DatasetPaths(str(folder / "v.rch"), str(folder / "v"), True)
+        paths = DatasetPaths(str(folder / "v.rch"), str(folder / "v"))
         self.service = Service(open_dataset(paths), Options(AccessPolicy.from_options(["x"], "none")), SharedMetrics())
         self.settings = Config()
         for name, value in FIXED_SETTINGS.items():

@@ -15,7 +15,6 @@ from tool_case import TOOLS
 from domethyme.network.geo import parse_linestring
 from domethyme.network.reading import read_nodes
 from domethyme.network.tables import read_arcs
-from domethyme_service.osrm_tables import MIN_CELLS_BY_SWEEPS
 
 METRES = math.pi / 180 * 6_371_008.8
 HIGH = "0.0003,0.00001;0.0077,-0.00002"
@@ -98,7 +97,6 @@ class OsrmCase(ServiceCase):
         places += [(0.0003, 0.0001), (0.0006, 0.0001), (0.0003, -0.0001)]
         words = ";".join(f"{lon!r},{lat!r}" for lon, lat in places)
         table = self.good(f"/table/v1/car/{words}?annotations=duration,distance")
-        self.assertGreater(len(places) ** 2, MIN_CELLS_BY_SWEEPS)
         self.assertEqual(self.good(f"/table/v1/car/{words}")["durations"], table["durations"])
         with_way = compared = 0
         for (row, start), (column, end) in itertools.product(enumerate(places), repeat=2):
@@ -292,7 +290,7 @@ class RequestTests(OsrmCase):
         self.assertEqual(noted, {"nodes": [2, 3, 4]})
 
     def test_cells_without_a_path(self):
-        """By the way of a bird at a speed; and durations times a factor. By the program for few cells, and by sweeps for many."""
+        """By the way of a bird at a speed; and durations times a factor."""
         lonely = "0.0200,0.0050"
         for copies in (1, 8):
             places = ";".join([HIGH, lonely] * copies)

@@ -48,7 +48,7 @@ def weight_rows(
         some = starts[begin : begin + at_a_time]
         rows = least_by_nodes(ask, Ends.of([start.exits for start in some]), entries, (len(some), len(ends)))
         for row, start in zip(rows, some):
-            for column in columns.get(place_of(start), ()):
+            for column in columns.get(place_key(start), ()):
                 weight = weight_without_nodes(roads, start, ends[column])
                 if weight is not None and not 0 <= row[column] <= weight:
                     row[column] = weight
@@ -76,11 +76,11 @@ def columns_by_place(ends: Sequence[SnappedPoint]) -> dict[tuple[int, ...] | int
     """The columns of the points at each node, and on each edge."""
     columns = collections.defaultdict(list)
     for column, end in enumerate(ends):
-        columns[place_of(end)].append(column)
+        columns[place_key(end)].append(column)
     return columns
 
 
-def place_of(point: SnappedPoint) -> tuple[int, ...] | int:
+def place_key(point: SnappedPoint) -> tuple[int, ...] | int:
     """The nodes that a point is, or its edge."""
     return point.copies or point.edge
 

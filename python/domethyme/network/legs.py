@@ -17,8 +17,8 @@ SnapEnds = dict[int, tuple[int, int]]
 class Questions(Protocol):
     """What is asked for the ways between nodes, which are numbered from 1."""
 
-    def between(self, exits: SnapEnds, entries: SnapEnds, with_nodes: bool = True) -> RouteReply | None:
-        """The least way from one of several nodes to one of several, with the weights that lead there, or its length alone."""
+    def between(self, exits: SnapEnds, entries: SnapEnds) -> RouteReply | None:
+        """The least way from one of several nodes to one of several, with the weights that lead there."""
 
 
 class Leg(NamedTuple):
@@ -40,15 +40,6 @@ def find_leg(queries: Questions, roads: RoadIndex, start: SnappedPoint, end: Sna
     return (
         EMPTY_LEG if is_same_node(start, end) else choose_leg(roads, start, end, queries.between(start.exits, end.entries))
     )
-
-
-def leg_weight(queries: Questions, roads: RoadIndex, start: SnappedPoint, end: SnappedPoint) -> int | None:
-    """The weight of the leg, without its parts; None where there is no way."""
-    if is_same_node(start, end):
-        return 0
-    straight, route = leg_on_one_arc(roads, start, end), queries.between(start.exits, end.entries, with_nodes=False)
-    weights = [each for each in (straight and straight.weight, route and route.length) if each is not None]
-    return min(weights, default=None)
 
 
 def is_same_node(start: SnappedPoint, end: SnappedPoint) -> bool:
