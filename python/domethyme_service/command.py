@@ -33,14 +33,14 @@ EXAMPLES = """examples:
   %(prog)s net.rch --network net --verify net.gr --workers 8 --bind unix:/run/domethyme/serve.sock
   curl 'http://127.0.0.1:5000/route/v1/car/9.5215,47.1410;9.6090,47.1020?overview=false'"""
 NGINX = "packaging/nginx/domethyme.conf (/usr/share/doc/domethyme/examples/nginx.conf)"
-# Workers of a service: a long request holds one of them.
+# The least number of workers: a long request occupies one.
 MIN_WORKERS = 4
-# What is behind the path of a socket in that of the one for probes.
+# The path of the socket for probes is that of the other with this suffix.
 PROBE_SUFFIX = ".probe"
 BACKLOG = 1024
-# Bytes that the kernel takes of a client: a worker looks at a whole head before it reads it.
+# Bytes that the kernel buffers of a client: a worker peeks at the complete head of a request before it reads it.
 RECEIVE_BUFFER = 1 << 18
-# From this number on systemd hands over sockets.
+# The first descriptor of systemd's socket activation (SD_LISTEN_FDS_START).
 FIRST_SYSTEMD_DESCRIPTOR = 3
 REMOVED_OPTIONS = {
     "--connections": "worker_connections of nginx",
@@ -50,7 +50,7 @@ REMOVED_OPTIONS = {
 
 
 class RemovedOption(argparse.Action):
-    """An option that there was, and what there is in its place."""
+    """Rejects an option that was removed, and names what replaces it."""
 
     def __call__(
         self, parser: argparse.ArgumentParser, _args: argparse.Namespace, _values: Any, option: str | None = None
@@ -59,7 +59,7 @@ class RemovedOption(argparse.Action):
 
 
 def argument_parser() -> argparse.ArgumentParser:
-    """The arguments of the command. Where an option has two names, the second is the one that it had."""
+    """The arguments of the command. The second name of an option is its old one."""
     parser = argparse.ArgumentParser(
         prog="domethyme-serve", description=__doc__, epilog=EXAMPLES, formatter_class=argparse.RawDescriptionHelpFormatter
     )
@@ -95,7 +95,7 @@ def int_between(low: int, high: int) -> "functools.partial[int]":
 
 
 def bounded_int(low: int, high: int, text: str) -> int:
-    """The whole number of an argument."""
+    """The integer of an argument."""
     if not text.isascii() or not text.isdigit() or not low <= int(text[:12]) <= high:
         raise argparse.ArgumentTypeError(f"has to be from {low} to {high}")
     return int(text)
@@ -109,7 +109,7 @@ def parse_origin(text: str) -> str:
 
 
 def configure_logging(access: bool) -> None:
-    """The access log goes to standard error as it is; other lines go where gunicorn's do."""
+    """Sends the access log to standard error; other lines go where gunicorn's do."""
     access_log = logging.getLogger("domethyme_service.access")
     handler = logging.StreamHandler()
     handler.setFormatter(logging.Formatter("%(message)s"))
@@ -120,8 +120,8 @@ def configure_logging(access: bool) -> None:
 
 
 def open_sockets(args: argparse.Namespace) -> tuple[list[str], bool]:
-    """Where the service listens, as gunicorn's `bind` has it, none where systemd hands over the sockets; and whether there
-    is one for probes. Raises StartupError for an address that other machines reach."""
+    """Opens the sockets to listen on. Returns gunicorn's `bind`, empty if systemd passes the sockets, and whether there is
+    one for probes. Raises StartupError for an address that other machines can reach."""
     if os.environ.get("LISTEN_PID") == str(os.getpid()):
         inherited = [FIRST_SYSTEMD_DESCRIPTOR + number for number in range(int(os.environ.get("LISTEN_FDS", "1")))]
         for number in inherited:
@@ -139,7 +139,7 @@ def open_sockets(args: argparse.Namespace) -> tuple[list[str], bool]:
 
 
 def listen_tcp(host: str, port: int) -> str:
-    """A socket that listens at an address of the loopback, as gunicorn's `bind` has it. Raises StartupError."""
+    """Listens at an address of the loopback; returns gunicorn's `bind`. Raises StartupError."""
     try:
         family, _, _, _, address = socket.getaddrinfo(host, port, type=socket.SOCK_STREAM)[0]
         check_loopback(str(address[0]))
@@ -150,8 +150,8 @@ def listen_tcp(host: str, port: int) -> str:
 
 
 def listen_unix(path: str) -> str:
-    """The same of a unix socket of mode 0660, in place of one that was left there. (gunicorn's own would be changed of
-    owner, which the unit doesn't allow.) Raises StartupError."""
+    """The same for a unix socket of mode 0660; a socket that is there already is replaced. (gunicorn would change the owner
+    of its own, which the systemd unit doesn't allow.) Raises StartupError."""
     before = os.umask(0o117)
     try:
         if os.path.exists(path) and stat.S_ISSOCK(os.stat(path).st_mode):
@@ -173,13 +173,13 @@ def listen(family: int, address: Any) -> str:
 
 
 def check_loopback(address: str) -> None:
-    """Raises StartupError for an address that other machines may reach."""
+    """Raises StartupError for an address that other machines can reach."""
     if not ipaddress.ip_address(address.partition("%")[0]).is_loopback:
         raise StartupError(f"won't listen at {address}: other machines ask through nginx, by {NGINX}, and --bind unix:PATH")
 
 
 def run(args: argparse.Namespace) -> None:
-    """Runs the service; ends the process. Raises StartupError or a DomethymeError where it can't start."""
+    """Runs the service; ends the process. Raises StartupError or a DomethymeError if it can't start."""
     if args.workers < MIN_WORKERS:
         why = f"there are {MIN_WORKERS}, since a long request holds one"
         print(f"domethyme-serve: --workers {args.workers}: {why}", file=sys.stderr)

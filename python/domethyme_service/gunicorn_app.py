@@ -1,8 +1,8 @@
-"""The service under gunicorn, which holds its processes: the arbiter opens the files and forks the workers, which then
-share them. SIGHUP has a child open the files first, and the arbiter if that was well; else the old ones stay in use.
+"""The service under gunicorn: the arbiter opens the files and forks the workers, which share their memory. At SIGHUP a
+child opens the files first, and the arbiter if the child succeeds; if not, the old ones stay in use.
 
-gunicorn's own settings are taken from GUNICORN_CMD_ARGS, as by its own command, but for those that the service rests on
-(`FIXED`). """
+gunicorn's settings are read from GUNICORN_CMD_ARGS, as by its own command, except those that the service depends on
+(FIXED_SETTINGS)."""
 import contextlib
 import ctypes
 import gc
@@ -28,12 +28,11 @@ from .slots import Slots
 from .worker import Worker
 from .wsgi import Environ, Options, Service
 
-# Seconds after which gunicorn kills a worker that is silent, behind all that one may take for an answer; and for the
-# service to end.
+# Seconds after which gunicorn kills a worker that doesn't report, more than an answer may take; and for the service to end.
 TIMEOUT, GRACEFUL_SECONDS = 30, 30
-# How many loads of the files may have workers at once that each have a row of metrics.
+# Generations of workers, one for each load of the files, that can have rows of metrics at once.
 MAX_GENERATIONS = 8
-# The parameter of mallopt for the number of heaps (M_ARENA_MAX in malloc.h).
+# mallopt's parameter for the number of arenas (M_ARENA_MAX in malloc.h).
 ARENA_MAX = -8
 END_SIGNALS = (signal.SIGTERM, signal.SIGINT, signal.SIGQUIT)
 FIXED_SETTINGS = {
@@ -45,13 +44,12 @@ log = logging.getLogger("domethyme_service")
 
 
 class LoadInterrupted(BaseException):
-    """The service was told to end while it opened files."""
+    """A signal to end came while files were opened."""
 
 
 class Setup(NamedTuple):
-    """What the service serves: the files, how it answers, the sockets as gunicorn's `bind` has them, none where systemd has
-    them, the number of workers, whether a second socket is for probes, where a worker of its own answers, and whether the
-    log has places."""
+    """What to serve: the files, the options of answers, gunicorn's `bind`, empty if systemd passes the sockets, the number
+    of workers, whether a second socket is for probes, with one more worker, and whether the access log has paths."""
 
     paths: DatasetPaths
     options: Options
@@ -62,7 +60,7 @@ class Setup(NamedTuple):
 
 
 class Application(BaseApplication):  # type: ignore[misc] # (gunicorn has no types)
-    """The application of gunicorn."""
+    """gunicorn's application."""
 
     def __init__(self, setup: Setup, versions: dict[str, str]) -> None:
         self.setup = setup
@@ -70,12 +68,12 @@ class Application(BaseApplication):  # type: ignore[misc] # (gunicorn has no typ
         self.metrics = SharedMetrics(1 + MAX_GENERATIONS * self.workers, {**versions, "gunicorn": gunicorn.__version__})
         self.slots = Slots(setup.workers // 2)
         self.generation = 0
-        # (gunicorn would wait for whoever reads it)
+        # (gunicorn would block on a socket that nobody reads)
         self.notify_socket = os.environ.pop("NOTIFY_SOCKET", "")
         super().__init__()
 
     def load_config(self) -> None:
-        """Settings of the environment, and over them those of the service."""
+        """Sets the settings of the environment, and then those of the service."""
         self.cfg.set("graceful_timeout", GRACEFUL_SECONDS)
         if os.access("/dev/shm", os.W_OK):
             self.cfg.set("worker_tmp_dir", "/dev/shm")
@@ -94,26 +92,25 @@ class Application(BaseApplication):  # type: ignore[misc] # (gunicorn has no typ
         return Service(open_dataset(paths), self.setup.options, self.metrics)
 
     def run(self) -> None:
-        """Runs the service; ends the process. Raises StartupError or a DomethymeError where it can't start."""
+        """Runs the service; ends the process. Raises StartupError or a DomethymeError if it can't start."""
         log.parent = logging.getLogger("gunicorn.error")
         Arbiter(self).run()
 
 
 class Trial(NamedTuple):
-    """A child that opens the files, and the pipe by which it says how that went: `ready STAMP`, or why not."""
+    """A child that opens the files, and the pipe to which it writes `ready STAMP`, or the error."""
 
     process: int
     pipe: int
 
 
 class Arbiter(gunicorn.arbiter.Arbiter):  # type: ignore[misc] # (gunicorn has no types)
-    """gunicorn's arbiter, which drops no signal, and reloads by files that were tried."""
+    """gunicorn's arbiter, except that it drops no signal, and that it reloads files after a child has opened them."""
 
     app: Application
     trial: Trial | None = None
     wants_reload = is_opening = False
-    # Reloads that aren't done, and the workers of files that were replaced: they are once none of these accepts
-    # connections.
+    # Unfinished reloads, and the workers of replaced files: a reload is finished when none of these accepts connections.
     pending_reloads, old_workers = 0, list[Worker]()
 
     def setup(self, app: Application) -> None:
@@ -121,8 +118,7 @@ class Arbiter(gunicorn.arbiter.Arbiter):  # type: ignore[misc] # (gunicorn has n
         prepare_memory()
 
     def signal(self, sig: int, frame: object) -> None:
-        """Keeps a signal until the loop comes to it, one of each kind. One that ends the service interrupts the opening of
-        files."""
+        """Queues a signal for the main loop, one of each kind. A signal to end interrupts the opening of files."""
         if sig not in self.SIG_QUEUE:
             self.SIG_QUEUE.append(sig)
         self.wakeup()
@@ -130,7 +126,7 @@ class Arbiter(gunicorn.arbiter.Arbiter):  # type: ignore[misc] # (gunicorn has n
             raise LoadInterrupted
 
     def handle_hup(self) -> None:
-        """Has a child open the files. A signal that comes while one does so has another one open them behind it."""
+        """Has a child open the files. A signal that comes meanwhile repeats that afterwards."""
         log.info("reload: the files are read again%s", "" if self.trial is None else " once the reload under way has ended")
         if self.trial is not None:
             self.wants_reload = True
@@ -146,14 +142,14 @@ class Arbiter(gunicorn.arbiter.Arbiter):  # type: ignore[misc] # (gunicorn has n
         log.error("SIGUSR2 is not supported: SIGHUP reads the files again, and a restart takes another version")
 
     def trial_report(self) -> bytes:
-        """How the opening of the files goes, in a child."""
+        """Opens the files, in the child; returns its report."""
         try:
             return ready_message(self.app.load()).encode()
         except Exception as fault:
             return failure_reason(fault).encode("utf-8", "replace")[:4000]
 
     def manage_workers(self) -> None:
-        """Looks after the workers, a trial, and a reload that isn't done."""
+        """Checks on the workers, a trial, and an unfinished reload."""
         if self.trial is not None and select.select([self.trial.pipe], [], [], 0)[0]:
             self.end_trial(self.trial)
         super().manage_workers()
@@ -164,7 +160,7 @@ class Arbiter(gunicorn.arbiter.Arbiter):  # type: ignore[misc] # (gunicorn has n
             log.info("reloaded, %d nodes", self.app.callable.queries.nodes)
 
     def end_trial(self, trial: Trial) -> None:
-        """Reloads by files that a child has opened, or says why it couldn't."""
+        """Reloads the files if the child has opened them, or logs its error."""
         report = os.read(trial.pipe, 1 << 16).decode("utf-8", "replace")
         os.close(trial.pipe)
         self.trial = None
@@ -177,7 +173,7 @@ class Arbiter(gunicorn.arbiter.Arbiter):  # type: ignore[misc] # (gunicorn has n
             self.handle_hup()
 
     def reload_files(self, report: str) -> None:
-        """Opens the files that a child has tried, with their graph if it has, and replaces the workers."""
+        """Opens the files, which a child has checked against the graph, and replaces the workers."""
         self.is_opening = True
         try:
             service = self.app.open_service(self.app.setup.paths._replace(graph=None))
@@ -202,7 +198,7 @@ class Arbiter(gunicorn.arbiter.Arbiter):  # type: ignore[misc] # (gunicorn has n
         self.app.metrics.own.last_reload_failed = 1
 
     def kill_worker(self, pid: int, sig: int) -> None:
-        """Sends a signal to a worker: that it has to end, or SIGABRT, since it is silent."""
+        """Sends a signal to a worker, to end it; SIGABRT if it doesn't report."""
         if sig == signal.SIGABRT:
             self.app.metrics.own.worker_timeouts += 1
         elif pid in self.WORKERS and sig in (signal.SIGTERM, signal.SIGQUIT):
@@ -211,7 +207,7 @@ class Arbiter(gunicorn.arbiter.Arbiter):  # type: ignore[misc] # (gunicorn has n
 
 
 def pre_fork(arbiter: Arbiter, worker: Worker) -> None:
-    """Gives a worker its row of metrics and its socket."""
+    """Assigns a worker its row of metrics and its socket."""
     app, others = arbiter.app, list(arbiter.WORKERS.values())
     used = {id(other.row) for other in others}
     worker.row = next((row for row in app.metrics.rows[1:] if id(row) not in used), app.metrics.rows[-1])
@@ -222,14 +218,14 @@ def pre_fork(arbiter: Arbiter, worker: Worker) -> None:
 
 
 def post_fork(arbiter: Arbiter, worker: Worker) -> None:
-    """In the worker: it ends with the arbiter, and counts in its own row."""
+    """In the worker: has it end with the arbiter, and count in its own row."""
     end_with_parent(signal.SIGTERM)
     worker.row.process = os.getpid()
     arbiter.app.metrics.own = worker.row
 
 
 def child_exit(arbiter: Arbiter, worker: Worker) -> None:
-    """A worker has ended: the arbiter starts another one if it wasn't told to."""
+    """Counts a worker that ended by itself, which the arbiter replaces."""
     worker.row.reset_gauges()
     if not worker.is_stopping:
         arbiter.app.metrics.own.worker_restarts += 1
@@ -237,7 +233,7 @@ def child_exit(arbiter: Arbiter, worker: Worker) -> None:
 
 
 def pre_request(_worker: Worker, _request: object) -> None:
-    """In the worker: gunicorn's own would make a line for its log that nobody reads, and has the path."""
+    """Does nothing: gunicorn's default logs the path."""
 
 
 def post_request(worker: Worker, _request: object, environ: Environ, response: Any) -> None:
@@ -246,7 +242,7 @@ def post_request(worker: Worker, _request: object, environ: Environ, response: A
 
 
 def when_ready(arbiter: Arbiter) -> None:
-    """The service listens."""
+    """The service listens: logs that, and notifies systemd."""
     own = arbiter.app.metrics.own
     own.process = os.getpid()
     record_load(arbiter.app.metrics)
@@ -255,23 +251,23 @@ def when_ready(arbiter: Arbiter) -> None:
 
 
 def record_load(metrics: SharedMetrics) -> None:
-    """The files were opened that are served now."""
+    """Stores when the files that are served were opened."""
     metrics.own.last_reload_failed, metrics.own.last_reload_timestamp = 0, time.time()
 
 
 def ready_message(service: Service) -> str:
-    """What a trial says of a service whose files are open: the state of the hierarchy's file."""
+    """The report of a trial that succeeded: the state of the hierarchy's file."""
     return f"ready {' '.join(map(str, service.dataset.stamp))}"
 
 
 def failure_reason(error: Exception) -> str:
-    """Why files can't be opened, in a line."""
+    """The error of opening files, in one line."""
     kind = "" if isinstance(error, (StartupError, DomethymeError, OSError)) else f"{type(error).__name__}: "
     return " ".join(f"{kind}{error}".split())
 
 
 def run_in_child(work: Callable[[], object]) -> NoReturn:
-    """Does the work in a process that was forked for it, which ends with the arbiter and with the work."""
+    """Runs `work` in this forked process and ends it; it ends with the arbiter, too."""
     try:
         for number in (signal.SIGHUP, signal.SIGINT, signal.SIGTERM, signal.SIGCHLD):
             signal.signal(number, signal.SIG_IGN if number == signal.SIGHUP else signal.SIG_DFL)
@@ -282,8 +278,8 @@ def run_in_child(work: Callable[[], object]) -> NoReturn:
 
 
 def prepare_memory() -> None:
-    """Prepares the memory of this process for its workers. What the opening of files took goes back to the system (glibc's
-    malloc_trim), what is left is nothing that workers look for garbage in, and each has one heap."""
+    """Prepares the memory of this process for the fork: returns free memory to the system (malloc_trim), excludes all objects
+    from garbage collection, and limits malloc to one arena."""
     gc.collect()
     gc.freeze()
     libc = ctypes.CDLL(None)
@@ -292,7 +288,7 @@ def prepare_memory() -> None:
 
 
 def format_address(listener: Any) -> str:
-    """The address of a socket as an URL has it, or `unix:PATH`."""
+    """The URL of a socket, or `unix:PATH`."""
     name = listener.getsockname()
     if isinstance(name, (str, bytes)):
         return f"unix:{os.fsdecode(name)}"
@@ -300,7 +296,7 @@ def format_address(listener: Any) -> str:
 
 
 def notify_systemd(name: str, text: str) -> None:
-    """Sends a line to the socket of systemd, if there is one. It doesn't wait where nobody reads that."""
+    """Sends a line to systemd's notification socket, if there is one, without blocking."""
     if name[:1] in ("/", "@"):
         with contextlib.suppress(OSError), socket.socket(socket.AF_UNIX, socket.SOCK_DGRAM) as stream:
             stream.setblocking(False)

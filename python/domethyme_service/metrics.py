@@ -1,7 +1,7 @@
-"""Metrics of the whole service, in the text format 0.0.4 of Prometheus. Names of endpoints are labels, and never paths.
+"""Metrics of the whole service, in Prometheus' text format 0.0.4. Labels are names of endpoints, never paths.
 
-All processes share one piece of memory, in which each has a row of its own and no other writes. So whichever process is
-asked sums the rows of all, and what a process has counted is there after its end. """
+All processes share one block of memory, in which each writes to a row of its own. So any process can report the sums of all
+rows, and the counts of a process remain after its end."""
 import bisect
 import ctypes
 import mmap
@@ -15,7 +15,7 @@ from .endpoints import ENDPOINTS
 BUCKETS = (0.001, 0.0025, 0.005, 0.01, 0.025, 0.05, 0.1, 0.25, 0.5, 1.0, 2.5, 5.0, 10.0, 30.0)
 STATUSES = (200, 204, 400, 403, 404, 405, 408, 413, 415, 421, 500, 503, 504, 505)
 ENDPOINT_NAMES = (*(endpoint.name for endpoint in ENDPOINTS), "other")
-# Names without `domethyme_`. The first, a process, is for this module alone.
+# Names without `domethyme_`. The first, a process id, isn't reported.
 GAUGES = ("process", "workers", "last_reload_failed", "last_reload_timestamp_seconds")
 COUNTERS = (
     "queries_total", "worker_restarts_total", "worker_timeouts_total", "reloads_total", "reload_failures_total",
@@ -39,7 +39,7 @@ HELP = {
     "long_requests_refused_total": "Long requests that were refused since too many were under way.",
     "build_info": "1, with the versions as labels.",
 }
-# Names of version 1.1, which are printed too for one version.
+# Old names, which are reported too for one version.
 OLD_NAMES = {
     "queries_total": "questions_total", "workers": "fronts", "worker_restarts_total": "front_restarts_total",
     "worker_timeouts_total": "front_silences_total", "reload_failures_total": "reloads_refused_total",
@@ -47,7 +47,7 @@ OLD_NAMES = {
 }
 REQUESTS_AT = len(UNLABELLED)
 HISTOGRAMS_AT = REQUESTS_AT + len(ENDPOINT_NAMES) * len(STATUSES)
-# Of each endpoint the counts of its times, and their sum.
+# The counts of an endpoint's times, and their sum.
 HISTOGRAM_WIDTH = len(BUCKETS) + 2
 ROW_WIDTH = HISTOGRAMS_AT + len(ENDPOINT_NAMES) * HISTOGRAM_WIDTH
 Cells = ctypes.Array[ctypes.c_double]
@@ -56,7 +56,7 @@ PAGE_SIZE = os.sysconf("SC_PAGE_SIZE")
 
 
 class Metric:
-    """A value of a row, which is read and written as an attribute."""
+    """A value of a row, as an attribute."""
 
     def __init__(self, name: str) -> None:
         self.index = UNLABELLED.index(name)
@@ -74,17 +74,17 @@ class Metric:
 
 
 class Row:
-    """What one process has done and has under way."""
+    """The counters and gauges of one process."""
 
     process, workers, last_reload_failed, last_reload_timestamp = map(Metric, GAUGES)
     queries, worker_restarts, worker_timeouts, reloads, reload_failures, cancelled, long_refused = map(Metric, COUNTERS)
 
     def __init__(self, cells: Cells | None = None) -> None:
-        """By default one that no other process sees."""
+        """`cells` are in shared memory, or by default in this process alone."""
         self.cells = RowArray() if cells is None else cells
 
     def count(self, endpoint: str, status: int, seconds: float) -> None:
-        """Counts one answer."""
+        """Counts an answer."""
         name = ENDPOINT_NAMES.index(endpoint)
         self.cells[REQUESTS_AT + name * len(STATUSES) + STATUSES.index(status)] += 1
         begin = HISTOGRAMS_AT + name * HISTOGRAM_WIDTH
@@ -98,7 +98,7 @@ class Row:
 
 
 class SharedMetrics:
-    """The rows of all processes. Those that are forked after it was made share it. `own` is the row of this process."""
+    """The rows of all processes, shared with those that are forked after it was made. `own` is the row of this process."""
 
     def __init__(self, rows: int = 1, versions: dict[str, str] | None = None) -> None:
         size = ctypes.sizeof(RowArray)
@@ -107,7 +107,7 @@ class SharedMetrics:
         self.own, self.versions = self.rows[0], versions or {}
 
     def text(self, nodes: int) -> str:
-        """The whole page, with the sums of all rows and the number of nodes."""
+        """The text of /metrics: the sums of all rows, and the number of nodes."""
         rows = [row.cells[:] for row in self.rows]
         sums = [sum(column) for column in zip(*filter(any, rows))] or [0.0] * ROW_WIDTH
         memory = max((resident_bytes(int(row[0])) for row in rows if row[0]), default=0)
@@ -120,7 +120,7 @@ class SharedMetrics:
 
 
 def resident_bytes(process: int) -> int:
-    """The bytes of resident memory of a process; 0 for one that has ended."""
+    """The resident memory of a process; 0 if it has ended."""
     try:
         return int(pathlib.Path(f"/proc/{process}/statm").read_text().split()[1]) * PAGE_SIZE
     except OSError:
@@ -128,7 +128,7 @@ def resident_bytes(process: int) -> int:
 
 
 def format_header(name: str, kind: str) -> Iterator[str]:
-    """What a name means, and its kind."""
+    """The HELP and TYPE lines of a metric."""
     yield f"# HELP domethyme_{name} {HELP[name]}"
     yield f"# TYPE domethyme_{name} {kind}"
 
@@ -155,7 +155,7 @@ def format_histogram(sums: list[float]) -> Iterator[str]:
 
 
 def format_unlabelled(values: dict[str, float], kind: str) -> Iterator[str]:
-    """The lines of values without labels, each also with its old name."""
+    """The lines of metrics without labels, also under their old names."""
     for name, value in values.items():
         yield from format_header(name, kind)
         yield f"domethyme_{name} {value:.15g}"

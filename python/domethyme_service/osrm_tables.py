@@ -104,8 +104,8 @@ def fill_fallback(
     options: TableOptions, starts: Sequence[SnappedPoint], ends: Sequence[SnappedPoint], number: int,
     figures: dict[str, Row], speed: float,
 ) -> list[list[int]]:
-    """Puts the way of a bird at this speed, in metres a second, into the cells without a way; returns which they are. A weight that is
-    neither time nor distance stays unknown."""
+    """Fills cells without a route by the great-circle distance, and that over `speed`, in metres a second; returns their [row,
+    column]. A weight that is neither time nor distance stays None."""
     found = []
     for column in range(len(ends)):
         if any(row[column] is None for row in figures.values()):

@@ -1,5 +1,6 @@
-"""A sync worker of gunicorn that waits for no client: it takes a request once its head has come, and a long one once a slot
-is free. It ends an answer that takes too long, counts and logs requests, and answers errors of HTTP as JSON."""
+"""A sync worker of gunicorn that doesn't block on slow clients: it reads a request once its head has arrived, and answers a
+long one once a slot is free. It ends an answer that takes too long, counts and logs requests, and reports HTTP errors as
+JSON."""
 import collections
 import contextlib
 import datetime
@@ -24,21 +25,20 @@ from .metrics import Row
 from .slots import Slots
 from .wsgi import JSON, STATUS_LINES, Environ, Service, StartResponse
 
-# Seconds for a head and a short body to come, for an answer, and for that of a long request or between two blocks of a
-# batch.
+# Seconds for a head and a short body to arrive, for an answer, and for the answer to a long request or a block of a batch.
 HEAD_SECONDS, ANSWER_SECONDS, LONG_SECONDS = 10.0, 10.0, 25.0
-# Seconds for which a long request waits for a slot, and after which a worker looks for one again.
+# Seconds for which a long request waits for a slot, and between two tries.
 SLOT_SECONDS, SLOT_POLL_SECONDS = 5.0, 0.05
-# Seconds for clients that haven't sent a head as the worker ends, and for a body that nobody wants.
+# Seconds for connections to send their heads when the worker ends, and to close after an answer.
 DRAIN_SECONDS, LINGER_SECONDS = 1.0, 2.0
-# Milliseconds for which a worker waits for the head of a client that has just connected, before it looks after others.
+# Milliseconds to wait for the head of a new connection before others are served.
 FIRST_WAIT_MILLISECONDS = 2
-# The greatest head, and its first line; and what a request has at most that isn't a long one: bytes of a body, of a path
-# (25 places have some 500), and of a whole target.
+# Bytes of a head and of its first line; and of a body, a path (25 places have some 500) and a target of a request that isn't
+# a long one.
 MAX_HEAD, MAX_LINE, SHORT_BODY, SHORT_PATH, SHORT_TARGET = 1 << 17, 65_600, 2048, 512, 4096
-# Connections that may wait for their heads, in each worker.
+# Connections of a worker that may wait for their heads.
 MAX_WAITING = 500
-# The control characters that no head has.
+# The control characters that a head may not contain.
 CONTROL_CHARACTERS = bytes([*range(9), 11, 12, *range(14, 32), 127])
 BODY_LENGTH = re.compile(rb"\ncontent-length:[ \t]*([0-9]{1,4})[ \t]*\r")
 HANGUP_EVENTS = select.EPOLLRDHUP | select.EPOLLHUP | select.EPOLLERR
@@ -46,19 +46,19 @@ access_log, log = logging.getLogger("domethyme_service.access"), logging.getLogg
 
 
 class AnswerTimeout(BaseException):
-    """The time for an answer is over."""
+    """An answer has taken too long."""
 
 
 class HeadState(enum.Enum):
-    """What has come of a request: its head and short body, less, nothing, since the client has closed, or what is no
-    head."""
+    """What has arrived of a request: the head and a short body, a part of them, nothing because the client has closed, or an
+    invalid head."""
 
     WHOLE, PARTIAL, CLOSED, MALFORMED = range(4)
 
 
 class Connection(NamedTuple):
-    """A connection, its client's address, until when it may wait, and its request, once its head was read, and whether it
-    is a long one."""
+    """A connection: its socket, the client's address, how long it may wait, its request once the head was read, and whether
+    that is a long one."""
 
     client: socket.socket
     address: Any
@@ -68,8 +68,8 @@ class Connection(NamedTuple):
 
 
 class BufferedHead:
-    """A client to which the head of an answer is sent with what follows it: one call of the kernel less, and of an answer
-    whose worker is killed before its body nothing has gone, so that nginx may ask once more."""
+    """A socket that sends the head of an answer together with the first part of the body. That saves a system call, and if the
+    worker is killed before the body, nothing was sent, so nginx can repeat the request."""
 
     def __init__(self, client: socket.socket) -> None:
         self._client, self._head, self._has_sent = client, b"", False
@@ -85,20 +85,19 @@ class BufferedHead:
             self._head, self._has_sent = data, True
 
     def flush(self) -> None:
-        """Sends a head that nothing follows."""
+        """Sends the head of an answer without a body."""
         if self._head:
             self._client.sendall(self._head)
 
 
 class Worker(SyncWorker):  # type: ignore[misc] # (gunicorn has no types)
-    """A worker. Before the fork the arbiter sets `row`, its metrics, `slots`, which all workers share, and whether the log
-    has places."""
+    """A worker. Before the fork the arbiter sets `row`, its metrics, `slots`, which all workers share, and whether the access
+    log has paths."""
 
     row: Row
     slots: Slots
     log_places = False
-    # What the arbiter knows of it: which load of the files it serves, whether it is the one for probes, and was told to
-    # end.
+    # Of the arbiter: which load of the files it serves, whether it answers probes, and whether it was sent a signal to end.
     generation, is_probe, is_stopping = 0, False, False
 
     def init_process(self) -> None:
@@ -121,7 +120,7 @@ class Worker(SyncWorker):  # type: ignore[misc] # (gunicorn has no types)
         self.wsgi = self.answer
 
     def run(self) -> None:
-        """Answers until it is told to end, and then those that have connected before."""
+        """Answers requests until a signal to end, and then those of open connections."""
         listener, self.epoll = self.sockets[0], select.epoll()
         self.epoll.register(self.PIPE[0], select.EPOLLIN)
         self.epoll.register(listener, select.EPOLLIN | select.EPOLLEXCLUSIVE)
@@ -142,7 +141,7 @@ class Worker(SyncWorker):  # type: ignore[misc] # (gunicorn has no types)
             self.poll(SLOT_POLL_SECONDS)
 
     def accept(self, listener: Any) -> bool:
-        """Takes the next connection; returns whether there was one."""
+        """Accepts a connection; returns whether there was one."""
         if len(self.awaiting_head) >= MAX_WAITING:
             oldest = self.stop_waiting(next(iter(self.awaiting_head)))
             self.reject(oldest, RequestError(503, "Overloaded", "too many connections"))
@@ -167,7 +166,7 @@ class Worker(SyncWorker):  # type: ignore[misc] # (gunicorn has no types)
         return True
 
     def poll(self, seconds: float) -> None:
-        """Waits for connections, for more of those that it has, and for signals."""
+        """Waits for new connections, data of open ones, and signals."""
         for number, events in self.epoll.poll(min(seconds, SLOT_POLL_SECONDS) if self.queue else seconds):
             if number == self.PIPE[0]:
                 os.read(number, 4096)
@@ -183,7 +182,7 @@ class Worker(SyncWorker):  # type: ignore[misc] # (gunicorn has no types)
         return self.awaiting_head.pop(number)
 
     def check_deadlines(self) -> None:
-        """Refuses heads that are too late, and answers long requests for which there are slots."""
+        """Rejects heads that are late, and answers long requests if slots are free."""
         now = time.monotonic()
         while self.awaiting_head and (first := next(iter(self.awaiting_head.items())))[1].deadline < now:
             late = self.stop_waiting(first[0])
@@ -200,14 +199,14 @@ class Worker(SyncWorker):  # type: ignore[misc] # (gunicorn has no types)
                 return
 
     def read_request(self, connection: Connection, head: HeadState) -> None:
-        """Reads the head of a request, and answers it, or has it wait for a slot."""
+        """Reads the head of a request, and answers or queues it."""
         if head is not HeadState.WHOLE:
             return connection.client.close() if head is HeadState.CLOSED else self.reject(connection, malformed())
         try:
             request = next(RequestParser(self.cfg, connection.client, connection.address))
         except (NoMoreData, StopIteration, OSError):
             return connection.client.close()
-        except Exception:  # (gunicorn has an error for each fault, and no other for them)
+        except Exception:  # (gunicorn's errors of heads have no common class)
             return self.reject(connection, malformed())
         until = time.monotonic() + SLOT_SECONDS
         connection = Connection(connection.client, connection.address, until, request, is_long(request))
@@ -217,7 +216,7 @@ class Worker(SyncWorker):  # type: ignore[misc] # (gunicorn has no types)
             self.serve(connection)
 
     def serve(self, connection: Connection) -> None:
-        """Answers a request, and frees the slot that it has."""
+        """Answers a request, and frees its slot."""
         client, request = connection.client, connection.request
         self.started = time.monotonic()
         is_slow = connection.is_long or request.path.startswith(("/table/", "/nodes/routes", "/nodes/lengths"))
@@ -238,8 +237,8 @@ class Worker(SyncWorker):  # type: ignore[misc] # (gunicorn has no types)
             client.close() if request.method in ("GET", "HEAD") and not connection.is_long else self.linger(connection)
 
     def answer(self, environ: Environ, start_response: StartResponse) -> Iterable[bytes]:
-        """What gunicorn calls: the service, and 504 in place of an answer that takes too long. A worker in which one was
-        broken off ends behind it, since what that held may be lost."""
+        """The WSGI application: the service, and 504 for an answer that takes too long. Then the worker ends, since resources of
+        the interrupted answer may be lost."""
         heads: list[tuple[object, ...]] = []
         try:
             blocks = self.service(environ, lambda *head: heads.append(head))
@@ -250,7 +249,7 @@ class Worker(SyncWorker):  # type: ignore[misc] # (gunicorn has no types)
         return blocks if isinstance(blocks, list) else self.restart_alarm_per_block(blocks)
 
     def restart_alarm_per_block(self, blocks: Iterable[bytes]) -> Iterator[bytes]:
-        """The blocks of an answer, each with the time that a whole one has."""
+        """The blocks of an answer, each with the time limit of an answer."""
         for block in blocks:
             self.notify()
             self.start_alarm(self.seconds)
@@ -269,20 +268,20 @@ class Worker(SyncWorker):  # type: ignore[misc] # (gunicorn has no types)
         self.alive = False
 
     def handle_error(self, request: Any, client: socket.socket, address: Any, error: Exception) -> None:
-        """Answers an error inside of gunicorn or of the service, of which nothing was sent."""
+        """Answers an internal error of which nothing was sent."""
         log.error("error while answering", exc_info=error)
         send_error(client, RequestError(500, "InternalError", "an error inside"))
 
     def reject(self, connection: Connection, error: RequestError) -> None:
-        """Answers a request that nothing was read of but its head, or not even that, and closes."""
+        """Sends an error in place of an answer, discards what has arrived, and closes."""
         self.row.count("other", error.status, 0.0)
         discard(connection.client)
         send_error(connection.client, error)
         connection.client.close() if connection.request is None else self.linger(connection)
 
     def linger(self, connection: Connection) -> None:
-        """Closes a connection once its client has, or some seconds later: to close it while something is unread would reset
-        it, and the answer might be lost."""
+        """Closes a connection after its client has, or some seconds later: closing it with unread data would reset it, and the
+        answer might be lost."""
         try:
             connection.client.shutdown(socket.SHUT_WR)
             self.lingering[connection.client.fileno()] = connection._replace(deadline=time.monotonic() + LINGER_SECONDS)
@@ -310,14 +309,14 @@ class Worker(SyncWorker):  # type: ignore[misc] # (gunicorn has no types)
 
 
 def wait_readable(client: socket.socket) -> None:
-    """Waits a moment for what a client sends first."""
+    """Waits FIRST_WAIT_MILLISECONDS for data."""
     coming = select.poll()
     coming.register(client, select.POLLIN)
     coming.poll(FIRST_WAIT_MILLISECONDS)
 
 
 def peek_head(client: socket.socket) -> HeadState:
-    """What has come of a request. Nothing of it is taken."""
+    """What has arrived of a request, which isn't consumed."""
     try:
         received = client.recv(MAX_HEAD, socket.MSG_PEEK | socket.MSG_DONTWAIT)
     except BlockingIOError:
@@ -328,8 +327,8 @@ def peek_head(client: socket.socket) -> HeadState:
 
 
 def classify_head(received: bytes) -> HeadState:
-    """The same of the bytes that have come. What RFC 9112 lets a server refuse is malformed: a control character, a CR or
-    an LF alone, and a line that goes on in the next."""
+    """What `received` is of a request. Malformed is what RFC 9112 lets a server reject: a control character, a CR or an LF
+    alone, and a folded line."""
     end = received.find(b"\r\n\r\n")
     head = received.removesuffix(b"\r") if end < 0 else received[: end + 4]
     lines = head.count(b"\r\n")
@@ -350,8 +349,7 @@ def classify_head(received: bytes) -> HeadState:
 
 
 def is_long(request: Any) -> bool:
-    """Whether a request may take seconds, by its head: of many places, or with a body that isn't short or whose length
-    isn't known."""
+    """Whether a request may take seconds, by its head: with many places, or with a body that is long or of unknown length."""
     if len(request.path) > SHORT_PATH or len(request.uri) > SHORT_TARGET:
         return True
     lengths = [value for name, value in request.headers if name in ("CONTENT-LENGTH", "TRANSFER-ENCODING")]
@@ -359,7 +357,7 @@ def is_long(request: Any) -> bool:
 
 
 def send_error(client: socket.socket, error: RequestError) -> None:
-    """Writes an error as a whole answer."""
+    """Sends a complete error response."""
     body = json.dumps({"code": error.code, "message": error.message}, separators=(",", ":")).encode()
     more = "Retry-After: 1\r\n" if error.status == 503 else ""
     fields = f"Content-Type: {JSON}\r\nContent-Length: {len(body)}\r\nConnection: close\r\n{more}\r\n"
@@ -368,7 +366,7 @@ def send_error(client: socket.socket, error: RequestError) -> None:
 
 
 def discard(client: socket.socket) -> bool:
-    """Reads what has come of what nobody wants, some megabytes at most; returns whether more may come."""
+    """Discards what has arrived, at most 4 MiB; returns whether more may arrive."""
     try:
         for _ in range(64):
             if not client.recv(1 << 16, socket.MSG_DONTWAIT):

@@ -1,11 +1,9 @@
-"""The service as a function of WSGI (PEP 3333): `Service(dataset, options, metrics)(environ, start_response)`. It has no
-clock, starts no process and opens no socket: how long an answer may take, and how many processes answer, is for who calls
-it (gunicorn_app).
+"""The service as a WSGI function (PEP 3333): `Service(dataset, options, metrics)(environ, start_response)`. It reads no clock,
+starts no process and opens no socket: timeouts and processes are the caller's (gunicorn_app).
 
-Beside the keys of WSGI it reads RAW_URI, the target as it came, still percent-encoded, as gunicorn has it. It leaves in
-`environ` for a log `domethyme.endpoint`, by which requests are counted, and `domethyme.error`, the RequestError of an
-answer that is one. A request that came by a unix socket, which has no address, came through nginx, whose X-Local-Address is
-believed. """
+It reads RAW_URI, the percent-encoded target, which gunicorn adds to WSGI's keys. For logs it stores in `environ`
+`domethyme.endpoint`, the name by which the request is counted, and `domethyme.error`, the RequestError of an error response.
+A request on a unix socket comes from nginx, so its X-Local-Address is trusted."""
 import http
 import itertools
 import logging
@@ -31,7 +29,7 @@ from .static import CACHE_ONE_DAY, HEADERS, NO_CACHE, PAGE_FILES, no_network_err
 from .tiles import Tiles
 
 MAX_BODY, MAX_FIELDS = 4 << 20, 50
-# The targets of requests, and the lengths of bodies.
+# Targets of requests, and lengths of bodies.
 TARGET = re.compile(r"/[!-~]{0,65535}|https?://[!-~]{1,65528}")
 LENGTH = re.compile("[0-9]{1,18}")
 JSON = "application/json; charset=utf-8"
@@ -44,8 +42,8 @@ log = logging.getLogger("domethyme_service")
 
 
 class Options(NamedTuple):
-    """How a service answers: who may ask, the metres within which a place has to have a road, and the cells that a table
-    may have."""
+    """Options of a service: which requests are allowed, the default of the greatest metres to a road, and the cells of a
+    table."""
 
     access: AccessPolicy
     default_radius: float = 1000.0
@@ -53,7 +51,7 @@ class Options(NamedTuple):
 
 
 class Response(NamedTuple):
-    """An answer: its status, its headers, and its body, a list of one part, or its blocks one by one."""
+    """A response. The body is a list of one part, or an iterator of blocks."""
 
     status: int
     headers: dict[str, str]
@@ -61,7 +59,7 @@ class Response(NamedTuple):
 
 
 class Call(NamedTuple):
-    """A request: its endpoint, the path as it came, still percent-encoded, its parameters, and what WSGI has of it."""
+    """A request: its endpoint, its percent-encoded path, its parameters, and WSGI's environ."""
 
     endpoint: Endpoint
     path: str
@@ -69,12 +67,12 @@ class Call(NamedTuple):
     environ: Environ
 
     def values(self, context: Context = Context()) -> Values:
-        """The values of its parameters. Raises RequestError."""
+        """The values of the parameters. Raises RequestError."""
         return self.endpoint.values(self.query, context)
 
 
 class Service:
-    """Answers requests from a dataset. `metrics` has the row of this process, which counts queries."""
+    """Answers requests from a dataset. Queries are counted in `metrics.own`."""
 
     def __init__(self, dataset: Dataset, options: Options, metrics: SharedMetrics) -> None:
         self.dataset, self.options, self.metrics = dataset, options, metrics
@@ -82,7 +80,7 @@ class Service:
         self.headers = {"X-Content-Type-Options": "nosniff", **options.access.headers}
 
     def __call__(self, environ: Environ, start_response: StartResponse) -> Iterable[bytes]:
-        """Answers one request."""
+        """Answers a request."""
         environ["domethyme.endpoint"] = "other"
         try:
             response = self.respond(environ)
@@ -98,14 +96,14 @@ class Service:
         return send(environ, start_response, response)
 
     def error_response(self, environ: Environ, start_response: StartResponse, error: RequestError) -> Iterable[bytes]:
-        """Answers with an error."""
+        """Answers with an error, and stores it in `environ`."""
         environ["domethyme.error"] = error
         more = {"Retry-After": "1"} if error.status == 503 else {}
         response = self.make_response(error.status, to_json({"code": error.code, "message": error.message}), JSON, more)
         return send(environ, start_response, response)
 
     def respond(self, environ: Environ) -> Response:
-        """The answer to a request. Raises RequestError, and a DomethymeError where a file is damaged."""
+        """The response to a request. Raises RequestError, and a DomethymeError if a file is damaged."""
         host, path, query = parse_target(environ)
         endpoint = find_endpoint(path)
         environ["domethyme.endpoint"] = endpoint.name
@@ -120,7 +118,7 @@ class Service:
         return HANDLERS[endpoint.name](self, Call(endpoint, path, query, environ))
 
     def preflight(self) -> Response:
-        """What a browser asks before a page whose origin is allowed sends a batch."""
+        """The answer to a CORS preflight."""
         allowed = {"Access-Control-Allow-Methods": "GET, POST", "Access-Control-Allow-Headers": "Content-Type"}
         return Response(204, {**self.headers, **allowed, "Access-Control-Max-Age": "7200"}, [b""])
 
@@ -140,21 +138,21 @@ class Service:
         return self.make_response(200, tiles.read(call.path), JSON, CACHE_ONE_DAY)
 
     def osrm(self, call: Call) -> Response:
-        """An answer of OSRM's API."""
+        """Answers a request of OSRM's API."""
         request = parse_request(call.path, call.query, self.options.default_radius)
         engine = osrm.Engine(self.queries, self.require_roads(), self.options.max_table_cells)
         return self.make_response(200, osrm.answer(engine, request), JSON)
 
     def pair(self, call: Call) -> Response:
-        """The answer for a pair of nodes."""
+        """The route or length of a pair of nodes."""
         values = call.values(Context(nodes=self.queries.nodes))
         answer = node_queries.route_answer if call.endpoint.name == "/nodes/route" else node_queries.length_answer
         ends = (node_queries.find_node(self.queries, values, *each) for each in ((FROM, FROM_KEY), (TO, TO_KEY)))
         return self.make_response(200, answer(self.queries, *ends), JSON)
 
     def batch(self, call: Call) -> Response:
-        """Reads the body whole, and answers block by block: a client may send all before it reads. An error before the
-        first block is a whole answer; behind it nothing but a broken connection can say so."""
+        """Reads the whole body, since a client may send all of it before it reads, and answers in blocks. An error before the
+        first block is an error response; after it the connection is broken."""
         call.values()
         check_content_type(call.environ.get("CONTENT_TYPE", ""))
         body = read_body(call.environ)
@@ -163,7 +161,7 @@ class Service:
         return Response(200, {"Content-Type": LINES, **self.headers}, itertools.chain([first], blocks))
 
     def health(self, _call: Call) -> Response:
-        """Says that requests are answered."""
+        """Reports that requests are answered."""
         found = {"status": "ok", "nodes": self.queries.nodes, "links": self.queries.links}
         return self.make_response(200, to_json(found), JSON)
 
@@ -172,7 +170,7 @@ class Service:
         return self.make_response(200, self.metrics.text(self.queries.nodes), METRICS)
 
     def make_response(self, status: int, text: str | bytes, kind: str, more: Mapping[str, str] | None = None) -> Response:
-        """An answer whose body is known."""
+        """A response with a complete body."""
         body = text if isinstance(text, bytes) else text.encode("utf-8", "replace")
         headers = {"Content-Type": kind, "Content-Length": str(len(body)), **self.headers, **(more or {})}
         return Response(status, headers, [body])
@@ -191,14 +189,14 @@ class Service:
 
 
 def send(environ: Environ, start_response: StartResponse, response: Response) -> Iterable[bytes]:
-    """Begins an answer, and returns its body, of which a HEAD has nothing."""
+    """Starts a response, and returns its body, which is empty for HEAD."""
     start_response(STATUS_LINES[response.status], list(response.headers.items()))
     return [] if environ["REQUEST_METHOD"] == "HEAD" else response.body
 
 
 def parse_target(environ: Environ) -> tuple[str | None, str, dict[str, str]]:
-    """The host that a request is for, its path and its parameters. Raises RequestError for what isn't HTTP/1.0 or 1.1, and
-    for parameters that come twice."""
+    """The host, the path and the parameters of a request. Raises RequestError if it isn't HTTP/1.0 or 1.1, or a parameter
+    is repeated."""
     target, host = environ["RAW_URI"], environ.get("HTTP_HOST")
     length, coding = environ.get("CONTENT_LENGTH") or "0", environ.get("HTTP_TRANSFER_ENCODING", "chunked")
     if not TARGET.fullmatch(target) or not LENGTH.fullmatch(length) or coding.lower() != "chunked" or "," in (host or ""):
@@ -229,7 +227,7 @@ def parse_query(query: str) -> list[tuple[str, str]]:
 
 
 def local_address(environ: Environ) -> str:
-    """The address that a request came to, through nginx or not."""
+    """The address of this end of the connection, or of nginx's."""
     return str(environ.get("SERVER_NAME") if environ.get("REMOTE_ADDR") else environ.get("HTTP_X_LOCAL_ADDRESS", ""))
 
 
@@ -238,7 +236,7 @@ def has_body(environ: Environ) -> bool:
 
 
 def read_body(environ: Environ) -> bytes:
-    """The body of a batch. Raises RequestError where it is longer than MAX_BODY, compressed, or ends before it is whole."""
+    """The body of a batch. Raises RequestError if it is longer than MAX_BODY, compressed, or incomplete."""
     if environ.get("HTTP_CONTENT_ENCODING", "identity").lower() != "identity":
         raise RequestError(415, "InvalidQuery", "the body may not be compressed")
     length = environ.get("CONTENT_LENGTH")
@@ -246,7 +244,7 @@ def read_body(environ: Environ) -> bytes:
         raise RequestError(413, "TooBig", f"the body may have {MAX_BODY} bytes")
     try:
         body: bytes = environ["wsgi.input"].read(MAX_BODY + 1)
-    except Exception:  # (gunicorn has an error for each fault of a part, and no other for them)
+    except Exception:  # (gunicorn's errors of chunked bodies have no common class)
         raise malformed() from None
     if len(body) > MAX_BODY:
         raise RequestError(413, "TooBig", f"the body may have {MAX_BODY} bytes")
@@ -255,7 +253,7 @@ def read_body(environ: Environ) -> bytes:
     return body
 
 
-# By the name of an endpoint, what answers it.
+# The handler of each endpoint, by name.
 HANDLERS: dict[str, Callable[[Service, Call], Response]] = {
     "/": Service.page_file,
     "/map/files": Service.page_file,
