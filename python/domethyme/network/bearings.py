@@ -1,15 +1,15 @@
-"""The nearest point of a road that leads in a wanted direction, as OSRM's `bearings` ask for."""
+"""The nearest point of a road in a given direction, for OSRM's `bearings`."""
 from typing import NamedTuple
 
 from .geo import Point, bearing
-from .snapping import Arc, RoadIndex, SnappedPoint, keep_lightest
+from .snapping import Arc, RoadIndex, SnappedPoint
 
-# Of so many edges the directions are looked at, a few at first.
+# How many of the nearest edges are examined, at first and at most.
 FIRST_CANDIDATES, MAX_CANDIDATES = 8, 4096
 
 
 class BearingRange(NamedTuple):
-    """Directions from `bearing` - `tolerance` to `bearing` + `tolerance`, in degrees from north, clockwise."""
+    """Directions from `bearing` - `tolerance` to `bearing` + `tolerance`, in degrees clockwise from north."""
 
     bearing: int
     tolerance: int
@@ -21,45 +21,33 @@ class BearingRange(NamedTuple):
 def nearest_with_bearing(
     roads: RoadIndex, place: Point, count: int, bearing_range: BearingRange, max_metres: float
 ) -> list[SnappedPoint]:
-    """The `count` nearest points of roads that lead that way there, no further off than `max_metres` metres. Routes begin there, and
-    end there, in that direction alone."""
+    """The `count` nearest points of roads whose direction there is in the range, up to `max_metres` metres away. Routes begin
+    and end there in that direction alone."""
     limit = FIRST_CANDIDATES
     while True:
         snapped_points = roads.nearest(place, limit)
-        found = [
-            restricted
-            for snapped in snapped_points
-            if (restricted := restrict_to_bearing(roads, snapped, bearing_range)) is not None
-        ]
-        if (
-            len(found) >= count
-            or len(snapped_points) < limit
-            or limit >= MAX_CANDIDATES
-            or snapped_points[-1].metres > max_metres
-        ):
+        restricted = (restrict_to_bearing(roads, snapped, bearing_range) for snapped in snapped_points)
+        found = [snapped for snapped in restricted if snapped is not None]
+        is_last = len(snapped_points) < limit or limit >= MAX_CANDIDATES or snapped_points[-1].metres > max_metres
+        if len(found) >= count or is_last:
             return found[:count]
         limit *= 8
 
 
 def restrict_to_bearing(roads: RoadIndex, snapped: SnappedPoint, bearing_range: BearingRange) -> SnappedPoint | None:
-    """The point with those arcs of its edge that lead that way at it; None where none does."""
-    arcs = roads.edge(snapped.edge).arcs.items()
-    kept = [
-        (number, arc) for number, arc in arcs if bearing_range.contains(bearing_at(roads, number, arc, snapped.fraction))
-    ]
+    """The point with the arcs of its edge whose direction is in the range; None if there is none."""
+    arcs = roads.edge(snapped.edge).arcs
+    kept = {
+        number: arc for number, arc in arcs.items() if bearing_range.contains(bearing_at(roads, arc, snapped.fraction))
+    }
     if not kept:
         return None
-    exits: dict[int, tuple[int, int]] = {}
-    entries: dict[int, tuple[int, int]] = {}
-    for number, arc in kept:
-        before = roads.weight_before(arc, snapped.fraction)
-        keep_lightest(exits, arc.end, arc.weight - before, number)
-        keep_lightest(entries, arc.start, before, number)
+    exits, entries = roads.split_arcs(kept, snapped.fraction)
     return snapped._replace(exits=exits, entries=entries, copies=())
 
 
-def bearing_at(roads: RoadIndex, number: int, arc: Arc, fraction: float) -> float:
-    """The direction in which an arc leads at the point that is so far along its edge."""
+def bearing_at(roads: RoadIndex, arc: Arc, fraction: float) -> float:
+    """The direction of an arc at a fraction of its edge; 0 for an edge of no length."""
     edge = roads.edge(arc.edge)
     at = fraction * edge.metres
     steps = [index for index in range(1, len(edge.points)) if edge.cumulative[index] > edge.cumulative[index - 1]]

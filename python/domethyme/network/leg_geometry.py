@@ -1,5 +1,5 @@
-"""The course of a leg: the points of its arcs, one after the other, their figures, and the directions in which they begin and
-end. All is in arrays, since a leg may have thousands of arcs."""
+"""The geometry of a leg: the points of its arcs, their weights, seconds and metres, and their bearings. It is in arrays, since
+a leg may have thousands of arcs."""
 import functools
 import itertools
 from typing import TypedDict
@@ -8,6 +8,7 @@ import numpy as np
 from numpy.typing import NDArray
 
 from .geo import bearing
+from .groups import expand, offsets
 from .indexes import wrapped_difference
 from .legs import Leg
 from .net_file import UNITS
@@ -16,14 +17,14 @@ from .snapping import RoadIndex
 
 MICRODEGREES = 1_000_000
 
-# By the unit of weights, how many are a second, or a metre, of an answer.
+# How many units of weights are a second, or a metre, of an answer.
 UNITS_PER_OUTPUT_UNIT = {"duration": 1000, "distance": 100}
 
 Ints = NDArray[np.int64]
 
 
 class Figures(TypedDict):
-    """Of a route or a part of one: its weight in the unit of answers, seconds, None where the network has none, and metres."""
+    """Totals of a route or a part of it: weight in the unit of answers, seconds, None if the network has none, and metres."""
 
     weight: float
     duration: float | None
@@ -31,7 +32,7 @@ class Figures(TypedDict):
 
 
 class LegGeometry:
-    """The points of arc k of the leg are points[begins[k]:begins[k + 1]], in units of a degree. A course has an arc or more."""
+    """The points of arc k of the leg are points[begins[k]:begins[k + 1]], in 1/UNITS degrees. There is at least one arc."""
 
     def __init__(self, roads: RoadIndex, leg: Leg) -> None:
         self.roads, self.leg, arrays = roads, leg, roads.arrays
@@ -39,16 +40,14 @@ class LegGeometry:
         self.edges = arrays.arc_edge[self.arcs]
         is_along = arrays.arc_along[self.arcs]
         first, behind = arrays.edge_begin[self.edges], arrays.edge_begin[self.edges + 1]
-        counts, steps = behind - first, np.where(is_along, 1, -1)
-        self.begins: Ints = np.zeros(len(counts) + 1, dtype=np.int64)
-        counts.cumsum(out=self.begins[1:])
-        rows = np.arange(self.begins[-1]) * steps.repeat(counts)
-        rows += (np.where(is_along, first, behind - 1) - self.begins[:-1] * steps).repeat(counts)
+        owner, position = expand(behind - first)
+        rows = np.where(is_along, first, behind - 1)[owner] + position * np.where(is_along, 1, -1)[owner]
+        self.begins: Ints = offsets(behind - first)
         self.points: Ints = arrays.points[rows].astype(np.int64)
         self._trim_ends()
 
     def _trim_ends(self) -> None:
-        """Puts the points of the first and the last arc where the leg has a part of them alone."""
+        """Replaces the points of the first and the last arc if the leg has only a part of them."""
         last = len(self.arcs) - 1
         parts = [(last, 0.0, self.leg.end), (0, self.leg.begin, 1.0)] if last else [(0, self.leg.begin, self.leg.end)]
         for arc_index, begin, end in parts:
@@ -61,27 +60,22 @@ class LegGeometry:
 
     @functools.cached_property
     def _rounded_points(self) -> tuple[list[list[float]], list[int], list[int]]:
-        """The points to six places, without those that follow themselves, and the places there of the first and last of each arc.
-        """
+        """The points to six digits, without repeated ones, and the indices of the first and the last of each arc."""
         shown = (self.points + UNITS // MICRODEGREES // 2) // (UNITS // MICRODEGREES)
         is_other = np.ones(len(shown), dtype=bool)
         is_other[1:] = (shown[1:, 0] != shown[:-1, 0]) | (shown[1:, 1] != shown[:-1, 1])
-        places = is_other.cumsum() - 1
-        return (
-            (shown[is_other] / MICRODEGREES).tolist(),
-            places[self.begins[:-1]].tolist(),
-            places[self.begins[1:] - 1].tolist(),
-        )
+        index, points = is_other.cumsum() - 1, (shown[is_other] / MICRODEGREES).tolist()
+        return points, index[self.begins[:-1]].tolist(), index[self.begins[1:] - 1].tolist()
 
     def line(self, first: int, last: int) -> list[list[float]]:
-        """The points of the arcs from one to before another, to six places, without one that follows itself; two at least."""
+        """The points of arcs first:last, to six digits, without repeated ones; at least two."""
         points, begins, ends = self._rounded_points
         found = points[begins[first] : ends[last - 1] + 1]
         return found if len(found) > 1 else found * 2
 
     @functools.cached_property
     def bearings(self) -> tuple[Ints, Ints]:
-        """The directions in which each arc begins, and in which it ends."""
+        """The bearings of each arc at its start and at its end, in degrees."""
         begins = np.concatenate((self.begins[:-1], self.begins[1:] - 2))
         places = self.points[begins]
         east, north = (self.points[begins + 1] - places).T
@@ -92,33 +86,28 @@ class LegGeometry:
         return found[: len(self.arcs)], found[len(self.arcs) :]
 
     def _end_bearing(self, arc_index: int, step: int) -> int:
-        """The direction at an end of an arc whose first step there has no length."""
-        line = [
-            (lon / UNITS, lat / UNITS)
-            for lon, lat in self.points[self.begins[arc_index] : self.begins[arc_index + 1]].tolist()
-        ]
-        ordered = line[::step]
+        """The bearing at an end of an arc whose segment there has no length."""
+        points = self.points[self.begins[arc_index] : self.begins[arc_index + 1]]
+        ordered = [(lon / UNITS, lat / UNITS) for lon, lat in points[::step].tolist()]
         other = next((point for point in ordered if point != ordered[0]), ordered[0])
         return bearing(*(ordered[0], other)[::step])
 
     @functools.cached_property
     def prefix_sums(self) -> tuple[list[int], list[float], list[float]]:
-        """The weight, seconds and metres before each arc, and of all."""
+        """The weight, seconds and metres before each arc, and in total."""
         weights = list(itertools.accumulate(self.leg.weights, initial=0))
         seconds, metres = ([0.0, *values.cumsum().tolist()] for values in driven_parts(self.roads, self.leg, self.arcs))
         return weights, seconds, metres
 
     def figures(self, first: int, last: int) -> Figures:
-        """The weight, seconds and metres of the arcs from one to before another."""
+        """The weight, seconds and metres of arcs first:last."""
         weights, seconds, metres = self.prefix_sums
-        return make_totals(
-            self.roads, weights[last] - weights[first], seconds[last] - seconds[first], metres[last] - metres[first]
-        )
+        weight, duration = weights[last] - weights[first], seconds[last] - seconds[first]
+        return make_totals(self.roads, weight, duration, metres[last] - metres[first])
 
 
 def make_totals(roads: RoadIndex, weight: int, seconds: float, metres: float) -> Figures:
-    """A weight in the unit that answers have, seconds, None where the network has none, and metres; those that weights are follow
-    from them."""
+    """The totals in the units of answers. Seconds or metres follow from the weight if weights are these."""
     unit = UNITS_PER_OUTPUT_UNIT.get(roads.unit, 1)
     return {
         "weight": weight / unit,
@@ -128,7 +117,7 @@ def make_totals(roads: RoadIndex, weight: int, seconds: float, metres: float) ->
 
 
 def leg_geometry(roads: RoadIndex, leg: Leg) -> LegGeometry | None:
-    """The course of a leg; None where it stays at a node."""
+    """The geometry of a leg; None if it stays at a node."""
     return LegGeometry(roads, leg) if leg.arcs else None
 
 
@@ -141,7 +130,7 @@ def leg_totals(roads: RoadIndex, leg: Leg) -> Figures:
 
 
 def driven_parts(roads: RoadIndex, leg: Leg, arcs: Ints) -> tuple[Floats, Floats]:
-    """The seconds and metres of each of the arcs of a leg, as far as it is driven."""
+    """The seconds and metres of each arc of a leg, of the first and the last one of the part that is driven."""
     shares: Floats = np.ones(len(arcs))
     shares[-1] = leg.end
     shares[0] -= leg.begin

@@ -1,8 +1,8 @@
-"""The least way between two points on roads, by least ways between the nodes that they lead to.
+"""The shortest path between two points on roads, from shortest paths between nodes.
 
-The graph is cut at both points. A least way there stays on an arc from the one point to the other, or leaves the first point's
-edge by the end of an arc and comes to the second's by the start of one, with a least route of the graph between, which is what
-is asked for. So the least of all these is least in the graph that is cut.
+Both points split arcs of the graph. A shortest path stays on one arc, or it leaves the first point's edge by the end of an
+arc, enters the second's by the start of one, and is a shortest path of the graph between. So the shortest of these is
+shortest in the graph with the split arcs.
 """
 from typing import NamedTuple, Protocol
 
@@ -10,20 +10,21 @@ from ..errors import NetworkError
 from ..protocol import RouteReply
 from .snapping import NO_ARC, RoadIndex, SnappedPoint
 
-# Where a way begins or ends: nodes, and the weight and arc that lead there.
+# Candidate nodes of a snapped point: node -> (weight, arc) of the part of the arc between.
 SnapEnds = dict[int, tuple[int, int]]
 
 
 class Questions(Protocol):
-    """What is asked for the ways between nodes, which are numbered from 1."""
+    """Answers queries for shortest paths between nodes, numbered from 1."""
 
     def between(self, exits: SnapEnds, entries: SnapEnds) -> RouteReply | None:
-        """The least way from one of several nodes to one of several, with the weights that lead there."""
+        """A shortest path from one of several nodes to one of several, with the weights of both ends added; None if there is
+        none."""
 
 
 class Leg(NamedTuple):
-    """The way from one point to the next: its weight, the arcs that are driven, and the weights of their parts that are. The
-    first is driven from the fraction `begin` of it, the last one to `end`."""
+    """The path between two points: its weight, its arcs, and the weights of the parts of these that are driven. The first is
+    driven from its fraction `begin`, the last one to `end`."""
 
     weight: int
     arcs: list[int]
@@ -36,19 +37,19 @@ EMPTY_LEG = Leg(0, [], [], 0.0, 1.0)
 
 
 def find_leg(queries: Questions, roads: RoadIndex, start: SnappedPoint, end: SnappedPoint) -> Leg | None:
-    """The leg between two points; None where there is no way. Raises NetworkError."""
-    return (
-        EMPTY_LEG if is_same_node(start, end) else choose_leg(roads, start, end, queries.between(start.exits, end.entries))
-    )
+    """The leg between two points; None if there is no path. Raises NetworkError."""
+    if is_same_node(start, end):
+        return EMPTY_LEG
+    return choose_leg(roads, start, end, queries.between(start.exits, end.entries))
 
 
 def is_same_node(start: SnappedPoint, end: SnappedPoint) -> bool:
-    """Whether both are one node, or copies of one."""
+    """Whether both points are the same node, or split nodes of one junction."""
     return bool(start.copies) and start.copies == end.copies
 
 
 def choose_leg(roads: RoadIndex, start: SnappedPoint, end: SnappedPoint, route: RouteReply | None) -> Leg | None:
-    """The leg by the least route between the points' nodes, None where there is none; and None where there is no way."""
+    """The leg, given the shortest path between the points' nodes, or None; None if there is no path."""
     straight = leg_on_one_arc(roads, start, end)
     if route is None or straight is not None and straight.weight <= route.length:
         return straight
@@ -56,7 +57,7 @@ def choose_leg(roads: RoadIndex, start: SnappedPoint, end: SnappedPoint, route: 
 
 
 def leg_on_one_arc(roads: RoadIndex, start: SnappedPoint, end: SnappedPoint) -> Leg | None:
-    """The leg on one arc, where both points are on it, and the second not behind the first."""
+    """The leg on one arc, if both points are on it in this order."""
     if start.copies or end.copies or start.edge != end.edge:
         return None
     found: list[Leg] = []
@@ -69,7 +70,7 @@ def leg_on_one_arc(roads: RoadIndex, start: SnappedPoint, end: SnappedPoint) -> 
 
 
 def leg_via_route(roads: RoadIndex, start: SnappedPoint, end: SnappedPoint, route: RouteReply) -> Leg:
-    """The leg of a route between the points' nodes. Raises NetworkError where the network isn't that of the hierarchy."""
+    """The leg of a route between the points' nodes. Raises NetworkError if the network isn't the hierarchy's."""
     first, last = start.exits[route.source], end.entries[route.target]
     arcs = roads.lightest(route.nodes)
     if NO_ARC in arcs:

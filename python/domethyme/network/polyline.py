@@ -1,4 +1,4 @@
-"""Lines of places as polylines (the encoded polyline algorithm format), and back."""
+"""Encodes and decodes polylines (Google's encoded polyline algorithm format)."""
 import itertools
 from collections.abc import Iterable, Sequence
 
@@ -9,7 +9,7 @@ from .network import Floats
 
 # Points (lon, lat), as lists.
 Line = list[list[float]]
-# The bits of a number in a polyline, five in a sign: the steps of 360 degrees to seven digits have 33.
+# The shifts of a number's groups of five bits: a difference of 360 degrees to seven digits has 33 bits.
 SHIFTS = np.arange(0, 40, 5)
 
 
@@ -19,8 +19,8 @@ def points_array(points: Iterable[list[float]]) -> Floats:
 
 
 def encode_polylines(lines: Sequence[Line], digits: int) -> list[str]:
-    """The polylines of lines of points (lon, lat), with so many digits behind the point. Many short ones take little longer than
-    one of all their points."""
+    """The polylines of lines of points (lon, lat), with this many decimal digits. Many short lines take little longer than one
+    of all their points."""
     whole = np.rint(points_array(itertools.chain.from_iterable(lines))[:, ::-1] * 10**digits).astype(np.int64)
     counts = [len(line) for line in lines]
     ends = np.cumsum(counts)
@@ -41,7 +41,7 @@ def encode_polylines(lines: Sequence[Line], digits: int) -> list[str]:
 
 
 def decode_polyline(text: str, digits: int) -> list[Point]:
-    """The points of a polyline. Raises ValueError for what is none."""
+    """The points of a polyline. Raises ValueError for an invalid one."""
     numbers: list[int] = []
     value = shift = 0
     for sign in text:

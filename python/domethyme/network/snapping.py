@@ -1,10 +1,10 @@
-"""A network's roads: where its arcs lie, and the point of a road that is nearest to a place.
+"""The roads of a network: the lines of its arcs, and the nearest point of a road to a place, along great circles.
 
-An edge is one line of a way, with arcs along it, against it, or both; copies of a node that turn restrictions made give several
-arcs of one direction. The nearest point of all lines is looked for, along great circles. It cuts each arc of its edge: one of weight
-w at the fraction f is cut at round(f w), so parts are whole weights and sum to w.
+An edge is one line of a way, with arcs along it, against it, or both; nodes that turn restrictions split give several arcs of
+one direction. A point splits each arc of its edge: of an arc of weight w, the part before its fraction f weighs round(f w), and
+the rest what is left, so the parts are integers and sum to w.
 
-The network's file is mapped: of it a process has what it uses, in pages that all processes share.
+The network's file is memory-mapped: processes share its pages.
 """
 import bisect
 import functools
@@ -27,9 +27,9 @@ from .tables import ENDS
 
 END_TOLERANCE = 0.005
 NO_ARC = -1
-# Edges that are kept when they were looked at.
+# Edges that are cached.
 EDGE_CACHE_SIZE = 1 << 10
-# Steps that are looked at together for the nearest point, and both ends of steps, as they follow one another.
+# Segments that are projected on at once; and the offsets of a segment's ends.
 SEGMENTS_PER_BATCH = 1 << 15
 SEGMENT_END_OFFSETS = np.array([[0], [1]])
 NAME, JUNCTION = TEXTS.index("name"), TEXTS.index("junction")
@@ -37,7 +37,7 @@ ROUNDABOUT_VALUES = ("roundabout", "circular")
 
 
 class Arc(NamedTuple):
-    """An arc of the graph, and which way it leads along its edge."""
+    """An arc of the graph, and whether it has its edge's direction."""
 
     start: int
     end: int
@@ -48,7 +48,7 @@ class Arc(NamedTuple):
 
 
 class Edge(NamedTuple):
-    """A line, the metres along it at each point, and the arcs that lie on it, by their numbers."""
+    """A line, the metres along it at each point, and its arcs by number."""
 
     points: tuple[Point, ...]
     cumulative: list[float]
@@ -60,8 +60,8 @@ class Edge(NamedTuple):
 
 
 class SnappedPoint(NamedTuple):
-    """A point on a road: `count_exits` are the nodes that it leads to, and `entries` those that lead to it, each with the weight
-    between and the arc of that part (NONE where the point is the node). `split_nodes` are the nodes that it is, or ()."""
+    """A point on a road. `exits` are the nodes that it leads to, and `entries` those that lead to it, each with the weight and
+    the arc of the part between (NO_ARC if the point is the node). `copies` are the nodes that it is, or ()."""
 
     lon: float
     lat: float
@@ -75,8 +75,8 @@ class SnappedPoint(NamedTuple):
 
 
 class SegmentProjections(NamedTuple):
-    """Steps of edges, as they lie from places: of which edge, by its place among those that were asked for, the row of the step's
-    first point, the metres to the nearest point of the step, to the micrometre, and the share of the step before that."""
+    """The nearest points of segments to places: the index of the segment's edge among those given, the row of its first point,
+    the metres to the nearest point, to the micrometre, and the fraction of the segment before that."""
 
     which: Ints
     rows: Ints
@@ -85,11 +85,11 @@ class SegmentProjections(NamedTuple):
 
 
 class RoadIndex:
-    """The files of a network, NETWORK.net, or NETWORK.nodes.csv and NETWORK.arcs.csv. Nodes are numbered from 1. Raises
-    NetworkError, and where the file is damaged, in all that reads it.
+    """The files of a network, NETWORK.net, or NETWORK.nodes.csv and NETWORK.arcs.csv. Nodes are numbered from 1. All methods
+    raise NetworkError if the file is damaged.
 
-    unit         what weights are, `duration` (milliseconds), `distance` (centimetres), or `weight` for anything else
-    has_seconds  whether arcs take time; else durations aren't known
+    unit         of weights: `duration` (milliseconds), `distance` (centimetres), or `weight` for anything else
+    has_seconds  whether arcs have seconds; if not, durations aren't known
     """
 
     def __init__(self, prefix: str) -> None:
@@ -105,30 +105,30 @@ class RoadIndex:
 
     @property
     def edges(self) -> int:
-        """How many edges there are."""
+        """The number of edges."""
         return len(self.arrays.edge_begin) - 1
 
     @functools.cached_property
     def box(self) -> tuple[float, float, float, float]:
-        """The box of the roads in degrees: west, south, east, of which the last may lie beyond 180, and north."""
+        """The bounding box in degrees: west, south, east, which may be beyond 180, and north."""
         west, south, east, north = (self.arrays.about[side] / UNITS for side in ("west", "south", "east", "north"))
         return west, south, east, north
 
     def split_nodes(self, node: int) -> tuple[int, ...]:
-        """All nodes that turn restrictions made of the junction of one."""
+        """All nodes into which turn restrictions split the junction of a node."""
         return tuple(each + 1 for each in self._places.split_nodes(node - 1))
 
     def osm_id(self, node: int) -> int:
-        """The id of OpenStreetMap of a node; 0 where it has none."""
+        """The OpenStreetMap id of a node; 0 if it has none."""
         found = int(self.arrays.node_osm[node - 1])
         return 0 if found == NO_OSM else found
 
     def ends(self, node: int) -> str:
-        """`from` where routes begin there alone, `to` where they end there alone, `no` where neither, else ""."""
+        """`from` if routes only begin at a node, `to` if they only end there, `no` for neither, "" for both."""
         return ENDS[self.arrays.node_ends[node - 1]]
 
     def lightest(self, nodes: tuple[int, ...]) -> list[int]:
-        """The arc that a route takes from each of the nodes to the next, the lightest; NONE where there is none."""
+        """The lightest arc from each node of a route to the next; NO_ARC if there is none."""
         self.arrays.file.check_unchanged()
         line = np.array(nodes, dtype=np.int64)
         found: list[int] = self.arrays.lightest(line[:-1], line[1:]).tolist()
@@ -136,17 +136,17 @@ class RoadIndex:
 
     @functools.cached_property
     def roundabout_texts(self) -> Ints:
-        """The texts of the junctions that are roundabouts."""
+        """The numbers of the texts whose junctions are roundabouts."""
         junctions: list[int] = np.unique(self.arrays.row_texts[:, JUNCTION]).tolist()
         return np.array([text for text in junctions if self.texts[text] in ROUNDABOUT_VALUES], dtype=np.int64)
 
     def is_roundabout(self, arcs: NDArray[np.int64]) -> NDArray[np.bool_]:
-        """Which of the arcs go round a roundabout."""
+        """Which arcs are on a roundabout."""
         found: NDArray[np.bool_] = (self.arrays.arc_texts[arcs, JUNCTION][:, None] == self.roundabout_texts).any(axis=1)
         return found
 
     def count_exits(self, node: int) -> int:
-        """How many roads lead away from a node of a roundabout."""
+        """How many roads leave a roundabout at a node."""
         begin, end = self.arrays.out_begin[node - 1 : node + 1].tolist()
         arcs = self.arrays.out_arcs[begin:end]
         return len(np.unique(self.arrays.arc_edge[arcs[~self.is_roundabout(arcs)]]))
@@ -162,14 +162,13 @@ class RoadIndex:
         columns = (arrays.arc_from, arrays.arc_to, arrays.arc_weight, arrays.arc_along)
         rows = zip(arcs.tolist(), arrays.arc_texts[arcs, NAME].tolist(), *(column[arcs].tolist() for column in columns))
         found = {
-            arc: Arc(start, end, weight, self.texts[name], number, is_along)
-            for arc, name, start, end, weight, is_along in rows
+            arc: Arc(start, end, weight, self.texts[name], number, is_along) for arc, name, start, end, weight, is_along in rows
         }
         return Edge(points, cumulative_metres(points), found)
 
     def nearest(self, place: Point, count: int = 1, step: Callable[[], object] = lambda: None) -> list[SnappedPoint]:
-        """The nearest points of the `count` nearest edges, the nearest first, and of equally near ones the first of the file. `step` is
-        called between parts of the work; what it raises ends it."""
+        """The nearest points of the `count` nearest edges, the nearest first, and of equally near ones the first of the file.
+        `step` is called between parts of the work; an exception of it ends the work."""
         self.arrays.file.check_unchanged()
         here = np.array(place)
 
@@ -181,13 +180,13 @@ class RoadIndex:
         return [self._snap_to_edge(here, edge) for _, edge in near]
 
     def nearest_batch(self, places: Sequence[Point]) -> Iterator[SnappedPoint]:
-        """The nearest point of a road to each place, as `nearest` has it. Those with one near by are looked for together."""
+        """The nearest point of a road to each place, as by `nearest`. Those within the grid's first radius are found at once."""
         self.arrays.file.check_unchanged()
         near = self._snap_nearby(places)
         return (near[number] if number in near else self.nearest(place)[0] for number, place in enumerate(places))
 
     def _snap_nearby(self, places: Sequence[Point]) -> dict[int, SnappedPoint]:
-        """The nearest points by the numbers of their places, where there are some within the first circle of the grid."""
+        """The nearest points by the index of their places, for places with one within the grid's first radius."""
         grid, found = self.arrays.edge_grid, {}
         which, edges = grid.candidates_of_each(places, grid.initial_radius)
         if not len(edges):
@@ -201,7 +200,7 @@ class RoadIndex:
         return found
 
     def _project(self, places: Floats, edges: Ints) -> SegmentProjections:
-        """The steps of edges, as they lie from a place, or from one for each edge."""
+        """The nearest points of the segments of edges to one place, or to a place for each edge."""
         begins = self.arrays.edge_begin[edges]
         which, rows = concat_ranges(begins, self.arrays.edge_begin[edges + 1] - begins - 1)
         points = self.arrays.points[rows + SEGMENT_END_OFFSETS] / UNITS
@@ -220,7 +219,7 @@ class RoadIndex:
         return self._snap_on_segment(edge, ways, int(ways.metres.argmin()))
 
     def _snap_on_segment(self, edge: int, ways: SegmentProjections, best: int) -> SnappedPoint:
-        """The nearest point of one of the ways, which is a step of an edge."""
+        """The nearest point of segment `best` of the projections, which is of this edge."""
         line, share = self.edge(edge), float(ways.shares[best])
         step = int(ways.rows[best]) - int(self.arrays.edge_begin[edge])
         place = interpolate_one(line.points[step], line.points[step + 1], share)
@@ -228,7 +227,7 @@ class RoadIndex:
 
     @staticmethod
     def _fraction(line: Edge, step: int, part: float) -> float:
-        """How far along its edge a point is that is so far along a step; 0 or 1 within AT_END metres of its ends."""
+        """The fraction of an edge at a fraction of its segment; 0 or 1 within END_TOLERANCE metres of its ends."""
         along = line.cumulative[step] + part * (line.cumulative[step + 1] - line.cumulative[step])
         if along <= END_TOLERANCE or line.metres <= 2 * END_TOLERANCE:
             return 0.0
@@ -245,20 +244,26 @@ class RoadIndex:
             exits = {each: (0, NO_ARC) for each in copies if self.ends(each) in ("", "from")}
             entries = {each: (0, NO_ARC) for each in copies if self.ends(each) in ("", "to")}
             return SnappedPoint(*place, metres, edge, fraction, exits, entries, copies, name)
-        exits, entries = {}, {}
+        return SnappedPoint(*place, metres, edge, fraction, *self.split_arcs(arcs, fraction), (), name)
+
+    def split_arcs(self, arcs: dict[int, Arc], fraction: float) -> tuple[dict[int, tuple[int, int]], dict[int, tuple[int, int]]]:
+        """The exits and the entries of a point that splits these arcs at a fraction of their edge."""
+        exits: dict[int, tuple[int, int]] = {}
+        entries: dict[int, tuple[int, int]] = {}
         for number, arc in arcs.items():
             before = self.weight_before(arc, fraction)
-            keep_lightest(exits, arc.end, arc.weight - before, number)
-            keep_lightest(entries, arc.start, before, number)
-        return SnappedPoint(*place, metres, edge, fraction, exits, entries, (), name)
+            for found, node, weight in ((exits, arc.end, arc.weight - before), (entries, arc.start, before)):
+                if node not in found or weight < found[node][0]:
+                    found[node] = weight, number
+        return exits, entries
 
     @staticmethod
     def arc_fraction(arc: Arc, fraction: float) -> float:
-        """How far along the arc a point is that is at the fraction of its edge."""
+        """The fraction of an arc at a fraction of its edge."""
         return fraction if arc.is_along else 1.0 - fraction
 
     def weight_before(self, arc: Arc, fraction: float) -> int:
-        """The weight of the arc's part before that point."""
+        """The weight of the part of an arc before a fraction of its edge."""
         return round(self.arc_fraction(arc, fraction) * arc.weight)
 
     def line(self, number: int, begin: float = 0.0, end: float = 1.0) -> list[Point]:
@@ -273,20 +278,13 @@ class RoadIndex:
 
 
 def split_by_points(edges: Ints, begins: Column) -> Iterator[Ints]:
-    """The edges in parts of about STEPS points each."""
+    """The edges in parts of about SEGMENTS_PER_BATCH points each."""
     if len(edges) < 64:
         yield edges
         return
     sums = np.cumsum(begins[edges + 1] - begins[edges])
-    yield from np.split(
-        edges,
-        np.unique(np.searchsorted(sums, np.arange(SEGMENTS_PER_BATCH, int(sums[-1]), SEGMENTS_PER_BATCH), side="right")),
-    )
-
-
-def keep_lightest(found: dict[int, tuple[int, int]], node: int, weight: int, arc: int) -> None:
-    if node not in found or weight < found[node][0]:
-        found[node] = weight, arc
+    limits = np.arange(SEGMENTS_PER_BATCH, int(sums[-1]), SEGMENTS_PER_BATCH)
+    yield from np.split(edges, np.unique(np.searchsorted(sums, limits, side="right")))
 
 
 def clip(edge: Edge, begin: float, end: float) -> list[Point]:
@@ -299,7 +297,7 @@ def clip(edge: Edge, begin: float, end: float) -> list[Point]:
 
 
 def point_at(edge: Edge, metres: float) -> Point:
-    """The point so many metres along an edge."""
+    """The point at some metres along an edge."""
     index = min(max(bisect.bisect_right(edge.cumulative, metres), 1), len(edge.cumulative) - 1)
     begin, length = edge.cumulative[index - 1], edge.cumulative[index] - edge.cumulative[index - 1]
     part = (metres - begin) / length if length else 0.0
@@ -313,5 +311,5 @@ def cumulative_metres(points: tuple[Point, ...]) -> list[float]:
 
 
 def segment_metres(points: "tuple[Point, ...] | list[Point]") -> list[float]:
-    """The metres of each step of a line."""
+    """The metres of each segment of a line."""
     return [metres_between(*begin, *end) for begin, end in itertools.pairwise(points)]
