@@ -6,8 +6,8 @@ from typing import Any, NamedTuple
 
 from .errors import RequestError
 from .parameters import (
-    Alternatives, Annotations, Bearings, Choice, Context, ContinueStraight, Flag, Ignored, IndexList, IntRange, Key, Node,
-    Parameter, PositiveNumber, Radiuses, Unsupported, Values, parse_parameters
+    Alternatives, Annotations, Bearings, Choice, Colors, Context, ContinueStraight, Contours, Flag, Ignored, IndexList, IntRange,
+    Key, Node, NumberRange, Parameter, PositiveNumber, Radiuses, Unsupported, Values, parse_parameters
 )
 from .static import PAGE_FILES
 
@@ -23,6 +23,11 @@ ANNOTATIONS = Annotations("annotations", ("duration", "weight", "distance", "dat
 TABLE_ANNOTATIONS = Annotations("annotations", ("duration", "distance", "weight"), "duration", is_list_only=True)
 NUMBER = IntRange("number", 1, 100)
 SOURCES, DESTINATIONS = IndexList("sources"), IndexList("destinations")
+CONTOURS_MINUTES = Contours("contours_minutes", 600, ", if weights are times")
+CONTOURS_METERS = Contours("contours_meters", 1_000_000, ", if weights are lengths")
+CONTOURS_COLORS, POLYGONS = Colors("contours_colors"), Flag("polygons", False)
+GENERALIZE = NumberRange("generalize", 1e6, "metres by which contours are simplified")
+DENOISE = NumberRange("denoise", 1, "0 to 1: parts and holes smaller than this share of the largest part go")
 FROM, TO = Node("from"), Node("to")
 FROM_KEY, TO_KEY = Key("from_key"), Key("to_key")
 
@@ -67,6 +72,10 @@ ENDPOINTS = (
     osrm_endpoint("nearest", "/nearest/v1/PROFILE/PLACE", "the nearest points of roads", NUMBER),
     osrm_endpoint("table", "/table/v1/PROFILE/PLACES", "durations, distances and weights, by up to 2,000 places",
                   FALLBACK_SPEED, FALLBACK_COORDINATE, SCALE_FACTOR, TABLE_ANNOTATIONS, SOURCES, DESTINATIONS),
+    Endpoint("/isochrone", "/isochrone/v1/PROFILE/PLACE", "what is reached within minutes or metres, as GeoJSON",
+             (CONTOURS_MINUTES, CONTOURS_METERS, CONTOURS_COLORS, POLYGONS, GENERALIZE, DENOISE, RADIUSES, BEARINGS,
+              Ignored("access_token"), Choice("reverse", "false", unsupported=["true"], message="reverse=true isn't there"),
+              Unsupported("exclude"), Unsupported("depart_at")), "isochrone has no parameter {!r}"),
     *(osrm_endpoint(service, "", "") for service in ("match", "trip", "tile")),
     Endpoint("/nodes/route", "/nodes/route", "a route between nodes by their numbers, from 1", (FROM, TO, FROM_KEY, TO_KEY)),
     Endpoint("/nodes/length", "/nodes/length", "its length alone; null if there is no path", (FROM, TO, FROM_KEY, TO_KEY)),
@@ -91,7 +100,7 @@ def find_endpoint(path: str) -> Endpoint:
     if found := BY_PATH.get(path):
         return found
     words = path.split("/", 2)
-    if len(words) == 3 and words[1] in OSRM_SERVICES:
+    if len(words) == 3 and words[1] in (*OSRM_SERVICES, "isochrone"):
         return BY_NAME[f"/{words[1]}"]
     if TILE.fullmatch(path):
         return BY_NAME["/map/roads"]
@@ -112,9 +121,10 @@ def required_query(endpoint: Endpoint) -> str:
 
 
 def parameter_table() -> list[str]:
-    """The lines of the table of the parameters of OSRM's API in docs/SERVICE.md."""
+    """The lines of the table of the parameters of OSRM's API and Mapbox's in docs/SERVICE.md."""
     owners = [("all", COMMON)]
     owners += [(name, (BY_NAME[f"/{name}"].parameters or ())[len(COMMON) :]) for name in ("route", "nearest", "table")]
+    owners += [("isochrone", BY_NAME["/isochrone"].parameters or ())]
     rows = [f"| {name} | `{each.name}` | {each.accepted} | {each.rejected} |" for name, some in owners for each in some]
     return ["| Of | Parameter | Taken | Refused as `NotImplemented` |", "|---|---|---|---|", *rows]
 

@@ -17,7 +17,7 @@ PROFILE = re.compile("[A-Za-z0-9_.-]{1,64}")
 POLYLINE = re.compile(r"polyline(6?)\((.*)\)", re.DOTALL)
 SERVICES = ("route", "nearest", "table")
 # Places of a request of each service.
-MAX_PLACES = {"route": 500, "nearest": 1, "table": 2000}
+MAX_PLACES = {"route": 500, "nearest": 1, "table": 2000, "isochrone": 1}
 
 
 class Request(NamedTuple):
@@ -57,10 +57,10 @@ def parse_coordinates(text: str, service: str) -> list[Point]:
             hint = "; is it LAT,LON?" if abs(lon) <= 90 and abs(lat) <= 180 else ""
             order = "longitude first, from -180 to 180, then latitude, from -90 to 90"
             raise invalid_value(f"place {number} is {lon:g},{lat:g}: {order}{hint}")
-    if service != "nearest" and len(places) > MAX_PLACES[service]:
+    if 1 < MAX_PLACES[service] < len(places):
         raise RequestError(400, "TooBig", f"there may be {MAX_PLACES[service]} places")
-    if service == "nearest" and len(places) != 1 or service == "route" and len(places) < 2 or not places:
-        raise invalid_query("nearest has one place, route two or more, table one or more")
+    if MAX_PLACES[service] == 1 and len(places) != 1 or service == "route" and len(places) < 2 or not places:
+        raise invalid_query("nearest and isochrone have one place, route two or more, table one or more")
     return places
 
 

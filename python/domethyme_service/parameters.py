@@ -11,6 +11,8 @@ BEARING = re.compile(r"([0-9]{1,3}),([0-9]{1,3})")
 INDEX = re.compile("[0-9]{1,4}")
 NODE = re.compile("[0-9]{1,10}")
 COUNT = re.compile("[0-9]{1,3}")
+NUMBER = re.compile(r"[0-9]{1,9}(?:\.[0-9]{1,20})?")
+COLOR = re.compile("[0-9A-Fa-f]{6}")
 
 
 class Context(NamedTuple):
@@ -152,6 +154,53 @@ class PositiveNumber(Parameter[float | None]):
         if not METRES.fullmatch(text) or not float(text) > 0:
             raise invalid_value(f"{self.name} is a number above 0")
         return float(text)
+
+
+class NumberRange(Parameter[float]):
+    """A number from 0 to `high`, 0 without the parameter."""
+
+    def __init__(self, name: str, high: float, accepted: str) -> None:
+        super().__init__(name)
+        self.high, self.accepted = high, f"{accepted}; 0 without it"
+
+    def read(self, text: str | None, context: Context) -> float:
+        if text is None:
+            return 0.0
+        if not NUMBER.fullmatch(text) or not float(text) <= self.high:
+            raise invalid_value(f"{self.name} is a number from 0 to {self.high:,g}")
+        return float(text)
+
+
+class Contours(Parameter[list[float]]):
+    """Numbers above 0 to `high` that rise, none without the parameter."""
+
+    MAX_COUNT = 4
+
+    def __init__(self, name: str, high: int, accepted: str) -> None:
+        super().__init__(name)
+        self.high, self.accepted = high, f"1 to {self.MAX_COUNT} numbers above 0, rising, to {high:,}{accepted}"
+
+    def read(self, text: str | None, context: Context) -> list[float]:
+        if text is None:
+            return []
+        words = text.split(",")
+        values = [float(word) if NUMBER.fullmatch(word) else 0.0 for word in words]
+        is_rising = all(low < value for low, value in zip([0.0, *values], values))
+        if len(words) > self.MAX_COUNT or not is_rising or values[-1] > self.high:
+            raise invalid_value(f"{self.name} are 1 to {self.MAX_COUNT} numbers above 0, rising, to {self.high:,}")
+        return [int(value) if value.is_integer() else value for value in values]
+
+
+class Colors(Parameter[Sequence[str]]):
+    """Colours, none without the parameter."""
+
+    accepted = "six hexadecimal digits for each contour; without it four that differ for the colour-blind"
+
+    def read(self, text: str | None, context: Context) -> Sequence[str]:
+        words = [] if text is None else text.split(",")
+        if not all(map(COLOR.fullmatch, words)):
+            raise invalid_value(f"{self.name} are six hexadecimal digits each")
+        return words
 
 
 class Annotations(Parameter[list[str]]):

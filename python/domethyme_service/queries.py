@@ -4,14 +4,15 @@ import json
 from collections.abc import Sequence
 
 import numpy as np
+from numpy.typing import NDArray
 
-from domethyme import DomethymeError
+from domethyme import DomethymeError, LibraryNotFound, batch
 from domethyme.network.leg_tables import Ints
 from domethyme.network.legs import SnapEnds
 from domethyme.protocol import RouteReply
 from domethyme.router import Router
 
-from .errors import RequestError, invalid_value
+from .errors import RequestError, invalid_value, not_implemented
 from .metrics import SharedMetrics
 
 Pair = tuple[int, int]
@@ -70,6 +71,17 @@ class Queries:
         if found is None:
             return None
         return RouteReply(found.source + 1, found.target + 1, found.length, tuple([node + 1 for node in found.nodes]))
+
+    def reach(self, starts: Sequence[tuple[int, int]], limit: int) -> NDArray[np.int64]:
+        """The least length of each node from the nearest of several, which are numbered from 0 here, each with what is added
+        there; NO_PATH above the limit."""
+        self._metrics.own.queries += 1
+        try:
+            return batch.reach(self.router, starts, limit)
+        except LibraryNotFound as error:
+            raise not_implemented("the service's library is too old for isochrones") from error
+        except DomethymeError as error:
+            raise query_error(error) from error
 
     def lengths(self, pairs: Sequence[Pair]) -> list[int]:
         """The length of a shortest path of each pair, NO_PATH if there is none."""

@@ -349,8 +349,9 @@ def classify_head(received: bytes) -> HeadState:
 
 
 def is_long(request: Any) -> bool:
-    """Whether a request may take seconds, by its head: with many places, or with a body that is long or of unknown length."""
-    if len(request.path) > SHORT_PATH or len(request.uri) > SHORT_TARGET:
+    """Whether a request may take seconds, by its head: for contours, with many places, or with a body that is long or of unknown
+    length."""
+    if len(request.path) > SHORT_PATH or len(request.uri) > SHORT_TARGET or request.path.startswith("/isochrone/"):
         return True
     lengths = [value for name, value in request.headers if name in ("CONTENT-LENGTH", "TRANSFER-ENCODING")]
     return any(not value.isdecimal() or int(value[:9]) > SHORT_BODY for value in lengths)

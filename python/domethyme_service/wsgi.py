@@ -15,7 +15,7 @@ from typing import Any, NamedTuple
 from domethyme import DomethymeError
 from domethyme.network.snapping import RoadIndex
 
-from . import node_queries, osrm
+from . import isochrone, node_queries, osrm
 from .access import AccessPolicy, check_content_type
 from .dataset import Dataset
 from .endpoints import FROM, FROM_KEY, OSRM_SERVICES, TO, TO_KEY, Endpoint, find_endpoint
@@ -143,6 +143,11 @@ class Service:
         engine = osrm.Engine(self.queries, self.require_roads(), self.options.max_table_cells)
         return self.make_response(200, osrm.answer(engine, request), JSON)
 
+    def isochrone(self, call: Call) -> Response:
+        """What is reached, as Mapbox's API has it."""
+        request = isochrone.parse_request(call.path, call.query, self.options.default_radius)
+        return self.make_response(200, isochrone.answer(self.queries, self.require_roads(), request), JSON)
+
     def pair(self, call: Call) -> Response:
         """The route or length of a pair of nodes."""
         values = call.values(Context(nodes=self.queries.nodes))
@@ -260,6 +265,7 @@ HANDLERS: dict[str, Callable[[Service, Call], Response]] = {
     "/map/about": Service.map_about,
     "/map/roads": Service.map_roads,
     **{f"/{service}": Service.osrm for service in OSRM_SERVICES},
+    "/isochrone": Service.isochrone,
     "/nodes/route": Service.pair,
     "/nodes/length": Service.pair,
     "/nodes/routes": Service.batch,

@@ -226,7 +226,10 @@ class Reach:
                 self.boxes[limit] = box
 
     def _around(self, edges: Ints, limit: int, box: Box) -> Box:
-        """The box with what is reached of edges within a limit too."""
+        """The box with what is reached of edges within a limit too. Edges in the box needn't be looked at."""
+        begins = self.network.edge_begin[edges]
+        rows, places = concat_ranges(begins, self.network.edge_begin[edges + 1] - begins)
+        edges = edges[np.unique(rows[~box.has(self.plane.of(self.network.points[places]))])]
         vertices, shares = self.vertices(edges), self.shares(edges)
         rows, lows, highs = shares.intervals(limit)
         ends = vertices.at(np.tile(rows, 2), np.concatenate((lows, highs)))

@@ -1,0 +1,66 @@
+"""Mapbox's Isochrone API, version 1: what is reached from a place within minutes or metres, as GeoJSON. The lengths to the nodes
+are the library's, which are proved; contours are drawn from them (domethyme.network.contours)."""
+import itertools
+from collections.abc import Mapping, Sequence
+
+import numpy as np
+from numpy.typing import NDArray
+
+from domethyme.network.isochrones import METRICS, Shape, Style, features, limits, reach_from
+from domethyme.network.snapping import RoadIndex
+
+from .endpoints import BY_NAME, CONTOURS_COLORS, CONTOURS_METERS, CONTOURS_MINUTES, DENOISE, GENERALIZE, POLYGONS
+from .errors import RequestError, invalid_query, invalid_value, not_implemented
+from .json_text import to_json
+from .osrm import snap_places
+from .osrm_request import PROFILE, Request, parse_coordinates
+from .parameters import Context, Values
+from .queries import Queries
+
+# Nodes that may be reached: a worker has a gigabyte for so many.
+MAX_REACHED = 4_000_000
+
+
+def parse_request(path: str, query: Mapping[str, str], default_radius: float) -> Request:
+    """The request of a path `/isochrone/v1/PROFILE/PLACE`, still percent-encoded, where PROFILE may have two words. Raises
+    RequestError."""
+    words = path.split("/")
+    if words[2] != "v1":
+        raise RequestError(400, "InvalidVersion", "the path is /isochrone/v1/PROFILE/PLACE")
+    if len(words) not in (5, 6) or not all(map(PROFILE.fullmatch, words[3:-1])):
+        raise RequestError(400, "InvalidUrl", "the path is /isochrone/v1/PROFILE/PLACE, and PROFILE has a word or two")
+    places = parse_coordinates(words[-1], "isochrone")
+    return Request("isochrone", places, BY_NAME["/isochrone"].values(query, Context(len(places), default_radius)))
+
+
+def answer(queries: Queries, roads: RoadIndex, request: Request) -> str:
+    """The answer to a request. Raises RequestError."""
+    contours, values = request.values[CONTOURS_MINUTES] or request.values[CONTOURS_METERS], request.values
+    weight_limits = parse_limits(values, roads.unit)
+    if values[CONTOURS_COLORS] and len(values[CONTOURS_COLORS]) != len(contours):
+        raise invalid_value("contours_colors has to have a colour for each contour")
+
+    def lengths(starts: Sequence[tuple[int, int]], limit: int) -> NDArray[np.int64]:
+        found = queries.reach(starts, limit)
+        if np.count_nonzero(found >= 0) > MAX_REACHED:
+            raise RequestError(400, "TooBig", f"more than {MAX_REACHED:,} nodes are reached: ask for less")
+        return found
+
+    reach = reach_from(roads, snap_places(roads, request), weight_limits, lengths)
+    shape: Shape = "polygons" if values[POLYGONS] else "lines"
+    style = Style(shape, values[GENERALIZE], values[DENOISE], values[CONTOURS_COLORS], roads.texts[0])
+    return to_json(features(reach, contours, METRICS[roads.unit][0], style))
+
+
+def parse_limits(values: Values, unit: str) -> list[int]:
+    """The contours in the unit of weights. Raises RequestError."""
+    minutes, metres = values[CONTOURS_MINUTES], values[CONTOURS_METERS]
+    if bool(minutes) == bool(metres):
+        raise invalid_query("there has to be one of contours_minutes and contours_meters")
+    name, needed, what = (CONTOURS_MINUTES.name, "duration", "times") if minutes else (CONTOURS_METERS.name, "distance", "lengths")
+    if unit != needed:
+        raise not_implemented(f"{name} isn't there: the weights of this network aren't {what}")
+    found = limits(unit, minutes, metres)
+    if any(low == limit for low, limit in itertools.pairwise(found)):
+        raise invalid_value(f"{name} have to differ by more")
+    return found

@@ -1,0 +1,140 @@
+"""Tests of the service's isochrones: a Mapbox client's request, what is refused, and contours around the village's nodes."""
+import itertools
+import json
+import urllib.parse
+
+from reach_case import lengths
+from service_case import ServiceCase
+from shapely.geometry import Point, shape
+
+import domethyme
+from domethyme.network import net_file
+from domethyme.network.isochrones import COLORS, Style, features, limits
+from domethyme.network.reach import Reach
+
+PATH = "/isochrone/v1/car/0.002,0"
+# The properties of a contour of Valhalla's service for GeoJSON, and those that Mapbox's documents add.
+PROPERTIES = {"fill-opacity", "fillColor", "opacity", "fill", "fillOpacity", "color", "contour", "metric"}
+
+
+class IsochroneTests(ServiceCase):
+    def setUp(self):
+        super().setUp()
+        self.process = self.serve("--network", self.folder / "v")
+        self.net = net_file.read(self.folder / "v.net")
+
+    def found(self, query, path=PATH):
+        status, told = self.ask(f"{path}?{query}", seconds=60)
+        self.assertEqual(status, 200, told)
+        return told
+
+    def refused(self, query, code, says, path=PATH, status=400):
+        got, told = self.ask(f"{path}?{query}")
+        self.assertEqual((got, told["code"]), (status, code), told)
+        self.assertIn(says, told["message"])
+
+    def node_at(self, x, y):
+        at = round(x * 10_000), round(y * 10_000)
+        return next(node for node, place in enumerate(zip(self.net.node_lon[:].tolist(), self.net.node_lat[:].tolist())) if place == at)
+
+    def test_a_client_of_mapbox(self):
+        """Its path and all of its parameters; the answer is what is drawn of scipy's lengths."""
+        words = {"contours_minutes": "0.25,0.5,1", "contours_colors": "6706ce,04e813,4286f4", "polygons": "true", "denoise": "0.5",
+                 "generalize": "5", "access_token": "pk.eyJ1"}
+        told = self.found(urllib.parse.urlencode(words), "/isochrone/v1/mapbox/driving/0.002,0")
+        net, asked = self.net, [0.25, 0.5, 1]
+        reach = Reach(net, lengths(net, {self.node_at(2, 0): 0}), limits("duration", asked))
+        style = Style("polygons", 5, 0.5, ["6706ce", "04e813", "4286f4"], net.texts[0])
+        self.assertEqual(told, json.loads(json.dumps(features(reach, asked, "time", style))))
+        self.assertEqual(self.headers["Content-Type"], "application/json; charset=utf-8")
+        for feature, color, contour in zip(told["features"], ("#4286f4", "#04e813", "#6706ce"), (1, 0.5, 0.25)):
+            self.assertEqual(set(feature), {"type", "properties", "geometry"})
+            self.assertEqual(set(feature["properties"]), PROPERTIES)
+            self.assertEqual((feature["properties"]["color"], feature["properties"]["contour"]), (color, contour))
+            self.assertEqual(feature["properties"]["metric"], "time")
+
+    def test_contours_are_valid_and_nested(self):
+        told = self.found("contours_minutes=0.2,0.4,0.8,1.6&polygons=true")
+        shapes = [shape(each["geometry"]) for each in told["features"]]
+        self.assertTrue(all(each.is_valid for each in shapes))
+        for outer, inner in itertools.pairwise(shapes):
+            self.assertTrue(outer.covers(inner))
+        self.assertEqual([each["properties"]["color"] for each in told["features"]], [f"#{color}" for color in COLORS[::-1]])
+        found, net = lengths(self.net, {self.node_at(2, 0): 0}), self.net
+        for outer, seconds in zip(shapes, (96, 48, 24, 12)):
+            for node in range(len(found)):
+                point = Point(net.node_lon[node] / net_file.UNITS, net.node_lat[node] / net_file.UNITS)
+                if outer.boundary.distance(point) > 0.00003:
+                    is_reached = any(0 <= found[other] <= 1000 * seconds for other in range(len(found)) if self.same(node, other))
+                    self.assertEqual(outer.contains(point), is_reached, (node, seconds))
+
+    def same(self, node, other):
+        """Whether two nodes are one place."""
+        return all(column[node] == column[other] for column in (self.net.node_lon, self.net.node_lat))
+
+    def test_lines_without_the_word_polygons(self):
+        for words in ("", "&polygons=false"):
+            (line,) = self.found(f"contours_minutes=0.5{words}")["features"]
+            self.assertIn(line["geometry"]["type"], ("LineString", "MultiLineString"))
+
+    def test_bearings_and_radiuses(self):
+        """A place on a road has both ways out, and by a bearing one: to the east nothing in the west is reached."""
+        both, east = (shape(self.found(f"contours_minutes=0.1&polygons=true{words}", "/isochrone/v1/car/0.0035,0.00001")["features"][0]
+                            ["geometry"]).bounds for words in ("", "&bearings=90,20"))
+        self.assertLess(both[0], east[0] - 0.0002)
+        self.assertEqual(round(both[2], 6), round(east[2], 6))
+        self.refused("contours_minutes=5&radiuses=1", "NoSegment", "within 1 m of place 0", "/isochrone/v1/car/0.0035,0.0003")
+        self.refused("contours_minutes=5", "NoSegment", "place 0", "/isochrone/v1/car/9,9")
+
+    def test_what_is_refused(self):
+        for query, code, says in [
+            ("", "InvalidQuery", "one of contours_minutes and contours_meters"),
+            ("contours_minutes=5&contours_meters=5", "InvalidQuery", "one of"),
+            ("contours_meters=500", "NotImplemented", "contours_meters isn't there"),
+            ("contours_minutes=", "InvalidValue", "contours_minutes"), ("contours_minutes=0", "InvalidValue", "contours_minutes"),
+            ("contours_minutes=5,5", "InvalidValue", "rising"), ("contours_minutes=9,5", "InvalidValue", "rising"),
+            ("contours_minutes=1,2,3,4,5", "InvalidValue", "1 to 4"), ("contours_minutes=601", "InvalidValue", "600"),
+            ("contours_minutes=-5", "InvalidValue", "contours_minutes"), ("contours_minutes=nan", "InvalidValue", "contours_minutes"),
+            ("contours_minutes=1e2", "InvalidValue", "contours_minutes"), ("contours_minutes=5%3B6", "InvalidValue", "contours_minutes"),
+            ("contours_minutes=0.00001,0.00002", "InvalidValue", "differ"), ("contours_meters=1000001", "InvalidValue", "1,000,000"),
+            ("contours_minutes=5&contours_colors=red", "InvalidValue", "contours_colors"),
+            ("contours_minutes=5&contours_colors=ff0000,00ff00", "InvalidValue", "contours_colors"),
+            ("contours_minutes=5&contours_colors=%23ff0000", "InvalidValue", "contours_colors"),
+            ("contours_minutes=5&polygons=yes", "InvalidValue", "polygons"), ("contours_minutes=5&denoise=1.1", "InvalidValue", "denoise"),
+            ("contours_minutes=5&denoise=-1", "InvalidValue", "denoise"), ("contours_minutes=5&generalize=x", "InvalidValue", "generalize"),
+            ("contours_minutes=5&generalize=1000001", "InvalidValue", "generalize"),
+            ("contours_minutes=5&reverse=true", "NotImplemented", "reverse"), ("contours_minutes=5&reverse=1", "InvalidValue", "reverse"),
+            ("contours_minutes=5&exclude=toll", "NotImplemented", "exclude"),
+            ("contours_minutes=5&depart_at=2026-11-28T08:00", "NotImplemented", "depart_at"),
+            ("contours_minutes=5&radiuses=5;5", "InvalidQuery", "radius"), ("contours_minutes=5&bearings=400,5", "InvalidValue", "bearings"),
+            ("contours_minutes=5&costing=auto", "InvalidQuery", "'costing'"),
+        ]:
+            with self.subTest(query=query):
+                self.refused(query, code, says)
+        for path, code in [
+            ("/isochrone/v2/car/0,0", "InvalidVersion"), ("/isochrone/v1/0,0", "InvalidUrl"), ("/isochrone/v1/a/b/c/0,0", "InvalidUrl"),
+            ("/isochrone/v1/a,b/0,0", "InvalidUrl"), ("/isochrone/v1/car/0,0;1,1", "InvalidQuery"),
+            ("/isochrone/v1/car/x", "InvalidQuery"), ("/isochrone/v1/car/0,91", "InvalidValue"),
+        ]:
+            with self.subTest(path=path):
+                self.refused("contours_minutes=5", code, "", path)
+        self.assertEqual(self.ask(f"{PATH}?contours_minutes=5", "POST", "")[0], 405)
+
+    def test_all_that_is_reached_and_the_answer_for_head(self):
+        (whole,) = self.found("contours_minutes=600&polygons=true&reverse=false&exclude=")["features"]
+        self.assertTrue(shape(whole["geometry"]).is_valid)
+        told = self.raw(f"HEAD {PATH}?contours_minutes=0.1 HTTP/1.1\r\nHost: x\r\n\r\n".encode())
+        self.assertTrue(told.startswith(b"HTTP/1.1 200 OK\r\n") and told.endswith(b"\r\n\r\n"), told[:200])
+
+
+class LengthTests(ServiceCase):
+    def test_metres_where_weights_are_lengths(self):
+        """A contour of 300 m is 300 m long to each side on a straight road; minutes aren't there."""
+        self.run_tool("osm_to_gr", self.map_file(), "l", "--weight", "length")
+        domethyme.prepare(self.folder / "l.gr", self.folder / "v.rch", workers=1).close()
+        self.serve("--network", self.folder / "l")
+        told = self.ask("/isochrone/v1/car/0.0035,0?contours_meters=50,300&polygons=true&generalize=0&denoise=0")[1]
+        self.assertEqual([(each["properties"]["contour"], each["properties"]["metric"]) for each in told["features"]],
+                         [(300, "distance"), (50, "distance")])
+        status, told = self.ask("/isochrone/v1/car/0.0035,0?contours_minutes=5")
+        self.assertEqual((status, told["code"]), (400, "NotImplemented"))
