@@ -44,7 +44,7 @@ from domethyme.csv_tables import escape_formula, excerpt, open_table, parse_floa
 from domethyme.dimacs import write_pairs
 from domethyme.limits import MAX_LINES
 from domethyme.network.geo import Point
-from domethyme.network.network import load_node_index
+from domethyme.network.node_index import load_node_index
 from domethyme.network.reading import read_nodes
 from domethyme.network.tables import ENDS, KEY, Side, is_coordinates, paths_of
 

@@ -9,7 +9,7 @@ from tool_case import ToolCase
 
 from domethyme.network import from_tables, grid, net_file
 from domethyme.network.geo import metres_between, split_at_antimeridian
-from domethyme.network.network import NodeIndex
+from domethyme.network.node_index import NodeIndex
 from domethyme.network.snapping import RoadIndex
 from domethyme_service.tiles import Tiles
 

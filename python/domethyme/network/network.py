@@ -2,7 +2,7 @@
 import functools
 import itertools
 import os
-from collections.abc import Iterator, Sequence
+from collections.abc import Iterator
 from typing import TYPE_CHECKING, Any, overload
 
 import numpy as np
@@ -18,16 +18,13 @@ from ..links import Links
 from ..program import StrPath
 from ..route import Route, Rows
 from ..routes import Routes
-from . import from_tables, indexes, net_file
+from . import from_tables, net_file
 from .geo import Point, to_geojson_geometry
-from .grid import Grid
 from .net_file import NO_OSM, UNITS
-from .reading import arcs_from_net, mapped_if_current, read_nodes
-from .sphere import Floats as Floats, great_circle_metres, unit_vectors
-from .tables import (
-    ALL_ARC_COLUMNS, ARC_COLUMNS, ENDS, KEY, NODE_COLUMNS, Files, Side, arcs_file, has_columns, is_coordinates,
-    need_nodes
-)
+from .node_index import NodeIndex, load_node_index
+from .reading import arcs_from_net
+from .sphere import Floats as Floats
+from .tables import ALL_ARC_COLUMNS, ARC_COLUMNS, ENDS, KEY, NODE_COLUMNS, Files, Side, arcs_file, has_columns, need_nodes
 
 if TYPE_CHECKING:
     from .snapping import RoadIndex, SnappedPoint
@@ -207,7 +204,7 @@ class Network:
         return found
 
     @functools.cached_property
-    def _places(self) -> "NodeIndex":
+    def _places(self) -> NodeIndex:
         return load_node_index(self.prefix)
 
 
@@ -217,78 +214,6 @@ def check_degrees(lon: Floats, lat: Floats) -> None:
         raise ValueError("lon and lat have to be numbers of degrees")
     if (np.abs(lon) > 180).any() or (np.abs(lat) > 90).any():
         raise ValueError("lon has to be from -180 to 180 and lat from -90 to 90: are they swapped?")
-
-
-class NodeIndex:
-    """Where the nodes of a network lie, for look-ups by place. Nodes are counted from 0.
-
-    osm, lon, lat, ends   of each node, as binary.Arrays has them: arrays, or columns of a file
-    grid                  the nodes' grid
-    """
-
-    def __init__(
-        self, osm: Any, lon: Any, lat: Any, ends: Any, grid: Grid, path: StrPath,
-        of: net_file.MappedNetwork | Sequence[str] = ()
-    ) -> None:
-        """`of` is the network's file, or where the nodes are of a table or of a DIMACS file alone the keys that they have."""
-        self.osm, self.lon, self.lat, self.ends, self._grid, self._path = osm, lon, lat, ends, grid, path
-        self._of = of
-
-    @classmethod
-    def of(cls, arrays: net_file.MappedNetwork) -> "NodeIndex":
-        """Those of a mapped file."""
-        return cls(
-            arrays.node_osm, arrays.node_lon, arrays.node_lat, arrays.node_ends, arrays.node_grid, arrays.path, arrays
-        )
-
-    def origin(self, name: str) -> belonging.Origin:
-        """What pairs of these nodes say of their network, whose name is given."""
-        return belonging.Origin(
-            name, len(self.lon), len(self._of.arc_from) if isinstance(self._of, net_file.MappedNetwork) else None
-        )
-
-    def keys(self) -> Sequence[str]:
-        """The keys of the nodes, none where they have none."""
-        return self._of.keys() if isinstance(self._of, net_file.MappedNetwork) else self._of
-
-    def nearest(self, lon: Floats, lat: Floats, side: Side) -> tuple[NDArray[np.int64], Floats]:
-        """The nearest node to each place in degrees, from 0, of those where routes may begin (`from`) or end (`to`), and the metres
-        to it. Raises NetworkError where there is none."""
-        places = unit_vectors(lon, lat)
-
-        def away(rows: NDArray[np.int64], nodes: NDArray[np.int64]) -> Floats:
-            there = unit_vectors(self.lon[nodes] / UNITS, self.lat[nodes] / UNITS)
-            ends = self.ends[nodes]
-            return np.where((ends == 0) | (ends == ENDS.index(side)), great_circle_metres(places[rows], there), np.inf)
-
-        nodes, found = self._grid.nearest_batch(lon, lat, away)
-        if (nodes < 0).any():
-            raise NetworkError("has no nodes", self._path)
-        return nodes, found
-
-    def split_nodes(self, node: int) -> tuple[int, ...]:
-        """The nodes that turn restrictions made of the junction of a node: it alone where they made none."""
-        if not self.ends[node]:
-            return (node,)
-        place = int(self.lon[node]), int(self.lat[node])
-        found = {node}
-        for part in self._grid.candidates((place[0] / UNITS, place[1] / UNITS), 0.1):
-            here = part[(self.lon[part] == place[0]) & (self.lat[part] == place[1]) & (self.ends[part] != 0)]
-            found.update(here[self.osm[here] == self.osm[node]].tolist())
-        return tuple(sorted(found))
-
-
-def load_node_index(word: StrPath) -> NodeIndex:
-    """The nodes of a network, of its file or of its table alone, or of a DIMACS .co file."""
-    path = need_nodes(word)
-    arrays = None if is_coordinates(word) else mapped_if_current(os.fspath(word))
-    if arrays is not None:
-        return NodeIndex.of(arrays)
-    nodes = read_nodes(path)
-    lon, lat = net_file.to_units(nodes.lon, 180), net_file.to_units(nodes.lat, 90)
-    ends = np.array([ENDS.index(each) for each in nodes.ends], dtype=np.uint8)
-    osm = np.array([NO_OSM if each is None else each for each in nodes.osm], dtype=np.int64)
-    return NodeIndex(osm, lon, lat, ends, indexes.node_grid(lon, lat), path, nodes.keys)
 
 
 def iter_routes(routes: "Route | Routes") -> Iterator[tuple[tuple[Any, Any], int | None, list[int], bool]]:

@@ -20,7 +20,7 @@ from .column_file import Column
 from .geo import Point, metres_between
 from .grid import Ints, concat_ranges
 from .net_file import NO_OSM, TEXTS, UNITS, MappedNetwork, load_network
-from .network import NodeIndex
+from .node_index import NodeIndex
 from .parallel import differs_from_previous
 from .sphere import Floats, interpolate_one, nearest_on_segments
 from .tables import ENDS
