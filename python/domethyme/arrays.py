@@ -80,11 +80,6 @@ def nodes_of(name: str, values: Any, keys: Keys | None, nodes: int) -> Numbers:
     return array
 
 
-def each_to_each(sources: Numbers, targets: Numbers) -> Numbers:
-    """The pairs from each source to each target, those of the first source first."""
-    return np.column_stack([np.repeat(sources, len(targets)), np.tile(targets, len(sources))])
-
-
 def is_pandas(value: Any) -> bool:
     """Whether the value is of pandas, which is then loaded."""
     return type(value).__module__.partition(".")[0] == "pandas"

@@ -129,9 +129,7 @@ def decode_lines(path: StrPath, stream: IO[bytes]) -> Iterator[str]:
         yield text
 
 
-def parse_int(
-    text: str | bytes, what: str, path: StrPath, row: int | None, low: int = 0, high: int = MAX_WEIGHT
-) -> int:
+def parse_int(text: str | bytes, what: str, path: StrPath, row: int | None, low: int = 0, high: int = MAX_WEIGHT) -> int:
     """The value of a text (or bytes) of decimal digits, maybe with a sign, from low to high."""
     if not (DIGITS.fullmatch(text) if isinstance(text, str) else BYTES_OF_DIGITS.fullmatch(text)):
         raise NetworkError(f"{what} {excerpt(text)} isn't an integer", path, row)

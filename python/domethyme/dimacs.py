@@ -65,9 +65,7 @@ def read_graph(path: StrPath) -> GraphLists:
     return graph
 
 
-def write_graph(
-    file: IO[str], nodes: int, arcs: Collection[Iterable[int]], comments: Iterable[str] = ()
-) -> None:
+def write_graph(file: IO[str], nodes: int, arcs: Collection[Iterable[int]], comments: Iterable[str] = ()) -> None:
     """Writes a .gr file: the comments, a line each, the problem line, and an arc line for each (start, end, weight)."""
     for comment in comments:
         file.write(f"c {comment}\n")

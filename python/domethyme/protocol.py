@@ -54,11 +54,6 @@ def parse_reply(line: bytes) -> RouteReply:
     return RouteReply(source, target, length, values[4:])
 
 
-def length_of(line: bytes) -> int:
-    """The length of a line `r` or `d`, whose nodes aren't read."""
-    return int(line.split(b" ", 4)[3])
-
-
 def parse_reply_to(request: bytes, reply: bytes) -> RouteReply | None:
     """What a reply to a request says, None where there is no way. Raises the error of a reply `e`, and ProgramError for a line
     that is no reply to this request."""

@@ -336,9 +336,7 @@ def parse_args() -> argparse.Namespace:
         help="the rules of the vehicle: car, lorry, bicycle, foot, or a file (car)",
     )
     parser.add_argument("--weight", choices=sorted(WEIGHTS), default="time", help="what a weight counts (time)")
-    parser.add_argument(
-        "--longest-arc", type=longest_arc, default=250, metavar="METRES", help="from 1 to 1000000 (250)"
-    )
+    parser.add_argument("--longest-arc", type=longest_arc, default=250, metavar="METRES", help="from 1 to 1000000 (250)")
     parser.add_argument("--tables", action="store_true", help="write tables in CSV too")
     parser.add_argument("--ignore-turn-restrictions", action="store_true", help="don't look at turn restrictions")
     parser.add_argument("--keep-islands", action="store_true", help="keep all nodes, whether they reach the others or not")

@@ -320,9 +320,7 @@ WEIGHTS: dict[str, Unit] = {"time": milliseconds, "length": centimetres}
 UNITS_PER_PENALTY = {"time": 10, "length": 0}
 
 
-def to_arrays(
-    network: RoadNetwork, kind: str, rows_of: RowsOf, attribution: str, report: Report
-) -> net_file.Arrays:
+def to_arrays(network: RoadNetwork, kind: str, rows_of: RowsOf, attribution: str, report: Report) -> net_file.Arrays:
     """The network in arrays; `rows_of` gives texts, and the rows of their numbers that roads name, in the order of
     binary.TEXTS."""
     edge, along, edge_begin, points = edges_from_pieces(network)

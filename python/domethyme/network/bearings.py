@@ -37,9 +37,7 @@ def nearest_with_bearing(
 def restrict_to_bearing(roads: RoadIndex, snapped: SnappedPoint, bearing_range: BearingRange) -> SnappedPoint | None:
     """The point with the arcs of its edge whose direction is in the range; None if there is none."""
     arcs = roads.edge(snapped.edge).arcs
-    kept = {
-        number: arc for number, arc in arcs.items() if bearing_range.contains(bearing_at(roads, arc, snapped.fraction))
-    }
+    kept = {number: arc for number, arc in arcs.items() if bearing_range.contains(bearing_at(roads, arc, snapped.fraction))}
     if not kept:
         return None
     exits, entries = roads.split_arcs(kept, snapped.fraction)

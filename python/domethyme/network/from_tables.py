@@ -239,9 +239,7 @@ class LineBuilder:
             raise NetworkError(f"WKT {excerpt(wkt)} has what are no degrees", path, row)
         away = great_circle_metres(unit_vectors(*places[[0, -1]].T), unit_vectors(*(ends / UNITS).T))
         if away.max() > FARTHEST_END:
-            raise NetworkError(
-                f"its line ends {away.max():,.0f} m from its node: are from and to swapped?", path, row
-            )
+            raise NetworkError(f"its line ends {away.max():,.0f} m from its node: are from and to swapped?", path, row)
         line: NDArray[np.int32] = np.round(places * UNITS).astype(np.int32)
         return line
 
