@@ -66,10 +66,10 @@ def reach_from(roads: RoadIndex, points: Sequence[SnappedPoint], within: Sequenc
     """What is reached from the nearest of several points of roads within limits, each greater than the one before. Raises
     ValueError for other limits, and what `lengths` does."""
     starts = sorted((node - 1, weight) for point in points for node, (weight, _) in point.exits.items())
-    return Reach(roads.arrays, lengths(starts, max(within, default=0)), within, [place_on_road(point) for point in points])
+    return Reach(roads.arrays, lengths(starts, max(within, default=0)), within, [as_place(point) for point in points])
 
 
-def place_on_road(point: SnappedPoint) -> PlaceOnRoad:
+def as_place(point: SnappedPoint) -> PlaceOnRoad:
     """A point as a place on its road. One at a node that is left by some roads alone lies just inside of its road."""
     arcs = [arc for _, arc in point.exits.values() if arc != NO_ARC]
     return PlaceOnRoad(point.edge, min(max(point.fraction, 1e-9), 1 - 1e-9) if arcs else point.fraction, arcs)
