@@ -111,8 +111,9 @@ uint32_t domethyme_open(domethyme *handle, const uint8_t *bytes, size_t count);
 /* Closes a handle and frees its memory; that of the hierarchy once no other handle has it. Does nothing to a closed handle. */
 void domethyme_close(domethyme *handle);
 
-/* Opens another handle of the same hierarchy, for another thread. What `other` was open for before is closed. It takes memory
- * for its own searches alone. DOMETHYME_NO_HANDLE, DOMETHYME_OUT_OF_MEMORY. */
+/* Opens another handle of the same hierarchy, for another thread. `other` is another struct than `handle`; what it was open for
+ * before is closed. It takes 48 bytes a node, and later what its own calls need. From then on the two are used, passed to
+ * threads and closed apart from each other, in any order. DOMETHYME_NO_HANDLE, DOMETHYME_OUT_OF_MEMORY. */
 uint32_t domethyme_beside(domethyme *handle, domethyme *other);
 
 /* The number of nodes, and the version of the file, 1 or 2. DOMETHYME_NO_HANDLE. */

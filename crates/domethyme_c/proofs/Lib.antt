@@ -1,4 +1,3 @@
-mod SeedFaults
 pub mod Steps
 mod Boxes
 pub mod AllNodes

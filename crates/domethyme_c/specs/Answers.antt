@@ -1,9 +1,9 @@
 -- What each call answers, of the hierarchy that its handle has.
-use Rattle.std.specs.Prelude.{ℕ, ◌≡◌, ◌+◌, ◌*◌, ◌<◌, ◌≤◌, List, ◌++◌, ◌∷◌, ◌/◌, ◌%◌, ◌^◌, ◌⊎◌, All, map, length, slice_index, slice_index_or, drop, Option, Some, None, IsSome}
+use Rattle.std.specs.Prelude.{ℕ, ◌≡◌, ◌+◌, ◌*◌, ◌<◌, ◌≤◌, List, ◌++◌, ◌∷◌, ◌/◌, ◌%◌, ◌^◌, ◌⊎◌, All, map, length, slice_index, slice_index_or, drop, take, Option, Some, None, IsSome}
 use Rattle.ch_cost.specs.Cost.{length_of, of_walk}
 use Rattle.ch_graph.specs.declared.version.Version.TheVariants.{One}
 use Rattle.ch_graph.specs.Graph.{Graph, IsLeastLength}
-use Rattle.ch_graph.specs.Hierarchy.{Hierarchy, IsRight}
+use Rattle.ch_graph.specs.Hierarchy.{Hierarchy, IsRight, IsWellMade}
 use Rattle.ch_graph.specs.Limits.{IsGraph}
 use Rattle.ch_laws.specs.ByWeight.{IsRightByWeight}
 use Rattle.ch_query.specs.declared.seed.Seed.{Seed}
@@ -21,16 +21,16 @@ use Rattle.domethyme_c.specs.declared.route.RouteInfo.{RouteInfo}
 use Rattle.domethyme_c.specs.declared.between.BetweenInfo.{BetweenInfo}
 use Rattle.domethyme_c.specs.declared.seeds.SeedInfo.{SeedInfo}
 
--- a call of an open handle answers by its hierarchy; of a closed one it says so
-abbrev pub Answers : Option Hierarchy → ℕ → (Hierarchy → Type 0) → Type 0
-Answers None code P = code ≡ NO_HANDLE
-Answers (Some h) code P = P h
+-- a call of an open handle answers by its hierarchy; of a closed one it says so, and writes nothing
+abbrev pub Answers : Option Hierarchy → ℕ → Type 0 → (Hierarchy → Type 0) → Type 0
+Answers None code Unwritten Is = (code ≡ NO_HANDLE) × Unwritten
+Answers (Some h) code Unwritten Is = Is h
 
 -- A file
 
 -- the bytes are those of the hierarchy that the handle has, or have this first fault and the handle is closed
 pub data IsOpened (bytes : List ℕ) (code : ℕ) (held : Option Hierarchy) : Type 0 where
-  opened : code ≡ OK → (h : Hierarchy) → held ≡ Some h → bytes ≡ bytes_of h → IsOpened bytes code held
+  opened : code ≡ OK → (h : Hierarchy) → held ≡ Some h → IsWellMade h → bytes ≡ bytes_of h → IsOpened bytes code held
   refused : (e : HierError) → code ≡ fault_code e → OfBytes e (first_fault bytes ≡ Some e) → held ≡ None → IsOpened bytes code held
 
 -- another handle has the same hierarchy afterwards, or what it had
@@ -60,7 +60,7 @@ pub data IsLengthAnswer (h : Hierarchy) (from to code old new : ℕ) : Type 0 wh
   found : code ≡ OK → IsLength h from to (Some new) → IsLengthAnswer h from to code old new
   none : code ≡ NO_PATH → IsLength h from to None → new ≡ old → IsLengthAnswer h from to code old new
   out_of_range : code ≡ NODE_RANGE → (AreNodes h from to → ⊥) → new ≡ old → IsLengthAnswer h from to code old new
-  no_memory : code ≡ OUT_OF_MEMORY → new ≡ old → IsLengthAnswer h from to code old new
+  no_memory : code ≡ OUT_OF_MEMORY → AreNodes h from to → new ≡ old → IsLengthAnswer h from to code old new
 
 -- Many pairs
 
@@ -81,12 +81,12 @@ pub record AreWritten (count : ℕ) (Is : ℕ → ℕ → Type 0) (old new : Lis
   pub each : (k : ℕ) → k < count → Is k (slice_index new k)
   pub rest : (k : ℕ) → count ≤ k → slice_index new k ≡ slice_index old k
 
--- What is asked for: how many numbers, whether all nodes are in range, and which numbers are right.
+-- What is asked for: how many numbers, whether all nodes are in range, and which numbers are right. Refusals come in this order.
 pub data AreAnswered (count : ℕ) (InRange : Type 0) (Is : ℕ → ℕ → Type 0) (code : ℕ) (old new : List ℕ) : Type 0 where
   found : code ≡ OK → AreWritten count Is old new → AreAnswered count InRange Is code old new
   no_room : code ≡ NO_ROOM → length old < count → new ≡ old → AreAnswered count InRange Is code old new
-  out_of_range : code ≡ NODE_RANGE → (InRange → ⊥) → new ≡ old → AreAnswered count InRange Is code old new
-  no_memory : code ≡ OUT_OF_MEMORY → AreAnswered count InRange Is code old new
+  out_of_range : code ≡ NODE_RANGE → count ≤ length old → (InRange → ⊥) → new ≡ old → AreAnswered count InRange Is code old new
+  no_memory : code ≡ OUT_OF_MEMORY → count ≤ length old → InRange → AreAnswered count InRange Is code old new
 
 -- the length of each pair, in order
 abbrev pub IsLengthsAnswer : Hierarchy → List Pair → ℕ → List ℕ → List ℕ → Type 0
@@ -125,7 +125,7 @@ pub data IsRouteAnswer (h : Hierarchy) (from to code : ℕ) (old new : RouteInfo
   none : code ≡ NO_PATH → IsRoute h from to None → new ≡ old → written ≡ nodes → IsRouteAnswer h from to code old new nodes written
   out_of_range : code ≡ NODE_RANGE → (AreNodes h from to → ⊥) → new ≡ old → written ≡ nodes → IsRouteAnswer h from to code old new nodes written
   too_long : code ≡ TOO_LONG → HasTooLong h from to → IsWrong h → new ≡ old → written ≡ nodes → IsRouteAnswer h from to code old new nodes written
-  no_memory : code ≡ OUT_OF_MEMORY → new ≡ old → written ≡ nodes → IsRouteAnswer h from to code old new nodes written
+  no_memory : code ≡ OUT_OF_MEMORY → AreNodes h from to → new ≡ old → written ≡ nodes → IsRouteAnswer h from to code old new nodes written
 
 -- Between several starts and several ends
 
@@ -145,23 +145,26 @@ pub data IsFoundBetween (h : Hierarchy) (starts ends : List Seed) (code : ℕ) (
   found : (r : RouteBetween) → IsBetween h starts ends (Some r) → new ≡ between_info_of r → IsWritten r.nodes code nodes written → IsFoundBetween h starts ends code old new nodes written
   none : code ≡ NO_PATH → IsBetween h starts ends None → new ≡ old → written ≡ nodes → IsFoundBetween h starts ends code old new nodes written
   too_long : code ≡ TOO_LONG → HasTooLongBetween h starts ends → IsWrong h → new ≡ old → written ≡ nodes → IsFoundBetween h starts ends code old new nodes written
-  no_memory : code ≡ OUT_OF_MEMORY → new ≡ old → written ≡ nodes → IsFoundBetween h starts ends code old new nodes written
+  no_memory : code ≡ OUT_OF_MEMORY → AreSeeds h starts → AreSeeds h ends → new ≡ old → written ≡ nodes → IsFoundBetween h starts ends code old new nodes written
 
 -- why one seed is none of the hierarchy
 pub data IsSeedFault (h : Hierarchy) (seed : SeedInfo) (code : ℕ) : Type 0 where
   out_of_range : code ≡ NODE_RANGE → (seed.node < length h.ranks → ⊥) → IsSeedFault h seed code
-  costly : code ≡ SEED_COST → (IsSeed h (seed_of seed) → ⊥) → IsSeedFault h seed code
+  costly : code ≡ SEED_COST → seed.node < length h.ranks → (IsSeed h (seed_of seed) → ⊥) → IsSeedFault h seed code
 
--- why not all are seeds of the hierarchy, or none was made of them
+-- the first seeds, so many, are seeds of the hierarchy
+abbrev pub AreFirstSeeds : Hierarchy → List SeedInfo → ℕ → Type 0
+AreFirstSeeds h seeds count = All (λ (s : SeedInfo). IsSeed h (seed_of s)) (take count seeds)
+
+-- why the first seed that is none of the hierarchy is none, or the place at which memory ran out
 pub data IsSeedRefusal (h : Hierarchy) (seeds : List SeedInfo) (code : ℕ) : Type 0 where
-  out_of_range : code ≡ NODE_RANGE → (All (λ (s : SeedInfo). s.node < length h.ranks) seeds → ⊥) → IsSeedRefusal h seeds code
-  costly : code ≡ SEED_COST → (All (λ (s : SeedInfo). IsSeed h (seed_of s)) seeds → ⊥) → IsSeedRefusal h seeds code
-  no_memory : code ≡ OUT_OF_MEMORY → IsSeedRefusal h seeds code
+  fault : (k : ℕ) → k < length seeds → AreFirstSeeds h seeds k → ((d : SeedInfo) → IsSeedFault h (slice_index_or seeds k d) code) → IsSeedRefusal h seeds code
+  no_memory : code ≡ OUT_OF_MEMORY → (k : ℕ) → k < length seeds → AreFirstSeeds h seeds (k + 1) → IsSeedRefusal h seeds code
 
 pub data IsBetweenAnswer (h : Hierarchy) (starts ends : List SeedInfo) (code : ℕ) (old new : BetweenInfo) (nodes written : List ℕ) : Type 0 where
   answered : IsFoundBetween h (map seed_of starts) (map seed_of ends) code old new nodes written → IsBetweenAnswer h starts ends code old new nodes written
   no_start : IsSeedRefusal h starts code → new ≡ old → written ≡ nodes → IsBetweenAnswer h starts ends code old new nodes written
-  no_end : IsSeedRefusal h ends code → new ≡ old → written ≡ nodes → IsBetweenAnswer h starts ends code old new nodes written
+  no_end : AreSeeds h (map seed_of starts) → IsSeedRefusal h ends code → new ≡ old → written ≡ nodes → IsBetweenAnswer h starts ends code old new nodes written
 
 -- Within a limit
 

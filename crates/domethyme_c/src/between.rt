@@ -31,7 +31,7 @@ pub extern "C" fn domethyme_between(
     nodes: &mut [u32],
 ) -> u32
     ensures kept { handle.new.held.hierarchy ≡ handle.old.held.hierarchy }
-    ensures answer { Answers handle.old.held.hierarchy result (λ h. IsBetweenAnswer h starts.now ends.now result route.old route.new nodes.old nodes.new) }
+    ensures answer { Answers handle.old.held.hierarchy result ((route.new ≡ route.old) × (nodes.new ≡ nodes.old)) (λ h. IsBetweenAnswer h starts.now ends.now result route.old route.new nodes.old nodes.new) }
 {
     let Some(mut engine) = handle.take(alloc) else {
         return NO_HANDLE;

@@ -1,5 +1,5 @@
 ghost use Rattle.std.specs.Prelude.{◌≡◌, ◌↔◌, ◌+◌, ◌<◌, ◌≤◌, ◌^◌, All, Err, IfErr, IfOk, IsTrue, OnErr, OnOk, length, Some};
-ghost use Rattle.ch_graph.specs.Hierarchy.{version_number};
+ghost use Rattle.ch_graph.specs.Hierarchy.{IsWellMade, version_number};
 ghost use Rattle.hierfile.specs.Bytes.{IsFaultOf};
 ghost use Rattle.hierfile.specs.Fault.{first_fault};
 ghost use Rattle.hierfile.specs.Spelling.{bytes_of};
@@ -41,6 +41,7 @@ impl Model for Engine {
 impl Engine {
     /// Reads the bytes of a hierarchy file.
     pub(crate) fn read(alloc: Global, bytes: &[u8]) -> Result<Engine, HierError>
+        ensures made { IfOk result (λ engine. IsWellMade engine) }
         ensures ok { IfOk result (λ engine. bytes.now ≡ bytes_of engine) }
         ensures err { IfErr result (IsFaultOf first_fault (Some bytes.now)) }
     {
@@ -49,6 +50,7 @@ impl Engine {
         let version = hierarchy.version();
         let hierarchy = Arc::new(alloc, hierarchy)?;
         let router = RouterOf::new(alloc, hierarchy)?;
+        let _well_made = router.nodes();
         Ok(Engine {
             router,
             version,

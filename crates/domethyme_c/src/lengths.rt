@@ -29,7 +29,7 @@ pub extern "C" fn domethyme_length(
     length: &mut u64,
 ) -> u32
     ensures kept { handle.new.held.hierarchy ≡ handle.old.held.hierarchy }
-    ensures answer { Answers handle.old.held.hierarchy result (λ h. IsLengthAnswer h from to result length.old length.new) }
+    ensures answer { Answers handle.old.held.hierarchy result (length.new ≡ length.old) (λ h. IsLengthAnswer h from to result length.old length.new) }
 {
     let Some(mut engine) = handle.take(alloc) else {
         return NO_HANDLE;
@@ -65,7 +65,7 @@ pub extern "C" fn domethyme_lengths(
     lengths: &mut [u64],
 ) -> u32
     ensures kept { handle.new.held.hierarchy ≡ handle.old.held.hierarchy }
-    ensures answer { Answers handle.old.held.hierarchy result (λ h. IsLengthsAnswer h pairs.now result lengths.old lengths.new) }
+    ensures answer { Answers handle.old.held.hierarchy result (lengths.new ≡ lengths.old) (λ h. IsLengthsAnswer h pairs.now result lengths.old lengths.new) }
 {
     let Some(mut engine) = handle.take(alloc) else {
         return NO_HANDLE;
@@ -115,7 +115,7 @@ pub extern "C" fn domethyme_table(
     lengths: &mut [u64],
 ) -> u32
     ensures kept { handle.new.held.hierarchy ≡ handle.old.held.hierarchy }
-    ensures answer { Answers handle.old.held.hierarchy result (λ h. IsTableAnswer h sources.now targets.now result lengths.old lengths.new) }
+    ensures answer { Answers handle.old.held.hierarchy result (lengths.new ≡ lengths.old) (λ h. IsTableAnswer h sources.now targets.now result lengths.old lengths.new) }
 {
     let Some(mut engine) = handle.take(alloc) else {
         return NO_HANDLE;

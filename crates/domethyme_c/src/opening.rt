@@ -60,7 +60,7 @@ pub extern "C" fn domethyme_beside(alloc: Global, handle: &mut Handle, other: &m
 #[unsafe(no_mangle)]
 pub extern "C" fn domethyme_nodes(alloc: Global, handle: &mut Handle, nodes: &mut u32) -> u32
     ensures kept { handle.new.held.hierarchy ≡ handle.old.held.hierarchy }
-    ensures answer { Answers handle.old.held.hierarchy result (λ h. IsCount (length h.ranks) result nodes.new) }
+    ensures answer { Answers handle.old.held.hierarchy result (nodes.new ≡ nodes.old) (λ h. IsCount (length h.ranks) result nodes.new) }
 {
     let Some(engine) = handle.take(alloc) else {
         return NO_HANDLE;
@@ -74,7 +74,7 @@ pub extern "C" fn domethyme_nodes(alloc: Global, handle: &mut Handle, nodes: &mu
 #[unsafe(no_mangle)]
 pub extern "C" fn domethyme_version(alloc: Global, handle: &mut Handle, version: &mut u32) -> u32
     ensures kept { handle.new.held.hierarchy ≡ handle.old.held.hierarchy }
-    ensures answer { Answers handle.old.held.hierarchy result (λ h. IsCount (version_number h.version) result version.new) }
+    ensures answer { Answers handle.old.held.hierarchy result (version.new ≡ version.old) (λ h. IsCount (version_number h.version) result version.new) }
 {
     let Some(engine) = handle.take(alloc) else {
         return NO_HANDLE;

@@ -24,7 +24,7 @@ pub extern "C" fn domethyme_reach(
     lengths: &mut [u64],
 ) -> u32
     ensures kept { handle.new.held.hierarchy ≡ handle.old.held.hierarchy }
-    ensures answer { Answers handle.old.held.hierarchy result (λ h. IsReachAnswer h starts.now limit result lengths.old lengths.new) }
+    ensures answer { Answers handle.old.held.hierarchy result (lengths.new ≡ lengths.old) (λ h. IsReachAnswer h starts.now limit result lengths.old lengths.new) }
 {
     let Some(mut engine) = handle.take(alloc) else {
         return NO_HANDLE;
