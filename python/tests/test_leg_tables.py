@@ -1,0 +1,56 @@
+"""Tables between points on roads, made in parts: each part asks once, for whole rows to the same nodes, and its rows are those of
+one part for all."""
+import subprocess
+
+import numpy as np
+import pytest
+from tool_case import TOOLS, VILLAGE
+
+import domethyme
+from domethyme.network import leg_tables
+from domethyme.network.snapping import RoadIndex
+
+
+@pytest.fixture(scope="module")
+def village(tmp_path_factory):
+    """The village's hierarchy and roads, and points on High Street, at a junction, and on an island."""
+    folder = tmp_path_factory.mktemp("village")
+    subprocess.run([TOOLS / "osm_to_gr", VILLAGE, folder / "v", "--keep-islands"], check=True, capture_output=True)
+    roads = RoadIndex(str(folder / "v"))
+    places = [(0.0003 * number, 0.00001) for number in range(14)] + [(0.002, 0.0), (0.02, 0.005)]
+    with domethyme.prepare(folder / "v.gr", folder / "v.rch", workers=1) as hierarchy:
+        yield hierarchy, roads, list(roads.nearest_batch(places))
+
+
+@pytest.mark.parametrize("cells, most_rows", [(1, 256), (60, 256), (1 << 20, 5), (1 << 20, 1)])
+def test_parts(village, monkeypatch, cells, most_rows):
+    hierarchy, roads, points = village
+    (whole,) = leg_tables.weight_rows(hierarchy.matrix, roads, points, points, 1 << 20)
+    monkeypatch.setattr(leg_tables, "MAX_ROWS", most_rows)
+    asked = []
+
+    def ask(sources, targets):
+        asked.append((sources, targets))
+        return hierarchy.matrix(sources, targets)
+
+    parts = list(leg_tables.weight_rows(ask, roads, points, points, cells))
+    np.testing.assert_array_equal(np.concatenate(parts), whole)
+    assert len(parts) == len(asked) > 1
+    assert all(np.array_equal(targets, asked[0][1]) for _, targets in asked)
+    assert max(map(len, parts)) == max(1, min(most_rows, cells // sum(len(point.entries) for point in points)))
+
+
+def test_no_points(village):
+    hierarchy, roads, points = village
+    assert list(leg_tables.weight_rows(hierarchy.matrix, roads, [], points, 100)) == []
+    (none,) = leg_tables.weight_rows(hierarchy.matrix, roads, points, [], 1000)
+    assert none.shape == (len(points), 0)
+
+
+def test_what_a_table_has(village):
+    """Points on one road, in order; at one node; and without a path."""
+    hierarchy, roads, points = village
+    (table,) = leg_tables.weight_rows(hierarchy.matrix, roads, points, points, 1 << 20)
+    assert (table.diagonal() == 0).all() and (table[-1, :-1] == -1).all() and (table[:-1, -1] == -1).all()
+    # (a thousandth of a degree of High Street is 111.195 m, at 50 km/h)
+    assert abs(int(table[1, 5]) - 4 * 0.0003 * 111_195 / 50 * 3.6 * 1000) < 2
