@@ -85,7 +85,7 @@ class RecipeTests(NginxCase):
         sockets = self.folder / "domethyme-bicycle"
         sockets.mkdir()
         self.start(f"{bicycles}.rch", "--network", bicycles, "--bind", f"unix:{sockets}/serve.sock")
-        (upstream,), (locations,) = blocks(PAGE, "upstream domethyme_bicycle"), blocks(PAGE, "    location ~ ^/(route")
+        (upstream,), (locations,) = blocks(PAGE, "upstream domethyme_bicycle"), blocks(PAGE, "    location ~ ^/(route|nearest|table|isochrone)/v1/bicycle/")
         text = SHIPPED.read_text(encoding="utf-8")
         for before, lines in (("server {\n", upstream), ("    location / {\n", locations)):
             self.assertEqual(text.count(f"\n{before}"), 1)
