@@ -12,6 +12,8 @@ HERE = pathlib.Path(__file__).resolve().parent
 NAME = "libdomethyme.so.1"
 INSIDE = HERE / NAME
 BUILT = HERE.parents[1] / "out/library" / NAME
+# The length of a pair without a path, and the limit of what is reached that is none.
+NO_LENGTH = (1 << 64) - 1
 # What calls return; from FIRST_FAULT on the faults of a file.
 OK, NO_PATH, NO_ROOM, OUT_OF_MEMORY, TOO_LONG, FIRST_FAULT = 0, 1, 4, 5, 6, 34
 # Bytes that the text of a code has at most.

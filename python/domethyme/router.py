@@ -100,7 +100,7 @@ class Searcher:
             self._resize_buffer(2 * info.nodes)
 
     def lengths(self, pairs: int, count: int, lengths: int) -> None:
-        """Writes the least length of each pair of an array, 2^64 - 1 if there is no path, to another; both by their
+        """Writes the least length of each pair of an array, NO_LENGTH if there is no path, to another; both by their
         addresses."""
         self._check(self._library.domethyme_lengths(self._at, pairs, count, lengths, count))
 
