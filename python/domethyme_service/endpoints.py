@@ -1,5 +1,5 @@
-"""The table of endpoints: the method, path and parameters of each. Requests are parsed by it, and docs/SERVICE.md has its
-tables, which `python3 -m domethyme_service.endpoints` prints. A parameter is added here alone, with a kind of `parameters`."""
+"""The table of endpoints: the method, path and parameters of each. Requests are parsed by it, and docs/SERVICE.md has what
+`python3 -m domethyme_service.endpoints` prints. A parameter is added here alone, with a kind of `parameters`."""
 import re
 from collections.abc import Mapping
 from typing import Any, NamedTuple
@@ -120,14 +120,19 @@ def required_query(endpoint: Endpoint) -> str:
     return "?" * bool(needed) + "&".join(f"{name}=NODE" for name in needed)
 
 
-def parameter_table() -> list[str]:
-    """The lines of the table of the parameters of OSRM's API and Mapbox's in docs/SERVICE.md."""
-    owners = [("all", COMMON)]
-    owners += [(name, (BY_NAME[f"/{name}"].parameters or ())[len(COMMON) :]) for name in ("route", "nearest", "table")]
-    owners += [("isochrone", BY_NAME["/isochrone"].parameters or ())]
-    rows = [f"| {name} | `{each.name}` | {each.accepted} | {each.rejected} |" for name, some in owners for each in some]
-    return ["| Of | Parameter | Taken | Refused as `NotImplemented` |", "|---|---|---|---|", *rows]
+def parameter_list() -> list[str]:
+    """The lines of the list of the parameters of OSRM's API and Mapbox's in docs/SERVICE.md."""
+    lines = ["- OSRM's API", *map(parameter_line, COMMON)]
+    for name in ("route", "nearest", "table"):
+        lines += [f"- `{name}` also", *map(parameter_line, (BY_NAME[f"/{name}"].parameters or ())[len(COMMON) :])]
+    own = [each for each in BY_NAME["/isochrone"].parameters or () if each not in COMMON]
+    return [*lines, "- `isochrone`, with `radiuses` and `bearings` of OSRM's", *map(parameter_line, own)]
+
+
+def parameter_line(parameter: Parameter[Any]) -> str:
+    refused = f"; refused: {parameter.rejected}" if parameter.rejected else ""
+    return f"  - `{parameter.name}`: {parameter.accepted}{refused}" if parameter.accepted else f"  - `{parameter.name}`: refused"
 
 
 if __name__ == "__main__":
-    print("\n".join([*endpoint_table(), "", *parameter_table()]))
+    print("\n".join([*endpoint_table(), "", *parameter_list()]))

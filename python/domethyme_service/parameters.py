@@ -25,7 +25,7 @@ class Context(NamedTuple):
 
 
 class Parameter(Generic[T]):
-    """A parameter. `accepted` and `rejected` are its cells in docs/SERVICE.md; rejected values are those of OSRM that the
+    """A parameter. `accepted` and `rejected` are its line in docs/SERVICE.md; rejected values are those of OSRM that the
     service answers with NotImplemented."""
 
     accepted = rejected = ""
