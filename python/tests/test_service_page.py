@@ -284,6 +284,72 @@ class PointerTests(BrowserCase):
         self.quiet()
 
 
+class ReachTests(BrowserCase):
+    """What is reached: a click, a link, numbers, a drag, the legend, a file, and the way back to routes."""
+
+    LEGEND = "[...document.querySelectorAll('#legend li')].map(each => each.textContent).join()"
+
+    def reached(self, legend):
+        self.browser.until(f"{self.LEGEND} === {json.dumps(legend)}")
+        self.browser.until(f"document.querySelectorAll('#reach path').length === {len(legend.split(','))}")
+
+    def test_a_click_numbers_and_a_file(self):
+        self.open()
+        self.browser.value("document.querySelector('#modes [value=reach]').click()")
+        self.assertEqual(self.text_of("hint"), "Click the map to set the place.")
+        self.browser.click(self.pixel(0.002, 0))
+        self.reached("5 min,10 min,15 min")
+        self.assertRegex(self.browser.value("location.hash"), r"^#reach=5,10,15;0\.00(2|19)")
+        for text, is_wrong in (("nothing", True), ("5, 4", True), ("1 2 3 4 5", True), ("700", True), ("0.2; 0.5", False)):
+            self.browser.value(f"document.getElementById('numbers').value = {json.dumps(text)}")
+            self.browser.value("document.querySelector('#limits button').click()")
+            self.assertEqual(self.browser.value("document.getElementById('limits-how').classList.contains('wrong')"), is_wrong)
+        self.reached("0.2 min,0.5 min")
+        self.assertEqual(self.browser.value("document.title"), "0.2, 0.5 min · Reach")
+        self.keep("reach")
+        self.browser.value("""{ const make = URL.createObjectURL;
+            URL.createObjectURL = (blob) => { window.saved = blob; return make.call(URL, blob); }; }""")
+        self.browser.value("document.getElementById('save').click()")
+        saved = json.loads(self.browser.value("window.saved.text()"))
+        self.assertEqual([each["properties"]["contour"] for each in saved["features"]], [0.5, 0.2])
+        self.browser.click(self.pixel(0.004, 0))  # (another place, and never a second one)
+        self.browser.until("location.hash.startsWith('#reach=0.2,0.5;0.00')")
+        self.assertEqual(self.browser.value("document.querySelectorAll('.mark').length"), 1)
+        self.browser.value("document.querySelector('#modes [value=route]').click()")
+        self.browser.until("document.querySelectorAll('#reach path').length === 0 && !location.hash.includes('reach')")
+        self.assertTrue(self.browser.value("document.getElementById('limits').hidden && document.getElementById('save').hidden"))
+        self.quiet()
+
+    def test_a_link_on_a_phone(self):
+        """It has the mode, the numbers and the place; another place without a road is refused, and the map stays narrow."""
+        self.open("#reach=0.2,0.5;0.00200,0.00000", width=390, height=844)
+        self.reached("0.2 min,0.5 min")
+        self.assertTrue(self.browser.value("document.querySelector('#modes [value=reach]').checked"))
+        self.assertEqual(self.browser.value("document.getElementById('numbers').value"), "0.2, 0.5")
+        self.assertLessEqual(self.browser.value("document.documentElement.scrollWidth"), 390)
+        self.keep("reach_narrow")
+        self.open("#reach=5;0.5,0.5")
+        self.browser.until("document.getElementById('fault').textContent.includes('no road near the start')")
+        self.open("#reach=9,5;0,0")
+        self.browser.until("document.querySelector('#modes [value=route]').checked")
+        self.quiet("/isochrone/v1/car/")
+
+    def test_by_keys_alone(self):
+        self.open("#reach=0.2;0.00200,0.00000")
+        self.reached("0.2 min")
+        before = self.browser.value("location.hash")
+        self.browser.value("document.querySelector('.mark').focus()")
+        self.browser.press("ArrowRight", True)
+        self.browser.until(f"location.hash !== {json.dumps(before)}")
+        self.reached("0.2 min")
+        self.browser.press("Delete")
+        self.browser.until("document.querySelectorAll('#reach path').length === 0")
+        self.browser.value("document.querySelector('#modes [value=reach]').focus()")
+        self.browser.press("ArrowLeft")
+        self.browser.until("document.querySelector('#modes [value=route]').checked && document.getElementById('limits').hidden")
+        self.quiet()
+
+
 class KeyboardTests(BrowserCase):
     def test_a_route_by_keys_alone(self):
         self.open()
@@ -327,5 +393,5 @@ class KeyboardTests(BrowserCase):
 
 # (a part of the gate counts a test that is skipped as one that has failed: python/tests/run says that these are left out)
 if PROGRAM is None:
-    del PointerTests, KeyboardTests
+    del PointerTests, KeyboardTests, ReachTests
 del BrowserCase

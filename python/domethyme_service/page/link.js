@@ -1,15 +1,18 @@
-// The link to a route: its places are the fragment, which a browser keeps to itself.
+// The link to what is shown: its places are the fragment, which a browser keeps to itself, after `reach=5,10` if it is what is
+// reached within these numbers.
 
 export const written = (places) => places.map((place) => place.map((degrees) => degrees.toFixed(5)).join(",")).join(";");
 
 export function read(fragment) {
-  const places = fragment.replace(/^#/, "").split(";").map((word) => word.split(",").map(Number));
+  const words = fragment.replace(/^#/, "").split(";"), limits = /^reach=([\d.,]+)$/.exec(words[0])?.[1] ?? null;
+  const places = words.slice(limits === null ? 0 : 1).map((word) => word.split(",").map(Number));
   const isPlace = ([lon, lat, ...more]) => Math.abs(lon) <= 180 && Math.abs(lat) <= 90 && !more.length;
-  return places.every(isPlace) ? places : [];
+  return { limits, places: places.every(isPlace) ? places : [] };
 }
 
-export function keep(places) {
-  history.replaceState(null, "", location.pathname + location.search + (places.length ? `#${written(places)}` : ""));
+export function keep(places, limits = null) {
+  const before = limits === null ? "" : `reach=${limits};`;
+  history.replaceState(null, "", location.pathname + location.search + (places.length ? `#${before}${written(places)}` : ""));
 }
 
 // Copies the address; where the browser lets no page do that, shows it to be copied by hand.

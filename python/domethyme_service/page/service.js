@@ -22,4 +22,10 @@ export const service = {
     const text = places.map((place) => place.map((degrees) => degrees.toFixed(6)).join(",")).join(";");
     return asked(`route/v1/car/${text}?overview=false&steps=true&geometries=geojson&generate_hints=false`, signal);
   },
+
+  // What is reached from a place within numbers of minutes or metres.
+  reach(place, isMinutes, limits, signal) {
+    const text = place.map((degrees) => degrees.toFixed(6)).join(",");
+    return asked(`isochrone/v1/car/${text}?contours_${isMinutes ? "minutes" : "meters"}=${limits}&polygons=true`, signal);
+  },
 };

@@ -52,16 +52,30 @@ export function fault(error) {
   }
   if (error.code === "NoRoute") return { text: () => "There is no route between these places. Move one of them." };
   if (error.code === "InvalidService") return { text: () => "This service has no map: it was started without a network." };
-  if (error.code === "TooBig") return { text: () => "These are too many places. Remove some of them." };
+  if (error.code === "TooBig") return { text: () => "That is too much. Remove some places, or choose smaller numbers." };
   if (error.code === "Overloaded") return { text: () => "The service is busy. Try again in a moment." };
   return { text: () => error.message };
+}
+
+// What the numbers of Reach are, by the unit of weights; undefined for weights of one's own.
+export const reaches = {
+  duration: { isMinutes: true, unit: "Minutes", most: 600, first: "5,10,15", said: (number) => `${number} min` },
+  distance: { isMinutes: false, unit: "Metres", most: 1_000_000, first: "500,1000,2000", said: (number) => `${number} m` },
+};
+
+// The numbers of a text, up to four that rise, with commas between; null for others.
+export function limitsOf(text, most) {
+  const words = text.trim().split(/[,;\s]+/), limits = words.map(Number);
+  const isRising = limits.every((value, at) => value > (at ? limits[at - 1] : 0) && value <= most);
+  return words.every((word) => /^\d{1,7}(\.\d{1,5})?$/.test(word)) && limits.length <= 4 && isRising ? limits.join() : null;
 }
 
 // What one does with a pointer to choose a place: there are phones without a mouse.
 const isTouched = matchMedia("(hover: none) and (pointer: coarse)");
 const point = () => isTouched.matches ? "Tap" : "Click";
 
-export function hint(count) {
+export function hint(count, isReach = false) {
+  if (isReach) return count ? "Drag the place, or set another one." : `${point()} the map to set the place.`;
   return [`${point()} the map to set the start.`, `${point()} the map to set the destination.`, "Drag the route or a place to change it."][Math.min(count, 2)];
 }
 
