@@ -107,11 +107,10 @@ def find_endpoint(path: str) -> Endpoint:
     raise RequestError(404, "InvalidUrl", "there is no such path")
 
 
-def endpoint_table() -> list[str]:
-    """The lines of the table of endpoints in docs/SERVICE.md."""
+def endpoint_list() -> list[str]:
+    """The lines of the list of endpoints in docs/SERVICE.md."""
     shown = [endpoint for endpoint in ENDPOINTS if endpoint.path]
-    rows = [f"| `{endpoint.method} {endpoint.path}{required_query(endpoint)}` | {endpoint.answer} |" for endpoint in shown]
-    return ["| Request | Answer |", "|---|---|", *rows]
+    return [f"- `{endpoint.method} {endpoint.path}{required_query(endpoint)}`: {endpoint.answer}" for endpoint in shown]
 
 
 def required_query(endpoint: Endpoint) -> str:
@@ -135,4 +134,4 @@ def parameter_line(parameter: Parameter[Any]) -> str:
 
 
 if __name__ == "__main__":
-    print("\n".join([*endpoint_table(), "", *parameter_list()]))
+    print("\n".join([*endpoint_list(), "", *parameter_list()]))

@@ -15,14 +15,14 @@ PAGE = TOOLS.parent / "docs/SERVICE.md"
 class TableTests(unittest.TestCase):
     def test_the_page_has_the_tables(self):
         lines = PAGE.read_text(encoding="utf-8")
-        for table in (endpoints.endpoint_table(), endpoints.parameter_list()):
+        for table in (endpoints.endpoint_list(), endpoints.parameter_list()):
             text = "\n".join(table)
             self.assertIn(f"\n\n{text}\n\n", lines, f"docs/SERVICE.md has another table than this:\n{text}")
 
     def test_the_command_prints_them(self):
         words = [sys.executable, "-m", "domethyme_service.endpoints"]
         printed = subprocess.run(words, cwd=TOOLS.parent / "python", capture_output=True, text=True, check=True).stdout
-        self.assertEqual(printed.splitlines(), [*endpoints.endpoint_table(), "", *endpoints.parameter_list()])
+        self.assertEqual(printed.splitlines(), [*endpoints.endpoint_list(), "", *endpoints.parameter_list()])
 
     def test_statuses_are_counted(self):
         """Each status that the package answers has a place among the counters."""
