@@ -8,6 +8,7 @@ from typing import NamedTuple
 from domethyme import belonging
 from domethyme.checking import run_check
 from domethyme.hierarchy_file import open_hierarchy_file, pread_all, read_header
+from domethyme.network.grid import columns_per_band
 from domethyme.network.snapping import RoadIndex
 from domethyme.router import Router
 
@@ -81,5 +82,8 @@ def load_roads(network: str) -> RoadIndex:
     """Opens the network; verifies it if that is quick. Raises NetworkError."""
     roads = RoadIndex(network)
     roads.arrays.file.verify(EAGER_VERIFY_BYTES)
-    roads.box, roads.roundabout_texts  # (computed before the fork, for all workers)
+    # (what is computed here, before the fork, is in memory once for all workers)
+    roads.box, roads.roundabout_texts
+    for grid in (roads.arrays.edge_grid, roads.arrays.node_grid):
+        columns_per_band(grid.height)
     return roads

@@ -28,7 +28,7 @@ from .tables import ENDS
 END_TOLERANCE = 0.005
 NO_ARC = -1
 # Edges that are cached.
-EDGE_CACHE_SIZE = 1 << 10
+EDGE_CACHE_SIZE = 1 << 8
 # Segments that are projected on at once; and the offsets of a segment's ends.
 SEGMENTS_PER_BATCH = 1 << 15
 SEGMENT_END_OFFSETS = np.array([[0], [1]])
