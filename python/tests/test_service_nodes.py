@@ -111,7 +111,9 @@ class NodesTests(ServiceCase):
         wanted = {"status": "ok", "nodes": self.graph.nodes, "links": self.links()}
         self.assertEqual(self.ask("/health"), (200, wanted))
         self.ask("/nodes/length?from=1&to=2")
-        self.assertEqual(self.value('requests_total{endpoint="/nodes/length",status="200"}'), 1)
+        counted = 'requests_total{endpoint="/nodes/length",status="200"}'
+        self.wait_for(lambda: counted in self.ask("/metrics")[1])  # (an answer is counted once it has gone)
+        self.assertEqual(self.value(counted), 1)
         self.assertEqual(self.value("questions_total"), 1)
         self.assertEqual(self.headers["Content-Type"], "text/plain; version=0.0.4; charset=utf-8")
         self.ask("/nodes/length?from=1&to=0")
