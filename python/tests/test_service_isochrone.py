@@ -1,9 +1,11 @@
 """Tests of the service's isochrones: a Mapbox client's request, what is refused, and contours around the village's nodes."""
 import itertools
 import json
+import unittest.mock
 import urllib.parse
 
-from reach_case import lengths
+import pytest
+from reach_case import Road, lengths, prepared
 from service_case import ServiceCase
 from shapely.geometry import Point, shape
 
@@ -11,6 +13,10 @@ import domethyme
 from domethyme.network import net_file
 from domethyme.network.isochrones import COLORS, Style, features, limits
 from domethyme.network.reach import Reach
+from domethyme_service import isochrone
+from domethyme_service.errors import RequestError
+from domethyme_service.metrics import SharedMetrics
+from domethyme_service.queries import Queries
 
 PATH = "/isochrone/v1/car/0.002,0"
 # The properties of a contour of Valhalla's service for GeoJSON, and those that Mapbox's documents add.
@@ -39,29 +45,29 @@ class IsochroneTests(ServiceCase):
 
     def test_a_client_of_mapbox(self):
         """Its path and all of its parameters; the answer is what is drawn of scipy's lengths."""
-        words = {"contours_minutes": "0.25,0.5,1", "contours_colors": "6706ce,04e813,4286f4", "polygons": "true", "denoise": "0.5",
+        words = {"contours_minutes": "1,1.5,3", "contours_colors": "6706ce,04e813,4286f4", "polygons": "true", "denoise": "0.5",
                  "generalize": "5", "access_token": "pk.eyJ1"}
         told = self.found(urllib.parse.urlencode(words), "/isochrone/v1/mapbox/driving/0.002,0")
-        net, asked = self.net, [0.25, 0.5, 1]
+        net, asked = self.net, [1, 1.5, 3]
         reach = Reach(net, lengths(net, {self.node_at(2, 0): 0}), limits("duration", asked))
         style = Style("polygons", 5, 0.5, ["6706ce", "04e813", "4286f4"], net.texts[0])
         self.assertEqual(told, json.loads(json.dumps(features(reach, asked, "time", style))))
         self.assertEqual(self.headers["Content-Type"], "application/json; charset=utf-8")
-        for feature, color, contour in zip(told["features"], ("#4286f4", "#04e813", "#6706ce"), (1, 0.5, 0.25)):
+        for feature, color, contour in zip(told["features"], ("#4286f4", "#04e813", "#6706ce"), (3, 1.5, 1)):
             self.assertEqual(set(feature), {"type", "properties", "geometry"})
             self.assertEqual(set(feature["properties"]), PROPERTIES)
             self.assertEqual((feature["properties"]["color"], feature["properties"]["contour"]), (color, contour))
             self.assertEqual(feature["properties"]["metric"], "time")
 
     def test_contours_are_valid_and_nested(self):
-        told = self.found("contours_minutes=0.2,0.4,0.8,1.6&polygons=true")
+        told = self.found("contours_minutes=1,2,3&polygons=true")
         shapes = [shape(each["geometry"]) for each in told["features"]]
         self.assertTrue(all(each.is_valid for each in shapes))
         for outer, inner in itertools.pairwise(shapes):
             self.assertTrue(outer.covers(inner))
-        self.assertEqual([each["properties"]["color"] for each in told["features"]], [f"#{color}" for color in COLORS[::-1]])
+        self.assertEqual([each["properties"]["color"] for each in told["features"]], [f"#{color}" for color in COLORS[2::-1]])
         found, net = lengths(self.net, {self.node_at(2, 0): 0}), self.net
-        for outer, seconds in zip(shapes, (96, 48, 24, 12)):
+        for outer, seconds in zip(shapes, (180, 120, 60)):
             for node in range(len(found)):
                 point = Point(net.node_lon[node] / net_file.UNITS, net.node_lat[node] / net_file.UNITS)
                 if outer.boundary.distance(point) > 0.00003:
@@ -138,3 +144,18 @@ class LengthTests(ServiceCase):
                          [(300, "distance"), (50, "distance")])
         status, told = self.ask("/isochrone/v1/car/0.0035,0?contours_minutes=5")
         self.assertEqual((status, told["code"]), (400, "NotImplemented"))
+
+
+@pytest.mark.parametrize("most, is_refused", [(2, False), (1, True)])
+def test_nodes_that_may_be_reached(tmp_path, most, is_refused):
+    """Two are, of three."""
+    with prepared([(0, 0), (0.001, 0), (0.002, 0)], [Road(0, 1, 1000, 1000), Road(1, 2, 90_000, 90_000)], tmp_path / "row") as row:
+        queries = Queries(row._router, row.links, SharedMetrics())
+        request = isochrone.parse_request("/isochrone/v1/car/0,0", {"contours_minutes": "1", "polygons": "true"}, 1000)
+        with unittest.mock.patch.object(isochrone, "MAX_REACHED", most):
+            if is_refused:
+                with pytest.raises(RequestError, match="more than 1 nodes are reached") as refused:
+                    isochrone.answer(queries, row.network.roads, request)
+                assert (refused.value.status, refused.value.code) == (400, "TooBig")
+            else:
+                assert "Polygon" in isochrone.answer(queries, row.network.roads, request)
