@@ -25,7 +25,7 @@ from .osrm_tables import TableOptions, table_by_routes, table_of_weights
 from .osrm_types import RouteLeg, Waypoint
 from .queries import Queries
 
-# A place is near the network if it is within so many degrees of the bounding box of its roads.
+# A place is near the network if it is within this many degrees of the bounding box of its roads.
 NEAR_DEGREES = 0.2
 # Places that are snapped at once.
 SNAP_BATCH = 16

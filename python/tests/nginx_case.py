@@ -1,5 +1,5 @@
-"""What the tests through nginx share: the shipped configuration (packaging/nginx/domethyme.conf) before a service at a unix
-socket, run by a real nginx as the user of the test."""
+"""nginx for tests: the shipped configuration (packaging/nginx/domethyme.conf) in front of a service on a unix socket, run
+by a real nginx as the user of the test."""
 import getpass
 import os
 import pathlib
@@ -18,7 +18,7 @@ events {{ worker_connections 4096; }}
 http {{
     client_body_temp_path {folder}/body; proxy_temp_path {folder}/proxy; fastcgi_temp_path {folder}/fastcgi;
     uwsgi_temp_path {folder}/uwsgi; scgi_temp_path {folder}/scgi;
-    # (a test may come from an address of its choice)
+    # (a test chooses the address that it comes from)
     set_real_ip_from 127.0.0.1; real_ip_header X-Test-Address;
     {shipped}
 }}
@@ -26,7 +26,7 @@ http {{
 
 
 def free_port() -> int:
-    """A port that nothing listens at."""
+    """A free port."""
     with socket.create_server(("127.0.0.1", 0)) as stream:
         return int(stream.getsockname()[1])
 
@@ -50,7 +50,7 @@ class NginxCase(ServiceCase):
         program = shutil.which("nginx", path=f"{os.environ['PATH']}:/usr/sbin")
         self.nginx = subprocess.Popen([program, "-c", self.folder / "nginx.conf", "-e", self.folder / "nginx.log"], stdin=subprocess.DEVNULL)
         self.addCleanup(self.nginx.wait)
-        self.addCleanup(self.nginx.terminate)  # (with its workers, which a kill would leave behind)
+        self.addCleanup(self.nginx.terminate)  # (a kill would leave its workers)
         self.wait_for(self.listens)
         return process
 

@@ -1,4 +1,4 @@
-"""What the tests of the service share: the village's service, started and ended, and requests to it."""
+"""The village's service for tests: started and ended, and requests to it."""
 import heapq
 import http.client
 import json
@@ -16,15 +16,15 @@ import domethyme
 from domethyme.dimacs import read_graph
 
 SECONDS = 20
-# KiB that a worker may grow by in a round that leaves nothing, and how many rounds there are. Python's allocator and the threads'
-# arenas take some in early rounds, and more on a machine that has much to do: one of the rounds has to leave memory as it was.
+# KiB that a worker may grow by in a round without a leak, and the number of rounds. Python's allocator and the threads' arenas
+# grow in early rounds, and more on a busy machine: memory has to stay level in one of the rounds.
 MOST_GROWN, ROUNDS = 2048, 6
 # The type of the body of a batch.
 NDJSON = {"Content-Type": "application/x-ndjson"}
 
 
 class Answer(NamedTuple):
-    """An answer as it came: its fields by their names in small letters, and its body without the marks of its parts."""
+    """An answer: its fields by lowercase name, and its body without chunk headers."""
 
     status: int
     fields: dict[str, str]
@@ -75,7 +75,7 @@ class ServiceCase(ToolCase):
             connection.close()
 
     def raw(self, sent, half_close=False):
-        """All that the service writes, until it closes, to bytes on a connection."""
+        """All that the service sends to bytes on a connection, until it closes."""
         with socket.create_connection(("127.0.0.1", self.port), SECONDS) as stream:
             stream.sendall(sent)
             if half_close:
@@ -86,14 +86,14 @@ class ServiceCase(ToolCase):
         return b"".join(parts)
 
     def wait_for(self, what, seconds=30):
-        """Waits until it is so, and fails with what the service has said if it isn't in time."""
+        """Waits until a condition is true; fails with the service's log after some seconds."""
         end = time.monotonic() + seconds
         while not what():
             self.assertLess(time.monotonic(), end, self.said[-20:])
             time.sleep(0.05)
 
     def assert_level(self, process, act):
-        """Acts in rounds, until one in which no worker grows. Memory that each round leaves behind fails it."""
+        """Calls `act` in rounds, until one in which no worker grows; fails if memory grows in each round."""
         sizes = []
         for _ in range(ROUNDS):
             act()
@@ -104,14 +104,16 @@ class ServiceCase(ToolCase):
         self.fail(f"memory grows in each round: {sizes} KiB")
 
     def value(self, name):
-        """A value of /metrics."""
+        """A value of /metrics, 0 if it isn't there. An answer is counted just after it was sent, so a test waits for its count."""
         status, text = self.ask("/metrics")
         self.assertEqual(status, 200)
-        return float(re.search(rf"(?m)^domethyme_{re.escape(name)} (.*)$", text)[1])
+        found = re.search(rf"(?m)^domethyme_{re.escape(name)} (.*)$", text)
+        return float(found[1]) if found else 0.0
 
 
 def read_answer(file: BinaryIO, method: str = "GET") -> Answer:
-    """The next answer of a connection that is read as a file. Raises EOFError where the connection ends before it is whole."""
+    """The next answer of a connection that is read as a file. Raises EOFError if the connection ends before it is
+    complete."""
     status = line_of(file).split(b" ", 2)
     fields = dict(iter(lambda: field_of(line_of(file)), ("", "")))
     if method == "HEAD":
@@ -136,7 +138,7 @@ def field_of(line: bytes) -> tuple[str, str]:
 
 
 def part_of(file: BinaryIO) -> bytes:
-    """The next part of a body that comes in parts; none is its end."""
+    """The next chunk of a body; an empty one is its end."""
     part = whole(file, int(line_of(file), 16))
     line_of(file)
     return part
@@ -150,7 +152,7 @@ def whole(file: BinaryIO, count: int) -> bytes:
 
 
 def children_of(number: int) -> list[int]:
-    """The processes that a process has started."""
+    """The children of a process."""
     found = []
     for path in pathlib.Path("/proc").glob("[0-9]*/stat"):
         try:
@@ -168,7 +170,7 @@ def workers_of(process: "subprocess.Popen[str]") -> list[int]:
 
 
 def resident(number: int) -> int:
-    """The KiB of memory that a process has resident."""
+    """The resident memory of a process, in KiB."""
     return int(re.search(r"VmRSS:\s+(\d+) kB", pathlib.Path(f"/proc/{number}/status").read_text())[1])
 
 
@@ -179,7 +181,7 @@ def end(process):
 
 
 def lengths_from(arcs, source):
-    """The least lengths {node: length} from a node over arcs (from, to, weight): Dijkstra's search."""
+    """The lengths {node: length} of shortest paths from a node over arcs (from, to, weight), by Dijkstra's algorithm."""
     after = {}
     for start, stop, weight in arcs:
         after.setdefault(start, []).append((stop, weight))

@@ -112,7 +112,7 @@ class RouteManyCase(ToolCase):
         return sorted(path.name for path in (self.folder / "out.parts").glob("*.answers"))
 
     def until(self, is_so):
-        """Waits until it is so, and fails where it takes too long."""
+        """Waits until a condition is true; fails with the service's log after some seconds."""
         end = time.monotonic() + PATIENCE
         while not is_so():
             self.assertLess(time.monotonic(), end, f"waited for too long; begun: {self.begun()}")

@@ -1,4 +1,4 @@
-"""Tests of the service under attack: each is an attack that an earlier form of it didn't withstand. Those of many clients at once are in
+"""Attacks on the service: each is one that an earlier version didn't withstand. Those with many clients at once are in
 test_service_load."""
 import contextlib
 import http.client
@@ -30,18 +30,18 @@ from domethyme_service.osrm_geometry import simplified
 PATH = "/nodes/length?from=1&to=2"
 HIGH = "0.0003,0.00001;0.0077,-0.00002"
 IMPORT = f"import sys\nsys.path.insert(0, {str(PYTHON)!r})\nfrom domethyme_service import command, gunicorn_app\n"
-# How long a request may be held up by others, in seconds; on a machine that has much to do a test allows more.
+# How long a request may be delayed by others, in seconds; on a busy machine a test allows more.
 HELD_UP, BUSY = 0.25, 20
 
 
 class RestartTests(ServiceCase):
-    """What happens to connections and requests where processes end, hang, or are replaced."""
+    """Connections and requests while processes end, hang, or are replaced."""
 
     def says(self, text):
         return any(text in line for line in self.said)
 
     def test_a_worker_that_is_silent_is_replaced(self):
-        """One that hangs for good, as by a loop that lets no signal through, is killed after its time, and the service goes on."""
+        """A worker that hangs, as in a loop that blocks signals, is killed after the timeout and replaced."""
         self.command = (sys.executable, "-c", f"{IMPORT}gunicorn_app.FIXED_SETTINGS['timeout'] = 3\ncommand.main()")
         process = self.serve()
         hung = workers_of(process)[0]
@@ -53,7 +53,8 @@ class RestartTests(ServiceCase):
         self.assertEqual(self.ask(PATH)[0], 200)
 
     def test_an_answer_that_takes_too_long(self):
-        """It ends with 504, and its worker is replaced; others are answered meanwhile. A batch may take its time for each block."""
+        """It ends with 504, and its worker is replaced, while others are answered. Each block of a batch has the whole
+        time."""
         slow = "node_queries.length_answer = lambda *words: time.sleep(60)\nblocks = node_queries.split_blocks\n"
         slow += "node_queries.split_blocks = lambda body: (time.sleep(0.7) or block for block in blocks(body))\n"
         slow += "worker.ANSWER_SECONDS, worker.LONG_SECONDS = 2.0, 2.0\n"
@@ -69,7 +70,8 @@ class RestartTests(ServiceCase):
         self.assertEqual((status, text.count("length")), (200, 256 * 5))
 
     def test_no_connection_is_lost_as_workers_are_replaced(self):
-        """Each request comes by a connection of its own, while the files are read again: the socket stays, so none is refused or reset."""
+        """Each request has its own connection while the files are reloaded: the socket stays open, so none is refused or
+        reset."""
         process = self.serve()
         wanted, lost, count, is_over = self.ask(PATH), [], [0], threading.Event()
 
@@ -94,7 +96,7 @@ class RestartTests(ServiceCase):
             each.join()
         self.assertEqual(lost, [])
         self.assertGreater(count[0], 20)
-        # (a connection that waits while no worker is there is answered by the next one)
+        # (a connection that arrives while there is no worker is answered by the next one)
         for number in workers_of(process):
             os.kill(number, signal.SIGKILL)
         self.assertEqual(self.ask(PATH), wanted)
@@ -112,7 +114,7 @@ class RestartTests(ServiceCase):
             self.assertEqual(os.listdir(f"/proc/{number}/task"), [str(number)])
 
     def test_reloads_that_fail_say_why(self):
-        """Whatever is wrong with the files, and however the process that opens them ends."""
+        """A reload fails whatever is wrong with the files, and however the process that opens them ends."""
         process = self.serve("--network", self.folder / "v")
         wanted = self.ask(PATH)
         hierarchy, network = self.folder / "v.rch", self.folder / "v.net"
@@ -147,7 +149,8 @@ class RestartTests(ServiceCase):
         self.assertEqual(self.value("reloads_total"), 0)
 
     def test_a_hierarchy_that_is_overwritten(self):
-        """In place, by one of as many nodes and links: a worker that is started anew answers as before, until a reload."""
+        """The file is overwritten in place by one of the same size: a worker that is restarted answers as before, until a
+        reload."""
         process = self.serve()
         wanted = self.ask(PATH)
         path, graph = self.folder / "v.rch", self.graph
@@ -171,6 +174,7 @@ class RestartTests(ServiceCase):
         for _ in range(30):
             self.ask(PATH)
         name = 'requests_total{endpoint="/nodes/length",status="200"}'
+        self.wait_for(lambda: self.value(name) == 30)
         self.assertEqual({self.value(name) for _ in range(12)}, {30})
         os.kill(workers_of(process)[0], signal.SIGKILL)
         self.wait_for(lambda: self.value("worker_restarts_total") == 1)
@@ -179,8 +183,8 @@ class RestartTests(ServiceCase):
         self.assertEqual(self.value(name), 30)
 
     def test_a_restart_of_the_whole_service(self):
-        """As by systemd, which hands over its socket: a connection that comes while no service is there is answered by the next.
-        """
+        """Under systemd's socket activation, a connection that arrives while the service is down is answered by the next
+        one."""
         listening = socket.create_server(("127.0.0.1", 0))
         self.addCleanup(listening.close)
         os.dup2(listening.fileno(), 99)
@@ -198,7 +202,7 @@ class RestartTests(ServiceCase):
             self.assertIn(f'"length":{wanted[1]["length"]}'.encode(), b"".join(iter(lambda: stream.recv(4096), b"")))
 
     def test_what_is_under_way_as_the_service_ends(self):
-        """It is answered whole; and a signal that comes behind many others isn't lost."""
+        """A batch is answered completely, and a signal after many others isn't lost."""
         process = self.serve()
         body = b'{"from": 1, "to": 7}\n' * 100_000
         head = f"POST /nodes/routes HTTP/1.1\r\nHost: x\r\nContent-Type: application/json\r\nContent-Length: {len(body)}\r\n\r\n"
@@ -213,7 +217,7 @@ class RestartTests(ServiceCase):
         self.assertEqual(process.wait(60), 0)
 
     def test_a_module_in_the_working_folder(self):
-        """The service is started in a folder with modules of its own names, which don't run."""
+        """Modules of the working directory with the names of its imports aren't imported."""
         for name in ("numpy", "gunicorn", "json", "domethyme_service"):
             self.write(f"{name}.py", f"open({str(self.folder / 'ran')!r}, 'w').close()\n")
         before = os.getcwd()
@@ -227,7 +231,7 @@ class RestartTests(ServiceCase):
 
 
 class BrowserTests(ServiceCase):
-    """A page of another origin, in a browser on the same machine."""
+    """Requests of a page of another origin, in a browser on the same machine."""
 
     def test_hosts(self):
         self.serve()
@@ -280,7 +284,7 @@ class BrowserTests(ServiceCase):
 
 class FramingTests(ServiceCase):
     def test_what_is_behind_a_request(self):
-        """Each connection has one request: what is behind it is read by nobody, be it garbage or another request."""
+        """A connection has one request: whatever follows it is ignored, garbage or another request."""
         self.serve()
         get = f"GET {PATH} HTTP/1.1\r\nHost: x\r\n"
         for head, more, status in (
@@ -292,7 +296,8 @@ class FramingTests(ServiceCase):
         self.assertFalse([line for line in self.said if "Traceback" in line], self.said)
 
     def test_a_head_of_many_fields(self):
-        """Sixty of one form are read at once: the time of a pattern may not double with each. More than a hundred are refused."""
+        """Sixty fields of one form are parsed at once: no pattern takes exponential time. More than a hundred are
+        rejected."""
         self.serve()
         for count, status in ((60, 200), (500, 400)):
             begun = time.monotonic()
@@ -301,7 +306,7 @@ class FramingTests(ServiceCase):
             self.assertLess(time.monotonic() - begun, BUSY)
 
     def test_parts_that_are_out_of_the_ordinary(self):
-        """None is an error inside, and the log has no line of it."""
+        """None is an internal error, and nothing is logged."""
         self.serve()
         head = "POST /nodes/lengths HTTP/1.1\r\nHost: x\r\nContent-Type: application/json\r\nTransfer-Encoding: chunked\r\n\r\n"
         for body, status in (("0\r\n" + "x: y\r\n" * 3000 + "\r\n", 400), ("f" * 60_000 + "\r\nx", 400), ("0" * 60_000 + "\r\n\r\n", 200), ("5\r\nhel", 400)):
@@ -310,7 +315,7 @@ class FramingTests(ServiceCase):
         self.assertFalse([line for line in self.said if "Traceback" in line], self.said)
 
     def test_forms_of_smuggling(self):
-        """A request with two framings is refused, and of none two are answered."""
+        """A request with two framings is rejected, and none is answered twice."""
         self.serve()
         smuggled = f"GET {PATH} HTTP/1.1\r\nHost: x\r\n\r\n"
         lengths = ("+4", "4_0", "0x4", "4, 4", " 4 4", "-1", "\x0b4")
@@ -327,10 +332,10 @@ class FramingTests(ServiceCase):
 
 
 class WorkTests(ServiceCase):
-    """Work that takes long, and what is held up by it."""
+    """Long requests, and how long others are delayed by them."""
 
     def longest_health(self, work):
-        """The longest that `/health` took while the work was done."""
+        """The longest time of `/health` during the work."""
         found, is_over = [0.0], threading.Event()
 
         def look():
@@ -349,8 +354,8 @@ class WorkTests(ServiceCase):
         return max(found)
 
     def test_five_hundred_places(self):
-        """That alternate between two corners of a drawn network, with all that a route can have: others are answered meanwhile. How
-        long one is held up is compared with the whole time, which a busy machine makes longer too."""
+        """Routes that alternate between two corners of a random network, with all options: others are answered meanwhile.
+        Their delay is compared with the whole time, which a busy machine makes longer too."""
         self.run_program([ROOT / "bench/make_roads.py", 1000, 3, self.folder / "drawn"])
         domethyme.prepare(self.folder / "drawn.gr", self.folder / "v.rch", workers=1).close()
         arrays = load_network(str(self.folder / "drawn"))
@@ -375,7 +380,7 @@ class WorkTests(ServiceCase):
             connection.close()
 
     def test_bodies_that_do_not_come_leave_room_for_batches(self):
-        """A hundred POSTs without their bodies: batches of others are answered."""
+        """A hundred POSTs whose bodies don't arrive: batches of others are answered."""
         self.serve()
         with contextlib.ExitStack() as stack:
             for _ in range(100):
@@ -385,7 +390,7 @@ class WorkTests(ServiceCase):
             self.assertEqual(self.ask("/nodes/lengths", "POST", '{"from": 1, "to": 1}', NDJSON), (200, '{"from":1,"to":1,"length":0}\n'))
 
     def test_places_far_away(self):
-        """Five hundred at the antipodes, with unlimited radiuses."""
+        """Five hundred places at the antipodes, with unlimited radiuses."""
         self.serve("--network", self.folder / "v")
         words = ";".join(["-179.99,0.01"] * 500)
         held_up = self.longest_health(lambda: self.ask(f"/route/v1/car/{words}?radiuses={';'.join(['unlimited'] * 500)}&overview=false", seconds=60))
@@ -394,7 +399,7 @@ class WorkTests(ServiceCase):
 
 class BudgetTests(unittest.TestCase):
     def test_simplified(self):
-        """By the plain rule, point by point: no point is further off than it may be, and the ends stay."""
+        """By the definition, point by point: no point is farther than the tolerance, and the ends stay."""
         rng = np.random.default_rng(5)
         for count in (2, 3, 50, 400):
             line = np.cumsum(rng.normal(0, 0.001, (count, 2)), axis=0)
@@ -417,7 +422,7 @@ class BudgetTests(unittest.TestCase):
 
 
 class PatternTests(unittest.TestCase):
-    # By the name of each pattern that sees what a client sends the texts that are worst for it, of n signs.
+    # The worst texts of each pattern that is applied to requests, to be repeated.
     WORST = {
         "METRES": ("9", "9.9", "0."), "BEARING": ("9", "9,", ","), "INDEX": ("9",), "NODE": ("9",), "COUNT": ("9",),
         "DEGREES": ("9", "9.", "+9", "9e", ".9"), "PROFILE": ("a", "a.", "."), "POLYLINE": ("polyline(", "(", "polyline6("),
@@ -426,7 +431,7 @@ class PatternTests(unittest.TestCase):
     }
 
     def test_each_is_linear(self):
-        """Each pattern of the package that may see the network takes no more than in proportion to the text."""
+        """Each pattern that is applied to requests takes time in proportion to the text."""
         found = {}
         for module in (access, endpoints, osrm_request, parameters, worker, wsgi):
             found |= {name: value for name, value in vars(module).items() if isinstance(value, re.Pattern)}
@@ -449,20 +454,20 @@ class PatternTests(unittest.TestCase):
 
 class UnitTests(unittest.TestCase):
     def test_exposure(self):
-        """What systemd says of the unit: 2.0 at most, of 10."""
+        """systemd-analyze rates the unit's exposure at most 2.0 of 10."""
         words = ["systemd-analyze", "security", "--offline=true", "--threshold=20", ROOT / "packaging/domethyme-serve.service"]
         ended = subprocess.run(words, capture_output=True, text=True)
         self.assertEqual(ended.returncode, 0, ended.stdout[-300:] + ended.stderr)
         self.assertIn("Overall exposure level", ended.stdout)
 
 
-# (a part of the gate counts a test that is skipped as one that has failed)
+# (a skipped test counts as failed)
 if shutil.which("systemd-analyze") is None:
     del UnitTests
 
 
 def hostile(whole, rows):
-    """A network's file whose first array has so many rows, with the right checksum."""
+    """A network's file whose first array claims `rows` rows, with a valid checksum."""
     head = np.frombuffer(whole[: HEAD.itemsize], HEAD).copy()
     tail = rows.to_bytes(8, "little") + whole[int(head["tail"][0]) + 8 :]
     head["sum"] = 0
@@ -477,7 +482,7 @@ def small():
 
 
 def off(point, begin, end, shrink):
-    """The distance of a point from the line between two others."""
+    """The distance of a point from the segment between two others."""
     point, begin, end = (np.array(each) * (shrink, 1.0) for each in (point, begin, end))
     way = end - begin
     square = way @ way

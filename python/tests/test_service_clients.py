@@ -1,6 +1,6 @@
-"""Tests of the service as eight clients of OSRM use it. Each asks as its source code has it, with its parameters, their order, its
-form of numbers and its headers, and of the answer all members are looked at that it reads there: their types, and that they are
-plausible. None of them asks for what the service refuses, but where a test says so."""
+"""The service as eight clients of OSRM use it. Each request is as in the client's source code, with its parameters, their
+order, its number format and its headers. All members of the answer that the client reads are checked: their types, and
+whether they are plausible. No request is one that the service rejects, unless a test says so."""
 import itertools
 import json
 import math
@@ -12,14 +12,14 @@ from test_service_osrm import METRES, OsrmCase
 # By High Street and north by Mill Road to a roundabout, which Hill Road leaves.
 START, END = (0.0003, 0.00001), (0.007, 0.00203)
 STREETS = ["High Street", "Mill Road"]
-# What osrm-text-instructions, and clients with words of their own, have texts for.
+# What osrm-text-instructions, and clients with texts of their own, support.
 TYPES = {"depart", "turn", "new name", "continue", "roundabout", "arrive"}
 MODIFIERS = {"uturn", "sharp right", "right", "slight right", "straight", "slight left", "left", "sharp left"}
 BROWSER = {"Accept": "*/*", "Origin": "https://example.org", "Referer": "https://example.org/", "Sec-Fetch-Mode": "cors"}
 
 
 def polyline(text: str, digits: int = 5) -> list[tuple[float, float]]:
-    """The points (lon, lat) of a polyline, as the clients take it apart: the latitude comes first."""
+    """The points (lon, lat) of a polyline, decoded as clients do: the latitude comes first."""
     numbers, place = [], 0
     while place < len(text):
         value = shift = 0
@@ -36,7 +36,7 @@ def polyline(text: str, digits: int = 5) -> list[tuple[float, float]]:
 
 
 def packed(places: list[tuple[float, float]]) -> str:
-    """The polyline of places (lon, lat), as a client makes it."""
+    """The polyline of places (lon, lat), encoded as clients do."""
     text, last = "", (0, 0)
     for lon, lat in places:
         here = round(lat * 1e5), round(lon * 1e5)
@@ -55,7 +55,7 @@ def metres(points: list[tuple[float, float]]) -> float:
 
 
 def java(number: float) -> str:
-    """A number as Java prints it: below a thousandth with an exponent."""
+    """A number in Java's format: with an exponent below a thousandth."""
     if abs(number) >= 1e-3:
         return repr(number)
     exponent = math.floor(math.log10(abs(number)))
@@ -71,7 +71,7 @@ class EightClientsTests(OsrmCase):
         return found
 
     def near(self, place: Any, other: tuple[float, float], within: float = 120) -> None:
-        """Wants a place [lon, lat] in numbers, so many metres from another."""
+        """Asserts that a place is [lon, lat], at most this many metres from another."""
         self.assertEqual([type(side) for side in place], [float, float])
         self.assertLess(math.dist(place, other) * METRES, within)
 
@@ -80,13 +80,13 @@ class EightClientsTests(OsrmCase):
         self.assertTrue(low <= value <= high, value)
 
     def ends_right(self, line: list[tuple[float, float]]) -> None:
-        """Wants a line from the start to the end, of the route's length."""
+        """Asserts that a line leads from the start to the end, and has the route's length."""
         self.near(line[0], START)
         self.near(line[-1], END)
         self.figure(metres(line), 900, 1300)
 
     def look_at_steps(self, legs: Any, digits: int = 5) -> list[Any]:
-        """What all read of steps, but for the line: types and modifiers that have texts, places, names, and sums."""
+        """Asserts what all clients read of steps, except lines: types and modifiers with texts, places, names, and sums."""
         steps = [step for leg in legs for step in leg["steps"]]
         for step in steps:
             move = step["maneuver"]
@@ -106,7 +106,7 @@ class EightClientsTests(OsrmCase):
         return steps
 
     def look_at_lines(self, steps: list[Any]) -> None:
-        """Lines of steps, each of which begins at its place where the one before ends, and is as long as it says."""
+        """Asserts that each step's line begins where the one before ends, and has the step's length."""
         lines = [polyline(step["geometry"]) for step in steps]
         for step, line in zip(steps, lines):
             self.near(line[0], tuple(step["maneuver"]["location"]), 1.2)
@@ -116,8 +116,8 @@ class EightClientsTests(OsrmCase):
         self.ends_right([point for line in lines for point in line])
 
     def test_leaflet_routing_machine(self):
-        """3.2, `osrm-v1.js`, with osrm-text-instructions: first without hints, then with those that it was given, and as a
-        waypoint is dragged, for the line alone."""
+        """Version 3.2, `osrm-v1.js`, with osrm-text-instructions: first without hints, then with those of the answer, and
+        while a waypoint is dragged, for the line alone."""
         places = "0.0003,0.00001;0.007,0.00203"
         hints = [""] * 2
         for _ in range(2):
@@ -137,7 +137,7 @@ class EightClientsTests(OsrmCase):
                 for step in steps:
                     self.figure(step["maneuver"]["bearing_after"], 0, 359)
                     self.assertEqual(step["mode"], "driving")
-                    # (texts with lanes, where there are any, and with the numbers and directions of roads)
+                    # (texts with lanes, if any, and with numbers and directions of roads)
                     self.assertNotIn("lanes", step["intersections"][0])
                     self.assertEqual({type(step.get(name, "")) for name in ("ref", "destinations", "exits", "rotary_name")},
                                      {str})
@@ -147,8 +147,8 @@ class EightClientsTests(OsrmCase):
             self.ends_right(polyline(found["routes"][0]["geometry"]))
 
     def test_openstreetmap_org(self):
-        """The website's `fossgis_osrm.js`: the first leg of the first route by its steps, and hints in escapes. What comes
-        before `/route` in its paths is the proxy's."""
+        """The website's `fossgis_osrm.js`: the steps of the first leg of the first route, and percent-encoded hints. The
+        part of its paths before `/route` is the proxy's."""
         query = {"overview": "false", "geometries": "polyline", "steps": "true"}
         headers = {**BROWSER, "Accept": "application/json, text/javascript, */*; q=0.01",
                    "Origin": "https://www.openstreetmap.org"}
@@ -166,7 +166,7 @@ class EightClientsTests(OsrmCase):
         self.assertIn("%3B", urllib.parse.urlencode(query))
 
     def test_osmand(self):
-        """`OsrmEngine.java`: small numbers have an exponent, and a step is shown where its place is a point of the line."""
+        """`OsrmEngine.java`: small numbers have an exponent, and a step's place has to be a point of the line."""
         places = ";".join(f"{java(lon)},{java(lat)}" for lon, lat in (START, END))
         self.assertTrue(places.startswith("3.0E-4,1.0E-5;0.007,0.00203"), places)
         headers = {"User-Agent": "OsmAnd~ 4.5", "Accept-Encoding": "gzip", "Connection": "Keep-Alive"}
@@ -178,12 +178,13 @@ class EightClientsTests(OsrmCase):
             lon, lat = step["maneuver"]["location"]
             at = next(number for number in range(at, len(line)) if math.dist(line[number], (lon, lat)) < 1.1e-5)
         self.assertEqual(at, len(line) - 1)
-        # (the text that it shows where there is no route)
+        # (the text that it shows if there is no route)
         status, found = self.ask("/route/v1/driving/3.0E-4,1.0E-5;0.020,0.005?overview=full&steps=true", headers=headers)
         self.assertEqual((status, found["code"], type(found["message"])), (400, "NoRoute", str))
 
     def test_viking(self):
-        """1.10, by the file that docs/SERVICE.md has: places to 17 digits, with one between too, and the line of the first route."""
+        """Version 1.10, with the file of docs/SERVICE.md: places to 17 digits, also with one between, and the line of the
+        first route."""
         for between in ("", ";0.0049999999999999996,1.0000000000000001e-05"):
             places = f"0.00029999999999999997,1.0000000000000001e-05{between};0.0070000000000000001,0.0020300000000000001"
             found = self.asked(f"/route/v1/car/{places}?geometries=geojson&overview=full",
@@ -195,7 +196,8 @@ class EightClientsTests(OsrmCase):
             self.ends_right([tuple(place) for place in line["coordinates"]])
 
     def test_marble(self):
-        """22.12, `OSRMRunner.cpp`, whose proxy is the service, so it names OSRM's own server: the line to six places, the time."""
+        """Version 22.12, `OSRMRunner.cpp`, through the service as its proxy, so for OSRM's own host: the line to six
+        digits, and the time."""
         places, query = "0.000300,0.000010;0.007000,0.002030", "alternatives=false&overview=full&geometries=polyline6"
         lines = [f"GET http://router.project-osrm.org/route/v1/driving/{places}?{query} HTTP/1.1",
                  "Host: router.project-osrm.org",
@@ -209,7 +211,7 @@ class EightClientsTests(OsrmCase):
         self.figure(route["duration"], 50, 200)
 
     def test_r_osrm(self):
-        """The package osrm of R, which packs places into a line: a route, a table with its places, and the nearest road."""
+        """R's package osrm, which encodes places as a polyline: a route, a table with its places, and the nearest road."""
         line = urllib.parse.quote(f"polyline({packed([START, END])})", safe="()")
         query = "alternatives=false&geometries=geojson&steps=false&overview=full&generate_hints=false"
         found = self.asked(f"/route/v1/driving/{line}?{query}")
@@ -227,12 +229,12 @@ class EightClientsTests(OsrmCase):
         for waypoint in self.asked("/nearest/v1/driving/0.0003,0.00001?number=3&radiuses=1000")["waypoints"]:
             self.near(waypoint["location"], START, 1000)
             self.figure(waypoint["distance"], 0, 1000)
-        # (of one that is refused it prints the message and the code)
+        # (it prints the message and the code of an error)
         status, found = self.ask("/route/v1/driving/0.0003,0.00001;0.007,0.00203?exclude=motorway")
         self.assertEqual((status, found["code"], type(found["message"])), (400, "NotImplemented", str))
 
     def test_routingpy(self):
-        """`routers/osrm.py`: parameters in the order of their names, with escapes."""
+        """`routers/osrm.py`: parameters in the order of their names, percent-encoded."""
         headers = {"User-Agent": "routingpy/v1.3.0", "Content-Type": "application/json", "Accept-Encoding": "gzip, deflate",
                    "Accept": "*/*"}
         places = "0.0003,0.00001;0.007,0.00203"
@@ -254,7 +256,7 @@ class EightClientsTests(OsrmCase):
             self.figure(found[name][1][0], low, high)
 
     def test_vroom(self):
-        """`osrm_routed_wrapper.cpp`: it reads to the connection's end, and takes what is from the first brace to the last."""
+        """`osrm_routed_wrapper.cpp`: it reads to the end of the connection, and parses from the first brace to the last."""
         places = "0.000300,0.000010;0.007000,0.002030;0.004000,0.000000"
         table = self.as_vroom(f"/table/v1/car/{places}?annotations=duration,distance")
         self.assertEqual(table["code"], "Ok")
@@ -269,7 +271,7 @@ class EightClientsTests(OsrmCase):
         for name in ("duration", "distance"):
             self.assertEqual([leg[name] for leg in route["legs"]], [table[f"{name}s"][0][1], table[f"{name}s"][1][2]])
             self.assertAlmostEqual(route[name], sum(leg[name] for leg in route["legs"]), places=2)
-        # (a place without a road, of which it prints the message; OSRM's own has a number at its end, and is read for that)
+        # (a place without a road: it prints the message, and parses the number at the end of OSRM's)
         found = self.as_vroom(f"/table/v1/car/{places};60.000000,1.000000?annotations=duration,distance")
         self.assertEqual((found["code"], type(found["message"])), ("NoSegment", str))
 

@@ -1,4 +1,5 @@
-"""Tests of the table of endpoints: docs/SERVICE.md has it, each endpoint is answered, and its parameters are those that are read."""
+"""The table of endpoints: docs/SERVICE.md has it, each endpoint is answered, and its parameters are those that are
+parsed."""
 import re
 import subprocess
 import sys
@@ -25,7 +26,7 @@ class TableTests(unittest.TestCase):
         self.assertEqual(printed.splitlines(), [*endpoints.endpoint_list(), "", *endpoints.parameter_list()])
 
     def test_statuses_are_counted(self):
-        """Each status that the package answers has a place among the counters."""
+        """Each status of the package has a counter."""
         text = "".join(path.read_text() for path in (TOOLS.parent / "python/domethyme_service").glob("*.py"))
         found = {int(number) for number in re.findall(r"(?:RequestError|Response|make_response)\(\s*([1-5]\d\d),", text)}
         self.assertGreater(len(found), 9)
@@ -38,7 +39,7 @@ class TableTests(unittest.TestCase):
 
 class EndpointTests(ServiceCase):
     def test_parameters_that_are_not_there(self):
-        """Each endpoint that has parameters refuses others by name, and the others take any."""
+        """Each endpoint with parameters rejects others by name, and the others accept any."""
         self.serve("--network", self.folder / "v")
         place = "0.0003,0.00001"
         paths = {"ZOOM/X/Y": "0/0/0", "PROFILE/PLACES": f"car/{place};{place}", "PROFILE/PLACE": f"car/{place}", "FILE": "main.js"}

@@ -1,4 +1,4 @@
-"""Tests of the service's isochrones: a Mapbox client's request, what is refused, and contours around the village's nodes."""
+"""The service's isochrones: a Mapbox client's request, invalid requests, and contours around the village's nodes."""
 import itertools
 import json
 import unittest.mock
@@ -44,7 +44,7 @@ class IsochroneTests(ServiceCase):
         return next(node for node, place in enumerate(zip(self.net.node_lon[:].tolist(), self.net.node_lat[:].tolist())) if place == at)
 
     def test_a_client_of_mapbox(self):
-        """Its path and all of its parameters; the answer is what is drawn of scipy's lengths."""
+        """Its path and all of its parameters; the answer is drawn from scipy's lengths."""
         words = {"contours_minutes": "1,1.5,3", "contours_colors": "6706ce,04e813,4286f4", "polygons": "true", "denoise": "0.5",
                  "generalize": "5", "access_token": "pk.eyJ1"}
         told = self.found(urllib.parse.urlencode(words), "/isochrone/v1/mapbox/driving/0.002,0")
@@ -75,7 +75,7 @@ class IsochroneTests(ServiceCase):
                     self.assertEqual(outer.contains(point), is_reached, (node, seconds))
 
     def same(self, node, other):
-        """Whether two nodes are one place."""
+        """Whether two nodes have the same coordinates."""
         return all(column[node] == column[other] for column in (self.net.node_lon, self.net.node_lat))
 
     def test_lines_without_the_word_polygons(self):
@@ -84,7 +84,7 @@ class IsochroneTests(ServiceCase):
             self.assertIn(line["geometry"]["type"], ("LineString", "MultiLineString"))
 
     def test_bearings_and_radiuses(self):
-        """A place on a road has both ways out, and by a bearing one: to the east nothing in the west is reached."""
+        """From a place on a road both directions are reached, and with a bearing one: to the east nothing in the west."""
         both, east = (shape(self.found(f"contours_minutes=0.1&polygons=true{words}", "/isochrone/v1/car/0.0035,0.00001")["features"][0]
                             ["geometry"]).bounds for words in ("", "&bearings=90,20"))
         self.assertLess(both[0], east[0] - 0.0002)

@@ -1,5 +1,5 @@
-"""Tests of the service under many clients, and under attacks of many at once: by its own port, and through nginx with the
-configuration that ships. Each answer is compared, and `/health` is asked all the time."""
+"""The service under many clients and attacks, on its own port and through nginx with the shipped configuration. Each answer
+is compared, and `/health` is requested all the time."""
 import contextlib
 import gzip
 import http.client
@@ -18,7 +18,7 @@ from service_case import NDJSON, ServiceCase, read_answer, workers_of
 from test_service_attack import IMPORT
 from tool_case import PYTHON
 
-# Seconds that `/health` may take under an attack; on a machine that has much to do so many times what it took before.
+# Seconds that `/health` may take under an attack; on a busy machine this many times what it took before.
 HEALTH, BUSY = 1.0, 30
 PATH = "/nodes/length?from=1&to=7"
 LINE = b'{"from": 1, "to": 7}\n'
@@ -31,8 +31,8 @@ def post(size, path="/nodes/routes", more=""):
 
 
 class Probe(threading.Thread):
-    """Asks for `/health`, and for a pair, whose answers are compared, until it is told to stop; keeps the longest time of
-    the former."""
+    """Requests `/health` and a pair, and compares the answers, until it is stopped; stores the longest time of
+    `/health`."""
 
     def __init__(self, case, wanted):
         super().__init__(daemon=True)
@@ -54,7 +54,7 @@ class Probe(threading.Thread):
 
 
 class LoadCase(ServiceCase):
-    """A test by either way to the service. `begin` starts it."""
+    """A test of either way to the service; `begin` starts it."""
 
     def begin(self, *words):
         return self.serve("--network", self.folder / "v", *words)
@@ -69,7 +69,7 @@ class LoadCase(ServiceCase):
 
     @contextlib.contextmanager
     def under_attack(self, lost=0):
-        """A block in which others are answered, and `/health` in time."""
+        """Asserts that others are answered during the block, and `/health` in time."""
         wanted = {path: self.ask_by(path) for path in ("/health", PATH)}
         times = []
         for _ in range(60):
@@ -91,7 +91,7 @@ class LoadCase(ServiceCase):
         return stack.enter_context(socket.create_connection(("127.0.0.1", self.port), 120))
 
     def run_all(self, works):
-        """Does works at once, each in a thread; raises what one of them has raised."""
+        """Runs functions at once, each in a thread; raises the exception of one of them."""
         faults = []
 
         def run(work):
@@ -110,10 +110,11 @@ class LoadCase(ServiceCase):
 
 
 class AttackTests(LoadCase):
-    """By the service's own port."""
+    """On the service's own port."""
 
     def test_sixteen_batches(self):
-        """Of each client the batch is answered right in the end: one that finds no slot in time is told to come again."""
+        """The batch of each client is answered correctly in the end: one that gets no slot in time gets 503 and
+        Retry-After."""
         self.begin()
         body = LINE * 3000
         status, wanted = self.ask_by("/nodes/routes", "POST", body)
@@ -130,7 +131,7 @@ class AttackTests(LoadCase):
             self.run_all([client] * 16)
 
     def test_slow_heads_and_bodies(self):
-        """Heads that stop, byte by byte and at once, and bodies that stop, short and long ones: others are answered
+        """Heads that stop arriving, byte by byte and at once, and bodies that do, short and long ones: others are answered
         meanwhile."""
         self.begin()
         with contextlib.ExitStack() as stack, self.under_attack():
@@ -140,14 +141,14 @@ class AttackTests(LoadCase):
             bodies = [self.connect(stack) for _ in range(60)]
             for number, stream in enumerate(bodies):
                 stream.sendall(post((99, 1_000_000)[number % 2]) + LINE)
-            for _ in range(120):  # (in which their time is over)
+            for _ in range(120):  # (until their timeout)
                 for stream in heads[:20]:
                     with contextlib.suppress(OSError):
                         stream.sendall(b"x")
                 time.sleep(0.1)
 
     def test_idle_connections(self):
-        """More than the workers keep: the oldest ones go, and others are answered."""
+        """More connections than the workers keep: the oldest are closed, and others are answered."""
         soft, hard = resource.getrlimit(resource.RLIMIT_NOFILE)
         resource.setrlimit(resource.RLIMIT_NOFILE, (max(soft, 4096 if hard == resource.RLIM_INFINITY else min(4096, hard)), hard))
         self.begin()
@@ -176,7 +177,7 @@ class AttackTests(LoadCase):
             self.run_all([client] * 12)
 
     def test_slow_readers_of_batches(self):
-        """They ask for more than the kernel holds, and take little of it."""
+        """Clients that request more than the kernel buffers, and read little of it."""
         self.begin()
         body = LINE * 150_000
         with contextlib.ExitStack() as stack, self.under_attack():
@@ -201,7 +202,7 @@ class AttackTests(LoadCase):
             stream.sendall(data)
 
     def test_long_requests(self):
-        """Tables and routes by many places, and annotations of a word many times, at once."""
+        """Tables and routes with many places, and annotations with one name many times, at once."""
         self.begin()
         draw = random.Random(3)
         places = ";".join(f"{draw.uniform(0, 0.008):.6f},{draw.uniform(-0.0001, 0.0001):.6f}" for _ in range(45))
@@ -228,7 +229,7 @@ class NginxAttackTests(NginxCase, AttackTests):
 
 
 class ReplacedTests(LoadCase):
-    """Workers that are killed, and files that are read again, good and damaged ones, while clients ask."""
+    """Workers that are killed, and reloads of valid and damaged files, under load."""
 
     may_lose = True
 
@@ -261,7 +262,7 @@ class ReplacedTests(LoadCase):
                 (self.lost if found[0] == 503 else self.wrong).append((path, found))
 
     def asking(self, act):
-        """Acts while clients ask; none of their answers may be wrong."""
+        """Calls `act` under load; no answer may be wrong."""
         answers = self.answers()
         self.assertEqual({wanted[0] for *_, wanted in answers}, {200})
         clients = [threading.Thread(target=self.client, args=[number, answers]) for number in range(len(self.right))]
@@ -277,7 +278,7 @@ class ReplacedTests(LoadCase):
         self.assertGreater(min(self.right), 20)
 
     def test_twenty_reloads(self):
-        """By turns of good files and of damaged ones: no request is lost, and no answer is wrong."""
+        """Alternately valid and damaged files: no request is lost, and no answer is wrong."""
         def act():
             for number in range(20):
                 name, text = [*self.good.items()][number % 2], None
@@ -299,7 +300,7 @@ class ReplacedTests(LoadCase):
         (self.folder / "new").rename(self.folder / name)
 
     def test_workers_that_are_killed(self):
-        """Through nginx each request is asked once more, so none is lost; else those that a worker had are."""
+        """Through nginx each request is repeated, so none is lost; without it those of the killed workers are."""
         def act():
             for _ in range(8):
                 time.sleep(0.4)
@@ -321,7 +322,7 @@ class NginxReplacedTests(NginxCase, ReplacedTests):
 
 
 class NginxTests(NginxCase):
-    """What the configuration says beside."""
+    """Other parts of the configuration."""
 
     def test_the_way_through(self):
         self.serve_behind_nginx("--access-log")
@@ -360,7 +361,7 @@ class NginxTests(NginxCase):
             self.assertEqual(self.ask(path, headers={"X-Test-Address": address})[0], status, path)
 
     def test_rates(self):
-        """A public address has 100 requests a second and 200 ahead; a private one isn't slowed."""
+        """A public address has 100 requests a second and a burst of 200; a private one isn't limited."""
         self.serve_behind_nginx()
         for address, refused in (("203.0.113.9", True), ("10.1.2.3", False)):
             connection = http.client.HTTPConnection("127.0.0.1", self.port, timeout=60)
@@ -376,7 +377,7 @@ class NginxTests(NginxCase):
             self.assertEqual(429 in statuses, refused, address)
 
     def test_no_place_is_logged(self):
-        """Neither by nginx nor by the service."""
+        """A rejected request is logged neither by nginx nor by the service."""
         self.serve_behind_nginx("--access-log")
         self.ask("/route/v1/car/0.0003,0.00001;0.0077,-0.00002")
         self.ask("/nearest/v1/car/0.0003,500")
@@ -389,7 +390,7 @@ class NginxTests(NginxCase):
         self.assertNotIn("127.0.0.1", self.log())
 
     def test_health_while_all_are_busy(self):
-        """All four workers answer something that takes long: nginx asks a worker of its own for the service's health."""
+        """All four workers are busy with long requests: nginx gets the service's health from a worker for probes."""
         script = "import time\nfrom domethyme_service import node_queries\nnode_queries.length_answer = lambda *words: time.sleep(60)\n"
         self.command = slow_command(script)
         self.serve_behind_nginx()

@@ -1,5 +1,5 @@
-"""Tests of malformed and hostile requests to the service: ten thousand different ones, drawn from one seed. Each has to get the error of its
-kind, and none may leave memory behind."""
+"""Malformed and hostile requests: ten thousand different ones, from one seed. Each has to get the error of its kind, and
+none may leak memory."""
 import contextlib
 import itertools
 import json
@@ -26,7 +26,7 @@ from domethyme_service.parameters import Flag, Choice
 from domethyme_service.worker import MAX_HEAD, HeadState, classify_head
 from domethyme_service.wsgi import Options, Service
 
-# The names of parameters that all services have, and by service those of its own; those that aren't there; and words by name.
+# The names of the parameters of all services, and of each; unsupported ones; and words by name.
 COMMON = [each.name for each in endpoints.COMMON]
 OWN = {service: endpoints.BY_NAME[f"/{service}"].parameters[len(COMMON) :] for service in SERVICES}
 KNOWN = {service: [each.name for each in some] for service, some in OWN.items()}
@@ -38,13 +38,13 @@ SEED, COUNT, FEW = 17, 10_000, 100
 NODES = 38
 HIGH = "0.0003,0.00001;0.0077,-0.00002"
 
-# Texts that are no number of degrees, metres or places, and no word of an option either.
+# Texts that are invalid as degrees, metres, numbers of places and words of options.
 NO_NUMBERS = (
     "nan NaN -nan inf -inf Infinity 1e999 -1e999 1e100 0x1A 1_0 + - --1 +-1 1..2 1.2.3 . 1e e5 1e+ 1e1.5 1d3 1f 1L one None null "
     "true [1] (1) {1} '1' 1' 1: 1= 1! 1* %D9%A1 %EF%BC%91 %E2%88%921 1%20 %201 +1%20 1%00 %00 %0A1 1%2C 1%3B %251 % 1%2 %zz 1\\2"
 ).split()
-# Percent escapes that aren't UTF-8: a byte that begins nothing, one that goes on from nothing, half a sign, one that is too
-# long, a half of a pair of UTF-16, and one beyond the last sign.
+# Percent escapes that aren't UTF-8: an invalid first byte, a continuation byte alone, a truncated sequence, an overlong one, a
+# surrogate, and a code point above U+10FFFF.
 NO_UTF8 = ("%FF", "%80", "%C3", "%C3%28", "%C0%AF", "%E2%82", "%ED%A0%80", "%F4%90%80%80", "1%FE", "%a0true")
 NO_WORDS = ("", "True", "FALSE", "yes", "on", "1", "0", "none", "true,false", "true;", "%20true", "full%20", "polyline7",
             "geojson6",
@@ -54,7 +54,7 @@ LETTERS = "abcdefghijklmnopqrstuvwxyz"
 
 
 class Draw(random.Random):
-    """What requests are made of: right parts, each drawn anew, so that hardly any two requests are the same."""
+    """Parts of requests, valid and drawn anew, so that hardly any two requests are the same."""
 
     def text(self, least: int = 1, most: int = 12) -> str:
         return "".join(self.choices(LETTERS, k=self.randint(least, most)))
@@ -69,7 +69,7 @@ class Draw(random.Random):
         return self.choice(SERVICES)
 
     def path(self, service: str, places: str | None = None, query: str = "") -> str:
-        """A path of OSRM's API, with right places if there are no others, and sometimes with right options too."""
+        """A path of OSRM's API, by default with valid places, and sometimes with valid options."""
         places = self.places(1 if service == "nearest" else self.randint(2, 4)) if places is None else places
         rights = [f"hints={self.text()}", "generate_hints=false", "skip_waypoints=true", "format=json", "snapping=default"]
         names = {field.partition("=")[0] for field in query.split("&")}
@@ -79,7 +79,7 @@ class Draw(random.Random):
         return f"/{service}/v1/{self.text()}/{places}" + ("?" if fields else "") + "&".join(fields)
 
     def among(self, wrong: str, right: Callable[[], str], count: int) -> str:
-        """So many texts, one of which is wrong."""
+        """This many texts, one of which is wrong."""
         texts = [wrong, *(right() for _ in range(count - 1))]
         self.shuffle(texts)
         return ";".join(texts)
@@ -101,13 +101,13 @@ class Draw(random.Random):
 
 
 def sent(path: str, method: str = "GET", fields: str = "", body: bytes | None = None) -> bytes:
-    """A request as HTTP has it."""
+    """An HTTP request."""
     if body is not None and "ransfer-Encoding" not in fields:
         fields += f"Content-Length: {len(body)}\r\n"
     return f"{method} {path} HTTP/1.1\r\nHost: x\r\n{fields}\r\n".encode("latin-1") + (body or b"")
 
 
-# Paths that are malformed: each is asked by GET, and the connection goes on.
+# Malformed paths, requested by GET; the connection stays open.
 
 
 def a_number_that_is_none(draw: Draw) -> str:
@@ -135,7 +135,7 @@ def places_too_few_or_too_many(draw: Draw) -> str:
 
 
 def line(draw: Draw, count: int) -> str:
-    """A right polyline, as a path may have it."""
+    """A valid polyline in a path."""
     return escaped(encode_polylines([[[draw.uniform(0, 0.008), draw.uniform(0, 0.001)] for _ in range(count)]], 5)[0])
 
 
@@ -353,7 +353,7 @@ def a_type_that_a_page_can_send(draw: Draw) -> bytes:
 
 
 def batch_of(draw: Draw, lines: list[bytes]) -> bytes:
-    """A batch, by its length or in parts, of a type that batches may have."""
+    """A batch, with its length or chunked, of an accepted type."""
     body, fields = b"\n".join(lines), f"Content-Type: {draw.choice(TYPES)}\r\n"
     if draw.random() < 0.3:
         parts = [body[begin : begin + 50] for begin in range(0, len(body), 50)]
@@ -401,7 +401,7 @@ def lines_of_other_nodes(draw: Draw) -> bytes:
     return batch_of(draw, [wrong() for _ in range(draw.randint(1, 5))])
 
 
-# Requests after whose answer the connection ends: a body that is too long, another version of HTTP, and what is no HTTP at all.
+# Requests after which the connection is closed: a body that is too long, another version of HTTP, and what isn't HTTP.
 
 
 def a_body_that_is_too_long(draw: Draw) -> bytes:
@@ -437,7 +437,7 @@ def a_field_that_is_none(draw: Draw) -> bytes:
 
 
 def an_end_of_a_line_that_is_none(draw: Draw) -> bytes:
-    """A line feed alone where a line ends, or a line that goes on in the next."""
+    """A line feed alone at the end of a line, or a folded line."""
     whole = sent(draw.path(draw.service()), fields=f"X-A: {draw.text()}\r\n")
     return draw.choice((
         whole.replace(b"\r\n", b"\n"), whole.replace(b"\r\n", b"\n", 1), whole.replace(b"Host: x\r\n", b"Host: x\n"),
@@ -510,7 +510,7 @@ def a_head_that_is_too_long(draw: Draw) -> bytes:
 
 
 class Kind(NamedTuple):
-    """What is wrong with requests of a kind, and what they are answered: the status, and the code of OSRM or of the service."""
+    """A kind of malformed requests, and their answer: the status, and the code of OSRM or of the service."""
 
     status: int
     code: str
@@ -553,7 +553,7 @@ GOING_ON = (
     Kind(415, "InvalidQuery", a_body_that_is_compressed),
     Kind(415, "InvalidQuery", a_type_that_a_page_can_send),
     Kind(403, "Forbidden", a_page_of_another_origin),
-    # (a batch has its errors in its lines, and each of these lines has one)
+    # (a batch reports errors in its lines, and each of these lines has one)
     Kind(200, "InvalidQuery", lines_that_are_no_json),
     Kind(200, "InvalidQuery", lines_of_other_members),
     Kind(200, "InvalidValue", lines_of_other_nodes),
@@ -580,7 +580,7 @@ class Case(NamedTuple):
 
 
 def drawn(draw: Draw) -> Iterator[Case]:
-    """Requests of all kinds in turn, no two the same."""
+    """Requests of all kinds in turn, all different."""
     seen: set[bytes] = set()
     for kind in itertools.cycle((*GOING_ON, *ENDING)):
         for _ in range(1000):
@@ -595,14 +595,14 @@ def drawn(draw: Draw) -> Iterator[Case]:
 
 
 class FakeSocket:
-    """What gunicorn asks of a connection as it makes the environment of a request."""
+    """The methods of a socket that gunicorn calls to make the environ of a request."""
 
     def send(self, _data: bytes) -> None:
         raise AssertionError("nothing is sent")
 
 
 class InProcess:
-    """The service as a function, with gunicorn's parser before it, and without a socket."""
+    """The WSGI function behind gunicorn's parser, without a socket."""
 
     def __init__(self, folder) -> None:
         paths = DatasetPaths(str(folder / "v.rch"), str(folder / "v"))
@@ -612,7 +612,7 @@ class InProcess:
             self.settings.set(name, value)
 
     def answer(self, request: bytes) -> Answer:
-        """What the bytes of a request are answered."""
+        """The answer to the bytes of a request."""
         error, begun = malformed(), []
         if classify_head(request[:MAX_HEAD]) is HeadState.WHOLE:
             with contextlib.suppress(ParseException, ValueError, OSError):
@@ -627,7 +627,7 @@ class InProcess:
 
 class MalformedTests(ServiceCase):
     def test_ten_thousand(self):
-        """Each gets the error of its kind, and a right request behind each hundred is answered as ever."""
+        """Each gets the error of its kind, and a valid request after each hundred is answered as ever."""
         service, cases = InProcess(self.folder), drawn(Draw(SEED))
         rights = [sent(path) for path in (f"/route/v1/car/{HIGH}?steps=true", "/nodes/length?from=1&to=7")]
         wanted = [service.answer(right) for right in rights]
@@ -638,12 +638,12 @@ class MalformedTests(ServiceCase):
             self.assertEqual([service.answer(right) for right in rights], wanted)
 
     def test_on_connections(self):
-        """A few of each kind to processes: none is lost or left behind, and memory stays level."""
+        """A few of each kind over sockets: all are answered and closed, and memory doesn't grow."""
         process, cases = self.serve("--network", self.folder / "v"), drawn(Draw(SEED + 1))
 
         def some() -> None:
             for case in itertools.islice(cases, len(GOING_ON) + len(ENDING)):
-                if case.kind.make is not a_part_that_is_none:  # (the rest of which is waited for)
+                if case.kind.make is not a_part_that_is_none:  # (the service waits for the rest of it)
                     self.look_at(case, self.ask_one(case.request))
 
         self.assert_level(process, some)
@@ -657,7 +657,7 @@ class MalformedTests(ServiceCase):
             return read_answer(file)
 
     def look_at(self, case: Case, answer: Answer) -> None:
-        """Wants the error of the kind, as JSON."""
+        """Asserts the error of the kind, as JSON."""
         about = case.kind.name, case.request[:300], answer
         faults = [json.loads(line) for line in answer.body.splitlines()]
         self.assertEqual((answer.status, *{fault["code"] for fault in faults}), (case.kind.status, case.kind.code), about)

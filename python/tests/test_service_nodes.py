@@ -1,4 +1,4 @@
-"""Tests of the service by numbers of nodes: lengths against a search of their own, batches, faults of requests, and of the command."""
+"""Routes and lengths by numbers of nodes: against a Dijkstra search, batches, invalid requests, and the command."""
 import datetime
 import json
 import os
@@ -15,7 +15,7 @@ from domethyme_service import command
 
 class NodesTests(ServiceCase):
     def lengths(self):
-        """The least lengths between all nodes, {(from, to): length}."""
+        """The lengths of shortest paths between all nodes, {(from, to): length}."""
         arcs = list(zip(self.graph.starts, self.graph.ends, self.graph.weights))
         numbers = range(1, self.graph.nodes + 1)
         return {(start, stop): length for start in numbers for stop, length in lengths_from(arcs, start).items()}
@@ -85,7 +85,7 @@ class NodesTests(ServiceCase):
         self.assertEqual(self.ask("/nodes/lengths", "POST", ""), (200, ""))
 
     def test_too_many_faults_in_a_batch(self):
-        """The answer ends with the first that is too much, after what was good before it."""
+        """The answer ends with the first error beyond the limit, after the lines before it."""
         self.serve()
         lines = ["x"] * 300 + ['{"from": 1, "to": 2}'] + ["x"] * 4000
         status, text = self.ask("/nodes/lengths", "POST", "\n".join(lines))
@@ -96,7 +96,7 @@ class NodesTests(ServiceCase):
         self.assertEqual(self.ask("/nodes/lengths", "POST", "\n".join(good))[1].count("\n"), 1050)
 
     def test_lines_that_look_good_together(self):
-        """Lines that are faulty one by one, and would be pairs where they are read as one text."""
+        """Lines that are invalid one by one, and would be pairs if they were parsed as one text."""
         self.serve()
         lines = ['{"from": [', '2], "from": 1, "to": 2}', '{"from": 1, "to": 2},0,{"from": 1, "to": 2}', '{"from": 1,', '"to": 2}',
                  '{"from": "1', '2", "to": 1}', '1,0,2', '{"from": 01, "to": 1}', '{"from": 1, "to": NaN}', '{"from": 1, "to": 1}, 3']
@@ -142,7 +142,7 @@ class CommandTests(ServiceCase):
         return self.run_program([TOOLS / "domethyme-serve", self.folder / "v.rch", "--port", "0", *words], status=status).stderr
 
     def test_where_it_listens(self):
-        """On the loopback, or at a unix socket, for nginx: what leads elsewhere is refused, and nginx's file is named."""
+        """On the loopback, or on a unix socket for nginx: other addresses are rejected, and nginx's file is named."""
         for words in (["--host", "0.0.0.0"], ["--host", "::"], ["--host", "192.0.2.1"], ["--bind", "0.0.0.0:5000"], ["--bind", "unix:"]):
             with self.subTest(words=words):
                 self.assertIn("packaging/nginx/domethyme.conf", self.refused(*words))
@@ -161,7 +161,7 @@ class CommandTests(ServiceCase):
         self.assertIn("won't listen at 0.0.0.0: other machines ask through nginx", ended.stderr)
 
     def test_options_that_went(self):
-        """Each names what there is in its place, and those with another name are taken by both."""
+        """Removed options name their replacement, and renamed ones are accepted by both names."""
         for words, name in ((["--connections", "9"], "worker_connections"), (["--client-connections", "9"], "limit_conn"),
                             (["--head-seconds", "9"], "client_header_timeout")):
             self.assertIn(f"{words[0]} is no longer an option: use {name}", self.refused(*words, status=2))

@@ -1,5 +1,4 @@
-"""Tests of OSRM's API in the service: weights against a search in the graph that is cut at the points, requests in many
-shapes, and requests that are refused."""
+"""OSRM's API: weights against a search in the graph that the points split, requests in many forms, and invalid requests."""
 import itertools
 import json
 import math
@@ -21,7 +20,7 @@ HIGH = "0.0003,0.00001;0.0077,-0.00002"
 
 
 class CutGraph:
-    """The graph of a network with points on its roads, by the plainest means: each arc is looked at for each place."""
+    """The graph of a network split by points on its roads, by brute force: each arc is examined for each place."""
 
     def __init__(self, prefix):
         self.arcs = list(read_arcs(f"{prefix}.arcs.csv"))
@@ -45,7 +44,7 @@ class CutGraph:
         return best[0], best[1] / before if before else 0
 
     def length(self, start, end):
-        """The least length from a place to another: None where there is no route, NaN where the nearest road isn't plain."""
+        """The length of a shortest path between two places: None for none, NaN if the nearest road is ambiguous."""
         arcs = [(arc.start, arc.end, arc.weight) for arc in self.arcs]
         ends = [self.cuts(place) for place in (start, end)]
         if None in ends:
@@ -61,7 +60,7 @@ class CutGraph:
         return lengths_from(arcs, "P").get("Q")
 
     def cuts(self, place):
-        """By arc the fraction at which it is cut, None where another road is as near, or the point is a node."""
+        """By arc the fraction at which it is split; None if another road is as near, or the point is a node."""
         found = self.nearest(place)
         least = min(found)[0]
         near = {number: part for number, (metres, part) in enumerate(found) if metres < least + 1e-6}
@@ -86,7 +85,7 @@ class OsrmCase(ServiceCase):
         return found
 
     def compare(self, seed, count):
-        """Compares routes and a table between drawn places with the cut graph; returns how many had a way."""
+        """Compares routes and a table between random places with the split graph; returns how many had a path."""
         chance, graph = random.Random(seed), CutGraph(self.folder / "v")
         places = []
         for _ in range(count):
@@ -126,7 +125,7 @@ class ExactTests(OsrmCase):
             self.look_at(found, wanted, table["distances"][row][column])
 
     def look_at(self, found, seconds, metres):
-        """A route's parts have to sum to the whole, and its line has to be as long as it says."""
+        """Asserts that a route's parts sum to the whole, and that its line has its distance."""
         route = found["routes"][0]
         self.assertEqual((route["duration"], route["distance"]), (seconds, metres))
         leg = route["legs"][0]
@@ -141,7 +140,7 @@ class ExactTests(OsrmCase):
 
 
 class TurnTests(OsrmCase):
-    """The same at a crossing that a turn restriction splits: from the west one may not go north."""
+    """The same at a crossing that a turn restriction splits: no left turn from the west to the north."""
 
     def map_file(self):
         return self.write("map.osm", crossing((2, 3, {"restriction": "no_left_turn"})))
@@ -193,7 +192,7 @@ def drawn_map(seed, side=4):
 
 
 class DrawnTests(OsrmCase):
-    """The same on a drawn network with one-way streets, several arcs between two nodes, and weights of 1."""
+    """The same on a random network with one-way streets, parallel arcs, and weights of 1."""
 
     def map_file(self):
         return self.write("map.osm", drawn_map(5))
@@ -220,7 +219,7 @@ class RequestTests(OsrmCase):
         self.assertAlmostEqual(found["waypoints"][0]["distance"], 1.11195, places=3)
 
     def test_shapes_of_requests(self):
-        """Further ones than those of the eight clients of test_service_clients.py."""
+        """Forms beyond those of the eight clients of test_service_clients.py."""
         line = self.good(f"/route/v1/car/{HIGH}?geometries=geojson&overview=full")["routes"][0]["geometry"]
         self.assertEqual((line["coordinates"][0], line["coordinates"][-1]), ([0.0003, 0], [0.0077, 0]))
         for path in (
@@ -258,7 +257,8 @@ class RequestTests(OsrmCase):
         self.assertNotIn("hint", found[0])
 
     def test_bearings(self):
-        """Along High Street to the east, and first or last to the west: then by the end of its piece, three tenths of a step, and back."""
+        """Along High Street to the east, and first or last to the west: then by the end of its edge, three tenths of a
+        step, and back."""
         step = 8.00604  # seconds for a thousandth of a degree at 50 km/h
         for bearings, more in ((";", 0), ("90,20;90,20", 0), ("270,20;", 0.6), (";270,0", 0.6), ("250,20;290,20", 1.2), ("0,180;180,180", 0)):
             with self.subTest(bearings=bearings):
@@ -290,7 +290,7 @@ class RequestTests(OsrmCase):
         self.assertEqual(noted, {"nodes": [2, 3, 4]})
 
     def test_cells_without_a_path(self):
-        """By the way of a bird at a speed; and durations times a factor."""
+        """fallback_speed, by great-circle distance, and scale_factor."""
         lonely = "0.0200,0.0050"
         for copies in (1, 8):
             places = ";".join([HIGH, lonely] * copies)
@@ -322,7 +322,7 @@ class RequestTests(OsrmCase):
         self.assertIn("5 cells (--table-cells)", found["message"])
 
     def test_messages(self):
-        """They name the place, where the roads are, and that longitudes come first."""
+        """Errors name the place, the extent of the roads, and that longitudes come first."""
         for path, says in (
             ("/route/v1/car/0,0;0.5,0.5", ("place 1, 0.5,0.5 (LON,LAT)", "The roads are from -0.0055,-0.0010 to ", "within 5000 m")),
             ("/route/v1/car/0,0;47.1,120", ("place 1 is 47.1,120: longitude first", "is it LAT,LON?")),
@@ -378,7 +378,7 @@ class RequestTests(OsrmCase):
                 self.assertEqual((status, found["code"]), (400, code), found)
 
     def test_log_without_places(self):
-        """A line for each request, which names no place and no caller unless that is asked for."""
+        """A line for each request, without places and addresses unless --log-places."""
         for words, are_named in ([], None), (["--access-log"], False), (["--log-places"], True):
             with self.subTest(words=words):
                 self.serve("--network", self.folder / "v", *words)
@@ -391,7 +391,7 @@ class RequestTests(OsrmCase):
                 self.assertEqual(["0.0003" in said, "127.0.0.1" in said.replace(f"http://127.0.0.1:{self.port}", "")], [bool(are_named)] * 2)
 
     def logged(self, count):
-        """The lines of the access log, once there are so many."""
+        """The lines of the access log, once there are this many."""
         end = time.monotonic() + 10
         while True:
             lines = [json.loads(line) for line in self.said if line.startswith("{")]

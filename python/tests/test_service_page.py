@@ -1,4 +1,4 @@
-"""Tests of the service's page: its files and tiles by HTTP, its colours, and, where chromium is installed, in a browser."""
+"""The service's page: its files and tiles over HTTP, its colours, and, if chromium is installed, in a browser."""
 import itertools
 import json
 import math
@@ -49,7 +49,7 @@ class FileTests(ServiceCase):
         self.assertEqual(self.ask("/map/about")[1]["code"], "InvalidService")
 
     def test_tiles_have_each_step_of_each_road_once(self):
-        """At the deepest zoom, and at one where the village is one tile, to the grid."""
+        """At the greatest zoom, and at one where the village is one tile, to the grid."""
         self.serve("--network", self.folder / "v")
         about = self.ask("/map/about")[1]
         lines = [parse_linestring(arc.wkt) for arc in read_arcs(self.folder / "v.arcs.csv")]
@@ -71,7 +71,7 @@ class FileTests(ServiceCase):
             self.assertLessEqual(abs(len(wanted) - len(found)), 3)
 
     def steps(self, zoom, x, y, grid):
-        """The steps of lines in a tile, as pairs of places on the grid of the world."""
+        """The segments of a tile's lines, as pairs of points on the world's grid."""
         for road in self.ask(f"/map/roads/{zoom}/{x}/{y}?v=1")[1]["roads"]:
             self.assertLessEqual(set(road), {"kind", "lines", "names", "name"})
             for line in road["lines"]:
@@ -82,7 +82,7 @@ class FileTests(ServiceCase):
 
 class ColourTests(unittest.TestCase):
     def test_contrast(self):
-        """What is drawn has 3:1 and more to what it lies on, and texts have 4.5:1, in light and in dark."""
+        """Shapes have a contrast of 3:1 or more to their background, and texts of 4.5:1, in light and in dark."""
         light, dark = re.findall(r":root \{(.*?)\}", (PAGE / "style.css").read_text(), re.DOTALL)
         schemes = [dict(re.findall(r"--([a-z0-9-]+): (#[0-9a-f]{6})", text)) for text in (light, dark)]
         for colours in schemes:
@@ -120,7 +120,7 @@ class BrowserCase(ServiceCase):
         self.browser.until("document.getElementById('scale').textContent !== '' && document.getElementById('hint').textContent !== ''")
 
     def quiet(self, *but):
-        """Wants no error in the console, but for refusals of these paths, and no request to another server."""
+        """Asserts that the console has no error, except of these paths, and that no other server was requested."""
         own = f"http://127.0.0.1:{self.port}/"
         faults = [each for each in self.browser.faults if not any(path in json.dumps(each) for path in but)]
         self.assertEqual(faults, [])
@@ -134,7 +134,7 @@ class BrowserCase(ServiceCase):
         return self.browser.value(script)
 
     def steps(self, *wanted):
-        """Waits for steps whose texts begin so."""
+        """Waits for steps whose texts have these beginnings."""
         texts = "[...document.querySelectorAll('#steps .text')].map(each => each.textContent)"
         self.browser.until(f"JSON.stringify({texts}) === JSON.stringify({json.dumps(wanted)})")
 
@@ -142,7 +142,7 @@ class BrowserCase(ServiceCase):
         return self.browser.value(f"document.getElementById('{name}').textContent")
 
     def keep(self, name):
-        """Leaves a picture where they are wanted, to be looked at."""
+        """Stores a screenshot if that is requested."""
         if PICTURES:
             self.browser.picture(pathlib.Path(PICTURES) / f"{name}.png")
 
@@ -151,7 +151,7 @@ STRAIGHT = ("Start on High Street", "Arrive at the destination")
 
 
 class WeightTests(BrowserCase):
-    """A network of weights alone, of which nobody knows how long a route takes."""
+    """A network of weights alone, without seconds."""
 
     def setUp(self):
         super().setUp()
@@ -189,7 +189,7 @@ class PointerTests(BrowserCase):
                    "Turn left onto High Street", "Arrive at the destination")
         self.assertEqual(self.browser.value("[...document.querySelectorAll('.mark')].map(each => each.textContent).join()"), "A,1,B")
         self.assertEqual(self.browser.value("location.hash.split(';').length"), 3)
-        # (drawn once the view has come to rest)
+        # (drawn once the view has stopped)
         self.browser.until("document.querySelectorAll('#route .arrow').length > 2")
         self.browser.until("[...document.querySelectorAll('#route text')].some(each => each.textContent === 'High Street')")
         self.keep("via")
@@ -203,7 +203,7 @@ class PointerTests(BrowserCase):
         self.quiet()
 
     def mark(self, number, east=0):
-        """The middle of a mark, or so many pixels east of it."""
+        """The middle of a mark, or a point this many pixels east of it."""
         script = f"(({{x, y, width, height}}) => [x + width / 2, y + height / 2])(document.querySelectorAll('.mark')[{number}].getBoundingClientRect())"
         x, y = self.browser.value(script)
         return x + east, y
@@ -238,7 +238,7 @@ class PointerTests(BrowserCase):
         self.quiet()
 
     def test_the_route_is_shown_whole(self):
-        """Though it leads far beyond its places, which alone were shown before."""
+        """Though it leads far beyond its places."""
         self.open("#0.008,0.0015;0.008,0.0005", height=150)
         self.browser.until("document.querySelectorAll('#steps .text').length > 1")
         corners = "import('/map/main.js').then(({route, view}) => [[0, 1], [2, 3], [0, 3], [2, 1]].every((at) => view.has(at.map((side) => route.box[side]), 5)))"
@@ -378,7 +378,7 @@ class KeyboardTests(BrowserCase):
         self.quiet()
 
     def tab(self, name):
-        """Goes on by Tab to an element, and wants that each on the way shows that it has the focus."""
+        """Moves to an element by Tab, and asserts that each on the way shows the focus."""
         for _ in range(30):
             self.browser.press("Tab")
             self.ring()
@@ -391,7 +391,7 @@ class KeyboardTests(BrowserCase):
         self.assertEqual(self.browser.value(style), ["solid", 3])
 
 
-# (a part of the gate counts a test that is skipped as one that has failed: python/tests/run says that these are left out)
+# (a skipped test counts as failed: python/tests/run reports that these are left out)
 if PROGRAM is None:
     del PointerTests, KeyboardTests, ReachTests
 del BrowserCase

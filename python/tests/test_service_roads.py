@@ -1,4 +1,4 @@
-"""Tests of the points of roads that are looked for together: they are those of each place alone."""
+"""Places that are snapped at once are snapped to the same points as each alone."""
 import random
 
 from test_grid import MIDDLES, place_beside
@@ -9,7 +9,7 @@ from domethyme.network.snapping import RoadIndex
 
 class TogetherTests(ToolCase):
     def network(self, middle, spread, count, length):
-        """Roads of about some metres around a place: each begins where the one before it does, or anew."""
+        """Roads of about this many metres around a place, each from the end of the one before or from a new place."""
         draw, begin, rows = random.Random(5), middle, []
         for _ in range(count):
             begin = begin if draw.random() < 0.3 else place_beside(middle, draw, spread)
@@ -29,7 +29,7 @@ class TogetherTests(ToolCase):
             self.assertAlmostEqual(spot.fraction, alone.fraction, places=6)
 
     def test_near_ones_and_far_ones(self):
-        """On roads, beside them, some kilometres off, and on another side of the earth."""
+        """Places on roads, near them, some kilometres off, and on the other side of the earth."""
         for middle in MIDDLES:
             roads, ends = self.network(middle, 3000, 150, 400)
             draw = random.Random(6)

@@ -1,5 +1,4 @@
-"""Tests of the service's signals under a small load: SIGHUP takes a new hierarchy, SIGTERM ends it, and no request is lost.
-Several workers on one port."""
+"""The service's signals under a small load: SIGHUP loads a new hierarchy, SIGTERM ends it, and no request is lost."""
 import contextlib
 import http.client
 import json
@@ -19,7 +18,7 @@ PATH = "/nodes/length?from=1&to=2"
 
 
 def is_running(number):
-    """Whether a process is there, and hasn't ended."""
+    """Whether a process runs."""
     try:
         return pathlib.Path(f"/proc/{number}/stat").read_text().rpartition(")")[2].split()[0] != "Z"
     except OSError:
@@ -27,7 +26,7 @@ def is_running(number):
 
 
 class Client(threading.Thread):
-    """Asks on one connection until it is told to stop, or the service closes; keeps each length and each loss."""
+    """Sends requests on one connection until it is stopped, or the service closes; stores each length and each loss."""
 
     def __init__(self, port):
         super().__init__(daemon=True)
@@ -58,7 +57,7 @@ class SignalTests(ServiceCase):
         return clients
 
     def finish(self, clients):
-        """Stops the clients; returns all their lengths, and wants none lost."""
+        """Stops the clients; returns all their lengths, and asserts that none was lost."""
         for client in clients:
             client.stop.set()
         for client in clients:
@@ -67,7 +66,7 @@ class SignalTests(ServiceCase):
         return [client.lengths for client in clients]
 
     def prepare(self, factor):
-        """Puts a hierarchy whose weights are so many times those of the village in the place of the old one."""
+        """Replaces the hierarchy by one with this many times the village's weights."""
         graph = self.graph
         ends = ([node - 1 for node in nodes] for nodes in (graph.starts, graph.ends))
         weights = [factor * weight for weight in graph.weights]
@@ -90,7 +89,7 @@ class SignalTests(ServiceCase):
     def test_a_file_that_is_refused_leaves_the_old_one(self):
         process = self.serve("--network", self.folder / "v")
         old = self.ask(PATH)
-        # (both files by the names that the user gave)
+        # (messages name both files as the user did)
         other = f"reload refused: {self.folder}/v.rch: is the hierarchy of another network than {self.folder}/v.net: "
         for text, says in ((b"none", "v.rch: is no file that `routecli prepare` wrote"), (None, other)):
             path = self.folder / "v.rch"
@@ -102,7 +101,8 @@ class SignalTests(ServiceCase):
         self.assertEqual(self.ask(PATH), old)
 
     def test_a_hierarchy_that_is_checked(self):
-        """A file that is right for its graph is served; one of other weights isn't, at a reload and at a start."""
+        """A hierarchy that is right for its graph is served; one of other weights is rejected, at a reload and at a
+        start."""
         right = self.folder / "right.gr"
         right.write_bytes((self.folder / "v.gr").read_bytes())
         process = self.serve("--verify", right)
@@ -114,11 +114,11 @@ class SignalTests(ServiceCase):
         words = ["domethyme-serve", self.folder / "v.rch", "--port", "0", "--verify", right]
         ended = self.run_tool(*words, status=1)
         self.assertIn("v.rch: not shown: bound", ended.stderr)
-        # (the program reads it by the number under which it is open, which no user knows)
+        # (the program reads it as an open descriptor, which messages don't name)
         self.assertNotIn("/proc/", ended.stderr + "".join(self.said))
 
     def test_a_signal_while_a_reload_is_under_way(self):
-        """The log says that it waits; a check that runs ends with the service, however that ends."""
+        """The log reports that it waits; a running check ends with the service, however that ends."""
         fast, checking = self.folder / "fast", self.folder / "checking"
         slow = self.write("slow", f'#!/bin/sh\n[ -e {fast} ] && exec {domethyme.find_program()} "$@"\necho $$ >{checking}\nexec sleep 600\n')
         slow.chmod(0o755)
@@ -138,7 +138,7 @@ class SignalTests(ServiceCase):
             self.wait_for(lambda: not is_running(check))
 
     def test_nobody_reads_what_systemd_is_told(self):
-        """The service begins and ends where the socket for that is full."""
+        """The service starts and ends though systemd's notification socket is full."""
         with socket.socket(socket.AF_UNIX, socket.SOCK_DGRAM) as full:
             full.bind(str(self.folder / "notify"))
             with socket.socket(socket.AF_UNIX, socket.SOCK_DGRAM) as filler:
@@ -153,7 +153,7 @@ class SignalTests(ServiceCase):
             self.assertEqual(process.wait(20), 0)
 
     def test_the_end(self):
-        """What was accepted is answered; a connection that waits then is reset, or refused."""
+        """Accepted requests are answered; a connection in the backlog is reset or refused."""
         process = self.serve()
         right = self.ask(PATH)[1]["length"]
         clients = self.clients()
@@ -175,7 +175,7 @@ class SignalTests(ServiceCase):
             self.assertEqual(process.wait(20), 0)
 
     def test_workers(self):
-        """One that is killed is replaced; SIGHUP and SIGTERM reach all; SIGTTIN and SIGTTOU change their number."""
+        """A worker that is killed is replaced; SIGHUP and SIGTERM reach all; SIGTTIN and SIGTTOU change their number."""
         process = self.serve()
         workers = workers_of(process)
         self.assertEqual(len(workers), 4)

@@ -1,7 +1,7 @@
-"""Tests of the steps of routes at a roundabout with four roads, one of which is only entered, and of numbers of roads."""
+"""Steps of routes at a roundabout with four roads, one of which is an entry only, and numbers of roads."""
 from service_case import ServiceCase
 
-# Around the roundabout 1, 2, 3, 4 (west, south, east, north), which leads to the left; each has a road to 11, 12, 13, 14.
+# The roundabout 1, 2, 3, 4 (west, south, east, north), counterclockwise; from each a road leads to 11, 12, 13, 14.
 PLACES = {1: (-1, 0), 2: (0, -1), 3: (1, 0), 4: (0, 1), 11: (-5, 0), 12: (0, -5), 13: (5, 0), 14: (0, 5)}
 ROADS = {
     21: ([1, 2, 3, 4, 1], {"highway": "primary", "junction": "roundabout", "name": "Circle"}),
@@ -63,7 +63,7 @@ class RoundaboutTests(ServiceCase):
 
 
 class OneWayTests(RoundaboutTests):
-    """The southern road leads to the roundabout alone, so it is no exit."""
+    """The southern road only leads to the roundabout, so it is no exit."""
 
     south = "yes"
 

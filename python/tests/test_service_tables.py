@@ -1,4 +1,4 @@
-"""Tests of the service's tables: weights, which come of tables between nodes, beside those along routes."""
+"""The service's tables: weights, from tables between nodes, against those along routes."""
 import random
 
 import numpy as np
@@ -11,7 +11,8 @@ from domethyme.network.net_file import UNITS, load_network
 
 class TableTests(ServiceCase):
     def both(self, network, words, figures):
-        """The first figure, of weights, alone and beside the second, for which a route is asked for each cell: both are the same."""
+        """The first annotation, of weights, alone and beside the second, which needs a route for each cell: both are
+        equal."""
         self.serve("--network", self.folder / network, "--within", "5000")
         found = []
         for annotations in figures[0], ",".join(figures):
