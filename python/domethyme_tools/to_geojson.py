@@ -242,15 +242,24 @@ def feature_of(route: RoutedAnswer, with_steps: bool) -> str:
     properties = route.fields | route_properties(route)
     if with_steps:
         properties[STEPS] = route_steps(route)
-    geometry = None if route.line is None else to_geojson_geometry(route.line)
+    return feature_text(properties, route.line)
+
+
+def feature_text(properties: dict[str, Any], line: list[Point] | None) -> str:
+    """A feature on one line; without a geometry if there is no line."""
+    geometry = None if line is None else to_geojson_geometry(line)
     feature = {"type": "Feature", "properties": properties, "geometry": geometry}
     return json.dumps(feature, ensure_ascii=False, separators=(",", ":"))
 
 
-def write_collection(file: IO[str], features: Iterable[str], attribution: str) -> None:
-    """Writes a FeatureCollection. What the data asks to be said is its member `attribution`."""
-    said = f'"attribution":{json.dumps(attribution, ensure_ascii=False)},' if attribution else ""
-    file.write(f'{{"type":"FeatureCollection",{said}"features":[')
+def write_features(file: IO[str], options: argparse.Namespace, features: Iterable[str]) -> None:
+    """Writes features, one a line, or as a FeatureCollection, whose member `attribution` is what the data's licence requires."""
+    if options.format != "collection":
+        file.writelines(f"{feature}\n" for feature in features)
+        return
+    attribution = read_attribution(options.network)
+    member = f'"attribution":{json.dumps(attribution, ensure_ascii=False)},' if attribution else ""
+    file.write(f'{{"type":"FeatureCollection",{member}"features":[')
     for before, feature in zip(itertools.chain(["\n"], itertools.repeat(",\n")), features):
         file.write(before + feature)
     file.write("\n]}\n")
@@ -282,24 +291,15 @@ def features_on_roads(options: argparse.Namespace) -> Iterator[str]:
             properties: dict[str, Any] = {**fields, **{name: getattr(route, name) for name in FIGURES}}
             if not options.no_steps:
                 properties[STEPS] = route.steps
-            geometry = None if route.line is None else to_geojson_geometry([(lon, lat) for lon, lat in route.line])
-            feature = {"type": "Feature", "properties": properties, "geometry": geometry}
-            yield json.dumps(feature, ensure_ascii=False, separators=(",", ":"))
-
-
-def write_on_roads(options: argparse.Namespace) -> None:
-    with atomic_write(options.output) as file:
-        if options.format == "collection":
-            write_collection(file, features_on_roads(options), read_attribution(options.network))
-        else:
-            file.writelines(f"{feature}\n" for feature in features_on_roads(options))
+            yield feature_text(properties, None if route.line is None else [(lon, lat) for lon, lat in route.line])
 
 
 def main() -> None:
     options = parse_args()
     need_hierarchy(options)
     if options.on_roads:
-        write_on_roads(options)
+        with atomic_write(options.output) as file:
+            write_features(file, options, features_on_roads(options))
         return
     roads = RouteArcs(options.network)
     answers = enumerate(read_answers(options.answers), 1)
@@ -311,7 +311,5 @@ def main() -> None:
         features = (feature_of(route, not options.no_steps) for route in routes)
         if options.format == "csv":
             write_table(file, routes, trips.columns, roads.arrays.has_keys)
-        elif options.format == "collection":
-            write_collection(file, features, read_attribution(options.network))
         else:
-            file.writelines(f"{feature}\n" for feature in features)
+            write_features(file, options, features)
