@@ -1,4 +1,5 @@
 pub mod Steps
 mod Boxes
+mod OpenedFiles
 pub mod AllNodes
 pub mod TableRows

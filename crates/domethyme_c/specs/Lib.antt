@@ -2,3 +2,4 @@ pub mod Answers
 pub mod Codes
 pub mod Handles
 pub mod Engines
+pub mod Opened

@@ -9,6 +9,7 @@ mod code;
 mod engine;
 mod handle;
 mod held;
+mod laws;
 mod lengths;
 mod opening;
 mod reach;
@@ -22,6 +23,7 @@ pub use code::{
     TOO_LONG,
 };
 pub use handle::Handle;
+pub use laws::opened_files_answer_exactly;
 pub use lengths::Pair;
 pub use route::RouteInfo;
 pub use seeds::SeedInfo;
