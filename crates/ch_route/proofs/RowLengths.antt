@@ -9,8 +9,8 @@ use Rattle.ch_query.specs.declared.seed.Seed.{Seed}
 use Rattle.ch_query.specs.Seeds.{AreSeeds, longest}
 use Rattle.ch_query.specs.Seeds.Laws.{seed-node, seeds-none, seeds-cons}
 use Rattle.ch_query.specs.Ways.{free, LongestIsExact}
-use Rattle.ch_table.specs.Lengths.{IsLengthFrom, IsLengthFromAny, IsRow, length_or_none}
-use Rattle.ch_table.specs.Lengths.Laws.{row-weaker}
+use Rattle.ch_table.specs.Lengths.{IsLengthFrom, IsLengthFromAny, IsRow, length_or_none, AreFirstRows, AreRows}
+use Rattle.ch_table.specs.Lengths.Laws.{row-weaker, rows-weaker}
 use Rattle.ch_route.specs.Between.{IsRowLengthFrom, IsRowLengthWithin}
 use Rattle.ch_route.specs.Laws.{LengthsAreLeast, LengthsAreLeastByWeight, LengthsBetweenAreLeast, LengthsWithinAreLeast}
 use Rattle.ch_route.specs.Routes.{IsLengthBy, IsRowLength, or_none}
@@ -32,11 +32,14 @@ row-length exact by_weight h s t n s_in t_in number =
       written = number.written ∙ same_number number.cost;
     }
 
-pub row-lengths : LengthsAreLeast → LengthsAreLeastByWeight → (k h : Hierarchy) (s : ℕ) → k ≡ h → s < length h.ranks → (targets : List ℕ) (from : ℕ) (old new : List ℕ) → All (λ t. t < length h.ranks) targets
-    → IsRow (IsLengthFrom k s) targets from old new → IsRow (IsRowLength h s) targets from old new
-row-lengths exact by_weight k h s same s_in targets from old new targets_in row =
-    row-weaker (IsLengthFrom h s) (IsRowLength h s) h targets from old new targets_in (λ t n t_in number. row-length exact by_weight h s t n s_in t_in number)
-    (subst (λ (x : Hierarchy). IsRow (IsLengthFrom x s) targets from old new) same row)
+module _ (exact : LengthsAreLeast) (by_weight : LengthsAreLeastByWeight) (k h : Hierarchy) (same : k ≡ h) (sources targets : List ℕ) (sources_in : All (λ s. s < length h.ranks) sources) (targets_in : All (λ t. t < length h.ranks) targets) (from : ℕ) (old new : List ℕ) where
+  pub rows-lengths : (n : ℕ) → n ≤ length sources → AreRows (IsLengthFrom k) sources targets from n old new → AreRows (IsRowLength h) sources targets from n old new
+  rows-lengths n within rows =
+      rows-weaker (IsLengthFrom h) (IsRowLength h) h sources targets from n old new sources_in targets_in within (λ s t m s_in t_in number. row-length exact by_weight h s t m s_in t_in number)
+      (subst (λ (x : Hierarchy). AreRows (IsLengthFrom x) sources targets from n old new) same rows)
+
+  pub first-lengths : AreFirstRows (IsLengthFrom k) sources targets from old new → AreFirstRows (IsRowLength h) sources targets from old new
+  first-lengths first = record { count = first.count; fewer = first.fewer; rows = rows-lengths first.count (omega (arith, first.fewer)) first.rows }
 
 module _ (between : LengthsBetweenAreLeast) (exact : LongestIsExact) (h : Hierarchy) (made : IsWellMade h) (starts : List Seed) (begins : AreSeeds h starts) where
   row-length_from : (t n : ℕ) → t < length h.ranks → IsLengthFromAny h starts longest t n → IsRowLengthFrom h starts t n

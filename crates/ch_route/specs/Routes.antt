@@ -8,7 +8,7 @@ use Rattle.ch_graph.specs.Graph.{Graph, ArcOf, IsLeastLength}
 use Rattle.ch_graph.specs.Hierarchy.{Hierarchy, IsRight, IsValue}
 use Rattle.ch_laws.specs.ByWeight.{IsShortest, IsRightByWeight}
 use Rattle.ch_laws.specs.Theorems.{IsLeastRoute}
-use Rattle.ch_table.specs.declared.row.TheConstants.{NO_LENGTH}
+use Rattle.ch_table.specs.declared.table.TheConstants.{NO_LENGTH}
 
 -- what a way from one node to another costs, and the nodes along it, both ends among them
 pub record Route : Type 0 where

@@ -1,4 +1,4 @@
-ghost use Rattle.std.specs.Prelude.{◌≡◌, ◌+◌, ◌<◌, ◌≤◌, ◌^◌, length, option_map, All, Err, IfOk, OnErr, OnOk, ℕ};
+ghost use Rattle.std.specs.Prelude.{◌≡◌, ◌+◌, ◌<◌, ◌≤◌, ◌^◌, length, option_map, All, Err, IfOk, OnErr, OnOk, ◌*◌};
 ghost use Rattle.ch_cost.specs.Cost.{length_of};
 ghost use Rattle.ch_graph.specs.declared.version.Version.TheVariants.{One};
 ghost use Rattle.ch_graph.specs.Graph.{Graph, IsLeastLength};
@@ -8,7 +8,7 @@ ghost use Rattle.ch_laws.specs.ByWeight.{IsRightByWeight};
 ghost use Rattle.ch_query.specs.Seeds.{AreSeeds};
 ghost use Rattle.ch_route.specs.Between.{HasTooLongBetween, IsLeastBetween, IsLeastLengthBetween, IsLengthBetween, IsLengthBetweenBy, IsRouteBetweenBy, IsRowLengthFrom, IsRowLengthWithin, IsShortestBetween};
 ghost use Rattle.ch_route.specs.Routes.{HasTooLong, IsFewestWalk, IsLeastWalk, IsLengthBy, IsRouteBy, IsRowLength};
-ghost use Rattle.ch_table.specs.Lengths.{IsRow};
+ghost use Rattle.ch_table.specs.Lengths.{IsRow, AreFirstRows, AreRows};
 ghost use Rattle.ch_table.specs.Selection.{IsSelection};
 ghost use Rattle.ch_unpack.specs.declared.error.UnpackError.TheVariants.{TooLong};
 
@@ -190,27 +190,27 @@ impl<H: HierarchyRef> RouterOf<H> {
         Selection::new(self.alloc, &self.search, targets)
     }
 
-    /// Writes the least length of a path from a node to each target of a selection, from a place of the row on, or
+    /// Writes the least length of a path from each source to each target of a selection, row by row from a place on, or
     /// [`NO_LENGTH`](ch_table::NO_LENGTH) where there is none: what [`Router::length`] returns for each pair.
     ///
     /// The selection is of the same hierarchy. Takes the time and the memory of [`Selection::lengths`]. If memory is
-    /// refused, the row is as before.
+    /// refused, some first rows may be written, but not all: a single row is as before.
     pub fn lengths(
         &mut self,
-        source: u32,
+        sources: &[u32],
         selection: &Selection,
-        row: &mut [u64],
+        rows: &mut [u64],
         from: usize,
     ) -> Result<(), AllocError>
-        requires source_in { source < length self.old.ranks }
+        requires sources { All (λ s. s < length self.old.ranks) sources.now }
         requires selection { IsSelection self.old selection.now }
-        requires room { from + length selection.now.targets ≤ length row.old }
-        ensures row { OnOk result (IsRow (IsRowLength self.old source) selection.now.targets from row.old row.new) }
-        ensures refused { OnErr result (row.new ≡ row.old) }
+        requires room { from + length sources.now * length selection.now.targets ≤ length rows.old }
+        ensures rows { OnOk result (AreRows (IsRowLength self.old) sources.now selection.now.targets from (length sources.now) rows.old rows.new) }
+        ensures refused { OnErr result (AreFirstRows (IsRowLength self.old) sources.now selection.now.targets from rows.old rows.new) }
         ensures kept { self.new ≡ self.old }
     {
         routes_are_least();
-        selection.lengths(&mut self.search, source, row, from)
+        selection.lengths(&mut self.search, sources, rows, from)
     }
 
     /// The same from several starts, each with a cost of its own, where the length is at most the limit with its start:

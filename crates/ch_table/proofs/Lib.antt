@@ -1,5 +1,6 @@
 pub mod LeastLabels
 pub mod LeastWays
+pub mod LaneLabels
 pub mod Raising
 pub mod Sweeping
 pub mod Rows

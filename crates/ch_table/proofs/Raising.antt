@@ -1,7 +1,6 @@
 -- Climbs are put in at the places of their ranks, one by one.
-use Rattle.std.proofs.Common.{ℕ, ◌≡◌, ◌+◌, ◌-◌, ◌<◌, ◌≤◌, ◌⊎◌, List, length, get_or, set, slice_index, Some, None, ap, sym, subst, ◌∙◌, inl, inr, arith}
+use Rattle.std.proofs.Common.{ℕ, ◌≡◌, ◌+◌, ◌-◌, ◌<◌, ◌≤◌, ◌⊎◌, List, length, get_or, slice_index, Some, None, ap, sym, subst, ◌∙◌, inl, inr, arith}
 use Rattle.std.proofs.lemmas.Bool.{cases_eq, cases_lt}
-use Rattle.std.proofs.lemmas.List.{length-set, get_or-set_same, get_or-set_other}
 use Rattle.ch_cost.specs.declared.cost.Cost.{Cost}
 use Rattle.ch_graph.specs.Hierarchy.{Hierarchy}
 use Rattle.ch_query.specs.declared.climb.Climbed.{Climbed}
@@ -17,15 +16,11 @@ IsRaised distant r climbs n label =
     ((label ≡ distant) × ((k : ℕ) (d : Climbed) → k < n → (get_or climbs k d).rank ≡ r → ⊥))
     ⊎ ((k : ℕ) × (k < n) × ((d : Climbed) → (get_or climbs k d).rank ≡ r) × ((d : Climbed) → label ≡ (get_or climbs k d).length))
 
-pub record AreRaised (distant : ℕ) (ranks : List ℕ) (climbs : List Climbed) (n : ℕ) (labels : List ℕ) : Type 0 where
-  pub places : length labels ≡ length ranks
-  pub each : (p : ℕ) → p < length ranks → IsRaised distant (slice_index ranks p) climbs n (slice_index labels p)
+pub record AreRaised (distant : ℕ) (ranks : List ℕ) (climbs : List Climbed) (n : ℕ) (label : ℕ → ℕ) : Type 0 where
+  pub each : (p : ℕ) → p < length ranks → IsRaised distant (slice_index ranks p) climbs n (label p)
 
-pub raised-none : (distant : ℕ) (ranks : List ℕ) (climbs : List Climbed) (labels : List ℕ) → length labels ≡ length ranks → ((p : ℕ) → p < length labels → slice_index labels p ≡ distant) → AreRaised distant ranks climbs 0 labels
-raised-none distant ranks climbs labels places all = record {
-  places = places;
-  each = λ p low. inl (all p (omega (arith, low, places)), λ k d before. absurd (omega (arith, before)));
-}
+pub raised-none : (distant : ℕ) (ranks : List ℕ) (climbs : List Climbed) (label : ℕ → ℕ) → ((p : ℕ) → p < length ranks → label p ≡ distant) → AreRaised distant ranks climbs 0 label
+raised-none distant ranks climbs label all = record { each = λ p low. inl (all p low, λ k d before. absurd (omega (arith, before))) }
 
 module _ (distant nodes : ℕ) (ranks placed : List ℕ) (are : ArePlaced nodes ranks placed) (climbs : List Climbed) (n : ℕ) (c : Climbed) (n_in : n < length climbs) (at : (d : Climbed) → get_or climbs n d ≡ c) where
   -- a climb to another rank changes nothing of this one
@@ -44,25 +39,23 @@ module _ (distant nodes : ℕ) (ranks placed : List ℕ) (are : ArePlaced nodes 
   ]
 
   -- and one to a rank that has no place none
-  pub raised-skips : (labels : List ℕ) → slice_index placed c.rank ≡ 0 → AreRaised distant ranks climbs n labels → AreRaised distant ranks climbs (n + 1) labels
-  raised-skips labels none was = record {
-    places = was.places;
-    each = λ p low. other-rank (slice_index ranks p) (slice_index labels p) (λ same. omega (arith, none, are.here p low, ap (slice_index placed) same)) (was.each p low);
+  pub raised-skips : (label : ℕ → ℕ) → slice_index placed c.rank ≡ 0 → AreRaised distant ranks climbs n label → AreRaised distant ranks climbs (n + 1) label
+  raised-skips label none was = record {
+    each = λ p low. other-rank (slice_index ranks p) (label p) (λ same. omega (arith, none, are.here p low, ap (slice_index placed) same)) (was.each p low);
   }
 
   -- it is put in at its place
-  pub raised-more : (labels : List ℕ) (place : ℕ) → slice_index placed c.rank ≡ place + 1 → AreRaised distant ranks climbs n labels → AreRaised distant ranks climbs (n + 1) (set labels place c.length)
-  raised-more labels place is was = record {
-    places = length-set labels place c.length ∙ was.places;
+  pub raised-more : (old new : ℕ → ℕ) (place : ℕ) → slice_index placed c.rank ≡ place + 1 → new place ≡ c.length → ((p : ℕ) → (p ≡ place → ⊥) → new p ≡ old p) → AreRaised distant ranks climbs n old → AreRaised distant ranks climbs (n + 1) new
+  raised-more old new place is here_now others was = record {
     each = λ p low. elim (cases_eq p place) [
       | inl here ↦ inr (
         n,
         omega arith,
         λ d. ap (λ (x : Climbed). x.rank) (at d) ∙ sym rank_here ∙ ap (slice_index ranks) (sym here),
-        λ d. ap (slice_index (set labels place c.length)) here ∙ (get_or-set_same labels place c.length 0 (omega (arith, low, here, was.places)) ∙ ap (λ (x : Climbed). x.length) (sym (at d))),
+        λ d. ap new here ∙ (here_now ∙ ap (λ (x : Climbed). x.length) (sym (at d))),
       )
-      | inr other ↦ subst (λ label. IsRaised distant (slice_index ranks p) climbs (n + 1) label) (sym (get_or-set_other labels place p c.length 0 other))
-          (other-rank (slice_index ranks p) (slice_index labels p) (λ same. other (omega (arith, is, are.here p low, ap (slice_index placed) same))) (was.each p low))
+      | inr other ↦ subst (λ l. IsRaised distant (slice_index ranks p) climbs (n + 1) l) (sym (others p other))
+          (other-rank (slice_index ranks p) (old p) (λ same. other (omega (arith, is, are.here p low, ap (slice_index placed) same))) (was.each p low))
     ];
   }
     where
@@ -97,10 +90,7 @@ module _ (h : Hierarchy) (starts : List Seed) (bound : Cost) (ranks : List ℕ) 
         }
   ]
 
-  pub raised-labels : (n : ℕ) (labels : List ℕ) → length climbs ≤ n → n ≤ length climbs → AreRaised (far bound) ranks climbs n labels → AreLabels (IsClimb h Rise starts bound) bound ranks labels
-  raised-labels n labels all within raised =
+  pub raised-labels : (n : ℕ) (label : ℕ → ℕ) → length climbs ≤ n → n ≤ length climbs → AreRaised (far bound) ranks climbs n label → AreLabels (IsClimb h Rise starts bound) bound ranks label
+  raised-labels n label all within raised p low =
       let whole : n ≡ length climbs = omega (arith, all, within) in
-      record {
-        places = raised.places;
-        each = λ p low. raised-label (slice_index ranks p) (slice_index labels p) (subst (λ m. IsRaised (far bound) (slice_index ranks p) climbs m (slice_index labels p)) whole (raised.each p low));
-      }
+      raised-label (slice_index ranks p) (label p) (subst (λ m. IsRaised (far bound) (slice_index ranks p) climbs m (label p)) whole (raised.each p low))

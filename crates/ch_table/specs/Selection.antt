@@ -3,10 +3,9 @@ use Rattle.std.specs.Prelude.{ℕ, ◌≡◌, ◌+◌, ◌-◌, ◌^◌, ◌<◌
 use Rattle.ch_cost.specs.Cost.{length_of}
 use Rattle.ch_graph.specs.Hierarchy.{Hierarchy, IsWellMade, rank_of}
 use Rattle.ch_query.specs.declared.fall.Fall.{Fall}
-use Rattle.ch_query.specs.Seeds.{AreSeeds}
 use Rattle.ch_query.specs.Ways.{AreFallsTo}
 use Rattle.ch_table.specs.declared.columns.Columns.{Columns}
-use Rattle.ch_table.specs.declared.row.Row.{Row}
+use Rattle.ch_table.specs.declared.table.Table.{Table}
 
 -- The targets and the place of each; the rank of each place; for each rank its place and one more, or 0 for none; and for
 -- each place where its links begin, of each of which are kept the place of the node that it leaves and its length.
@@ -74,9 +73,8 @@ pub record IsSelection (h : Hierarchy) (s : Selection) : Type 0 where
   pub lengths : length s.lengths ≡ length s.tails
   pub laid : (p : ℕ) → p < length s.ranks → IsLaidDown h s.ranks s.first s.tails s.lengths p
 
--- a row that is worked out
-pub record IsRowOf (row : Row) : Type 0 where
-  pub made : IsWellMade row.hierarchy.now
-  pub selection : IsSelection row.hierarchy.now (lists_of row.columns.now)
-  pub starts : AreSeeds row.hierarchy.now row.starts.now
-  pub bound : length_of row.bound ≤ 2 ^ 62
+-- a table of which rows are worked out
+pub record IsTable (table : Table) : Type 0 where
+  pub made : IsWellMade table.hierarchy.now
+  pub selection : IsSelection table.hierarchy.now (lists_of table.columns.now)
+  pub bound : length_of table.bound ≤ 2 ^ 62

@@ -1,12 +1,12 @@
-ghost use Rattle.std.specs.Prelude.{◌≡◌, ◌+◌, ◌<◌, ◌≤◌, ◌^◌, length, All, Err, IfOk, OnErr, OnOk};
+ghost use Rattle.std.specs.Prelude.{◌≡◌, ◌+◌, ◌*◌, ◌<◌, ◌≤◌, ◌^◌, length, All, Err, IfOk, OnErr, OnOk};
 ghost use Rattle.ch_cost.specs.Cost.{IsSummable, length_of, of_walk};
 ghost use Rattle.ch_query.specs.Seeds.{AreSeeds};
-ghost use Rattle.ch_query.specs.Ways.{free};
-ghost use Rattle.ch_table.specs.Lengths.{IsExactLength, IsLengthFrom, IsLengthFromAny, IsRow};
-ghost use Rattle.ch_table.specs.Selection.{IsSelection};
+ghost use Rattle.ch_table.specs.Lengths.{AreFirstRows, AreRows, IsExactLength, IsLengthFrom, IsLengthFromAny, IsRow};
+ghost use Rattle.ch_table.specs.Selection.{IsSelection, lists_of};
 
 use crate::columns::Columns;
-use crate::row::Row;
+use crate::lanes::Lanes;
+use crate::table::Table;
 use ch_cost::Cost;
 use ch_query::{HierarchyRef, SearchOf, Seed, ways_are_walks};
 use std::alloc::{AllocError, Global};
@@ -58,31 +58,33 @@ impl Selection {
         self.columns.targets.as_slice()
     }
 
-    /// Writes the least length from a node to each target: that to target `k` to `row[from + k]`, or [`NO_LENGTH`] where
-    /// there is no walk. The search is of the hierarchy that the selection was made for.
+    /// Writes the least length from each source to each target, row by row: that from source `i` to target `k` to
+    /// `rows[from + i * targets + k]`, of so many targets, or [`NO_LENGTH`] where there is no walk. The search is of the
+    /// hierarchy that the selection was made for.
     ///
-    /// Each is the length of [`Search::cost`](ch_query::Search::cost). Takes the time of one climb, and then of a look at
-    /// each link of the selection; and for the call 8 bytes for each node of the selection and 16 for each that the climb
-    /// comes to. If that is refused, the row is as before.
+    /// Each is the length of [`Search::cost`](ch_query::Search::cost). Eight rows are worked out together. Takes the time of
+    /// a climb for each source, and then for each eight of them of a look at each link of the selection; and for the call 8
+    /// bytes for each node of the selection, or 64 for more than one source, and 16 for each that a climb comes to. If that is
+    /// refused, some first rows may be written, but not all: a single row is as before.
     pub fn lengths<H: HierarchyRef>(
         &self,
         search: &mut SearchOf<H>,
-        source: u32,
-        row: &mut [u64],
+        sources: &[u32],
+        rows: &mut [u64],
         from: usize,
     ) -> Result<(), AllocError>
         requires selection { IsSelection search.old self.now }
-        requires source_in { source < length search.old.ranks }
-        requires room { from + length self.now.targets ≤ length row.old }
-        ensures row { OnOk result (IsRow (IsLengthFrom search.old source) self.now.targets from row.old row.new) }
-        ensures refused { OnErr result (row.new ≡ row.old) }
+        requires sources { All (λ s. s < length search.old.ranks) sources.now }
+        requires room { from + length sources.now * length self.now.targets ≤ length rows.old }
+        ensures rows { OnOk result (AreRows (IsLengthFrom search.old) sources.now self.now.targets from (length sources.now) rows.old rows.new) }
+        ensures refused { OnErr result (AreFirstRows (IsLengthFrom search.old) sources.now self.now.targets from rows.old rows.new) }
         ensures kept { search.new ≡ search.old }
     {
-        let start = [free(source)];
-        ways_are_walks();
-        let _well_made = search.hierarchy().nodes();
-        let bound = search.hierarchy().bound();
-        self.fill(search, &start, bound, row, from)
+        match sources.len() {
+            0 => Ok(()),
+            1 => fill::<1, H>(search, &self.columns, sources, rows, from),
+            _ => fill::<8, H>(search, &self.columns, sources, rows, from),
+        }
     }
 
     /// The same from several starts, each with a cost of its own, of walks that are no longer than the limit with their
@@ -110,51 +112,78 @@ impl Selection {
     {
         ways_are_walks();
         let _well_made = search.hierarchy().nodes();
-        self.fill(search, starts, Cost::of_walk(limit, 0), row, from)
-    }
-
-    // A row from some starts within a bound. All memory is taken before the first number is written.
-    fn fill<H: HierarchyRef>(
-        &self,
-        search: &mut SearchOf<H>,
-        starts: &[Seed],
-        bound: Cost,
-        row: &mut [u64],
-        from: usize,
-    ) -> Result<(), AllocError>
-        requires selection { IsSelection search.old self.now }
-        requires starts { AreSeeds search.old starts.now }
-        requires bound { IsSummable bound }
-        requires limit { length_of bound ≤ 2 ^ 62 }
-        requires room { from + length self.now.targets ≤ length row.old }
-        ensures row { OnOk result (IsRow (IsLengthFromAny search.old starts.now bound) self.now.targets from row.old row.new) }
-        ensures refused { OnErr result (row.new ≡ row.old) }
-        ensures kept { search.new ≡ search.old }
-    {
-        let columns = &self.columns;
-        let alloc = *columns.ranks.allocator();
-        let mut climbs = Vec::new(alloc);
-        search.climb(starts, bound, &mut climbs)?;
-        let mut labels = vec![in alloc; 0u64; columns.ranks.len()]?;
-        let hierarchy = search.hierarchy();
-        let _well_made = hierarchy.nodes();
-        let line = Row {
-            columns,
-            hierarchy,
+        fill_from(
+            search,
+            &self.columns,
             starts,
-            bound,
-        };
-        line.write(&climbs, &mut labels, row, from);
-        Ok(())
+            Cost::of_walk(limit, 0),
+            row,
+            from,
+        )
     }
 }
 
-// A node as a start that costs nothing.
-fn free(node: u32) -> Seed
-    ensures { result ≡ free node }
+// A row from some starts within a bound. All memory is taken before the first number is written.
+fn fill_from<H: HierarchyRef>(
+    search: &mut SearchOf<H>,
+    columns: &Columns,
+    starts: &[Seed],
+    bound: Cost,
+    row: &mut [u64],
+    from: usize,
+) -> Result<(), AllocError>
+    requires selection { IsSelection search.old (lists_of columns.now) }
+    requires starts { AreSeeds search.old starts.now }
+    requires bound { IsSummable bound }
+    requires limit { length_of bound ≤ 2 ^ 62 }
+    requires room { from + length columns.now.targets.items ≤ length row.old }
+    ensures row { OnOk result (IsRow (IsLengthFromAny search.old starts.now bound) columns.now.targets.items from row.old row.new) }
+    ensures refused { OnErr result (row.new ≡ row.old) }
+    ensures kept { search.new ≡ search.old }
 {
-    Seed {
-        node,
-        cost: Cost::ZERO,
+    ways_are_walks();
+    let mut lanes = Lanes::<1>::new(*columns.ranks.allocator(), columns.ranks.len())?;
+    lanes.clear(bound);
+    lanes.climb(search, columns, starts, bound, 0)?;
+    let hierarchy = search.hierarchy();
+    let _well_made = hierarchy.nodes();
+    let table = Table {
+        columns,
+        hierarchy,
+        bound,
+    };
+    let labels = lanes.labels.as_mut_slice();
+    table.sweep(labels);
+    table.put(labels, 0, row, from);
+    Ok(())
+}
+
+// Rows of some sources, so many at a time.
+fn fill<const N: usize, H: HierarchyRef>(
+    search: &mut SearchOf<H>,
+    columns: &Columns,
+    sources: &[u32],
+    rows: &mut [u64],
+    from: usize,
+) -> Result<(), AllocError>
+    requires many { 0 < N }
+    requires few { N ≤ 8 }
+    requires selection { IsSelection search.old (lists_of columns.now) }
+    requires sources { All (λ s. s < length search.old.ranks) sources.now }
+    requires some { 0 < length sources.now }
+    requires room { from + length sources.now * length columns.now.targets.items ≤ length rows.old }
+    ensures rows { OnOk result (AreRows (IsLengthFrom search.old) sources.now columns.now.targets.items from (length sources.now) rows.old rows.new) }
+    ensures refused { OnErr result (AreFirstRows (IsLengthFrom search.old) sources.now columns.now.targets.items from rows.old rows.new) }
+    ensures kept { search.new ≡ search.old }
+{
+    let width = columns.targets.len();
+    let mut lanes = Lanes::<N>::new(*columns.ranks.allocator(), columns.ranks.len())?;
+    let mut done = 0;
+    'blocks: while done < sources.len() {
+        let count = (sources.len() - done).min(N);
+        let block = &sources[done..done + count];
+        lanes.write(search, columns, block, rows, from + done * width)?;
+        done += count;
     }
+    Ok(())
 }

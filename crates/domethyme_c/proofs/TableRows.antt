@@ -1,10 +1,10 @@
 -- A table is written row by row.
-use Rattle.std.proofs.Common.{ℕ, ◌≡◌, ◌+◌, ◌-◌, ◌*◌, ◌/◌, ◌%◌, ◌<◌, List, length, slice_index, Option, Some, None, ap, refl, sym, subst, ◌∙◌, inl, inr, arith}
+use Rattle.std.proofs.Common.{ℕ, ◌≡◌, ◌+◌, ◌*◌, ◌/◌, ◌%◌, ◌<◌, List, length, slice_index, Option, Some, None, ap, refl, sym, subst, ◌∙◌, inl, inr, arith}
 use Rattle.std.proofs.lemmas.Bool.{cases_lt}
-use Rattle.std.proofs.lemmas.Nat.{div-mul-add, mod-mul-add}
+use Rattle.std.proofs.Math.Nat.{div-add-mod, div-lt_iff_lt-mul, mod-lt, mul_comm}
 use Rattle.ch_graph.specs.Hierarchy.{Hierarchy}
 use Rattle.ch_route.specs.Routes.{IsRowLength, or_none as or_no_length}
-use Rattle.ch_table.specs.Lengths.{IsRow}
+use Rattle.ch_table.specs.Lengths.{AreRows}
 use Rattle.domethyme_c.specs.Answers.{AreWritten, IsLengthOrNone, or_none}
 
 same_number : (n : Option ℕ) → or_no_length n ≡ or_none n
@@ -23,30 +23,23 @@ length_of_pair h from to n row = record {
 abbrev pub IsCell : Hierarchy → List ℕ → List ℕ → ℕ → ℕ → Type 0
 IsCell h sources targets k n = IsLengthOrNone h (slice_index sources (k / length targets)) (slice_index targets (k % length targets)) n
 
-pub written-none : (h : Hierarchy) (sources targets lengths : List ℕ) (count : ℕ) → count ≡ 0 → AreWritten count (IsCell h sources targets) lengths lengths
-written-none h sources targets lengths count is = record {
-  room = refl;
-  each = λ k low. absurd (omega (arith, low, is));
-  rest = λ k high. refl;
-}
-
-pub written-row : (h : Hierarchy) (sources targets old mid new : List ℕ) (row next : ℕ) → next ≡ row * length targets + length targets
-    → IsRow (IsRowLength h (slice_index sources row)) targets (row * length targets) mid new → AreWritten (row * length targets) (IsCell h sources targets) old mid → AreWritten next (IsCell h sources targets) old new
-written-row h sources targets old mid new row next is written was = record {
-  room = written.room ∙ was.room;
-  each = λ k low. elim (cases_lt k (row * length targets)) [
-    | inl before ↦ subst (IsCell h sources targets k) (sym (written.before k before)) (was.each k before)
-    | inr here ↦
-        let j : ℕ = k - row * length targets in
-        let j_in : k - row * length targets < length targets = omega (arith, low, is, here) in
-        let place : row * length targets + (k - row * length targets) ≡ k = omega (arith, here) in
-        let source : k / length targets ≡ row = ap (λ x. x / length targets) (sym place) ∙ div-mul-add row (length targets) (k - row * length targets) j_in in
-        let target : k % length targets ≡ k - row * length targets = ap (λ x. x % length targets) (sym place) ∙ mod-mul-add row (length targets) (k - row * length targets) j_in in
-        let own : IsLengthOrNone h (slice_index sources row) (slice_index targets (k - row * length targets)) (slice_index new (row * length targets + (k - row * length targets))) =
-        length_of_pair h (slice_index sources row) (slice_index targets (k - row * length targets)) (slice_index new (row * length targets + (k - row * length targets))) (written.each (k - row * length targets) j_in) in
-        subst (λ x. IsLengthOrNone h (slice_index sources (k / length targets)) (slice_index targets (k % length targets)) (slice_index new x)) place
-        (subst (λ x. IsLengthOrNone h (slice_index sources x) (slice_index targets (k % length targets)) (slice_index new (row * length targets + (k - row * length targets)))) (sym source)
-        (subst (λ x. IsLengthOrNone h (slice_index sources row) (slice_index targets x) (slice_index new (row * length targets + (k - row * length targets)))) (sym target) own))
-  ];
-  rest = λ k high. written.after k (omega (arith, high, is)) ∙ was.rest k (omega (arith, high, is));
+-- and those of whole rows are written place by place
+pub written-rows : (h : Hierarchy) (sources targets old new : List ℕ) → AreRows (IsRowLength h) sources targets 0 (length sources) old new → AreWritten (length sources * length targets) (IsCell h sources targets) old new
+written-rows h sources targets old new rows = record {
+  room = rows.room;
+  each = λ k low.
+      let some : 0 < length targets = elim (cases_lt 0 (length targets)) [
+        | inl more ↦ more
+        | inr none ↦
+            let zero_wide : length targets ≡ 0 = omega (arith, none) in
+            let empty : length sources * length targets ≡ length sources * 0 = ap (λ w. length sources * w) zero_wide in
+            absurd (omega (arith, low, empty))
+      ] in
+      let place : 0 + ((k / length targets) * length targets + k % length targets) ≡ k = omega (arith, div-add-mod k (length targets), mul_comm (length targets) (k / length targets)) in
+      let i_in : k / length targets < length sources = (div-lt_iff_lt-mul {k = length targets} {x = k} {y = length sources} some).1 low in
+      let k_in : k % length targets < length targets = mod-lt k {m = length targets} some in
+      let own = rows.each (k / length targets) (k % length targets) i_in k_in in
+      length_of_pair h (slice_index sources (k / length targets)) (slice_index targets (k % length targets)) (slice_index new k)
+      (subst (λ x. IsRowLength h (slice_index sources (k / length targets)) (slice_index targets (k % length targets)) (slice_index new x)) place own);
+  rest = λ k high. rows.after k (omega (arith, high));
 }

@@ -1,4 +1,4 @@
-ghost use Rattle.std.specs.Prelude.{◌≡◌, ◌↔◌, ◌+◌, ◌<◌, ◌≤◌, ◌^◌, All, Err, IfErr, IfOk, IsTrue, OnErr, OnOk, length, Some};
+ghost use Rattle.std.specs.Prelude.{◌≡◌, ◌↔◌, ◌<◌, ◌≤◌, ◌^◌, All, Err, IfErr, IfOk, IsTrue, OnErr, OnOk, length, Some, ◌*◌};
 ghost use Rattle.ch_graph.specs.Hierarchy.{IsWellMade, version_number};
 ghost use Rattle.hierfile.specs.Bytes.{IsFaultOf};
 ghost use Rattle.hierfile.specs.Fault.{first_fault};
@@ -7,7 +7,7 @@ ghost use Rattle.domethyme_c.specs.Answers.{AreNodes, IsBetween, IsLength, IsRou
 ghost use Rattle.ch_query.specs.Seeds.{AreSeeds};
 ghost use Rattle.ch_route.specs.Between.{HasTooLongBetween, IsRowLengthFrom, IsRowLengthWithin};
 ghost use Rattle.ch_route.specs.Routes.{HasTooLong, IsRowLength};
-ghost use Rattle.ch_table.specs.Lengths.{IsRow};
+ghost use Rattle.ch_table.specs.Lengths.{AreRows, IsRow};
 ghost use Rattle.ch_table.specs.Selection.{IsSelection};
 ghost use Rattle.ch_unpack.specs.declared.error.UnpackError.TheVariants.{TooLong};
 
@@ -144,21 +144,20 @@ impl Engine {
         self.kept = None;
     }
 
-    /// Writes the least length of a path to each target of a selection, from a place of the row on.
+    /// Writes the least length of a path from each source to each target of a selection, row by row.
     pub(crate) fn lengths(
         &mut self,
-        source: u32,
+        sources: &[u32],
         selection: &Selection,
-        row: &mut [u64],
-        from: usize,
+        rows: &mut [u64],
     ) -> Result<(), AllocError>
-        requires source_in { source < length self.old.ranks }
+        requires sources { All (λ s. s < length self.old.ranks) sources.now }
         requires selection { IsSelection self.old selection.now }
-        requires room { from + length selection.now.targets ≤ length row.old }
-        ensures row { OnOk result (IsRow (IsRowLength self.old source) selection.now.targets from row.old row.new) }
+        requires room { length sources.now * length selection.now.targets ≤ length rows.old }
+        ensures rows { OnOk result (AreRows (IsRowLength self.old) sources.now selection.now.targets 0 (length sources.now) rows.old rows.new) }
         ensures kept { self.new ≡ self.old }
     {
-        self.router.lengths(source, selection, row, from)
+        self.router.lengths(sources, selection, rows, 0)
     }
 
     /// Writes the least length of a path from one of the starts to each target of a selection, where it is at most `most`.

@@ -183,14 +183,10 @@ fn fill_rows(
     ensures kept { engine.new ≡ engine.old }
     ensures answer { IsTableAnswer engine.old sources.now selection.now.targets result lengths.old lengths.new }
 {
-    let width = selection.targets().len();
-    'rows: for row in 0..sources.len() {
-        match engine.lengths(sources[row], selection, lengths, row * width) {
-            Ok(()) => (),
-            Err(_) => return OUT_OF_MEMORY,
-        }
+    match engine.lengths(sources, selection, lengths) {
+        Ok(()) => OK,
+        Err(_) => OUT_OF_MEMORY,
     }
-    OK
 }
 
 // Pair by pair.

@@ -87,11 +87,11 @@ fn row(router: &mut Router<'_>) -> Result<[u64; 3], Fail> {
         Ok(selection) => selection,
         Err(AllocError) => router.select(&[3, 0])?,
     };
-    if let Err(AllocError) = router.lengths(0, &selection, &mut row, 0) {
+    if let Err(AllocError) = router.lengths(&[0], &selection, &mut row, 0) {
         if row != [9; 3] {
             return Ok(row);
         }
-        router.lengths(0, &selection, &mut row, 0)?;
+        router.lengths(&[0], &selection, &mut row, 0)?;
     }
     Ok(row)
 }

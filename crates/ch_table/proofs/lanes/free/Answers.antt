@@ -2,7 +2,7 @@ use Rattle.std.proofs.Common.{ℕ, ap}
 use Rattle.ch_cost.specs.declared.cost.Cost.{Cost}
 use Rattle.ch_cost.specs.Cost.Laws.{ZERO-is}
 use Rattle.ch_query.specs.declared.seed.Seed.{Seed}
-use Rattle.ch_table.proofs.selection.free.Goals as goal
+use Rattle.ch_table.proofs.lanes.free.Goals as goal
 
 abbrev seed_with : ℕ → Cost → Seed
 seed_with v d = record { node = v; cost = d }
