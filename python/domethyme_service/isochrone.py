@@ -57,7 +57,8 @@ def parse_limits(values: Values, unit: str) -> list[int]:
     minutes, metres = values[CONTOURS_MINUTES], values[CONTOURS_METERS]
     if bool(minutes) == bool(metres):
         raise invalid_query("there has to be one of contours_minutes and contours_meters")
-    name, needed, what = (CONTOURS_MINUTES.name, "duration", "times") if minutes else (CONTOURS_METERS.name, "distance", "lengths")
+    name = CONTOURS_MINUTES.name if minutes else CONTOURS_METERS.name
+    needed, what = ("duration", "times") if minutes else ("distance", "lengths")
     if unit != needed:
         raise not_implemented(f"{name} isn't there: the weights of this network aren't {what}")
     found = limits(unit, minutes, metres)

@@ -52,7 +52,7 @@ class ReachToolTests(ReachCase):
         prepared([(0, 0), (0.01, 0)], [Road(0, 1, 111_195, 111_195)], self.folder / "road").close()
         self.assert_refused("reach", "road", "road.rch", "places.csv", says="places.csv, row 2: has no road within 1000 m")
         self.write("at.csv", "lon,lat\n0,0\n")
-        self.assert_refused("reach", "road", "road.rch", "at.csv", "--metres", "5", says="road: the weights of the network aren't")
+        self.assert_refused("reach", "road", "road.rch", "at.csv", "--metres", "5", says="road: the weights of the")
 
     def test_refusals(self):
         for name, text, says in (("far", "lon,lat\n9,47\n9.004,48\n", "far, row 3: has no road within 1000 m"),

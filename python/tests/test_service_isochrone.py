@@ -41,7 +41,8 @@ class IsochroneTests(ServiceCase):
 
     def node_at(self, x, y):
         at = round(x * 10_000), round(y * 10_000)
-        return next(node for node, place in enumerate(zip(self.net.node_lon[:].tolist(), self.net.node_lat[:].tolist())) if place == at)
+        places = zip(self.net.node_lon[:].tolist(), self.net.node_lat[:].tolist())
+        return next(node for node, place in enumerate(places) if place == at)
 
     def test_a_client_of_mapbox(self):
         """Its path and all of its parameters; the answer is drawn from scipy's lengths."""
@@ -85,8 +86,9 @@ class IsochroneTests(ServiceCase):
 
     def test_bearings_and_radiuses(self):
         """From a place on a road both directions are reached, and with a bearing one: to the east nothing in the west."""
-        both, east = (shape(self.found(f"contours_minutes=0.1&polygons=true{words}", "/isochrone/v1/car/0.0035,0.00001")["features"][0]
-                            ["geometry"]).bounds for words in ("", "&bearings=90,20"))
+        query, path = "contours_minutes=0.1&polygons=true", "/isochrone/v1/car/0.0035,0.00001"
+        answers = [self.found(f"{query}{words}", path) for words in ("", "&bearings=90,20")]
+        both, east = (shape(each["features"][0]["geometry"]).bounds for each in answers)
         self.assertLess(both[0], east[0] - 0.0002)
         self.assertEqual(round(both[2], 6), round(east[2], 6))
         self.refused("contours_minutes=5&radiuses=1", "NoSegment", "within 1 m of place 0", "/isochrone/v1/car/0.0035,0.0003")
@@ -100,25 +102,33 @@ class IsochroneTests(ServiceCase):
             ("contours_minutes=", "InvalidValue", "contours_minutes"), ("contours_minutes=0", "InvalidValue", "contours_minutes"),
             ("contours_minutes=5,5", "InvalidValue", "rising"), ("contours_minutes=9,5", "InvalidValue", "rising"),
             ("contours_minutes=1,2,3,4,5", "InvalidValue", "1 to 4"), ("contours_minutes=601", "InvalidValue", "600"),
-            ("contours_minutes=-5", "InvalidValue", "contours_minutes"), ("contours_minutes=nan", "InvalidValue", "contours_minutes"),
-            ("contours_minutes=1e2", "InvalidValue", "contours_minutes"), ("contours_minutes=5%3B6", "InvalidValue", "contours_minutes"),
-            ("contours_minutes=0.00001,0.00002", "InvalidValue", "differ"), ("contours_meters=1000001", "InvalidValue", "1,000,000"),
+            ("contours_minutes=-5", "InvalidValue", "contours_minutes"),
+            ("contours_minutes=nan", "InvalidValue", "contours_minutes"),
+            ("contours_minutes=1e2", "InvalidValue", "contours_minutes"),
+            ("contours_minutes=5%3B6", "InvalidValue", "contours_minutes"),
+            ("contours_minutes=0.00001,0.00002", "InvalidValue", "differ"),
+            ("contours_meters=1000001", "InvalidValue", "1,000,000"),
             ("contours_minutes=5&contours_colors=red", "InvalidValue", "contours_colors"),
             ("contours_minutes=5&contours_colors=ff0000,00ff00", "InvalidValue", "contours_colors"),
             ("contours_minutes=5&contours_colors=%23ff0000", "InvalidValue", "contours_colors"),
-            ("contours_minutes=5&polygons=yes", "InvalidValue", "polygons"), ("contours_minutes=5&denoise=1.1", "InvalidValue", "denoise"),
-            ("contours_minutes=5&denoise=-1", "InvalidValue", "denoise"), ("contours_minutes=5&generalize=x", "InvalidValue", "generalize"),
+            ("contours_minutes=5&polygons=yes", "InvalidValue", "polygons"),
+            ("contours_minutes=5&denoise=1.1", "InvalidValue", "denoise"),
+            ("contours_minutes=5&denoise=-1", "InvalidValue", "denoise"),
+            ("contours_minutes=5&generalize=x", "InvalidValue", "generalize"),
             ("contours_minutes=5&generalize=1000001", "InvalidValue", "generalize"),
-            ("contours_minutes=5&reverse=true", "NotImplemented", "reverse"), ("contours_minutes=5&reverse=1", "InvalidValue", "reverse"),
+            ("contours_minutes=5&reverse=true", "NotImplemented", "reverse"),
+            ("contours_minutes=5&reverse=1", "InvalidValue", "reverse"),
             ("contours_minutes=5&exclude=toll", "NotImplemented", "exclude"),
             ("contours_minutes=5&depart_at=2026-11-28T08:00", "NotImplemented", "depart_at"),
-            ("contours_minutes=5&radiuses=5;5", "InvalidQuery", "radius"), ("contours_minutes=5&bearings=400,5", "InvalidValue", "bearings"),
+            ("contours_minutes=5&radiuses=5;5", "InvalidQuery", "radius"),
+            ("contours_minutes=5&bearings=400,5", "InvalidValue", "bearings"),
             ("contours_minutes=5&costing=auto", "InvalidQuery", "'costing'"),
         ]:
             with self.subTest(query=query):
                 self.refused(query, code, says)
         for path, code in [
-            ("/isochrone/v2/car/0,0", "InvalidVersion"), ("/isochrone/v1/0,0", "InvalidUrl"), ("/isochrone/v1/a/b/c/0,0", "InvalidUrl"),
+            ("/isochrone/v2/car/0,0", "InvalidVersion"),
+            ("/isochrone/v1/0,0", "InvalidUrl"), ("/isochrone/v1/a/b/c/0,0", "InvalidUrl"),
             ("/isochrone/v1/a,b/0,0", "InvalidUrl"), ("/isochrone/v1/car/0,0;1,1", "InvalidQuery"),
             ("/isochrone/v1/car/x", "InvalidQuery"), ("/isochrone/v1/car/0,91", "InvalidValue"),
         ]:
@@ -149,7 +159,8 @@ class LengthTests(ServiceCase):
 @pytest.mark.parametrize("most, is_refused", [(2, False), (1, True)])
 def test_nodes_that_may_be_reached(tmp_path, most, is_refused):
     """Two are, of three."""
-    with prepared([(0, 0), (0.001, 0), (0.002, 0)], [Road(0, 1, 1000, 1000), Road(1, 2, 90_000, 90_000)], tmp_path / "row") as row:
+    roads = [Road(0, 1, 1000, 1000), Road(1, 2, 90_000, 90_000)]
+    with prepared([(0, 0), (0.001, 0), (0.002, 0)], roads, tmp_path / "row") as row:
         queries = Queries(row._router, row.links, SharedMetrics())
         request = isochrone.parse_request("/isochrone/v1/car/0,0", {"contours_minutes": "1", "polygons": "true"}, 1000)
         with unittest.mock.patch.object(isochrone, "MAX_REACHED", most):

@@ -104,7 +104,7 @@ def test_towards_places_is_refused(row):
 def test_an_older_library(row, monkeypatch):
     """The error for a call that the library lacks says what to do."""
     monkeypatch.setitem(library.LATER_ARGUMENTS, "reached_by_nobody", [])
-    with pytest.raises(domethyme.LibraryNotFound, match="older than this package, and has no domethyme_reached_by_nobody; install"):
+    with pytest.raises(domethyme.LibraryNotFound, match="older than this package, and has no domethyme_reached_by_nobody"):
         library.load_later_call("reached_by_nobody")
 
 
@@ -173,7 +173,8 @@ def test_places_of_chosen_arcs():
 @pytest.mark.parametrize("place, words, error, says", [
     ((0, 2), {}, domethyme.NoSuchNode, "no road within 1000 m"), ((0, 91), {}, ValueError, "swapped"),
     ((0, float("nan")), {}, ValueError, "degrees"), ((0, 0, 0), {}, ValueError, "lon, lat"), ([], {}, ValueError, "lon, lat"),
-    ((0, 0), {"minutes": [5, 3]}, ValueError, "greater than the one before"), ((0, 0), {"metres": [5]}, ValueError, "aren't a distance"),
+    ((0, 0), {"minutes": [5, 3]}, ValueError, "greater than the one before"),
+    ((0, 0), {"metres": [5]}, ValueError, "aren't a distance"),
     ((0, 0), {"minutes": [5], "metres": [5]}, ValueError, "one of both"), ((0, 0), {"minutes": [1e300]}, ValueError, "too much"),
     ((0, 0), {"colors": ["red"] * 3}, ValueError, "hexadecimal"), ((0, 0), {"colors": ["ff0000"]}, ValueError, "colours"),
     ((0, 0), {"denoise": 2}, ValueError, "denoise"), ((0, 0), {"generalize": -1}, ValueError, "generalize"),
