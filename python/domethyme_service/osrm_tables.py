@@ -1,14 +1,13 @@
-"""Tables of durations and distances between points on roads. Weights come of the library's tables between nodes, which are
-proved (domethyme.network.leg_tables). Other figures are sums along routes, and a route is asked for each cell."""
-import math
+"""Tables of durations and distances between points on roads. Weights are from the library's tables between nodes, which are
+proved (domethyme.network.leg_tables). Other values are sums along routes, with a query for each cell."""
 from collections.abc import Iterator, Sequence
-from typing import NamedTuple
+from typing import NamedTuple, cast
 
 import numpy as np
 from numpy.typing import NDArray
 
-from domethyme.network.geo import EARTH_RADIUS, Point
-from domethyme.network.leg_geometry import UNITS_PER_OUTPUT_UNIT, Figures, leg_totals
+from domethyme.network.geo import Point, metres_between
+from domethyme.network.leg_geometry import UNITS_PER_OUTPUT_UNIT, leg_totals
 from domethyme.network.leg_tables import weight_rows
 from domethyme.network.legs import find_leg
 from domethyme.network.snapping import RoadIndex, SnappedPoint
@@ -20,16 +19,16 @@ from .json_text import join_array, to_json
 from .parameters import Values
 from .queries import Queries
 
-# Cells that a table may have for which routes are asked.
+# Cells of a table that needs routes.
 MAX_ROUTED_CELLS = 10_000
-# Lengths between nodes that are asked for together, in some ten milliseconds: an alarm is seen between them.
+# Lengths between nodes that are computed at once, in some ten milliseconds: an alarm is handled between two calls.
 NODE_CELLS = 1 << 16
 Row = list[float | None]
 
 
 class TableOptions(NamedTuple):
-    """What a table has: the names of its figures, what weights are, the places as they were asked for by row and by column, and
-    what becomes of durations, and of cells without a way."""
+    """The options of a table: the names of its values, the unit of weights, the requested places by row and by column, the
+    factor of durations, and the speed and the places for cells without a path."""
 
     names: list[str]
     unit: str
@@ -41,7 +40,7 @@ class TableOptions(NamedTuple):
 
     @classmethod
     def from_values(cls, values: Values, roads: RoadIndex, places: Sequence[Point]) -> "TableOptions":
-        """What the values of the parameters say. Raises RequestError for durations where the network has none."""
+        """The options from the values of parameters. Raises RequestError for durations if the network has none."""
         if "duration" in values[TABLE_ANNOTATIONS] and not roads.has_seconds:
             raise not_implemented("this network has no seconds, so no durations: ask annotations=weight or distance")
         sources, destinations = ([places[number] for number in values[side]] for side in (SOURCES, DESTINATIONS))
@@ -51,11 +50,11 @@ class TableOptions(NamedTuple):
 
     @property
     def wants_weights_only(self) -> bool:
-        """Whether no figure but the weight is wanted."""
+        """Whether the weight is the only value."""
         return set(self.names) <= {self.unit, "weight"}
 
     def refuse_if_too_many(self, cells: int) -> None:
-        """Raises RequestError where too many routes would be asked for."""
+        """Raises RequestError if the table needs too many routes."""
         if cells > MAX_ROUTED_CELLS and not self.wants_weights_only:
             why = f"unless it is of annotations={self.unit} or weight alone"
             raise RequestError(400, "TooBig", f"a table may have {MAX_ROUTED_CELLS} cells, {why}")
@@ -64,7 +63,7 @@ class TableOptions(NamedTuple):
 def table_of_weights(
     queries: Queries, roads: RoadIndex, options: TableOptions, starts: Sequence[SnappedPoint], ends: Sequence[SnappedPoint]
 ) -> dict[str, str]:
-    """The members of the answer, of weights alone."""
+    """The members of the answer, for weights alone."""
     unit = UNITS_PER_OUTPUT_UNIT.get(options.unit, 1)
     some_rows = weight_rows(queries.table, roads, starts, ends, NODE_CELLS)
     rows = (row_of(weights, unit) for some in some_rows for weights in some)
@@ -72,7 +71,7 @@ def table_of_weights(
 
 
 def row_of(weights: NDArray[np.int64], unit: int) -> Row:
-    """A row in a larger unit, with None where there is no way."""
+    """A row of weights in another unit, None for no path."""
     found = (weights / unit).astype(object)
     found[weights == NO_PATH] = None
     row: Row = found.tolist()
@@ -82,7 +81,7 @@ def row_of(weights: NDArray[np.int64], unit: int) -> Row:
 def table_json(
     options: TableOptions, starts: Sequence[SnappedPoint], ends: Sequence[SnappedPoint], rows: Iterator[dict[str, Row]]
 ) -> dict[str, str]:
-    """The members of the answer, by rows of the figures that are wanted."""
+    """The members of the answer, from rows of the values by name."""
     texts: dict[str, list[str]] = {name: [] for name in options.names}
     fallback_cells: list[list[int]] = []
     for number, figures in enumerate(rows):
@@ -112,7 +111,8 @@ def fill_fallback(
             start, end = starts[number], ends[column]
             snapped = (start.lon, start.lat), (end.lon, end.lat)
             requested = options.sources[number], options.destinations[column]
-            direct_metres = metres_apart(*(snapped if options.fallback_is_snapped else requested))
+            start_point, end_point = snapped if options.fallback_is_snapped else requested
+            direct_metres = metres_between(*start_point, *end_point)
             duration, distance = round(direct_metres / speed, 3), round(direct_metres, 2)
             guesses: dict[str, float | None] = {"duration": duration, "distance": distance}
             for name, row in figures.items():
@@ -121,29 +121,14 @@ def fill_fallback(
     return found
 
 
-def metres_apart(one: Point, other: Point) -> float:
-    """The metres along a great circle."""
-    (lon_1, lat_1), (lon_2, lat_2) = (map(math.radians, place) for place in (one, other))
-    half = math.sin((lat_2 - lat_1) / 2) ** 2 + math.cos(lat_1) * math.cos(lat_2) * math.sin((lon_2 - lon_1) / 2) ** 2
-    return 2 * EARTH_RADIUS * math.asin(math.sqrt(min(1.0, half)))
-
-
 def table_by_routes(
     queries: Queries, roads: RoadIndex, options: TableOptions, starts: Sequence[SnappedPoint], ends: Sequence[SnappedPoint]
 ) -> dict[str, str]:
-    """The members of the answer, by a route for each cell."""
-    return table_json(options, starts, ends, (row_by_routes(queries, roads, options, start, ends) for start in starts))
+    """The members of the answer, from a route for each cell."""
+    def totals(start: SnappedPoint, end: SnappedPoint) -> dict[str, float | None]:
+        leg = find_leg(queries, roads, start, end)
+        return {} if leg is None else cast(dict[str, float | None], leg_totals(roads, leg))
 
-
-def row_by_routes(
-    queries: Queries, roads: RoadIndex, options: TableOptions, start: SnappedPoint, ends: Sequence[SnappedPoint]
-) -> dict[str, Row]:
-    """The figures of a row."""
-    legs = [find_leg(queries, roads, start, end) for end in ends]
-    totals = [None if leg is None else leg_totals(roads, leg) for leg in legs]
-    return {name: [None if each is None else value_of(each, name) for each in totals] for name in options.names}
-
-
-def value_of(figures: Figures, name: str) -> float | None:
-    """One of the figures, by its name."""
-    return figures["duration"] if name == "duration" else figures["distance"] if name == "distance" else figures["weight"]
+    rows = ([totals(start, end) for end in ends] for start in starts)
+    columns = ({name: [each.get(name) for each in row] for name in options.names} for row in rows)
+    return table_json(options, starts, ends, columns)
