@@ -13,9 +13,9 @@ from tool_case import PYTHON, ROOT, VILLAGE, ToolCase
 
 import domethyme
 from domethyme.network import column_file, net_file
-from domethyme.network.reading import arcs_of, read_nodes
+from domethyme.network.reading import arcs_from_net, read_nodes
 from domethyme.network.snapping import RoadIndex
-from domethyme.network.tables import lightest, read_arcs, read_node_table
+from domethyme.network.tables import read_arcs, read_node_table
 from domethyme_service.tiles import Tiles
 
 # Two nodes, a road both ways and one that is straight on.
@@ -58,13 +58,22 @@ def answers(prefix):
     )
 
 
+def lightest(arcs):
+    """{(start, end): the first arc of the least weight between them}."""
+    best = {}
+    for arc in arcs:
+        if arc.weight < best.setdefault((arc.start, arc.end), arc).weight:
+            best[arc.start, arc.end] = arc
+    return best
+
+
 class SameTests(BinaryCase):
     def test_it_says_what_the_tables_say(self):
         for prefix in self.prefix, self.turns():
             self.assertTrue(net_file.is_current(prefix))
             self.assert_same(net_file.read(f"{prefix}.net"), net_file.arrays_from_tables(prefix))
             self.assertEqual(read_nodes(f"{prefix}.nodes.csv"), read_node_table(f"{prefix}.nodes.csv"))
-            self.assertEqual(list(arcs_of(prefix)), list(read_arcs(f"{prefix}.arcs.csv")))
+            self.assertEqual(list(arcs_from_net(net_file.load_network(prefix))), list(read_arcs(f"{prefix}.arcs.csv")))
         self.assertIn("no", read_nodes(f"{prefix}.nodes.csv").ends)
 
     def turns(self):
@@ -102,7 +111,7 @@ class SameTests(BinaryCase):
             shutil.copy(f"{self.prefix}.{name}", self.folder / f"copy.{name}")
         network, tables = domethyme.Network(self.prefix), domethyme.Network(self.folder / "copy")
         self.assertEqual([net_file.is_current(each.prefix) for each in (network, tables)], [True, False])
-        weights = {ends: arc.weight for ends, arc in lightest(arcs_of(self.prefix)).items()}
+        weights = {ends: arc.weight for ends, arc in lightest(read_arcs(f"{self.prefix}.arcs.csv")).items()}
         for (start, end), weight in weights.items():
             found = [
                 domethyme.Route(start - 1, end - 1, weight, [], [start - 1, end - 1]).geojson(each)

@@ -2,7 +2,7 @@
 DIMACS .co file and its graph.
 
     read_nodes(path)             Nodes(osm, lon, lat, ends): lists, node n at n - 1; of a .nodes.csv or a DIMACS .co file
-    arcs_of(word)                the arcs that a tool's argument NETWORK means: of .arcs.csv, or of X.gr for a DIMACS file X.co
+    arcs_from_net(arrays)        the arcs of a mapped file, as Arcs
     mapped_if_current(prefix)    NETWORK.net, mapped, where it is current and there is numpy
 """
 import os
@@ -10,12 +10,12 @@ from collections.abc import Iterator
 from typing import TYPE_CHECKING, Any
 
 from ..csv_tables import open_input, parse_int
-from ..dimacs import dimacs_lines, parse_problem_line, read_graph
+from ..dimacs import dimacs_lines, parse_problem_line
 from ..errors import NetworkError
 from ..limits import MAX_NODES
 from ..program import StrPath
-from .geo import format_linestring, metres_between
-from .tables import ENDS, Arc, Files, Nodes, arcs_file, graph_of, is_coordinates, read_arcs, read_node_table
+from .geo import format_linestring
+from .tables import ENDS, Arc, Files, Nodes, is_coordinates, read_node_table
 
 if TYPE_CHECKING:
     from . import net_file
@@ -88,20 +88,3 @@ def read_coordinates(path: StrPath) -> Nodes:
     places = [(east, north) for east, north in zip(lon, lat) if east is not None and north is not None]
     lons, lats = [east for east, _ in places], [north for _, north in places]
     return Nodes([None] * len(lon), lons, lats, [""] * len(lon))
-
-
-def arcs_of(word: StrPath) -> Iterator[Arc]:
-    """The arcs of a tool's word NETWORK: those of its table, or for a DIMACS file X.co those of the graph X.gr as straight
-    lines, without a way, a name and seconds."""
-    if not is_coordinates(word):
-        path = arcs_file(word)
-        arrays = mapped_if_current(os.fspath(word))
-        yield from read_arcs(path) if arrays is None else arcs_from_net(arrays)
-        return
-    nodes, graph = read_nodes(word), read_graph(graph_of(word))
-    if len(nodes.lon) != graph.nodes:
-        raise NetworkError(f"has {len(nodes.lon)} nodes, and the graph beside it has {graph.nodes}", word)
-    places = list(zip(nodes.lon, nodes.lat))
-    for start, end, weight in zip(graph.starts, graph.ends, graph.weights):
-        line = [places[start - 1], places[end - 1]]
-        yield Arc(start, end, weight, 0.0, metres_between(*line[0], *line[1]), 0, "", "", format_linestring(line))

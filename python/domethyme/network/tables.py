@@ -23,7 +23,6 @@ WGS 84; no tool here reads them. The columns ends, ref, junction, destination an
     write_nodes(file, nodes)     the rows of .nodes.csv
     read_arcs(path)              yields Arcs; iter_arc_rows yields their rows in the file too
     write_arcs(file, arcs)       the rows of .arcs.csv
-    lightest(arcs)               {(start, end): the first arc of the least weight between them}
     read_attribution(network)    what the data asks to be said wherever it is shown, "" for nothing: the comment of the
                                  graph that `osm_to_gr --attribution` wrote. OSM_ATTRIBUTION is that of OpenStreetMap.
 """
@@ -239,16 +238,6 @@ def write_arcs(file: IO[str], arcs: Iterable[Arc]) -> None:
     for arc in arcs:
         figures = f"{arc.seconds:.3f}", f"{arc.metres:.2f}"
         rows.writerow((*arc[:3], *figures, arc.osm, *map(escape_formula, (arc.highway, arc.name, *arc[9:])), arc.wkt))
-
-
-def lightest(arcs: Iterable[Arc]) -> dict[tuple[int, int], Arc]:
-    """The arc that a route takes from a node to the next: of several between them the first of the least weight."""
-    best: dict[tuple[int, int], Arc] = {}
-    for arc in arcs:
-        known = best.get((arc.start, arc.end))
-        if known is None or arc.weight < known.weight:
-            best[arc.start, arc.end] = arc
-    return best
 
 
 def read_attribution(network: StrPath) -> str:
