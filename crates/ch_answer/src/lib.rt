@@ -2,8 +2,8 @@
 //!
 //! Uses `ch_route` for routes, `counted_io` for the sink that takes the lines, and `itoa` for decimals. What it is for is
 //! that a file of pairs and a service have the same words for a route: [`put_line`] puts the line of a pair and its route into a
-//! sink. `specs/Line.antt` says what a line is, `specs/File.antt` which bytes are the file of a hierarchy that was prepared
-//! from a graph's text, and `specs/Written.antt` what it means that a writer took a text.
+//! sink. `specs/Line.antt` says what a line is, and `specs/File.antt` which bytes are the file of a hierarchy that was prepared
+//! from a graph's text.
 //!
 //! Nodes are numbered from 0 inside, and from 1 in every text:
 //!

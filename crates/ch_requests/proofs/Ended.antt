@@ -10,7 +10,7 @@ use Rattle.counted_io.specs.Limits.{IsRead, IsReadWithin, ReadsWithin}
 use Rattle.counted_io.specs.Limits.Laws.{read_none, refused_after}
 use Rattle.counted_io.specs.declared.TheConstants.{MOST_CALLS}
 use Rattle.ch_graph.specs.Hierarchy.{Hierarchy}
-use Rattle.ch_answer.specs.Written.{Writes}
+use Rattle.outcomes.specs.Written.{Writes}
 use Rattle.text_lines.specs.Lines.{line_feeds}
 use Rattle.ch_requests.specs.declared.request.Request.{Request}
 use Rattle.ch_requests.specs.declared.error.ServeError.{ServeError}

@@ -6,7 +6,7 @@ use Rattle.ch_graph.specs.Hierarchy.{Hierarchy, IsWellMade}
 use Rattle.ch_graph.specs.declared.version.Version.{Version}
 use Rattle.ch_route.specs.Routes.{Route}
 use Rattle.ch_answer.specs.File.{PreparesIn, Spells}
-use Rattle.ch_answer.specs.Written.{IfTold, Writes}
+use Rattle.outcomes.specs.Written.{IfTold, Writes}
 use Rattle.ch_requests.specs.Requests.{requests_of}
 use Rattle.hierfile.specs.Bytes.{OfBytes, IsFaultOf}
 use Rattle.hierfile.specs.Fault.{first_fault}

@@ -9,7 +9,7 @@ use Rattle.ch_graph.specs.declared.version.Version.TheVariants.{One, Two}
 use Rattle.ch_route.specs.Routes.{Route, IsFewestWalk, IsLeastWalk}
 use Rattle.ch_answer.specs.File.{PreparesIn, Spells}
 use Rattle.ch_requests.specs.Sending.{IsSendingBy, StopsAtFlush, StopsAtWrite}
-use Rattle.ch_answer.specs.Written.{Writes, WritesFirst}
+use Rattle.outcomes.specs.Written.{Writes, WritesFirst}
 use Rattle.grfile.specs.Reading.{graph_of}
 use Rattle.ch_requests.specs.Requests.{requests_of}
 use Rattle.text_lines.specs.Lines.{line_feeds}

@@ -5,7 +5,7 @@ ghost use Rattle.ch_route.specs.Routes.{IsFewestWalk, IsLeastWalk};
 ghost use Rattle.ch_graph.specs.declared.version.Version.TheVariants.{One, Two};
 ghost use Rattle.ch_answer.specs.File.{PreparesIn};
 ghost use Rattle.ch_requests.specs.Sending.{IsSentWithin};
-ghost use Rattle.ch_answer.specs.Written.{IfTold, Writes};
+ghost use Rattle.outcomes.specs.Written.{IfTold, Writes};
 ghost use Rattle.hierfile.specs.declared.error.HierError.TheVariants as faults;
 ghost use Rattle.ch_requests.specs.Requests.{requests_of};
 ghost use Rattle.ch_requests.specs.declared.error.ServeError.TheVariants as stop;

@@ -1,7 +1,7 @@
 -- What an answering call has done where it refuses.
 use Rattle.std.specs.Prelude.{ℕ, ◌≡◌, ◌≢◌, ◌⊎◌, ⊤, List, length, Option, Some, IfSome, Ok, Err}
 use Rattle.std.specs.Io.KnownBytes.{IsAtEnd, Keeps}
-pub use Rattle.ch_answer.specs.Written.{IfTold, Writes, WritesFirst}
+pub use Rattle.outcomes.specs.Written.{IfTold, Writes, WritesFirst}
 use Rattle.ch_graph.specs.Graph.{Graph}
 use Rattle.ch_graph.specs.Hierarchy.{Hierarchy}
 use Rattle.grfile.specs.Outcome.{FromText, next_line}

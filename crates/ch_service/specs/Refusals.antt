@@ -1,50 +1,42 @@
 -- What each call says where it refuses, by what the refusal comes of: which text is at fault, and what was written.
-use Rattle.std.specs.Prelude.{ℕ, ◌≡◌, ◌⊎◌, ⊤, List, length, Option, Some, option_map, IfSome, Result, Ok, Err, IfErr}
+use Rattle.std.specs.Prelude.{ℕ, ◌≡◌, ⊤, List, [], length, Option, Some, option_map, true, false, IfSome, Result, Ok, Err, IfErr}
 use Rattle.std.specs.Io.KnownBytes.{Keeps}
 use Rattle.ch_graph.specs.Graph.{Graph}
 use Rattle.ch_graph.specs.Hierarchy.{Hierarchy}
 use Rattle.grfile.specs.Reading.{graph_of, pairs_of}
 use Rattle.hierfile.specs.Fault.{first_fault}
 use Rattle.ch_workers.specs.declared.error.BuildError.TheVariants.{BadOptions}
+use Rattle.outcomes.specs.Resources.{IsEither, OfResource}
 use Rattle.outcomes.specs.declared.cause.Cause.{Cause}
-use Rattle.outcomes.specs.declared.cause.Cause.TheVariants.{Graph as GraphFault, Queries, Hierarchy as HierarchyFault, TooLong, Memory, Read, Write, Mixed}
+use Rattle.outcomes.specs.declared.cause.Cause.TheVariants.{Graph as GraphFault, Queries, Hierarchy as HierarchyFault, TooLong, Mixed}
 use Rattle.outcomes.specs.declared.cause.Input.TheVariants as inputs
 use Rattle.ch_service.specs.declared.error.ServiceError.{ServiceError}
 use Rattle.ch_service.specs.declared.error.ServiceError.TheVariants.{Build}
 use Rattle.ch_service.specs.Answer.{AnswersFirst}
 use Rattle.ch_service.specs.Cause.{cause_of}
 use Rattle.ch_service.specs.Joined.{graph_part, pairs_part}
-use Rattle.ch_service.specs.Outcome.{IfTold, Writes, WritesFirst, IsGraphText, AreTexts, IsFaultOf, IsFaultOfJoined, IsPreparingFault, IsRoutingFault, KeepsAtFault, KeepsUnlessWriting, BreaksOff, StopsShort, ComesOfTexts, ComesOfPreparing, ComesOfRouting}
+use Rattle.ch_service.specs.Outcome.{IfTold, Writes, IsGraphText, AreTexts, IsFaultOf, IsFaultOfJoined, IsPreparingFault, IsRoutingFault, KeepsAtFault, KeepsUnlessWriting, BreaksOff, StopsShort, ComesOfTexts, ComesOfPreparing, ComesOfRouting}
 use Rattle.ch_service.specs.Route.{Spells, Prepares, RoutesFirst, RoutesToTooLong}
 
 -- where pairs are answered from the texts of a graph and of pairs
 abbrev pub RefusesAnswers : Option (List ℕ) → Option (List ℕ) → Option (List ℕ) → Option (List ℕ) → Cause → Type 0
 RefusesAnswers graph pairs old new (GraphFault fault) = IfTold graph pairs (λ graph_text pairs_text. graph_of graph_text ≡ Err fault) × Keeps old new
 RefusesAnswers graph pairs old new (Queries fault) = IfTold graph pairs (λ graph_text pairs_text. (g : Graph) × (graph_of graph_text ≡ Ok g) × (pairs_of g.nodes pairs_text ≡ Err fault)) × Keeps old new
-RefusesAnswers graph pairs old new Memory = IfTold graph pairs (λ graph_text pairs_text. Keeps old new ⊎ Writes (AnswersFirst graph_text pairs_text) old new)
-RefusesAnswers graph pairs old new (Read input) = ((input ≡ inputs.Graph) ⊎ (input ≡ inputs.Queries)) × Keeps old new
-RefusesAnswers graph pairs old new (Write fault) = IfTold graph pairs (λ graph_text pairs_text. WritesFirst (AnswersFirst graph_text pairs_text) old new fault.written)
 RefusesAnswers graph pairs old new Mixed = IfTold graph pairs AreTexts × Keeps old new
-RefusesAnswers graph pairs old new cause = ⊥
+RefusesAnswers graph pairs old new cause = OfResource true (IsEither inputs.Graph inputs.Queries) graph pairs AnswersFirst old new cause
 
 -- where a hierarchy is prepared from the text of a graph
 abbrev pub RefusesPreparing : Option (List ℕ) → Option (List ℕ) → Option (List ℕ) → Cause → Type 0
 RefusesPreparing graph old new (GraphFault fault) = IfSome graph (λ graph_text. graph_of graph_text ≡ Err fault) × Keeps old new
-RefusesPreparing graph old new Memory = Keeps old new
-RefusesPreparing graph old new (Read input) = (input ≡ inputs.Graph) × Keeps old new
-RefusesPreparing graph old new (Write fault) = IfSome graph (λ graph_text. WritesFirst (Prepares graph_text) old new fault.written)
 RefusesPreparing graph old new Mixed = IfSome graph IsGraphText × Keeps old new
-RefusesPreparing graph old new cause = ⊥
+RefusesPreparing graph old new cause = OfResource false (λ input. input ≡ inputs.Graph) graph (Some []) (λ graph_text none. Prepares graph_text) old new cause
 
 -- where pairs are answered by the file of a hierarchy
 abbrev pub RefusesRoutes : Option (List ℕ) → Option (List ℕ) → Option (List ℕ) → Option (List ℕ) → Cause → Type 0
 RefusesRoutes file pairs old new (Queries fault) = IfTold file pairs (λ bytes pairs_text. (h : Hierarchy) × Spells bytes h × (pairs_of (length h.ranks) pairs_text ≡ Err fault)) × Keeps old new
 RefusesRoutes file pairs old new (HierarchyFault fault) = IfTold file pairs (λ bytes pairs_text. first_fault bytes ≡ Some fault) × Keeps old new
 RefusesRoutes file pairs old new TooLong = IfTold file pairs (λ bytes pairs_text. Writes (RoutesToTooLong bytes pairs_text) old new)
-RefusesRoutes file pairs old new Memory = IfTold file pairs (λ bytes pairs_text. Keeps old new ⊎ Writes (RoutesFirst bytes pairs_text) old new)
-RefusesRoutes file pairs old new (Read input) = ((input ≡ inputs.Hierarchy) ⊎ (input ≡ inputs.Queries)) × Keeps old new
-RefusesRoutes file pairs old new (Write fault) = IfTold file pairs (λ bytes pairs_text. WritesFirst (RoutesFirst bytes pairs_text) old new fault.written)
-RefusesRoutes file pairs old new cause = ⊥
+RefusesRoutes file pairs old new cause = OfResource true (IsEither inputs.Hierarchy inputs.Queries) file pairs RoutesFirst old new cause
 
 -- no refusal of a build is that of its options
 abbrev pub NotBad : Result ⊤ ServiceError → Type 0

@@ -19,7 +19,7 @@ use Rattle.outcomes.specs.Causes.{of_graph, of_hierarchy}
 use Rattle.outcomes.specs.declared.cause.Cause.{Cause}
 use Rattle.outcomes.specs.declared.cause.Cause.TheVariants as causes
 use Rattle.outcomes.specs.declared.cause.Input.TheVariants as inputs
-use Rattle.ch_answer.specs.Written.{IfTold, WritesFirst}
+use Rattle.outcomes.specs.Written.{IfTold, WritesFirst}
 use Rattle.ch_verify.specs.Verdict.{Judges, AreOf, Says, IsVerdictLine, verdict_line}
 use Rattle.ch_verify.specs.Refusal.{BreaksOff, RefusesCheck}
 use Rattle.ch_verify.specs.declared.verdict.Verdict.{Verdict}

@@ -1,7 +1,7 @@
 ghost use Rattle.std.specs.Prelude.{◌≡◌, OnOk, IfOk, IfErr, length};
 ghost use Rattle.std.specs.Io.KnownBytes.{Appends};
 ghost use Rattle.ch_graph.specs.declared.version.Version.TheVariants.{One, Two};
-ghost use Rattle.ch_answer.specs.Written.{IfTold};
+ghost use Rattle.outcomes.specs.Written.{IfTold};
 ghost use Rattle.outcomes.specs.declared.cause.Cause.TheVariants.{OldVersion};
 ghost use Rattle.ch_verify.specs.Refusal.{BreaksOff, RefusesCheck};
 ghost use Rattle.ch_verify.specs.Verdict.{Doubts, Judges, Says, verdict_line};

@@ -1,12 +1,13 @@
 -- What is printed of a hierarchy file.
-use Rattle.std.specs.Prelude.{ℕ, ◌≡◌, ◌<◌, List, ◌++◌, length, take, codes, decimal, Option, IfSome, Some}
-use Rattle.std.specs.Io.KnownBytes.{Appends, Keeps}
+use Rattle.std.specs.Prelude.{ℕ, ◌≡◌, List, [], ◌++◌, length, codes, decimal, Option, IfSome, Some, false}
+use Rattle.std.specs.Io.KnownBytes.{Keeps}
 use Rattle.ch_cost.specs.Cost.{length_of}
 use Rattle.ch_graph.specs.Hierarchy.{Hierarchy, IsWellMade, version_number}
 use Rattle.hierfile.specs.Spelling.{bytes_of}
 use Rattle.hierfile.specs.Fault.{first_fault}
+use Rattle.outcomes.specs.Resources.{OfResource}
 use Rattle.outcomes.specs.declared.cause.Cause.{Cause}
-use Rattle.outcomes.specs.declared.cause.Cause.TheVariants.{Hierarchy as HierarchyFault, Memory, Read, Write}
+use Rattle.outcomes.specs.declared.cause.Cause.TheVariants.{Hierarchy as HierarchyFault}
 use Rattle.outcomes.specs.declared.cause.Input.TheVariants as inputs
 
 -- a line with a name and a number in decimals
@@ -24,11 +25,7 @@ pub record Informs (bytes text : List ℕ) : Type 0 where
   pub spelled : bytes ≡ bytes_of hierarchy
   pub tells : text ≡ info hierarchy
 
--- Where it isn't printed. A refused file has the first fault of its bytes, and nothing is written; nor is where memory
--- is refused, or a read fails. Where the write fails, the writer took the first `written` bytes of the text, but not all.
+-- where it isn't printed: a refused file has the first fault of its bytes, and nothing is written
 abbrev pub RefusesInfo : Option (List ℕ) → Option (List ℕ) → Option (List ℕ) → Cause → Type 0
 RefusesInfo file old new (HierarchyFault e) = IfSome file (λ bytes. first_fault bytes ≡ Some e) × Keeps old new
-RefusesInfo file old new Memory = Keeps old new
-RefusesInfo file old new (Read input) = (input ≡ inputs.Hierarchy) × Keeps old new
-RefusesInfo file old new (Write fault) = IfSome file (λ bytes. (text : List ℕ) × Informs bytes text × (fault.written < length text) × Appends old new (take fault.written text))
-RefusesInfo file old new cause = ⊥
+RefusesInfo file old new cause = OfResource false (λ input. input ≡ inputs.Hierarchy) file (Some []) (λ bytes none. Informs bytes) old new cause

@@ -1,3 +1,5 @@
 pub mod Cases
 pub mod Causes
 pub mod Outcomes
+pub mod Written
+pub mod Resources
