@@ -1,5 +1,5 @@
 -- Why answers by routes of a right hierarchy are answers by least walks of its graph, in either version.
-use Rattle.std.proofs.Common.{ℕ, suc, ◌≡◌, ◌-◌, ◌<◌, ◌≤◌, List, [], ◌∷◌, ◌++◌, length, take, Option, inl, inr, ap, refl, sym, subst, arith}
+use Rattle.std.proofs.Common.{ℕ, suc, ◌≡◌, ◌-◌, ◌<◌, List, [], ◌∷◌, ◌++◌, length, take, Option, inl, inr, refl, sym, subst, arith}
 use Rattle.std.specs.Prelude.{⊤, Some, None, IfSome, All, Result, OnOk, Ok, Err, IfErr, IsErrAnd, MatchResult}
 use Rattle.std.proofs.lemmas.List.Elements.{All-take}
 use Rattle.ch_graph.specs.Graph.{Graph}
@@ -11,8 +11,14 @@ use Rattle.ch_route.specs.Laws.{RoutesAreFewest, RoutesAreLeastByWeight, NoneToo
 use Rattle.grfile.specs.Outcome.{FromText}
 use Rattle.grfile.specs.declared.error.GrError.{GrError}
 use Rattle.grfile.specs.Reading.{IsPair, graph_of, pairs_of}
+use Rattle.grfile.specs.Taken.{StopsAtReached}
+use Rattle.hierfile.specs.Bytes.{IsFaultOf as IsFileFault}
+use Rattle.hierfile.specs.Fault.{first_fault}
+use Rattle.hierfile.specs.declared.error.HierError.{HierError}
+use Rattle.std.specs.Io.KnownBytes.{Keeps}
 use Rattle.ch_service.specs.Answer.{Route, IsAnswer, AreAnswers, nothing, one_more, IsLeastWalk, AnswersBy, AnswersFirst}
-use Rattle.ch_service.specs.Outcome.{IfTold, IfTextFault, Writes, IsFaultOf, IsRoutingFault, StopsShort, ComesOfTexts, ComesOfRouting, ComesOfAnswering}
+use Rattle.ch_service.specs.Outcome.{IfTold, IfTextFault, Writes, IsFaultOf, StopsShort, ComesOfTexts, ComesOfAnswering}
+use Rattle.ch_service.specs.Routing.{StopsRouting}
 use Rattle.ch_service.specs.Route.{Spells, IsRightIn, IsRouteBy, HasTooLong, Routed, StopsAtTooLong, Routes, RoutesFirst, RoutesToTooLong}
 use Rattle.ch_unpack.specs.declared.error.UnpackError.TheVariants as unpacking
 use Rattle.ch_workers.specs.declared.error.BuildError.{BuildError}
@@ -112,31 +118,30 @@ too_long-spelled h pairs bytes pairs_text text spells read stops = record {
   stops = stops;
 }
 
-pub stops-told : (h : Hierarchy) (pairs : List (ℕ × ℕ)) (hier queries old new : Option (List ℕ)) (r : Result ⊤ ServiceError) → IfSome hier (λ bytes. Spells bytes h) → IfSome queries (λ text. pairs_of (length h.ranks) text ≡ Ok pairs)
-    → IfErr r (StopsShort (λ text. (count : ℕ) × Routed h (take count pairs) text) (StopsAtTooLong h pairs) old new) → IfErr r (λ e. IfTold hier queries (λ bytes pairs_text. StopsShort (RoutesFirst bytes pairs_text) (RoutesToTooLong bytes pairs_text) old new e))
-stops-told h pairs hier queries old new (Ok x) spells read s = tt
-stops-told h pairs None queries old new (Err e) spells read s = tt
-stops-told h pairs (Some bytes) None old new (Err e) spells read s = tt
-stops-told h pairs (Some bytes) (Some pairs_text) old new (Err e) spells read s =
-    stops-weaker _ _ _ _ old new e (λ text. first-spelled h pairs bytes pairs_text text spells read) (λ text. too_long-spelled h pairs bytes pairs_text text spells read) s
-
 -- a refusal while pairs are answered comes only where both texts were read
 
-fault-read : (h : Hierarchy) (pairs : List (ℕ × ℕ)) (bytes pairs_text : List ℕ) (e : ServiceError) → Spells bytes h → pairs_of (length h.ranks) pairs_text ≡ Ok pairs → ComesOfAnswering e → IsRoutingFault bytes pairs_text e
-fault-read h pairs bytes pairs_text (GraphFault fault) spells read f = f
-fault-read h pairs bytes pairs_text (Queries fault) spells read f = absurd f
-fault-read h pairs bytes pairs_text (HierarchyFault e) spells read f = absurd f
-fault-read h pairs bytes pairs_text (Build e) spells read f = f
-fault-read h pairs bytes pairs_text (Unpack e) spells read f = (h, spells, (pairs, read))
-fault-read h pairs bytes pairs_text (Write fault) spells read f = (h, spells, (pairs, read))
-fault-read h pairs bytes pairs_text OutOfMemory spells read f = (h, spells, (pairs, read))
+of_both : (P Q : List ℕ → Type 0) (R : List ℕ → List ℕ → Type 0) (first second : Option (List ℕ)) → ((a b : List ℕ) → P a → Q b → R a b) → IfSome first P → IfSome second Q → IfTold first second R
+of_both P Q R None second f p q = tt
+of_both P Q R (Some a) None f p q = tt
+of_both P Q R (Some a) (Some b) f p q = f a b p q
 
-pub fault-told : (h : Hierarchy) (pairs : List (ℕ × ℕ)) (hier queries : Option (List ℕ)) (r : Result ⊤ ServiceError) → IfSome hier (λ bytes. Spells bytes h) → IfSome queries (λ text. pairs_of (length h.ranks) text ≡ Ok pairs)
-    → IfErr r ComesOfAnswering → IfErr r (λ e. IfTold hier queries (λ bytes pairs_text. IsRoutingFault bytes pairs_text e))
-fault-told h pairs hier queries (Ok x) spells read f = tt
-fault-told h pairs None queries (Err e) spells read f = tt
-fault-told h pairs (Some bytes) None (Err e) spells read f = tt
-fault-told h pairs (Some bytes) (Some pairs_text) (Err e) spells read f = fault-read h pairs bytes pairs_text e spells read f
+module _ (h : Hierarchy) (pairs : List (ℕ × ℕ)) (hier queries left old new : Option (List ℕ)) (spells : IfSome hier (λ bytes. Spells bytes h)) (read : IfSome queries (λ text. pairs_of (length h.ranks) text ≡ Ok pairs)) where
+  where_read : (R : List ℕ → List ℕ → Type 0) → ((bytes text : List ℕ) → Spells bytes h → pairs_of (length h.ranks) text ≡ Ok pairs → R bytes text) → IfTold hier queries R
+  where_read R f = of_both (λ bytes. Spells bytes h) (λ text. pairs_of (length h.ranks) text ≡ Ok pairs) R hier queries f spells read
+
+  stopped : (e : ServiceError) → ComesOfAnswering e → StopsShort (λ text. (count : ℕ) × Routed h (take count pairs) text) (StopsAtTooLong h pairs) old new e → StopsRouting hier queries left old new e
+  stopped (GraphFault fault) f s = absurd f
+  stopped (Queries fault) f s = absurd f
+  stopped (HierarchyFault e) f s = absurd f
+  stopped (Build e) f s = absurd f
+  stopped (Unpack unpacking.OutOfMemory) f s = where_read _ (λ bytes text are reads. (s.0, first-spelled h pairs bytes text s.0 are reads s.1, s.2))
+  stopped (Unpack unpacking.TooLong) f s = where_read _ (λ bytes text are reads. (s.0, too_long-spelled h pairs bytes text s.0 are reads s.1, s.2))
+  stopped (Write fault) f s = where_read _ (λ bytes text are reads. (s.0, first-spelled h pairs bytes text s.0 are reads s.1, s.2, s.3))
+  stopped OutOfMemory f s = where_read _ (λ bytes text are reads. ((h, are, (pairs, reads)), elim s [ inl kept ↦ inl kept | inr w ↦ inr (w.0, first-spelled h pairs bytes text w.0 are reads w.1, w.2) ]))
+
+  pub stops-routing : (r : Result ⊤ ServiceError) → IfErr r ComesOfAnswering → IfErr r (StopsShort (λ text. (count : ℕ) × Routed h (take count pairs) text) (StopsAtTooLong h pairs) old new) → IfErr r (StopsRouting hier queries left old new)
+  stops-routing (Ok x) f s = tt
+  stops-routing (Err e) f s = stopped e f s
 
 -- routes by a hierarchy whose file is known of the reader
 pub routes-told : (h : Hierarchy) (pairs : List (ℕ × ℕ)) (hier queries old new : Option (List ℕ)) (r : Result ⊤ ServiceError) → IfSome hier (λ bytes. Spells bytes h) → IfSome queries (λ text. pairs_of (length h.ranks) text ≡ Ok pairs)
@@ -147,20 +152,7 @@ routes-told h pairs (Some bytes) None old new (Ok x) spells read w = tt
 routes-told h pairs (Some bytes) (Some pairs_text) old new (Ok x) spells read w =
     (w.0, record { hierarchy = h; pairs = pairs; spells = spells; pairs_read = read; routed = w.1 }, w.2)
 
-routing-kind : (e : ServiceError) → ComesOfAnswering e → ComesOfRouting e
-routing-kind (GraphFault fault) f = f
-routing-kind (Queries fault) f = tt
-routing-kind (HierarchyFault e) f = tt
-routing-kind (Build e) f = f
-routing-kind (Unpack e) f = tt
-routing-kind (Write fault) f = tt
-routing-kind OutOfMemory f = tt
-
-pub routing-kinds : (r : Result ⊤ ServiceError) → IfErr r ComesOfAnswering → IfErr r ComesOfRouting
-routing-kinds (Ok x) f = tt
-routing-kinds (Err e) f = routing-kind e f
-
--- nor is it a fault of a text
+-- it is no fault of a text
 pub no_text_fault : (P Q : GrError → Type 0) (r : Result ⊤ ServiceError) → IfErr r ComesOfAnswering → IfErr r (IfTextFault P Q)
 no_text_fault P Q (Ok x) f = tt
 no_text_fault P Q (Err (GraphFault fault)) f = absurd f
@@ -246,17 +238,25 @@ fault-answered g fault (Some text) None r reads read is = rw is tt
 fault-answered g fault (Some text) (Some pairs_text) r reads read is = rw is (g, reads, read)
 
 -- and where they are answered by the file of a hierarchy
-pub fault-routed : {V : Type 0} (h : Hierarchy) (hier queries : Option (List ℕ)) (read : Result V GrError) (told : Result V ServiceError) (e : ServiceError) (r : Result ⊤ ServiceError) → IfSome hier (λ bytes. Spells bytes h)
-    → IfErr read (λ fault. IfSome queries (λ text. FromText fault.kind (pairs_of (length h.ranks) text ≡ Err fault))) → MatchResult read (λ x. told ≡ Ok x) (λ fault. IsErrAnd told (λ x. x ≡ Queries fault)) → told ≡ Err e → IsErrAnd r (λ x. x ≡ e)
-    → IfErr r (λ x. IfTold hier queries (λ bytes pairs_text. IsRoutingFault bytes pairs_text x))
-fault-routed h hier queries (Ok v) told e r spells reads cases was is = absurd (cc)
-fault-routed h hier queries (Err fault) (Ok v) e r spells reads cases was is = absurd cases
-fault-routed h hier queries (Err fault) (Err t) e (Ok x) spells reads cases was is = tt
-fault-routed h None queries (Err fault) (Err t) e (Err x) spells reads cases was is = tt
-fault-routed h (Some bytes) None (Err fault) (Err t) e (Err x) spells reads cases was is = tt
-fault-routed h (Some bytes) (Some pairs_text) (Err fault) (Err t) e (Err x) spells reads cases was is =
+pub queries-refused : {V : Type 0} (h : Hierarchy) (hier queries left old new : Option (List ℕ)) (read : Result V GrError) (told : Result V ServiceError) (e : ServiceError) (r : Result ⊤ ServiceError) → IfSome hier (λ bytes. Spells bytes h)
+    → IfErr read (λ fault. IfSome queries (λ text. FromText fault.kind (pairs_of (length h.ranks) text ≡ Err fault))) → IfErr read (StopsAtReached queries left) → Keeps old new
+    → MatchResult read (λ x. told ≡ Ok x) (λ fault. IsErrAnd told (λ x. x ≡ Queries fault)) → told ≡ Err e → IsErrAnd r (λ x. x ≡ e) → IfErr r (StopsRouting hier queries left old new)
+queries-refused h hier queries left old new (Ok v) told e r spells reads reached keeps cases was is = absurd (cc)
+queries-refused h hier queries left old new (Err fault) (Ok v) e r spells reads reached keeps cases was is = absurd cases
+queries-refused h hier queries left old new (Err fault) (Err t) e (Ok x) spells reads reached keeps cases was is = tt
+queries-refused h hier queries left old new (Err fault) (Err t) e (Err x) spells reads reached keeps cases was is =
     let same : Queries fault ≡ x = cc in
-    subst (IsRoutingFault bytes pairs_text) same (h, spells, reads)
+    let texts : IfTold hier queries (λ bytes text. (k : Hierarchy) × Spells bytes k × FromText fault.kind (pairs_of (length k.ranks) text ≡ Err fault)) =
+    of_both (λ bytes. Spells bytes h) (λ text. FromText fault.kind (pairs_of (length h.ranks) text ≡ Err fault)) _ hier queries (λ bytes text are wrong. (h, are, wrong)) spells reads in
+    subst (StopsRouting hier queries left old new) same (texts, reached, keeps)
+
+-- or the file was refused
+pub file-refused : {V : Type 0} (hier queries left old new : Option (List ℕ)) (read : Result V HierError) (told : Result V ServiceError) (e : ServiceError) (r : Result ⊤ ServiceError) → IfErr read (IsFileFault first_fault hier) → Keeps old new
+    → MatchResult read (λ x. told ≡ Ok x) (λ fault. IsErrAnd told (λ x. x ≡ HierarchyFault fault)) → told ≡ Err e → IsErrAnd r (λ x. x ≡ e) → IfErr r (StopsRouting hier queries left old new)
+file-refused hier queries left old new (Ok v) told e r fault keeps cases was is = absurd (cc)
+file-refused hier queries left old new (Err x) (Ok v) e r fault keeps cases was is = absurd cases
+file-refused hier queries left old new (Err x) (Err t) e (Ok v) fault keeps cases was is = tt
+file-refused hier queries left old new (Err x) (Err t) e (Err y) fault keeps cases was is = let same : HierarchyFault x ≡ y = cc in subst (StopsRouting hier queries left old new) same (fault, keeps)
 
 -- what was refused is no refusal of the build
 

@@ -1,22 +1,23 @@
 -- What is refused where a hierarchy is prepared and pairs are answered by its file, both in memory.
-use Rattle.std.proofs.Common.{ℕ, ◌≡◌, List, length, refl, sym, ◌∙◌, ap, subst}
+use Rattle.std.proofs.Common.{ℕ, ◌≡◌, List, refl, sym, ◌∙◌, ap, subst}
 use Rattle.std.specs.Prelude.{Option, None, Some, Ok, Err}
 use Rattle.grfile.specs.Outcome.{FromText}
-use Rattle.grfile.specs.Reading.{graph_of, pairs_of, SpelledGraphsAreInRange}
+use Rattle.grfile.specs.Reading.{pairs_of, SpelledGraphsAreInRange}
 use Rattle.hierfile.specs.Bytes.{OfBytes, SaysNothing}
 use Rattle.hierfile.specs.Fault.{first_fault}
 use Rattle.hierfile.specs.Laws.{HierarchiesHaveOneSpelling, SpellingsHaveNoFault}
 use Rattle.hierfile.specs.declared.error.HierError.{HierError}
 use Rattle.hierfile.specs.declared.error.HierError.TheVariants as files
 use Rattle.ch_graph.specs.declared.version.Version.TheVariants.{Two}
-use Rattle.ch_service.specs.Outcome.{AreTexts, ComesOfPreparing, ComesOfRouting, IsFaultInMemory, IsGraphText, IsPreparingFault, IsRoutingFault, Writes}
-use Rattle.ch_service.specs.Route.{Prepares}
+use Rattle.ch_service.specs.Outcome.{ComesOfPreparing, IsFaultInMemory, IsGraphText, IsPreparingFault}
+use Rattle.ch_service.specs.Route.{Prepares, RoutesFirst}
+use Rattle.ch_service.specs.Routing.{StopsRouting}
 use Rattle.ch_service.specs.declared.error.ServiceError.{ServiceError}
 use Rattle.ch_service.specs.declared.error.ServiceError.TheVariants.{Graph, Queries, Hierarchy, Build, Unpack, Write, OutOfMemory}
 use Rattle.ch_unpack.specs.declared.error.UnpackError.TheVariants as unpacking
 use Rattle.ch_unpack.specs.declared.error.UnpackError.TheVariants.{TooLong}
 use Rattle.ch_service.proofs.ByWalks.{right-nodes}
-use Rattle.ch_service.proofs.Exact.{all_of, is_prepared}
+use Rattle.ch_service.proofs.Exact.{is_prepared}
 
 -- what the first call refuses
 pub refused-preparing : (graph_text pairs_text : List ℕ) (e : ServiceError) → ComesOfPreparing e → IsPreparingFault graph_text e → IsFaultInMemory graph_text pairs_text e
@@ -58,18 +59,21 @@ module _ (one : HierarchiesHaveOneSpelling) (clean : SpellingsHaveNoFault) (grap
       absurd (cc)
 
   -- and the second
-  pub refused-routing : (e : ServiceError) → ComesOfRouting e → IsRoutingFault bytes pairs_text e → (e ≡ Unpack TooLong → ⊥) → IsFaultInMemory graph_text pairs_text e
-  refused-routing (Graph fault) kind h short = absurd kind
-  refused-routing (Queries fault) kind h short =
-      let q = is_prepared Two one graphs graph_text bytes h.0 p h.1 in
-      (q.graph, q.reads, subst (λ (n : ℕ). FromText fault.kind (pairs_of n pairs_text ≡ Err fault)) (right-nodes Two q.graph h.0 q.right) h.2)
-  refused-routing (Hierarchy e) kind h short = (prepared, faultless e (no_fault e) h)
-  refused-routing (Build e) kind h short = absurd kind
-  refused-routing (Unpack unpacking.OutOfMemory) kind h short =
-      let q = is_prepared Two one graphs graph_text bytes h.0 p h.1 in
-      (refl, (q.graph, q.reads, (h.2.0, subst (λ (n : ℕ). pairs_of n pairs_text ≡ Ok h.2.0) (right-nodes Two q.graph h.0 q.right) h.2.1)))
-  refused-routing (Unpack unpacking.TooLong) kind h short = absurd (short refl)
-  refused-routing (Write fault) kind h short = prepared
-  refused-routing OutOfMemory kind h short =
-      let q = is_prepared Two one graphs graph_text bytes h.0 p h.1 in
-      (q.graph, q.reads, (h.2.0, subst (λ (n : ℕ). pairs_of n pairs_text ≡ Ok h.2.0) (right-nodes Two q.graph h.0 q.right) h.2.1))
+  pub refused-routing : (left old new : Option (List ℕ)) (e : ServiceError) → StopsRouting (Some bytes) (Some pairs_text) left old new e → (e ≡ Unpack TooLong → ⊥) → IsFaultInMemory graph_text pairs_text e
+  refused-routing left old new (Graph fault) h short = absurd h
+  refused-routing left old new (Queries fault) h short =
+      let texts = h.0 in
+      let q = is_prepared Two one graphs graph_text bytes texts.0 p texts.1 in
+      (q.graph, q.reads, subst (λ (n : ℕ). FromText fault.kind (pairs_of n pairs_text ≡ Err fault)) (right-nodes Two q.graph texts.0 q.right) texts.2)
+  refused-routing left old new (Hierarchy e) h short = (prepared, faultless e (no_fault e) h.0)
+  refused-routing left old new (Build e) h short = absurd h
+  refused-routing left old new (Unpack unpacking.OutOfMemory) h short =
+      let first : RoutesFirst bytes pairs_text h.0 = h.1 in
+      let q = is_prepared Two one graphs graph_text bytes first.hierarchy p first.spells in
+      (refl, (q.graph, q.reads, (first.pairs, subst (λ (n : ℕ). pairs_of n pairs_text ≡ Ok first.pairs) (right-nodes Two q.graph first.hierarchy q.right) first.pairs_read)))
+  refused-routing left old new (Unpack unpacking.TooLong) h short = absurd (short refl)
+  refused-routing left old new (Write fault) h short = prepared
+  refused-routing left old new OutOfMemory h short =
+      let texts = h.0 in
+      let q = is_prepared Two one graphs graph_text bytes texts.0 p texts.1 in
+      (q.graph, q.reads, (texts.2.0, subst (λ (n : ℕ). pairs_of n pairs_text ≡ Ok texts.2.0) (right-nodes Two q.graph texts.0 q.right) texts.2.1))

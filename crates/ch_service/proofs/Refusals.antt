@@ -13,9 +13,10 @@ use Rattle.ch_service.specs.declared.error.ServiceError.TheVariants.{Graph, Quer
 use Rattle.ch_service.specs.Answer.{AnswersFirst}
 use Rattle.ch_service.specs.Cause.{cause_of}
 use Rattle.ch_service.specs.Joined.{graph_part, pairs_part}
-use Rattle.ch_service.specs.Outcome.{IfTold, IsFaultOf, IsFaultOfJoined, IsPreparingFault, IsRoutingFault, KeepsAtFault, KeepsUnlessWriting, BreaksOff, StopsShort, ComesOfTexts, ComesOfPreparing, ComesOfRouting}
+use Rattle.ch_service.specs.Outcome.{IfTold, IsFaultOf, IsFaultOfJoined, IsPreparingFault, KeepsAtFault, KeepsUnlessWriting, BreaksOff, StopsShort, ComesOfTexts, ComesOfPreparing}
 use Rattle.ch_service.specs.Refusals.{RefusesAnswers, RefusesPreparing, RefusesRoutes, AnswersTell, JoinedAnswersTell, PreparationsTell, RoutesTell}
-use Rattle.ch_service.specs.Route.{Prepares, RoutesFirst, RoutesToTooLong}
+use Rattle.ch_service.specs.Route.{Prepares}
+use Rattle.ch_service.specs.Routing.{StopsRouting}
 
 -- what is so of all texts, and what follows of texts that are known
 
@@ -32,6 +33,11 @@ of_told (Some a) (Some b) P Q f told = f a b told
 of_some : (first : Option (List ℕ)) (P Q : List ℕ → Type 0) → ((a : List ℕ) → P a → Q a) → IfSome first P → IfSome first Q
 of_some None P Q f told = tt
 of_some (Some a) P Q f told = f a told
+
+of_first : (first second : Option (List ℕ)) (P : List ℕ → Type 0) → IfSome first P → IfTold first second (λ a b. P a)
+of_first None second P told = tt
+of_first (Some a) None P told = tt
+of_first (Some a) (Some b) P told = told
 
 -- where pairs are answered from two texts
 answers : (graph pairs old new : Option (List ℕ)) (e : ServiceError) → (e ≡ Build building.BadOptions → ⊥) → ComesOfTexts e → IfTold graph pairs (λ g p. IsFaultOf g p e) → KeepsAtFault old new e
@@ -88,20 +94,20 @@ preparations-tell graph old new (Ok x) good c f k b = tt
 preparations-tell graph old new (Err e) good c f k b = preparing graph old new e (λ is. good (ap Err is)) c f k b
 
 -- and where pairs are answered by the file of one
-routes : (file pairs old new : Option (List ℕ)) (e : ServiceError) → ComesOfRouting e → IfTold file pairs (λ b p. IsRoutingFault b p e) → KeepsAtFault old new e → IfTold file pairs (λ b p. StopsShort (RoutesFirst b p) (RoutesToTooLong b p) old new e)
-    → RefusesRoutes file pairs old new (cause_of e)
-routes file pairs old new (Graph fault) c f k s = absurd c
-routes file pairs old new (Queries fault) c f k s =
-    text_case fault.kind inputs.Queries (causes.Queries fault) (RefusesRoutes file pairs old new) (of_all file pairs _ (λ b p. inl k)) (inr refl, k)
-    (λ own. (of_told file pairs _ _ (λ b p h. (h.0, h.1, own (pairs_of (length h.0.ranks) p ≡ Err fault) h.2)) f, k))
-routes file pairs old new (Hierarchy fault) c f k s =
-    file_case fault (RefusesRoutes file pairs old new) (of_all file pairs _ (λ b p. inl k)) (inl refl, k) (λ own. (of_told file pairs _ _ (λ b p. own (first_fault b ≡ Some fault)) f, k))
-routes file pairs old new (Build e) c f k s = absurd c
-routes file pairs old new (Unpack unpacking.OutOfMemory) c f k s = of_told file pairs _ _ (λ b p w. inr w) s
-routes file pairs old new (Unpack unpacking.TooLong) c f k s = s
-routes file pairs old new (Write fault) c f k s = s
-routes file pairs old new OutOfMemory c f k s = s
+routes : (file pairs left old new : Option (List ℕ)) (e : ServiceError) → StopsRouting file pairs left old new e → RefusesRoutes file pairs old new (cause_of e)
+routes file pairs left old new (Graph fault) s = absurd s
+routes file pairs left old new (Queries fault) s =
+    text_case fault.kind inputs.Queries (causes.Queries fault) (RefusesRoutes file pairs old new) (of_all file pairs _ (λ b p. inl s.2)) (inr refl, s.2)
+    (λ own. (of_told file pairs _ _ (λ b p h. (h.0, h.1, own (pairs_of (length h.0.ranks) p ≡ Err fault) h.2)) s.0, s.2))
+routes file pairs left old new (Hierarchy fault) s =
+    file_case fault (RefusesRoutes file pairs old new) (of_all file pairs _ (λ b p. inl s.1)) (inl refl, s.1)
+    (λ own. (of_first file pairs _ (own (IfSome file (λ bytes. first_fault bytes ≡ Some fault)) s.0), s.1))
+routes file pairs left old new (Build e) s = absurd s
+routes file pairs left old new (Unpack unpacking.OutOfMemory) s = of_told file pairs _ _ (λ b p w. inr w) s
+routes file pairs left old new (Unpack unpacking.TooLong) s = s
+routes file pairs left old new (Write fault) s = s
+routes file pairs left old new OutOfMemory s = of_told file pairs _ _ (λ b p w. w.1) s
 
 pub routes-tell : RoutesTell
-routes-tell file pairs old new (Ok x) c f k s = tt
-routes-tell file pairs old new (Err e) c f k s = routes file pairs old new e c f k s
+routes-tell file pairs left old new (Ok x) s = tt
+routes-tell file pairs left old new (Err e) s = routes file pairs left old new e s

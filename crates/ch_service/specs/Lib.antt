@@ -6,3 +6,4 @@ pub mod Progress
 pub mod Preparation
 pub mod Refusals
 pub mod Route
+pub mod Routing

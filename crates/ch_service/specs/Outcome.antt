@@ -1,5 +1,5 @@
 -- What an answering call has done where it refuses.
-use Rattle.std.specs.Prelude.{ℕ, ◌≡◌, ◌≢◌, ◌⊎◌, ⊤, List, length, Option, Some, IfSome, Ok, Err}
+use Rattle.std.specs.Prelude.{ℕ, ◌≡◌, ◌≢◌, ◌⊎◌, ⊤, List, Option, Some, IfSome, Ok, Err}
 use Rattle.std.specs.Io.KnownBytes.{IsAtEnd, Keeps}
 pub use Rattle.outcomes.specs.Written.{IfTold, Writes, WritesFirst}
 use Rattle.ch_graph.specs.Graph.{Graph}
@@ -11,13 +11,12 @@ use Rattle.grfile.specs.Taken.{StopsAtReached}
 use Rattle.grfile.specs.declared.error.GrError.{GrError}
 use Rattle.grfile.specs.declared.error.GrErrorKind.{GrErrorKind}
 use Rattle.grfile.specs.declared.error.GrErrorKind.TheVariants.{Read}
-use Rattle.hierfile.specs.Bytes.{OfBytes, SaysNothing}
-use Rattle.hierfile.specs.Fault.{first_fault}
+use Rattle.hierfile.specs.Bytes.{SaysNothing}
 use Rattle.ch_service.specs.declared.error.ServiceError.{ServiceError}
 use Rattle.ch_service.specs.declared.error.ServiceError.TheVariants.{Graph as GraphFault, Queries, Hierarchy as HierarchyFault, Build, Unpack, Write, OutOfMemory}
 use Rattle.ch_unpack.specs.declared.error.UnpackError.TheVariants as unpacking
 use Rattle.ch_service.specs.Joined.{graph_part, pairs_part}
-use Rattle.ch_service.specs.Route.{Spells, HasTooLong}
+use Rattle.ch_service.specs.Route.{HasTooLong}
 
 -- the text spells a graph
 abbrev pub IsGraphText : List ℕ → Type 0
@@ -26,10 +25,6 @@ IsGraphText graph_text = (g : Graph) × (graph_of graph_text ≡ Ok g)
 -- and the second text pairs of its nodes
 abbrev pub AreTexts : List ℕ → List ℕ → Type 0
 AreTexts graph_text pairs_text = (g : Graph) × (graph_of graph_text ≡ Ok g) × ((pairs : List (ℕ × ℕ)) × (pairs_of g.nodes pairs_text ≡ Ok pairs))
-
--- the bytes are the file of a hierarchy, and the text spells pairs of its nodes
-abbrev pub AreRoutingTexts : List ℕ → List ℕ → Type 0
-AreRoutingTexts bytes pairs_text = (h : Hierarchy) × Spells bytes h × ((pairs : List (ℕ × ℕ)) × (pairs_of (length h.ranks) pairs_text ≡ Ok pairs))
 
 -- A fault of a text is the first that it has, and one of the pairs comes only where the graph has none. Every other
 -- refusal comes only where neither text has one. No route over a graph is too long.
@@ -57,17 +52,6 @@ IsPreparingFault graph_text (Unpack e) = ⊥
 IsPreparingFault graph_text (Write fault) = IsGraphText graph_text
 IsPreparingFault graph_text OutOfMemory = ⊥
 
--- And where pairs are answered by a hierarchy: a fault of the pairs comes only where the bytes spell one, and every
--- refusal but one of the two only where both are read.
-abbrev pub IsRoutingFault : List ℕ → List ℕ → ServiceError → Type 0
-IsRoutingFault bytes pairs_text (GraphFault fault) = ⊥
-IsRoutingFault bytes pairs_text (Queries fault) = (h : Hierarchy) × Spells bytes h × FromText fault.kind (pairs_of (length h.ranks) pairs_text ≡ Err fault)
-IsRoutingFault bytes pairs_text (HierarchyFault e) = OfBytes e (first_fault bytes ≡ Some e)
-IsRoutingFault bytes pairs_text (Build e) = ⊥
-IsRoutingFault bytes pairs_text (Unpack e) = AreRoutingTexts bytes pairs_text
-IsRoutingFault bytes pairs_text (Write fault) = AreRoutingTexts bytes pairs_text
-IsRoutingFault bytes pairs_text OutOfMemory = AreRoutingTexts bytes pairs_text
-
 -- Where a hierarchy is prepared and pairs are answered by its file, both in memory. The file has no fault, so it is
 -- refused only where memory runs out or a read fails, and no route is too long.
 abbrev pub IsFaultInMemory : List ℕ → List ℕ → ServiceError → Type 0
@@ -91,12 +75,6 @@ ComesOfPreparing (GraphFault fault) = ⊤
 ComesOfPreparing (Build e) = ⊤
 ComesOfPreparing (Write fault) = ⊤
 ComesOfPreparing e = ⊥
-
--- and those of one that answers by the file of a hierarchy
-abbrev pub ComesOfRouting : ServiceError → Type 0
-ComesOfRouting (GraphFault fault) = ⊥
-ComesOfRouting (Build e) = ⊥
-ComesOfRouting e = ⊤
 
 -- This is said where a refusal comes behind the build of a hierarchy: a write failed, or a pair wasn't answered.
 abbrev pub IfBuilt : Type 0 → ServiceError → Type 0

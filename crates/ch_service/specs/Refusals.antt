@@ -15,8 +15,9 @@ use Rattle.ch_service.specs.declared.error.ServiceError.TheVariants.{Build}
 use Rattle.ch_service.specs.Answer.{AnswersFirst}
 use Rattle.ch_service.specs.Cause.{cause_of}
 use Rattle.ch_service.specs.Joined.{graph_part, pairs_part}
-use Rattle.ch_service.specs.Outcome.{IfTold, Writes, IsGraphText, AreTexts, IsFaultOf, IsFaultOfJoined, IsPreparingFault, IsRoutingFault, KeepsAtFault, KeepsUnlessWriting, BreaksOff, StopsShort, ComesOfTexts, ComesOfPreparing, ComesOfRouting}
+use Rattle.ch_service.specs.Outcome.{IfTold, Writes, IsGraphText, AreTexts, IsFaultOf, IsFaultOfJoined, IsPreparingFault, KeepsAtFault, KeepsUnlessWriting, BreaksOff, StopsShort, ComesOfTexts, ComesOfPreparing}
 use Rattle.ch_service.specs.Route.{Spells, Prepares, RoutesFirst, RoutesToTooLong}
+use Rattle.ch_service.specs.Routing.{StopsRouting}
 
 -- where pairs are answered from the texts of a graph and of pairs
 abbrev pub RefusesAnswers : Option (List ℕ) → Option (List ℕ) → Option (List ℕ) → Option (List ℕ) → Cause → Type 0
@@ -57,5 +58,4 @@ PreparationsTell = (graph old new : Option (List ℕ)) (r : Result ⊤ ServiceEr
     → IfErr r (λ e. IfSome graph (λ graph_text. BreaksOff (Prepares graph_text) old new e)) → IfErr r (λ e. RefusesPreparing graph old new (cause_of e))
 
 abbrev pub RoutesTell : Type 0
-RoutesTell = (file pairs old new : Option (List ℕ)) (r : Result ⊤ ServiceError) → IfErr r ComesOfRouting → IfErr r (λ e. IfTold file pairs (λ bytes pairs_text. IsRoutingFault bytes pairs_text e)) → IfErr r (KeepsAtFault old new)
-    → IfErr r (λ e. IfTold file pairs (λ bytes pairs_text. StopsShort (RoutesFirst bytes pairs_text) (RoutesToTooLong bytes pairs_text) old new e)) → IfErr r (λ e. RefusesRoutes file pairs old new (cause_of e))
+RoutesTell = (file pairs left old new : Option (List ℕ)) (r : Result ⊤ ServiceError) → IfErr r (StopsRouting file pairs left old new) → IfErr r (λ e. RefusesRoutes file pairs old new (cause_of e))

@@ -1,9 +1,9 @@
 ghost use Rattle.std.specs.Prelude.{◌≡◌, ℕ, List, Err, OnOk, IfErr, IfSome};
-ghost use Rattle.grfile.specs.Taken.{StopsAtReached};
 ghost use Rattle.ch_graph.specs.declared.version.Version.TheVariants.{One};
 ghost use Rattle.ch_service.specs.Answer.{Answers, AnswersByFewest};
-ghost use Rattle.ch_service.specs.Outcome.{IfTold, IfTextFault, Writes, ComesOfRouting, IsRoutingFault, KeepsAtFault, StopsShort};
-ghost use Rattle.ch_service.specs.Route.{Prepares, PreparesIn, Routes, RoutesFirst, RoutesToTooLong};
+ghost use Rattle.ch_service.specs.Outcome.{IfTold, Writes};
+ghost use Rattle.ch_service.specs.Route.{Prepares, PreparesIn, Routes};
+ghost use Rattle.ch_service.specs.Routing.{StopsRouting};
 ghost use Rattle.ch_service.specs.declared.error.ServiceError.TheVariants.{Unpack};
 ghost use Rattle.ch_unpack.specs.declared.error.UnpackError.TheVariants.{TooLong};
 
@@ -49,13 +49,7 @@ pub fn route<H: Read, Q: Read, W: Write>(
         (λ bytes. (graph_text : List ℕ) → PreparesIn One graph_text bytes → ⊥) }
 
     // At a refusal.
-    ensures kinds { IfErr result ComesOfRouting }
-    ensures fault { IfErr result (λ e. IfTold (H.remaining hier.old) (Q.remaining queries.old)
-        (λ bytes pairs. IsRoutingFault bytes pairs e)) }
-    ensures reached { IfErr result (IfTextFault (λ _. ⊥) (StopsAtReached (Q.remaining queries.old) (Q.remaining queries.new))) }
-    ensures untouched { IfErr result (KeepsAtFault (W.contents out.old) (W.contents out.new)) }
-    ensures stops { IfErr result (λ e. IfTold (H.remaining hier.old) (Q.remaining queries.old)
-        (λ bytes pairs. StopsShort (RoutesFirst bytes pairs) (RoutesToTooLong bytes pairs) (W.contents out.old) (W.contents out.new) e)) }
+    ensures refused { IfErr result (StopsRouting (H.remaining hier.old) (Q.remaining queries.old) (Q.remaining queries.new) (W.contents out.old) (W.contents out.new)) }
 {
     routes_are_exact();
     hierarchies_have_one_spelling();

@@ -1,7 +1,7 @@
 use Rattle.ch_service.specs.Answer.{IsLeastWalk, IsFewestWalk}
 use Rattle.ch_service.proofs.Exact.{prepared-in_memory}
 use Rattle.std.proofs.Common.{rules, List, ℕ, ap, subst, sym}
-use Rattle.std.specs.Prelude.{Err}
+use Rattle.std.specs.Prelude.{Some, Err}
 use Rattle.std.proofs.lemmas.Result.{err_from_is_err_and}
 use Rattle.ch_service.specs.Route.{Prepares}
 use Rattle.ch_service.proofs.Exact.{all_of}
@@ -38,5 +38,5 @@ returns-in_err-route-clause-fault g c =
     let file : List ℕ = c.as_slice-bytes.result.now in
     let written : Prepares text c.prepare.new.out.items = all_of (Prepares text) c.new-file.result.items c.prepare.new.out.items (search rules) c.in_ok-prepare.ensures.prepared.prepares in
     let p : Prepares text file = subst (Prepares text) (sym c.as_slice-bytes.ensures.value) written in
-    rw (exit.1, exit.2) (refused-routing c.hierarchies_have_one_spelling.ensures c.spellings_have_no_fault.ensures c.spelled_graphs_are_in_range.ensures text c.args.pairs.now file p c.in_err-route.field-0.0 c.in_err-route.ensures.kinds c.in_err-route.ensures.fault
+    rw (exit.1, exit.2) (refused-routing c.hierarchies_have_one_spelling.ensures c.spellings_have_no_fault.ensures c.spelled_graphs_are_in_range.ensures text c.args.pairs.now file p (Some c.route.new.queries.now) (Some c.new-text.result.items) (Some c.route.new.out.items) c.in_err-route.field-0.0 c.in_err-route.ensures.refused
     (λ is. c.in_err-route.ensures.never_long (ap Err is) text p))

@@ -5,7 +5,7 @@ use Rattle.performing.proofs.routing.perform_route.Goals as goal
 tells : goal.returns-clause-told
 tells g c =
     after _ _ _ _ c.outcome_of.ensures (told c.route.result _ _ c.route.ensures.routes
-    (c.causes_tell_refusals.ensures.routes _ _ _ _ c.route.result c.route.ensures.kinds c.route.ensures.fault c.route.ensures.untouched c.route.ensures.stops))
+    (c.causes_tell_refusals.ensures.routes _ _ _ _ _ c.route.result c.route.ensures.refused))
 
 pub returns-clause-told : goal.returns-clause-told
 returns-clause-told g c = tells g c
