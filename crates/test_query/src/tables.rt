@@ -122,69 +122,6 @@ fn rows_by_hand(rt: HostRuntime) -> Result<(), Fail> {
     Ok(())
 }
 
-/// Sources, some more than once, and row by row the lengths from each to the nodes 1, 2 and 4, found by hand.
-const SOURCES: &[u32] = &[0, 1, 2, 3, 4, 0, 3, 3, 1];
-
-const TABLE: &[u64] = &[
-    2, 5, 3, 0, 3, 1, 3, 0, 4, 2, 5, 1, 1, 4, 0, 2, 5, 3, 2, 5, 1, 2, 5, 1, 0, 3, 1,
-];
-
-/// Whether a router writes these lengths from these sources behind two numbers, and nothing else.
-fn gives_table(
-    router: &mut Router<'_>,
-    selection: &Selection,
-    sources: &[u32],
-    lengths: &[u64],
-) -> Result<bool, AllocError>
-    requires { IsSelection router.old selection.now }
-    ensures { router.new ≡ router.old }
-{
-    let mut rows = [OLD; 32];
-    let nodes = router.nodes();
-    if (sources.len() > 9) | (selection.targets().len() != 3) | (lengths.len() > 27) {
-        return Ok(false);
-    }
-    if !sources.iter().all(|source| *source < nodes) {
-        return Ok(false);
-    }
-    router.lengths(sources, selection, &mut rows, 2)?;
-    let end = lengths.len() + 2;
-    Ok(
-        (&rows[2..end] == lengths)
-            & rows[..2].iter().all(|number| *number == OLD)
-            & rows[end..].iter().all(|number| *number == OLD),
-    )
-}
-
-/// Whether a router of a hierarchy gives the table of so many first sources: none, one, and fewer, as many and more than are
-/// worked out together.
-fn gives_first(alloc: Global, hierarchy: &Hierarchy, count: usize) -> Result<bool, Fail> {
-    let mut router = Router::new(alloc, hierarchy)?;
-    let Some(selection) = selected(&router, &[1, 2, 4])? else {
-        return Ok(false);
-    };
-    if (count > SOURCES.len()) | (count > TABLE.len() / 3) {
-        return Ok(false);
-    }
-    let sources = &SOURCES[..count];
-    let lengths = &TABLE[..3 * count];
-    Ok(gives_table(&mut router, &selection, sources, lengths)?)
-}
-
-/// Whether the drawn hierarchy does.
-fn drawn_table(alloc: Global, count: usize) -> Result<bool, Fail> {
-    let hierarchy = hierarchy_of(alloc, DRAWN_RANKS, DRAWN, (20, 4))?;
-    gives_first(alloc, &hierarchy, count)
-}
-
-#[test]
-fn several_rows(rt: HostRuntime) -> Result<(), Fail> {
-    for count in [0, 1, 3, 4, 5, 8, 9] {
-        assert!(rt; drawn_table(rt.alloc(), count)?);
-    }
-    Ok(())
-}
-
 /// Starts, a limit, and the lengths from them to the nodes 0 to 4 of the drawn hierarchy.
 type Reach = (&'static [GivenSeed], u64, &'static [u64]);
 
