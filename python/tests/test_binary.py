@@ -9,7 +9,7 @@ import zlib
 
 import numpy as np
 from test_turns import crossing
-from tool_case import PYTHON, ROOT, VILLAGE, ToolCase
+from tool_case import PYTHON, ROOT, VILLAGE, ToolCase, lightest
 
 import domethyme
 from domethyme.network import column_file, net_file
@@ -56,15 +56,6 @@ def answers(prefix):
     return str(
         (columns, roads.nearest((0.0004, 0.0001), 2), roads.lightest((1, 2, 1)), roads.unit, Tiles(roads.arrays).about)
     )
-
-
-def lightest(arcs):
-    """{(start, end): the first arc of the least weight between them}."""
-    best = {}
-    for arc in arcs:
-        if arc.weight < best.setdefault((arc.start, arc.end), arc).weight:
-            best[arc.start, arc.end] = arc
-    return best
 
 
 class SameTests(BinaryCase):

@@ -6,12 +6,12 @@ import json
 import xml.etree.ElementTree as xml
 
 import osmium
-from tool_case import PYTHON, VILLAGE, ToolCase
+from tool_case import PYTHON, VILLAGE, ToolCase, lightest
 
 from domethyme import find_program
 from domethyme.dimacs import read_answers, read_graph, write_pairs
 from domethyme.network.reading import read_nodes
-from domethyme.network.tables import ALL_ARC_COLUMNS, lightest, read_arcs, read_attribution
+from domethyme.network.tables import ALL_ARC_COLUMNS, read_arcs, read_attribution
 
 # A step of the drawing is a thousandth of a degree: 6371008.8 m * pi / 180 / 1000 = 111.19508 m. At 1 km/h that takes
 # 400302.289 ms; so 1 step at 50 km/h 8006.05 ms, at 30 km/h 13343.41, at 15 km/h 26686.82, at 30 mph (48.28032 km/h)

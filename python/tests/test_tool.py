@@ -250,13 +250,6 @@ class Networks(SharedCase):
             tables.write_arcs(file, arcs)
         self.assertEqual(list(tables.read_arcs(self.folder / "n.arcs.csv")), arcs)
 
-    def test_the_lightest_of_parallel_arcs(self):
-        arcs = [
-            tables.Arc(start, end, weight, 0, 0, osm, "", "", "")
-            for start, end, weight, osm in ((1, 2, 9, 1), (1, 2, 5, 2), (1, 2, 5, 3), (2, 1, 7, 4))
-        ]
-        self.assertEqual({pair: arc.osm for pair, arc in tables.lightest(arcs).items()}, {(1, 2): 2, (2, 1): 4})
-
     def test_lines(self):
         points = [(-0.0016667, 0.0), (9.5, 47.1878542)]
         self.assertEqual(geo.format_linestring(points), "LINESTRING (-0.0016667 0.0000000, 9.5000000 47.1878542)")
