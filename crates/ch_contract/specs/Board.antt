@@ -15,8 +15,8 @@ pub record IsInBook (graph : Graph) (book : BookName) (l : Ledger) (pen : PenVie
   pub rows : pen.rows ≡ l.overlay.rows
   pub versions : pen.versions ≡ versions_now l
 
--- The book had a record of one of the new rows of this contraction, and that at a place that is no version, when each row
--- before it had one.
+-- There is a record of one of the new rows of this contraction, at a place that is no version. Nothing says that the book's
+-- list gave the place: `next` is any number.
 pub record IsRefusedAPlace (book : BookName) (l : Ledger) (node : ℕ) (put : List Shortcut) : Type 0 where
   pub change : Change
   pub planned : IsChange l.overlay put change

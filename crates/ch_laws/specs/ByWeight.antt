@@ -5,8 +5,7 @@ use Rattle.ch_cost.specs.declared.cost.Cost.{Cost}
 use Rattle.ch_cost.specs.Cost.{length_of}
 use Rattle.ch_graph.specs.declared.link.Link.{Link}
 use Rattle.ch_graph.specs.declared.version.Version.TheVariants.{One}
-use Rattle.ch_graph.specs.Walk.{Along}
-use Rattle.ch_graph.specs.Graph.{Graph, ArcOf, IsLeastLength}
+use Rattle.ch_graph.specs.Graph.{Graph, ArcOf, IsLeastLength, IsShortest}
 use Rattle.ch_graph.specs.Limits.{IsGraph}
 use Rattle.ch_graph.specs.Hierarchy.{Hierarchy, Chain, IsValue, Unfolds, IsWellMade, IsRight}
 use Rattle.ch_laws.specs.Theorems.{IsLeastRoute}
@@ -24,10 +23,6 @@ pub record IsRightByWeight (g : Graph) (h : Hierarchy) : Type 0 where
   pub value : (s t : ℕ) (c : Option Cost) → s < g.nodes → t < g.nodes → IsValue h s t c → IsLeastLength g s t (option_map length_of c)
   pub unfolds : (l : Link) → Contains h.links l → (arcs : List Link) × Unfolds h l arcs
   pub unfolded : (l : Link) (arcs : List Link) → Contains h.links l → Unfolds h l arcs → Chain (IsArcByWeight g) arcs l.from l.to l.cost
-
--- the length of c is the least over all walks of the graph, and some walk of exactly that length goes along the nodes
-abbrev pub IsShortest : Graph → List ℕ → ℕ → ℕ → Cost → Type 0
-IsShortest g nodes s t c = IsLeastLength g s t (Some (length_of c)) × ((d : Cost) × Along (ArcOf g) nodes s t d × (length_of d ≡ length_of c))
 
 -- a right hierarchy is right by weight
 abbrev pub RightIsRightByWeight : Type 0

@@ -5,9 +5,9 @@ use Rattle.ch_cost.specs.declared.cost.Cost.{Cost}
 use Rattle.ch_cost.specs.Cost.{length_of, arcs_of}
 use Rattle.ch_cost.specs.Cost.Laws.{length_of-at_most, arcs_of-at_most}
 use Rattle.ch_graph.specs.Walk.{Walk, visited, Along}
-use Rattle.ch_graph.specs.Graph.{Graph, ArcOf, IsLeastLength}
+use Rattle.ch_graph.specs.Graph.{Graph, ArcOf, IsLeastLength, IsShortest}
 use Rattle.ch_graph.specs.Limits.Laws.{walk-arcs}
-use Rattle.ch_laws.specs.ByWeight.{IsRightByWeight, RightIsRightByWeight, IsShortest, RouteIsShortest, NeverTooLongByWeight}
+use Rattle.ch_laws.specs.ByWeight.{IsRightByWeight, RightIsRightByWeight, RouteIsShortest, NeverTooLongByWeight}
 use Rattle.ch_graph.specs.Limits.{IsGraph}
 use Rattle.ch_graph.specs.declared.version.Version.TheVariants.{One}
 use Rattle.ch_graph.specs.Hierarchy.{Hierarchy, IsWellMade, IsRight}

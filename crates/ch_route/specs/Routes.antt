@@ -4,9 +4,9 @@ use Rattle.ch_cost.specs.declared.cost.Cost.{Cost}
 use Rattle.ch_cost.specs.Cost.{length_of}
 use Rattle.ch_graph.specs.declared.link.Link.{Link}
 use Rattle.ch_graph.specs.Walk.{Walk, visited}
-use Rattle.ch_graph.specs.Graph.{Graph, ArcOf, IsLeastLength}
+use Rattle.ch_graph.specs.Graph.{Graph, ArcOf, IsLeastLength, IsShortest}
 use Rattle.ch_graph.specs.Hierarchy.{Hierarchy, IsRight, IsValue}
-use Rattle.ch_laws.specs.ByWeight.{IsShortest, IsRightByWeight}
+use Rattle.ch_laws.specs.ByWeight.{IsRightByWeight}
 use Rattle.ch_laws.specs.Theorems.{IsLeastRoute}
 use Rattle.ch_table.specs.declared.table.TheConstants.{NO_LENGTH}
 

@@ -39,13 +39,13 @@ pub record IsRecordOf (list : Shelves) (row : ℕ × Row) (t : Where Record) : T
   pub shown : Shows list t
   pub is : of_node t.value.node (recorded_row t.value) ≡ row
 
--- The list gave a record of this row a place that is no version: one below the next version, or the last that there is.
+-- There is a record of this row at a place that is no version: one below `next`, or the last that there is.
 pub record HasNoVersion (list : Shelves) (next : ℕ) (row : ℕ × Row) : Type 0 where
   pub given : Where Record
   pub record_is : IsRecordOf list row given
   pub place : (given.index < next) ⊎ (given.index + 1 ≡ 2 ^ 64)
 
--- Of rows that are laid one after the other the k-th, from 0, got no version, when each before it had one.
+-- Of rows in turn, the k-th from 0 has a record at a place that is no version, and each before it has a record.
 pub record GetsNoVersion (list : Shelves) (next : ℕ) (row : ℕ → ℕ × Row) (k : ℕ) : Type 0 where
   pub laid : List (Where Record)
   pub count : length laid ≡ k
