@@ -5,9 +5,9 @@ proved.
 
     domethyme.write_graph("town.gr", from_nodes, to_nodes, weights)      # an arc for each row, nodes from 0
     with domethyme.prepare("town.gr", "town.rch") as hierarchy:          # or Hierarchy("town.rch"), made before
-        hierarchy.length(0, 2)                                           # one length, None where there is no way
+        hierarchy.length(0, 2)                                           # one length, None if there is no path
         hierarchy.route(0, 2).nodes                                      # the nodes of one route
-        hierarchy.lengths(pairs)                                         # an array, -1 where there is no way
+        hierarchy.lengths(pairs)                                         # an array, -1 if there is no path
         hierarchy.routes(pairs)[7]                                       # the nodes of the eighth route
         hierarchy.matrix(sources, targets)                               # a table of lengths
     domethyme.check("town.gr", "town.rch")                               # the file is right for the graph, or an error

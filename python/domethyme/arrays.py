@@ -98,7 +98,7 @@ def like_frame(lengths: Numbers, pairs: Any) -> Any:
 
 
 def like_axes(table: Numbers, sources: Any, targets: Any, has_keys: bool, missing: Any) -> Any:
-    """The table as a DataFrame where the places came as pandas' objects, or as lists of keys, else as an array. Where there is no way
+    """The table as a DataFrame if the places came as pandas' objects, or as lists of keys, else as an array. If there is no path
     it has `missing`, and without that a frame of Int64 has missing values and an array NO_PATH."""
     is_frame = any(is_pandas(side) or has_keys and not hasattr(side, "__array__") for side in (sources, targets))
     filled = table if missing is None else np.where(table < 0, missing, table)
@@ -132,5 +132,5 @@ def axis(values: Any) -> Any:
 
 
 def with_missing(lengths: Numbers) -> Any:
-    """The lengths as pandas' Int64, missing where there is no way. Pandas is loaded."""
+    """The lengths as pandas' Int64, missing if there is no path. Pandas is loaded."""
     return sys.modules["pandas"].arrays.IntegerArray(lengths.copy(), lengths < 0)

@@ -144,7 +144,7 @@ def scaled(weights: "ArrayLike", scale: float) -> "NDArray[np.int64]":
 
 
 def unscaled(lengths: Any, scale: float = 1) -> Any:
-    """Lengths as floats in the unit that weights had before `scale`: lengths / scale, and inf where there is no way.
+    """Lengths as floats in the unit that weights had before `scale`: lengths / scale, and inf if there is no path.
 
     `lengths` are what a Hierarchy returned: an int or None, an array, or a Series or DataFrame of pandas. The result is a
     float, or is like the argument, of the same shape. Floats are exact up to 2^53.

@@ -37,9 +37,9 @@ By = Literal["library", "sweeps"]
 class Hierarchy:
     """A file that `routecli prepare` wrote, in memory, and the questions that it answers.
 
-    The library libdomethyme answers, in this process. It has read the file when the object was made, so another file that takes
-    its name later changes nothing. Several threads may ask at once, and other threads of Python go on meanwhile. A child of a fork
-    has the hierarchy too, where no other thread ran at that moment. Where the object is pickled, the file is opened anew.
+    The library libdomethyme answers, in this process. It has read the file when the object was made, so another file that
+    takes its name later changes nothing. Several threads may ask at once, and other threads of Python go on meanwhile. A
+    child of a fork has the hierarchy too, if no other thread ran at that moment. A pickled object reads its file again.
 
     Nodes are numbered from 0, as rows of arrays are: node n is node n + 1 of a file. With `keys` all methods take and give
     the user's own keys in their place. Lengths are whole numbers in the unit of the graph's weights.
@@ -102,15 +102,15 @@ class Hierarchy:
     # One question
 
     def length(self, source: Hashable, target: Hashable) -> int | None:
-        """The least length from one node to another, None where there is no way. Raises NoSuchNode."""
+        """The length of a shortest path from one node to another, None if there is no path. Raises NoSuchNode."""
         return self._router.length(self._node(source), self._node(target))
 
     def route(self, source: Hashable, target: Hashable) -> Route | None:
-        """A shortest path from one node to another, None where there is no way. Raises NoSuchNode."""
+        """A shortest path from one node to another, None if there is no path. Raises NoSuchNode."""
         return self._route(self._router.route(self._node(source), self._node(target)))
 
     def between(self, starts: Ends, ends: Ends) -> Route | None:
-        """A route of the least whole length from one of several nodes to one of several, None where there is no way.
+        """The shortest route from one of several nodes to one of several, None if there is no path.
 
         `starts` and `ends` are a node or more each: a mapping from nodes to the length that is added there, rows of (node, added
         length), or nodes alone with 0 added. Added lengths are whole numbers from 0 to 4294967295. The route's source and target
@@ -125,12 +125,12 @@ class Hierarchy:
     @overload
     def lengths(self, pairs: Any) -> Any: ...
     def lengths(self, pairs: Any) -> Any:
-        """The least lengths of many pairs, an array of int64 of shape (n,), -1 where there is no way.
+        """The lengths of shortest paths of many pairs, an array of int64 of shape (n,), -1 if there is no path.
 
-        `pairs` are rows (from, to): an array of shape (n, 2), a list, or a frame of pandas with the columns `from` and `to`, or
-        `source` and `target`, or `from_node` and `to_node`; for a frame the lengths are a Series of Int64 with its index, missing
-        where there is no way. As many threads ask as there are processors. Raises NoSuchNode, with the row, and ValueError for what
-        can't be pairs.
+        `pairs` are rows (from, to): an array of shape (n, 2), a list, or a frame of pandas with the columns `from` and
+        `to`, or `source` and `target`, or `from_node` and `to_node`; for a frame the lengths are a Series of Int64 with its
+        index, missing if there is no path. As many threads ask as there are processors. Raises NoSuchNode, with the row,
+        and ValueError for what can't be pairs.
         """
         need("numpy")
         from . import arrays, batch
@@ -154,12 +154,12 @@ class Hierarchy:
     @overload
     def matrix(self, sources: Any, targets: Any = None, by: By | None = None, *, missing: Any = None) -> Any: ...
     def matrix(self, sources: Any, targets: Any = None, by: By | None = None, *, missing: Any = None) -> Any:
-        """The least lengths from each source to each target, an array of int64 of shape (sources, targets), -1 where there
-        is no way. Without targets they are the sources. Where one of the two is a Series or Index of pandas, or a list of keys, the
-        table is a DataFrame of Int64, missing where there is no way, whose axes are the sources and the targets. Arrays of numpy
-        give an array, of keys too.
+        """The lengths of shortest paths from each source to each target, an array of int64 of shape (sources, targets), -1
+        if there is no path. Without targets they are the sources. If one of the two is a Series or Index of pandas, or a
+        list of keys, the table is a DataFrame of Int64, missing if there is no path, whose axes are the sources and the
+        targets. Arrays of numpy give an array, of keys too.
 
-        missing   what a cell without a way has in place of these, as numpy.inf: take it for the nearest, since -1 is the least of all
+        missing   what a cell without a path has instead, as numpy.inf to find the nearest, since -1 is below all lengths
         by        an old argument, which changes nothing any more: leave it out
 
         The library computes all lengths, row by row, by as many threads as there are processors. Each thread selects what paths to
@@ -207,9 +207,9 @@ class Hierarchy:
     # What is reached
 
     def reach(self, starts: Ends, limit: int | None = None, towards: bool = False) -> Any:
-        """The least length of each node from the nearest of several starts, which are given as for `between`: an array of int64 of
-        shape (nodes,), -1 for a node without a path or above the limit. With keys it is a Series of Int64 with the nodes' keys as
-        its index, missing for these.
+        """The length of a shortest path to each node from the nearest of several starts, which are given as for `between`:
+        an array of int64 of shape (nodes,), -1 for a node without a path or above the limit. With keys it is a Series of
+        Int64 with the nodes' keys as its index, missing for these.
 
         limit   the greatest length that is asked for, from 0 to 2^62; None for all
         towards lengths to the nearest instead: the library has none yet, so True raises ValueError
@@ -232,12 +232,13 @@ class Hierarchy:
         generalize: float = 0.0, denoise: float = 0.0, colors: Sequence[str] = (), towards: bool = False,
         max_metres: float = DEFAULT_MAX_METRES
     ) -> dict[str, Any]:
-        """What is reached from a place (lon, lat) in degrees, or from the nearest of several, as GeoJSON: a FeatureCollection
-        with a Feature for each number of minutes, the most first, with the properties of Mapbox's Isochrone API. It begins at the
-        nearest point of a road, in both directions. Needs the network, scipy, contourpy and shapely.
+        """What is reached from a place (lon, lat) in degrees, or from the nearest of several, as GeoJSON: a
+        FeatureCollection with a Feature for each number of minutes, the greatest first, with the properties of Mapbox's
+        Isochrone API. It begins at the nearest point of a road, in both directions. Needs the network, scipy, contourpy and
+        shapely.
 
         minutes     numbers that rise, (5, 10, 15) without them and without `metres`; weights have to be milliseconds
-        metres      the same in metres, where weights are centimetres
+        metres      the same in metres; weights have to be centimetres
         shape       "polygons", "lines" (their outlines) or "roads" (those that are reached)
         generalize  simplified by this many metres
         denoise     without parts and holes smaller than this share, from 0 to 1, of the largest part
@@ -245,8 +246,8 @@ class Hierarchy:
         towards     as for `reach`
         max_metres  how far away a road may be
 
-        The lengths are the library's. Polygons and lines are drawn from them and aren't proved. Raises NoSuchNode where no road is
-        near enough, ValueError, and what `reach` does.
+        The lengths are the library's. Polygons and lines are drawn from them and aren't proved. Raises NoSuchNode if no
+        road is near enough, ValueError, and what `reach` does.
         """
         if self.network is None:
             raise ValueError("the hierarchy has no network: give Hierarchy the word network=")

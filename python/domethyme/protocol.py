@@ -19,7 +19,7 @@ NO_PATH = -1
 
 
 class RouteReply(NamedTuple):
-    """What a reply says of a pair: the length, NO_PATH where there is no way, and the nodes, () where they weren't asked."""
+    """What a reply says of a pair: the length, NO_PATH if there is no path, and the nodes, () where they weren't asked."""
 
     source: int
     target: int
@@ -55,7 +55,7 @@ def parse_reply(line: bytes) -> RouteReply:
 
 
 def parse_reply_to(request: bytes, reply: bytes) -> RouteReply | None:
-    """What a reply to a request says, None where there is no way. Raises the error of a reply `e`, and ProgramError for a line
+    """What a reply to a request says, None if there is no path. Raises the error of a reply `e`, and ProgramError for a line
     that is no reply to this request."""
     if reply.startswith(b"e "):
         raise reply_error(reply)

@@ -17,11 +17,11 @@ if TYPE_CHECKING:
 class Routes:
     """The routes of pairs, in their order.
 
-    `routes[i]` are the nodes of route i from its first to its last, or their keys; none where there is no way.
+    `routes[i]` are the nodes of route i from its first to its last, or their keys; none if there is no path.
     `routes[i:j]` are the Routes of these pairs.
 
     pairs     the pairs, of shape (n, 2), nodes from 0
-    lengths   the least lengths, of shape (n,), NO_PATH (-1) where there is no way
+    lengths   the least lengths, of shape (n,), NO_PATH (-1) if there is no path
     nodes     the nodes of all routes from 0, one route after the other
     offsets   where each route begins in `nodes`, and last where they end, of shape (n + 1,)
     """
@@ -79,12 +79,12 @@ class Routes:
 
     @property
     def arcs(self) -> NDArray[np.int64]:
-        """How many arcs each route has, of shape (n,); NO_PATH (-1) where there is no way."""
+        """How many arcs each route has, of shape (n,); NO_PATH (-1) if there is no path."""
         return np.diff(self.offsets) - 1
 
     def to_frame(self) -> Any:
         """A DataFrame of pandas with a row for each pair: from, to (nodes or keys), length and arcs, which are Int64 and missing
-        where there is no way. It has the index of the frame that the pairs came as."""
+        if there is no path. It has the index of the frame that the pairs came as."""
         need("pandas")
         import pandas
 

@@ -126,9 +126,9 @@ class Network:
     def geojson(self, routes: "Route | Routes") -> dict[str, Any]:
         """The routes along the real road, as a FeatureCollection with a Feature for each, longitude first.
 
-        The properties are from, to (nodes or keys), length, arcs, seconds, None where the network has none, and metres; where there is no way there is no
-        geometry, and all but the pair are None. From a node to the next a route takes the lightest arc. Raises NetworkError
-        where the network lacks an arc, or where weights don't sum to a length: then it is another network's.
+        The properties are from, to (nodes or keys), length, arcs, seconds, None if the network has none, and metres. If there is
+        no path there is no geometry, and all but the pair are None. From a node to the next a route takes the lightest arc.
+        Raises NetworkError if the network lacks an arc, or if weights don't sum to a length: then it is another network's.
         """
         return {"type": "FeatureCollection", "features": [self._feature(*each) for each in iter_routes(routes)]}
 
