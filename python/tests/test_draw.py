@@ -135,7 +135,7 @@ class Picture(DrawCase):
         picture = self.picture_of(EAST, WEST, NO_WAY)
         texts = [told(text) for text in picture.findall("./g[@transform]/text")]
         self.assertEqual(
-            texts, [LABEL, "0.44 km, 1.5 min", "west", "12.3 km, 2 h 3 min", "nowhere", "no way"]
+            texts, [LABEL, "0.44 km, 1.5 min", "west", "12.3 km, 2 h 3 min", "nowhere", "no path"]
         )
         titles = [told(title) for title in picture.findall("./g/g/title")]
         self.assertEqual(titles[0], f"{LABEL}: 0.44 km, 1.5 min\n<High> Street, 222 m\nunnamed road, 222 m")
@@ -264,7 +264,7 @@ class Page(DrawCase):
         self.assertEqual(east["pieces"], [[4.5, [0, 0, 1000, 0, 1000, 0, 2000, 0]]])
         self.assertEqual(east["ends"], [0, 0, 4000, 0])
         self.assertEqual(east["names"], [["<High> Street", 1000, 0]])
-        self.assertEqual((nowhere["figures"], nowhere["ends"], nowhere["pieces"]), ("no way", None, []))
+        self.assertEqual((nowhere["figures"], nowhere["ends"], nowhere["pieces"]), ("no path", None, []))
         self.assertEqual(data["bounds"], [[0, 0], [0, 0.004]])
 
     def test_roads(self):

@@ -15,7 +15,7 @@ from .geometry import overlap_pieces, point_at_fraction, unwrapped
 COLOURS = ["#0072b2", "#d55e00", "#009e73", "#cc5f9c", "#b8860b", "#2b8fc7", "#7b3294", "#5b7a1f"]
 NARROWEST, STEP_OF_WIDTH, MAX_NESTED = 4.5, 4, 3
 TOO_LARGE = 1e12
-NO_WAY = "no way"
+NO_PATH = "no path"
 NO_NAME = "unnamed road"
 # The units of contours by their metrics, and a colour that an area may bring.
 CONTOURS = {"time": "min", "distance": "m"}
@@ -132,7 +132,7 @@ def make_route(feature: Any, place: FeatureRef, label: str | None, colour: str) 
     name = f"route {place.number}" if label is None else str(properties[label])
     line = read_line(feature.get("geometry"), place)
     if line is None:
-        return DrawnRoute(name, NO_WAY, [], None, [], colour, [])
+        return DrawnRoute(name, NO_PATH, [], None, [], colour, [])
     metres = read_number(properties, "metres", place)
     seconds = 0.0 if properties.get("seconds", 0.0) is None else read_number(properties, "seconds", place)
     figures = kilometres(metres) if metres and not seconds else f"{kilometres(metres)}, {minutes(seconds)}"
