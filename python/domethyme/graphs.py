@@ -191,7 +191,7 @@ def prepare(
     switch_order_after  after how many nodes a worker takes the next order, from 1; without it none does. `stint` is its old word
     program             the path of `routecli`, else it is looked for (find_program)
 
-    Time and memory: some 20 s and 1.3 GB for a million nodes, by four workers. Raises GraphError, OutOfMemory,
+    Time and memory: some 11 s and 1 GB for a million nodes, by four workers. Raises GraphError, OutOfMemory,
     ReadWriteError, ProgramNotFound, ProgramError, LibraryNotFound.
     """
     if stint is not None:
