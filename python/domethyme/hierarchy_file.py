@@ -37,7 +37,7 @@ def read_header(file: int, name: str) -> tuple[int, int]:
         raise HierarchyError(f"{name}: is no file that `routecli prepare` wrote", 4)
     nodes, links = int.from_bytes(head[4:8], "big"), int.from_bytes(head[8:16], "big")
     if size != HEAD_BYTES + 4 * nodes + LINK_BYTES[head[:4]] * links:
-        raise HierarchyError(f"{name}: has {size} bytes, and its head announces others: prepare it anew", 4)
+        raise HierarchyError(f"{name}: has {size} bytes, and its head announces others: prepare it again", 4)
     return nodes, links
 
 

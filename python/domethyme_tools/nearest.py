@@ -10,16 +10,16 @@ those from the first place, in the table's order. For lengths `table` makes the 
 
 PAIRS is a query file: a comment with the network's name and size, `p aux sp p2p K`, and a line `q S T` for each trip, in order.
 
---hierarchy HIERARCHY compares a hierarchy with the network, and refuses one of another network: run `routecli prepare` again after each
-osm_to_gr or to_network. route_many compares the size in the comment.
+--hierarchy HIERARCHY compares a hierarchy with the network, and refuses one of another network: run `routecli prepare` again
+after each osm_to_gr or to_network. route_many compares the size in the comment.
 
 --snapped FILE gets a CSV row for each pair, in order: the columns of its row of TRIPS, and from_node, from_metres,
-to_node, to_metres, which are the nodes and how far they are; and from_key and to_key where nodes have keys. With --matrix the columns of both places are there, with
-from_ and to_ before their names. FILE is whole before PAIRS begins, so `to_geojson --trips FILE` may read it further
-down the same pipe.
+to_node, to_metres, which are the nodes and how far away they are; and from_key and to_key if nodes have keys. With --matrix
+the columns of both places are there, with from_ and to_ before their names. FILE is complete before PAIRS begins, so
+`to_geojson --trips FILE` may read it further down the same pipe.
 
 --on-roads writes a line `b S1 C1 .. : T1 D1 ..` for each trip in place of PAIRS, which `routecli serve` replies to and
-`to_geojson --on-roads` makes routes of: each place is taken at the nearest point of a road, which is cut there.
+`to_geojson --on-roads` makes routes of: each place is taken at the nearest point of a road, which is split there.
 
 Distances are along the great circle. Which of several nodes at the same distance is taken isn't promised. A file that
 is written is whole or not there.

@@ -27,7 +27,7 @@ Rules of the profile. A way counts where its class of highway has a speed, it is
 access tags (of access, vehicle, motor_vehicle, motorcar the last that is set) has a value that isn't closed; `private` is
 closed. `maxspeed` counts before the speed of the class, for each direction, in km/h, mph or knots. One-way are oneway=yes
 and -1, roundabouts and motorways. Reversible ways are left out. A barrier such as a bollard, or one whose access tags
-are closed, parts the roads at its node. A way is cut where the map lacks a node of it. Only the largest set of nodes that
+are closed, cuts the roads at its node. A way is cut where the map lacks a node of it. Only the largest set of nodes that
 can all reach one another is kept, unless --keep-islands is given.
 
 These are the rules of a car; those of a lorry, a bicycle and pedestrians, and what else a profile may say, are in

@@ -8,7 +8,7 @@ other columns are the user's own. One of the two may be `-`, standard input, and
 
 TABLE has a row for each source and a column for each target, in order. A length is that of a shortest path, in the unit of the
 graph's weights. It leads from the node nearest to the source to the one nearest to the target, along the great circle; where
-both are of one junction it is 0. With --on-roads places are taken at the nearest points of roads, which are cut there. If the
+both are of one junction it is 0. With --on-roads places are taken at the nearest points of roads, which are split there. If the
 name of TABLE ends in `.npy`, it is an array of numpy, of int64 and of shape (sources, targets), with -1 for no path. Else it
 is CSV. Its first row has the names of the targets behind the word `from`, and each other row begins with the name of its
 source; a field is empty for no path. Names are the numbers of places, from 1, or what the column --name of both tables has.

@@ -23,8 +23,8 @@ hierarchy that answered with the network.
 
 --trips FILE is a CSV file with a row for each answer, in order, as `nearest` was given it, or as it wrote it by
 --snapped. Its columns are properties too, ahead of the others, as text. Where it has the columns from_node and to_node,
-or from_key and to_key, they have to be those of the answers. It is opened once the first answer has come, so a tool further up the same pipe may
-write it.
+or from_key and to_key, they have to be those of the answers. It is opened once the first answer has come, so a tool
+further up the same pipe may write it.
 
 --on-roads takes replies of `routecli serve` to the lines of `nearest --on-roads`, and needs the same TRIPS. Routes then lead
 from the nearest point of a road to another, and have no from_node and to_node.

@@ -98,7 +98,7 @@ def sizes_of(paths: Files, options: argparse.Namespace) -> tuple[int, int]:
     for table, given, columns in ((paths.nodes, options.nodes, NODE_COLUMNS), (paths.arcs, options.arcs, ARC_COLUMNS)):
         is_given = os.path.exists(table) and os.path.exists(given) and os.path.samefile(table, given)
         if not is_given and has_columns(table, columns):
-            raise ToolError(f"is there, and isn't {given}: remove it, or give --tables to write it anew", table)
+            raise ToolError(f"is there, and isn't {given}: remove it, or give --tables to write it again", table)
         sizes.append(os.stat(table).st_size if is_given else 0)
     return sizes[0], sizes[1]
 

@@ -287,7 +287,7 @@ class SmallTests(BinaryCase):
         with open(self.path, "r+b") as file:
             file.seek(8)
             file.write(bytes([99]))
-        self.refused("has version 99 and not 2 or 3; convert the map anew, or make it of its tables, as `to_network")
+        self.refused("has version 99 and not 2 or 3; convert the map again, or make it of its tables, as `to_network")
 
     def test_a_route_that_meets_a_damaged_block(self):
         """The file opens, and what isn't damaged is answered; what is read of the damaged block is refused, each time."""

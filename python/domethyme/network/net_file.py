@@ -467,7 +467,7 @@ class MappedNetwork:
         return [(lon / UNITS, lat / UNITS) for lon, lat in self.points[begin:end].tolist()]
 
 
-REMEDY = "convert the map anew, or make it of its tables, as `to_network NODES ARCS OUT`"
+REMEDY = "convert the map again, or make it of its tables, as `to_network NODES ARCS OUT`"
 
 
 def read(path: StrPath) -> MappedNetwork:
@@ -508,7 +508,7 @@ def is_current(prefix: str) -> bool:
         if os.path.exists(files.old):
             made = f"`to_network {files.nodes} {files.arcs} {prefix}` makes {files.binary} of the tables"
             raise NetworkError(
-                f"is an archive of an earlier version, which isn't read: {made}, or convert the map anew", files.old
+                f"is an archive of an earlier version, which isn't read: {made}, or convert the map again", files.old
             )
         return False
     tables = {files.nodes: NODE_COLUMNS, files.arcs: ARC_COLUMNS}

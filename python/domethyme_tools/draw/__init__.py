@@ -1,9 +1,9 @@
 """Draws routes, or what is reached, over their network: a picture, or a page for a browser that needs no connection.
 
 NETWORK is the beginning of the names of the network's files, of which NETWORK.net is read, or without it the tables, and
-NETWORK.gr for what the data asks to be said wherever it is shown. ROUTES is what `to_geojson` wrote as a collection or as lines, or
-what `reach` wrote as polygons (`-` is standard input). OUT is a picture (SVG) where its name ends in .svg, and a page (HTML) where
-it ends in .html.
+NETWORK.gr for the attribution that the licence of its data requires. ROUTES is what `to_geojson` wrote as a collection or as
+lines, or what `reach` wrote as polygons (`-` is standard input). OUT is a picture (SVG) if its name ends in .svg, and a page
+(HTML) if it ends in .html.
 
 Both show the roads in grey, around the routes or with --full-network all of them; each route in a colour, from a ring to a
 dot, with arrows where there are no more than 20; a legend with kilometres and minutes; a scale; and the attribution of
