@@ -321,7 +321,7 @@ def check_within(metres: Any, within: float) -> None:
 def refuse_towards(towards: bool) -> None:
     """Raises ValueError for lengths that the library doesn't have."""
     if towards:
-        raise ValueError("towards=True isn't there: the library has lengths from starts, and none towards places")
+        raise ValueError("towards=True isn't supported: the library has lengths from starts, and none towards places")
 
 
 def as_int(name: str, added: Any) -> int:

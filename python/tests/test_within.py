@@ -97,7 +97,7 @@ def test_nodes_that_are_not_there_and_a_hierarchy_that_is_closed(row, tmp_path):
 
 def test_towards_places_is_refused(row):
     for ask in (lambda: row.reach([0], 5, towards=True), lambda: row.within((0, 0), towards=True)):
-        with pytest.raises(ValueError, match="towards=True isn't there"):
+        with pytest.raises(ValueError, match="towards=True isn't supported"):
             ask()
 
 
