@@ -18,7 +18,7 @@ from .errors import invalid_value
 MAX_ZOOM = 16
 EXTENT = 1024
 MIN_NAME_ZOOM = 14
-KEPT = 64
+TILE_CACHE_SIZE = 64
 # Segments that are projected at once, which bounds memory: a large tile may have very many.
 SEGMENTS_PER_CHUNK = 1 << 16
 NAME_COLUMN = TEXTS.index("name")
@@ -29,7 +29,7 @@ class Tiles:
 
     def __init__(self, arrays: MappedNetwork) -> None:
         self.arrays = arrays
-        self.tile = functools.lru_cache(KEPT)(self._tile)
+        self.tile = functools.lru_cache(TILE_CACHE_SIZE)(self._tile)
 
     @functools.cached_property
     def about(self) -> dict[str, Any]:

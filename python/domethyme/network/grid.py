@@ -137,7 +137,7 @@ class Grid(NamedTuple):
         return found
 
     def _parts(self, slices: list[tuple[int, int]]) -> Iterator[NDArray[Any]]:
-        """The things in slices, about MOST at a time."""
+        """The things in slices, about CHUNK_SIZE at a time."""
         waiting: list[NDArray[Any]] = []
         for begin, end in slices:
             for low in range(begin, end, CHUNK_SIZE):
@@ -161,7 +161,7 @@ class Grid(NamedTuple):
         return which[pairs], self.things[rows]
 
     def candidates(self, place: tuple[float, float], reach: float) -> Iterator[NDArray[Any]]:
-        """The things within `reach` metres of a place, and others, about MOST at a time; one may come several times."""
+        """The things within `reach` metres of a place, and others, about CHUNK_SIZE at a time; one may come several times."""
         return self._parts(self._slices_around(place, reach))
 
     def _slices_around(self, place: tuple[float, float], reach: float) -> list[tuple[int, int]]:

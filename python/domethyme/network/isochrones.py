@@ -49,7 +49,7 @@ class Style(NamedTuple):
 
 
 def limits(unit: str, minutes: Sequence[float] = (), metres: Sequence[float] = ()) -> list[int]:
-    """Minutes or metres in the unit of a network's weights (Mapped.unit). Raises ValueError for minutes if weights aren't
+    """Minutes or metres in the unit of a network's weights (MappedNetwork.unit). Raises ValueError for minutes if weights aren't
     durations, for metres if they aren't distances, if neither or both are given, and for numbers that aren't above 0."""
     metric, factor = METRICS.get(unit, (None, 1))
     if bool(len(minutes)) == bool(len(metres)):
