@@ -11,7 +11,7 @@ from .parameters import (
 )
 from .static import PAGE_FILES
 
-UNSUPPORTED_VALUES = "snapping=any and flatbuffers aren't there"
+UNSUPPORTED_VALUES = "snapping=any and flatbuffers aren't supported"
 RADIUSES, BEARINGS = Radiuses("radiuses"), Bearings("bearings")
 FALLBACK_SPEED, SCALE_FACTOR = PositiveNumber("fallback_speed"), PositiveNumber("scale_factor")
 FALLBACK_COORDINATE = Choice("fallback_coordinate", "input", "snapped")
@@ -74,7 +74,8 @@ ENDPOINTS = (
                   FALLBACK_SPEED, FALLBACK_COORDINATE, SCALE_FACTOR, TABLE_ANNOTATIONS, SOURCES, DESTINATIONS),
     Endpoint("/isochrone", "/isochrone/v1/PROFILE/PLACE", "what is reached within minutes or metres, as GeoJSON",
              (CONTOURS_MINUTES, CONTOURS_METERS, CONTOURS_COLORS, POLYGONS, GENERALIZE, DENOISE, RADIUSES, BEARINGS,
-              Ignored("access_token"), Choice("reverse", "false", unsupported=["true"], message="reverse=true isn't there"),
+              Ignored("access_token"),
+              Choice("reverse", "false", unsupported=["true"], message="reverse=true isn't supported"),
               Unsupported("exclude"), Unsupported("depart_at")), "isochrone has no parameter {!r}"),
     *(osrm_endpoint(service, "", "") for service in ("match", "trip", "tile")),
     Endpoint("/nodes/route", "/nodes/route", "a route between nodes by their numbers, from 1", (FROM, TO, FROM_KEY, TO_KEY)),

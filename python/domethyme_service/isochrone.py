@@ -60,7 +60,7 @@ def parse_limits(values: Values, unit: str) -> list[int]:
     name = CONTOURS_MINUTES.name if minutes else CONTOURS_METERS.name
     needed, what = ("duration", "times") if minutes else ("distance", "lengths")
     if unit != needed:
-        raise not_implemented(f"{name} isn't there: the weights of this network aren't {what}")
+        raise not_implemented(f"{name} isn't supported: the weights of this network aren't {what}")
     found = limits(unit, minutes, metres)
     if any(low == limit for low, limit in itertools.pairwise(found)):
         raise invalid_value(f"{name} have to differ by more")

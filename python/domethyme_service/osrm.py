@@ -199,7 +199,7 @@ def table(engine: Engine, request: Request) -> str:
     """Tables of durations, distances or weights, null for pairs without a path. Raises RequestError for too many cells."""
     sources, destinations = request.values[SOURCES], request.values[DESTINATIONS]
     if len(sources) * len(destinations) > engine.max_cells:
-        message = f"a table may have {engine.max_cells} cells (--table-cells), and this one would have more"
+        message = f"a table may have {engine.max_cells} cells (--max-table-cells), and this one would have more"
         raise RequestError(400, "TooBig", message)
     options = TableOptions.from_values(request.values, engine.roads, request.places)
     options.refuse_if_too_many(len(sources) * len(destinations))

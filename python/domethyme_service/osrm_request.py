@@ -33,7 +33,7 @@ def parse_request(path: str, query: Mapping[str, str], default_radius: float) ->
     place without a radius. Raises RequestError."""
     words = path.split("/", 4)
     if words[1] not in SERVICES:
-        raise RequestError(400, "InvalidService", f"the service {words[1]} isn't there")
+        raise RequestError(400, "InvalidService", f"the service {words[1]} isn't supported")
     if words[2] != "v1":
         raise RequestError(400, "InvalidVersion", "the path is /SERVICE/v1/PROFILE/PLACES")
     if len(words) != 5 or not PROFILE.fullmatch(words[3]):

@@ -99,7 +99,7 @@ class Unsupported(Parameter[None]):
     def read(self, text: str | None, context: Context) -> None:
         words = [text or ""] if self.allowed is None else (text or "").split(";")
         if any(word not in ("", self.allowed) for word in words):
-            raise not_implemented(f"{self.name} isn't there")
+            raise not_implemented(f"{self.name} isn't supported")
 
 
 class PerPlace(Parameter[list[T]]):
@@ -242,7 +242,7 @@ class ContinueStraight(Parameter[None]):
         if text not in (None, "default", "true", "false"):
             raise invalid_value(f"{self.name} is default, true or false")
         if text == "true" and context.places > 2:
-            raise not_implemented(f"{self.name}=true isn't there for more than two places")
+            raise not_implemented(f"{self.name}=true isn't supported for more than two places")
 
 
 class IntRange(Parameter[int]):

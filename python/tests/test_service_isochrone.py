@@ -98,7 +98,7 @@ class IsochroneTests(ServiceCase):
         for query, code, says in [
             ("", "InvalidQuery", "one of contours_minutes and contours_meters"),
             ("contours_minutes=5&contours_meters=5", "InvalidQuery", "one of"),
-            ("contours_meters=500", "NotImplemented", "contours_meters isn't there"),
+            ("contours_meters=500", "NotImplemented", "contours_meters isn't supported"),
             ("contours_minutes=", "InvalidValue", "contours_minutes"), ("contours_minutes=0", "InvalidValue", "contours_minutes"),
             ("contours_minutes=5,5", "InvalidValue", "rising"), ("contours_minutes=9,5", "InvalidValue", "rising"),
             ("contours_minutes=1,2,3,4,5", "InvalidValue", "1 to 4"), ("contours_minutes=601", "InvalidValue", "600"),

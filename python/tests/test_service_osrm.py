@@ -319,7 +319,7 @@ class RequestTests(OsrmCase):
         self.good(f"/table/v1/car/{HIGH}")
         status, found = self.ask(f"/table/v1/car/{HIGH};0.001,0")
         self.assertEqual((status, found["code"]), (400, "TooBig"))
-        self.assertIn("5 cells (--table-cells)", found["message"])
+        self.assertIn("5 cells (--max-table-cells)", found["message"])
 
     def test_messages(self):
         """Errors name the place, the extent of the roads, and that longitudes come first."""
