@@ -1,9 +1,10 @@
 -- Ranks are marked and listed, from the lowest up.
-use Rattle.std.proofs.Common.{ℕ, ◌≡◌, ◌+◌, ◌<◌, ◌≤◌, true, Bool, List, [], ◌∷◌, ◌++◌, length, get_or, slice_index, take, set, All, Contains, ap, refl, sym, subst, ◌∙◌, inl, inr, arith}
+use Rattle.std.proofs.Common.{ℕ, ◌≡◌, ◌+◌, ◌-◌, ◌<◌, ◌≤◌, List, [], ◌∷◌, ◌++◌, length, get_or, slice_index, take, set, drop, All, Contains, ap, refl, sym, subst, ◌∙◌, inl, inr, arith}
 use Rattle.std.proofs.lemmas.Bool.{cases_eq, cases_lt}
-use Rattle.std.proofs.lemmas.List.{get_or_default, get_or-map, get_or_push, get_or_append_left, get_or-set_same, get_or-set_other, length-append, length-map, length-set, take_more}
+use Rattle.std.proofs.lemmas.List.{get_or_default, get_or-map, get_or-drop, get_or_push, get_or_append_left, get_or-set_same, get_or-set_other, length-append, length-drop, length-map, length-set, take_all, take_more}
 use Rattle.std.proofs.lemmas.List.Elements.{All-push, Contains-push, Contains-append_left, Contains-push_cases}
 use Rattle.std.proofs.lemmas.List.Quantifiers.{all_pairs_push}
+use Rattle.memchr.specs.Find.{Nowhere, Passes, is_byte}
 use Rattle.ch_graph.specs.Hierarchy.{Hierarchy, rank_of}
 use Rattle.ch_query.specs.declared.fall.Fall.{Fall}
 use Rattle.ch_query.specs.Ways.{fall_along, AreFallsTo}
@@ -23,7 +24,7 @@ same_falls h r falls others are also i d i_in =
     let among_in : among.0 < length others = omega (arith, among.1, ap length also.along ∙ length-map also.links (fall_along h)) in
     (among.0, among_in, get_or_default others among.0 (get_or falls i d) d among_in ∙ (there ∙ sym fall))
 
-pub listed-none : (h : Hierarchy) (targets : List ℕ) (marks : List Bool) (ranks : List ℕ) → ranks ≡ [] → length marks ≡ length h.ranks → All (λ t. IsMarked marks (rank_of h t)) targets → AreListedTo h targets marks ranks 0
+pub listed-none : (h : Hierarchy) (targets marks ranks : List ℕ) → ranks ≡ [] → length marks ≡ length h.ranks → All (λ t. IsMarked marks (rank_of h t)) targets → AreListedTo h targets marks ranks 0
 listed-none h targets marks ranks is nodes ends = record {
   nodes = nodes;
   few = omega (arith, ap length is);
@@ -35,25 +36,23 @@ listed-none h targets marks ranks is nodes ends = record {
 }
 
 module _ (h : Hierarchy) (targets : List ℕ) (ranks : List ℕ) (low : ℕ) where
-  -- the next one isn't marked
-  pub listed-skips : (marks : List Bool) → (IsMarked marks low → ⊥) → AreListedTo h targets marks ranks low → AreListedTo h targets marks ranks (low + 1)
-  listed-skips marks never was = record {
+  -- none from here to there is marked
+  pub listed-skips : (marks : List ℕ) (there : ℕ) → low ≤ there → ((r : ℕ) → low ≤ r → r < there → IsMarked marks r → ⊥) → AreListedTo h targets marks ranks low → AreListedTo h targets marks ranks there
+  listed-skips marks there on never was = record {
     nodes = was.nodes;
-    few = omega (arith, was.few);
+    few = omega (arith, was.few, on);
     rising = was.rising;
-    below = λ k d within. omega (arith, was.below k d within);
+    below = λ k d within. omega (arith, was.below k d within, on);
     ends = was.ends;
     listed = λ r before marked. elim (cases_lt r low) [
       | inl earlier ↦ was.listed r earlier marked
-      | inr last ↦
-          let here : r ≡ low = omega (arith, before, last) in
-          absurd (never (subst (IsMarked marks) here marked))
+      | inr from ↦ absurd (never r (omega (arith, from)) before marked)
     ];
     closed = was.closed;
   }
 
-  -- it is, and the nodes that links to it leave are marked
-  pub listed-more : (old new : List Bool) (falls : List Fall) → low < length h.ranks → AreFallsTo h low falls → AreMarkedWith falls old new → All (λ t. rank_of h t < length h.ranks) targets
+  -- the next one is, and the nodes that links to it leave are marked
+  pub listed-more : (old new : List ℕ) (falls : List Fall) → low < length h.ranks → AreFallsTo h low falls → AreMarkedWith falls old new → All (λ t. rank_of h t < length h.ranks) targets
       → AreListedTo h targets old ranks low → AreListedTo h targets new (ranks ++ low ∷ []) (low + 1)
   listed-more old new falls low_in are marked ends_in was = record {
     nodes = marked.count ∙ was.nodes;
@@ -78,7 +77,7 @@ module _ (h : Hierarchy) (targets : List ℕ) (ranks : List ℕ) (low : ℕ) whe
       above : All (λ (f : Fall). low ≤ f.tail) falls
       above = λ k d within. omega (arith, (are.above k d within).above)
 
-  pub listed-all : (marks : List Bool) → low ≡ length h.ranks → All (λ t. rank_of h t < length h.ranks) targets → AreListedTo h targets marks ranks low → AreRanksAbove h targets ranks
+  pub listed-all : (marks : List ℕ) → low ≡ length h.ranks → All (λ t. rank_of h t < length h.ranks) targets → AreListedTo h targets marks ranks low → AreRanksAbove h targets ranks
   listed-all marks whole ends_in is = record {
     few = omega (arith, is.few, whole);
     rising = is.rising;
@@ -87,8 +86,22 @@ module _ (h : Hierarchy) (targets : List ℕ) (ranks : List ℕ) (low : ℕ) whe
     closed = λ r falls among are k d within. is.listed (get_or falls k d).tail (omega (arith, (are.above k d within).tail_in, whole)) (is.closed r falls among are k d within);
   }
 
+-- the marks from a rank on, as a slice has them
+rest-drop : (marks : List ℕ) (low : ℕ) → take (length marks - low) (drop low marks) ≡ drop low marks
+rest-drop marks low = take_all (length marks - low) (drop low marks) (omega (arith, length-drop low marks))
+
+pub length-rest : (marks : List ℕ) (low : ℕ) → length (take (length marks - low) (drop low marks)) ≡ length marks - low
+length-rest marks low = ap (λ (ms : List ℕ). length ms) (rest-drop marks low) ∙ length-drop low marks
+
+-- before the first of them that is set none is
+pub unmarked : (marks : List ℕ) (low skipped : ℕ) → Nowhere (Passes (is_byte 1) (take (length marks - low) (drop low marks))) 0 skipped → (r : ℕ) → low ≤ r → r < low + skipped → IsMarked marks r → ⊥
+unmarked marks low skipped none r from to marked =
+    let here : get_or (take (length marks - low) (drop low marks)) (r - low) 0 ≡ 1 =
+    ap (λ (ms : List ℕ). get_or ms (r - low) 0) (rest-drop marks low) ∙ (get_or-drop low marks (r - low) 0 ∙ (ap (λ k. get_or marks k 0) (omega (arith, from)) ∙ marked 0)) in
+    none (r - low) (omega arith) (omega (arith, from, to)) (ap (is_byte 1) here)
+
 -- A list of marks, of which some are set
-pub marked-none : (marks : List Bool) (falls : List Fall) → AreMarkedWith (take 0 falls) marks marks
+pub marked-none : (marks : List ℕ) (falls : List Fall) → AreMarkedWith (take 0 falls) marks marks
 marked-none marks falls = record {
   count = refl;
   kept = λ r r_in is. is;
@@ -96,27 +109,27 @@ marked-none marks falls = record {
   tails = λ k d within. absurd (omega (arith, within));
 }
 
-pub is_marked-set : (marks : List Bool) (r q : ℕ) → r < length marks → IsMarked marks q → IsMarked (set marks r true) q
+pub is_marked-set : (marks : List ℕ) (r q : ℕ) → r < length marks → IsMarked marks q → IsMarked (set marks r 1) q
 is_marked-set marks r q r_in is d = elim (cases_eq q r) [
-  | inl here ↦ ap (λ x. get_or (set marks r true) x d) here ∙ get_or-set_same marks r true d r_in
-  | inr other ↦ get_or-set_other marks r q true d other ∙ is d
+  | inl here ↦ ap (λ x. get_or (set marks r 1) x d) here ∙ get_or-set_same marks r 1 d r_in
+  | inr other ↦ get_or-set_other marks r q 1 d other ∙ is d
 ]
 
-pub is_marked-here : (marks : List Bool) (r : ℕ) → r < length marks → IsMarked (set marks r true) r
-is_marked-here marks r r_in d = get_or-set_same marks r true d r_in
+pub is_marked-here : (marks : List ℕ) (r : ℕ) → r < length marks → IsMarked (set marks r 1) r
+is_marked-here marks r r_in d = get_or-set_same marks r 1 d r_in
 
-pub marked-more : (falls : List Fall) (n : ℕ) (f : Fall) (old new : List Bool) → n < length falls → ((d : Fall) → get_or falls n d ≡ f) → f.tail < length old → AreMarkedWith (take n falls) old new → AreMarkedWith (take (n + 1) falls) old (set new f.tail true)
+pub marked-more : (falls : List Fall) (n : ℕ) (f : Fall) (old new : List ℕ) → n < length falls → ((d : Fall) → get_or falls n d ≡ f) → f.tail < length old → AreMarkedWith (take n falls) old new → AreMarkedWith (take (n + 1) falls) old (set new f.tail 1)
 marked-more falls n f old new n_in at tail_in was = record {
-  count = length-set new f.tail true ∙ was.count;
+  count = length-set new f.tail 1 ∙ was.count;
   kept = λ r r_in is. is_marked-set new f.tail r tail_new (was.kept r r_in is);
   below = λ m r all low r_in is.
       let parts : All (λ (x : Fall). m ≤ x.tail) (take n falls ++ f ∷ []) = subst (All (λ (x : Fall). m ≤ x.tail)) longer all in
       let above : m ≤ f.tail = subst (λ (x : Fall). m ≤ x.tail) (get_or_push (take n falls) f f (length (take n falls)) refl) (parts (length (take n falls)) f (omega (arith, length-append (take n falls) (f ∷ [])))) in
       let other : r ≡ f.tail → ⊥ = λ same. omega (arith, same, above, low) in
       was.below m r (λ k d within. subst (λ (x : Fall). m ≤ x.tail) (get_or_append_left (take n falls) (f ∷ []) d k within) (parts k d (omega (arith, within, length-append (take n falls) (f ∷ []))))) low r_in
-      (λ d. sym (get_or-set_other new f.tail r true d other) ∙ is d);
-  tails = subst (All (λ (x : Fall). IsMarked (set new f.tail true) x.tail)) (sym longer)
-      (All-push (λ (x : Fall). IsMarked (set new f.tail true) x.tail) (take n falls) f (λ k d within. is_marked-set new f.tail (get_or (take n falls) k d).tail tail_new (was.tails k d within)) (is_marked-here new f.tail tail_new));
+      (λ d. sym (get_or-set_other new f.tail r 1 d other) ∙ is d);
+  tails = subst (All (λ (x : Fall). IsMarked (set new f.tail 1) x.tail)) (sym longer)
+      (All-push (λ (x : Fall). IsMarked (set new f.tail 1) x.tail) (take n falls) f (λ k d within. is_marked-set new f.tail (get_or (take n falls) k d).tail tail_new (was.tails k d within)) (is_marked-here new f.tail tail_new));
 }
   where
     tail_new : f.tail < length new

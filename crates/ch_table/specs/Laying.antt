@@ -1,23 +1,23 @@
 -- A selection as it is made: ranks are marked and listed, and then their links are laid down place by place.
-use Rattle.std.specs.Prelude.{ℕ, ◌≡◌, ◌+◌, ◌-◌, ◌<◌, ◌≤◌, true, Bool, List, [], ◌∷◌, ◌++◌, length, map, slice_index, slice_index_or, All, AllPairs, Contains}
+use Rattle.std.specs.Prelude.{ℕ, ◌≡◌, ◌+◌, ◌-◌, ◌<◌, ◌≤◌, List, [], ◌∷◌, ◌++◌, length, map, slice_index, slice_index_or, All, AllPairs, Contains}
 use Rattle.ch_graph.specs.Hierarchy.{Hierarchy, rank_of}
 use Rattle.ch_query.specs.declared.fall.Fall.{Fall}
 use Rattle.ch_query.specs.Ways.{AreFallsTo}
 use Rattle.ch_table.specs.Selection.{IsLaidDown}
 
 -- a rank is marked
-abbrev pub IsMarked : List Bool → ℕ → Type 0
-IsMarked marks r = (d : Bool) → slice_index_or marks r d ≡ true
+abbrev pub IsMarked : List ℕ → ℕ → Type 0
+IsMarked marks r = (d : ℕ) → slice_index_or marks r d ≡ 1
 
 -- these marks are kept, and the tails of the falls are marked
-pub record AreMarkedWith (falls : List Fall) (old new : List Bool) : Type 0 where
+pub record AreMarkedWith (falls : List Fall) (old new : List ℕ) : Type 0 where
   pub count : length new ≡ length old
   pub kept : (r : ℕ) → r < length old → IsMarked old r → IsMarked new r
   pub below : (n r : ℕ) → All (λ (f : Fall). n ≤ f.tail) falls → r < n → r < length old → IsMarked new r → IsMarked old r
   pub tails : All (λ (f : Fall). IsMarked new f.tail) falls
 
 -- The ranks below this one are dealt with: those of them that are marked are listed, and what leads down to these is marked.
-pub record AreListedTo (h : Hierarchy) (targets : List ℕ) (marks : List Bool) (ranks : List ℕ) (low : ℕ) : Type 0 where
+pub record AreListedTo (h : Hierarchy) (targets marks ranks : List ℕ) (low : ℕ) : Type 0 where
   pub nodes : length marks ≡ length h.ranks
   pub few : length ranks ≤ low
   pub rising : AllPairs ◌<◌ ranks

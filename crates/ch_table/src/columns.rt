@@ -8,6 +8,7 @@ ghost use Rattle.ch_table.specs.Selection.{AreEnds, ArePlaced, AreRanksAbove, Is
 use crate::steps::Steps;
 use ch_graph::Hierarchy;
 use ch_query::{Fall, HierarchyRef, SearchOf};
+use memchr::memchr;
 use std::alloc::{AllocError, Global};
 
 /// The nodes that walks to some targets fall through, from the lowest rank up, each at a place, and the links to each.
@@ -64,71 +65,82 @@ fn ranks_above<H: HierarchyRef>(
     requires targets { All (λ t. t < length search.now.ranks) targets.now }
     ensures { IfOk result (λ ranks. AreRanksAbove search.now targets.now ranks.items) }
 {
-    let nodes = search.hierarchy().nodes();
+    let nodes = search.hierarchy().nodes() as usize;
     let marks = marks_of(alloc, search.hierarchy(), targets)?;
     let mut marked = Marked {
         marks,
         ranks: Vec::new(alloc),
         falls: Vec::new(alloc),
     };
-    'ranks: for rank in 0..nodes {
-        marked.pass(search, targets, rank)?;
+    let mut low = 0;
+    'ranks: while low < nodes {
+        low = marked.pass(search, targets, low)?;
     }
     Ok(marked.ranks)
 }
 
+// What stands for a marked rank; 0 for another.
+const MARK: u8 = 1;
+
 // Which ranks are marked, and those of them that were passed.
 #[derive(Drop)]
 struct Marked {
-    marks: Vec<bool>,
+    marks: Vec<u8>,
     ranks: Vec<u32>,
     // The links to the last of them.
     falls: Vec<Fall>,
 }
 
 impl Marked {
-    // Passes the next rank: if it is marked, it is listed, and the nodes that links to it leave are marked.
+    // Passes the first marked rank from this one on: it is listed, and the nodes that links to it leave are marked. Returns
+    // the rank behind it, or that behind all.
     fn pass<H: HierarchyRef>(
         &mut self,
         search: &SearchOf<H>,
         targets: &[u32],
-        rank: u32,
-    ) -> Result<(), AllocError>
-        requires rank_in { rank < length search.now.ranks }
+        low: usize,
+    ) -> Result<usize, AllocError>
+        requires low_in { low < length search.now.ranks }
         requires ends_in { All (λ t. rank_of search.now t < length search.now.ranks) targets.now }
-        requires listed { AreListedTo search.now targets.now self.old.marks.items self.old.ranks.items rank }
-        ensures { OnOk result (AreListedTo search.now targets.now self.new.marks.items self.new.ranks.items (rank + 1)) }
+        requires listed { AreListedTo search.now targets.now self.old.marks.items self.old.ranks.items low }
+        ensures on { IfOk result (λ next. low < next) }
+        ensures within { IfOk result (λ next. next ≤ length search.now.ranks) }
+        ensures listed { IfOk result (λ next. AreListedTo search.now targets.now self.new.marks.items self.new.ranks.items next) }
     {
-        if !self.marks[rank as usize] {
-            return Ok(());
+        let nodes = search.hierarchy().nodes();
+        match memchr(MARK, &self.marks[low..]) {
+            None => Ok(nodes as usize),
+            Some(skipped) => {
+                let rank = low + skipped;
+                self.ranks.push(rank as u32)?;
+                search.falls_to(rank as u32, &mut self.falls)?;
+                mark_tails(&self.falls, &mut self.marks);
+                Ok(rank + 1)
+            }
         }
-        self.ranks.push(rank)?;
-        search.falls_to(rank, &mut self.falls)?;
-        mark_tails(&self.falls, &mut self.marks);
-        Ok(())
     }
 }
 
 // The ranks of the targets, marked.
-fn marks_of(alloc: Global, hierarchy: &Hierarchy, targets: &[u32]) -> Result<Vec<bool>, AllocError>
+fn marks_of(alloc: Global, hierarchy: &Hierarchy, targets: &[u32]) -> Result<Vec<u8>, AllocError>
     requires targets { All (λ t. t < length hierarchy.now.ranks) targets.now }
     ensures nodes { IfOk result (λ marks. length marks.items ≡ length hierarchy.now.ranks) }
     ensures ends { IfOk result (λ marks. All (λ t. IsMarked marks.items (rank_of hierarchy.now t)) targets.now) }
 {
-    let mut marks = vec![in alloc; false; hierarchy.nodes() as usize]?;
+    let mut marks = vec![in alloc; 0u8; hierarchy.nodes() as usize]?;
     'targets: for target in targets {
-        marks[hierarchy.rank(*target) as usize] = true;
+        marks[hierarchy.rank(*target) as usize] = MARK;
     }
     Ok(marks)
 }
 
 // Marks the nodes that links leave.
-fn mark_tails(falls: &[Fall], marks: &mut Vec<bool>)
+fn mark_tails(falls: &[Fall], marks: &mut Vec<u8>)
     requires { All (λ (f : a_fall). f.tail < length marks.old.items) falls.now }
     ensures { AreMarkedWith falls.now marks.old.items marks.new.items }
 {
     'falls: for fall in falls {
-        marks[fall.tail as usize] = true;
+        marks[fall.tail as usize] = MARK;
     }
 }
 

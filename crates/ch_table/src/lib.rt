@@ -10,8 +10,8 @@
 //! selection from the highest rank to the lowest: the label of a node is the least of its own and of the labels of the
 //! nodes that its links come from, with the links' lengths. So a row costs a climb and one look at each link of the
 //! selection, whatever the number of targets (Delling, Goldberg, Nowatzyk, Werneck, *PHAST*, 2011; Delling, Goldberg,
-//! Werneck, *Faster Batched Shortest Paths in Road Networks*, 2011). Eight rows share that look: each place has a label in
-//! a lane for each.
+//! Werneck, *Faster Batched Shortest Paths in Road Networks*, 2011). Eight rows share that look, or four in a large
+//! selection: each place has a label in a lane for each.
 #![tactic(auto)]
 
 mod columns;

@@ -12,6 +12,9 @@ use ch_query::{HierarchyRef, SearchOf, Seed, ways_are_walks};
 use std::alloc::{AllocError, Global};
 use std::marker::Model;
 
+// How many nodes may be selected where eight rows share a look at the links: with more, their labels leave the caches.
+const WIDE: usize = 65_536;
+
 /// The part of a hierarchy that walks to some targets fall through: the columns of tables.
 ///
 /// It is made once for its targets, and then gives any number of rows. It never changes, holds no reference, and is good for
@@ -36,8 +39,8 @@ impl Selection {
     /// Selects what walks to these targets fall through, in the hierarchy of a search. A target may be among them more
     /// than once.
     ///
-    /// Looks at each node of the hierarchy once and at each link of the selection twice. Takes the memory of the
-    /// selection, and until it returns one byte for each node of the hierarchy more.
+    /// Looks at each link of the selection twice, and at a byte for each node of the hierarchy, which it takes until it
+    /// returns.
     pub fn new<H: HierarchyRef>(
         alloc: Global,
         search: &SearchOf<H>,
@@ -62,10 +65,11 @@ impl Selection {
     /// `rows[from + i * targets + k]`, of so many targets, or [`NO_LENGTH`] where there is no walk. The search is of the
     /// hierarchy that the selection was made for.
     ///
-    /// Each is the length of [`Search::cost`](ch_query::Search::cost). Eight rows are worked out together. Takes the time of
-    /// a climb for each source, and then for each eight of them of a look at each link of the selection; and for the call 8
-    /// bytes for each node of the selection, or 64 for more than one source, and 16 for each that a climb comes to. If that is
-    /// refused, some first rows may be written, but not all: a single row is as before.
+    /// Each is the length of [`Search::cost`](ch_query::Search::cost). Eight rows are worked out together, or four where more
+    /// than 65,536 nodes are selected. Takes the time of a climb for each source, and then for each block of rows of a look at
+    /// each link of the selection; and for the call 8 bytes for each row of a block and each node of the selection, and 16 for
+    /// each node that a climb comes to. If that is refused, some first rows may be written, but not all: a single row is as
+    /// before.
     pub fn lengths<H: HierarchyRef>(
         &self,
         search: &mut SearchOf<H>,
@@ -83,6 +87,9 @@ impl Selection {
         match sources.len() {
             0 => Ok(()),
             1 => fill::<1, H>(search, &self.columns, sources, rows, from),
+            _ if self.columns.ranks.len() > WIDE => {
+                fill::<4, H>(search, &self.columns, sources, rows, from)
+            }
             _ => fill::<8, H>(search, &self.columns, sources, rows, from),
         }
     }

@@ -1,4 +1,4 @@
-use Rattle.std.proofs.Common.{◌<◌, ◌∙◌, true, All, length, get_or, set, take, subst, arith}
+use Rattle.std.proofs.Common.{◌<◌, ◌∙◌, All, length, get_or, set, take, subst, arith}
 use Rattle.std.proofs.lemmas.List.{length-set, take_all}
 use Rattle.std.proofs.lemmas.List.Elements.{All-more}
 use Rattle.ch_graph.specs.Hierarchy.{rank_of}
@@ -14,10 +14,10 @@ targets-preserved c =
     let n = c.targets.target-index in
     let r_in : c.rank.result < length c.targets.marks.items = omega (arith, c.rank.ensures, c.nodes.ensures.made.in_range (get_or c.args.targets.now n 0) 0 (c.requires.targets n 0 c.targets-test.true), c.targets.invariant.nodes) in
     record {
-      nodes = length-set marks r true ∙ c.targets.invariant.nodes;
-      ends = All-more (λ t. IsMarked (set marks r true) (rank_of h t)) c.args.targets.now n 0 c.targets-test.true
+      nodes = length-set marks r 1 ∙ c.targets.invariant.nodes;
+      ends = All-more (λ t. IsMarked (set marks r 1) (rank_of h t)) c.args.targets.now n 0 c.targets-test.true
           (λ k d low. is_marked-set marks r (rank_of h (get_or (take n c.args.targets.now) k d)) r_in (c.targets.invariant.ends k d low))
-          (subst (IsMarked (set marks r true)) c.rank.ensures (is_marked-here marks r r_in));
+          (subst (IsMarked (set marks r 1)) c.rank.ensures (is_marked-here marks r r_in));
     }
 
 pub returns-clause-ends : goal.returns-clause-ends

@@ -1,13 +1,34 @@
-use Rattle.std.proofs.Common.{ℕ, ◌+◌, List, sym, subst}
+use Rattle.std.proofs.Common.{ℕ, ◌≡◌, ◌+◌, ◌-◌, ◌<◌, List, length, drop, take, ap, sym, ◌∙◌, subst, arith}
+use Rattle.memchr.specs.Find.{Nowhere, Passes, is_byte}
+use Rattle.ch_graph.specs.Hierarchy.{Hierarchy}
 use Rattle.ch_query.specs.declared.fall.Fall.{Fall}
 use Rattle.ch_table.specs.Laying.{AreListedTo, AreMarkedWith}
-use Rattle.ch_table.proofs.Marked.{listed-more}
+use Rattle.ch_table.proofs.Marked.{length-rest, listed-skips, listed-more, unmarked}
 use Rattle.ch_table.proofs.columns.Marked.pass.Goals as goal
 
-pub returns : goal.returns
-returns g c =
-    let old = c.args.self.now.marks.items in
+pub returns-in-None-clause-listed : goal.returns-in-None-clause-listed
+returns-in-None-clause-listed g c =
+    let marks = c.deref.result.now in
+    let low = c.args.low in
+    let nodes : c.nodes-nodes.result ≡ length c.args.search.now.ranks = c.nodes-nodes.ensures.count ∙ ap (λ (h : Hierarchy). length h.ranks) c.hierarchy.ensures in
+    let seen : length c.deref.result.now ≡ c.nodes-nodes.result = ap (λ (ms : List ℕ). length ms) c.deref.ensures.value ∙ (c.requires.listed.nodes ∙ sym nodes) in
+    let none = subst (λ n. Nowhere (Passes (is_byte 1) (take (length marks - low) (drop low marks))) 0 n) (length-rest marks low) c.in-None.ensures in
+    subst (λ (ms : List ℕ). AreListedTo c.args.search.now c.args.targets.now ms c.args.self.now.ranks.items c.nodes-nodes.result) c.deref.ensures.value
+    (listed-skips c.args.search.now c.args.targets.now c.args.self.now.ranks.items low marks c.nodes-nodes.result (omega (arith, c.requires.low_in, nodes))
+    (λ r from to. unmarked marks low (length marks - low) none r from (omega (arith, to, from, seen)))
+    (subst (λ (ms : List ℕ). AreListedTo c.args.search.now c.args.targets.now ms c.args.self.now.ranks.items low) (sym c.deref.ensures.value) c.requires.listed))
+
+pub returns-in_ok-falls_to-in-Some-clause-listed : goal.returns-in_ok-falls_to-in-Some-clause-listed
+returns-in_ok-falls_to-in-Some-clause-listed g c =
+    let h = c.args.search.now in
+    let old = c.deref.result.now in
     let new = c.mark_tails.new.marks.items in
-    subst (λ (ranks : List ℕ). AreListedTo c.args.search.now c.args.targets.now new ranks (c.args.rank + 1)) (sym c.in_ok-push.ensures.items)
-    (listed-more c.args.search.now c.args.targets.now c.args.self.now.ranks.items c.args.rank old new c.falls_to.new.falls.items c.requires.rank_in c.in_ok-falls_to.ensures.falls
-    (subst (λ (falls : List Fall). AreMarkedWith falls old new) c.deref.ensures.value c.mark_tails.ensures) c.requires.ends_in c.requires.listed)
+    let low = c.args.low in
+    let rank = low + c.in-Some.skipped in
+    let was = subst (λ (ms : List ℕ). AreListedTo h c.args.targets.now ms c.args.self.now.ranks.items low) (sym c.deref.ensures.value) c.requires.listed in
+    let rank_in : low + c.in-Some.skipped < length c.args.search.now.ranks = omega (arith, c.in-Some.ensures.0.high, length-rest old low, was.nodes) in
+    let skipped = listed-skips h c.args.targets.now c.args.self.now.ranks.items low old rank (omega arith) (unmarked old low c.in-Some.skipped c.in-Some.ensures.0.before) was in
+    subst (λ (ranks : List ℕ). AreListedTo h c.args.targets.now new ranks (rank + 1)) (sym c.in_ok-push-in-Some.ensures.items)
+    (listed-more h c.args.targets.now c.args.self.now.ranks.items rank old new c.falls_to.new.falls.items rank_in c.in_ok-falls_to-in-Some.ensures.falls
+    (subst (λ (ms : List ℕ). AreMarkedWith c.falls_to.new.falls.items ms new) (sym c.deref.ensures.value)
+    (subst (λ (falls : List Fall). AreMarkedWith falls c.args.self.now.marks.items new) c.deref-in-Some.ensures.value c.mark_tails.ensures)) c.requires.ends_in skipped)

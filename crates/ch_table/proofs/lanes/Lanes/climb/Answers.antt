@@ -1,8 +1,6 @@
-use Rattle.std.proofs.Common.{ℕ, ◌≡◌, ◌+◌, ◌∙◌, List, drop, length, ap, sym, subst, arith}
-use Rattle.std.proofs.lemmas.Result.{IfOk-weaker}
+use Rattle.std.proofs.Common.{ℕ, ◌≡◌, ◌+◌, ◌∙◌, List, drop, length, sym, subst, arith}
 use Rattle.ch_graph.specs.Hierarchy.{Hierarchy, IsWellMade}
 use Rattle.ch_query.specs.declared.climb.Climbed.{Climbed}
-use Rattle.ch_query.specs.declared.seed.Seed.{Seed}
 use Rattle.ch_query.specs.declared.side.Side.TheVariants.{Rise}
 use Rattle.ch_query.specs.Ways.{AreLeastClimbs}
 use Rattle.ch_table.specs.Labels.{AreRaisedTo, HaveLanes}

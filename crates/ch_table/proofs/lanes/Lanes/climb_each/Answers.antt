@@ -1,4 +1,4 @@
-use Rattle.std.proofs.Common.{ℕ, ◌≡◌, ◌+◌, ◌<◌, ◌∙◌, List, [], ◌∷◌, length, slice_index, ap, sym, subst, arith}
+use Rattle.std.proofs.Common.{ℕ, ◌≡◌, ◌+◌, ◌<◌, ◌∙◌, [], ◌∷◌, length, slice_index, ap, sym, subst, arith}
 use Rattle.ch_graph.specs.Hierarchy.{Hierarchy}
 use Rattle.ch_query.specs.declared.seed.Seed.{Seed}
 use Rattle.ch_query.specs.Seeds.{AreSeeds}

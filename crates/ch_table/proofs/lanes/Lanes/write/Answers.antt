@@ -1,14 +1,13 @@
-use Rattle.std.proofs.Common.{ℕ, ◌≡◌, ◌+◌, ◌*◌, ◌<◌, ◌≤◌, ◌∙◌, List, [], ◌∷◌, drop, length, slice_index, ap, refl, sym, subst, arith}
+use Rattle.std.proofs.Common.{ℕ, ◌≡◌, ◌+◌, ◌*◌, ◌<◌, ◌≤◌, ◌∙◌, List, [], ◌∷◌, length, slice_index, ap, refl, sym, subst, arith}
 use Rattle.std.proofs.Math.Nat.{add-mul, mul-le-mul_right}
 use Rattle.ch_graph.specs.Hierarchy.{Hierarchy, IsWellMade}
 use Rattle.ch_query.specs.declared.seed.Seed.{Seed}
 use Rattle.ch_query.specs.declared.side.Side.TheVariants.{Rise}
 use Rattle.ch_query.specs.Ways.{IsClimb, free}
 use Rattle.ch_table.specs.Labels.{AreLabels, AreSmall, HaveLanes, lane_of}
-use Rattle.ch_table.specs.Lengths.{AreRows, IsLengthFrom, IsLengthFromAny, IsRow}
+use Rattle.ch_table.specs.Lengths.{IsLengthFromAny, IsRow}
 use Rattle.ch_table.specs.Selection.{IsSelection, IsTable, lists_of}
 use Rattle.ch_table.proofs.Bounds.{own-bound, free-start}
-use Rattle.ch_table.proofs.LaneLabels.{written-back}
 use Rattle.ch_table.proofs.Rows.{row-from, rows-one}
 use Rattle.ch_table.proofs.lanes.Lanes.write.Goals as goal
 

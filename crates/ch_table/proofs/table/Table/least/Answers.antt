@@ -3,9 +3,7 @@ use Rattle.std.proofs.Math.Nat.{mul-le-mul_right}
 use Rattle.std.proofs.lemmas.Bool.{cases_lt}
 use Rattle.std.proofs.lemmas.List.{get_or_default, get_or_past}
 use Rattle.ch_query.specs.declared.seed.Seed.{Seed}
-use Rattle.ch_query.specs.declared.side.Side.TheVariants.{Rise}
-use Rattle.ch_query.specs.Ways.{IsClimb, IsWay}
-use Rattle.ch_table.specs.Labels.{AreSwept, IsLabel, IsLeastOver, far, lane_of}
+use Rattle.ch_table.specs.Labels.{IsLabel, IsLeastOver, far, lane_of}
 use Rattle.ch_table.specs.Selection.{IsLaidDown, IsTable, lists_of}
 use Rattle.ch_table.specs.declared.table.Table.{Table}
 use Rattle.ch_table.proofs.LeastWays.{Comes}

@@ -1,4 +1,4 @@
-use Rattle.std.proofs.Common.{ℕ, ◌≡◌, ◌+◌, ◌<◌, ◌∙◌, List, [], get_or, length, slice_index, ap, sym, subst, arith}
+use Rattle.std.proofs.Common.{◌≡◌, ◌+◌, ◌<◌, ◌∙◌, List, length, slice_index, ap, sym, subst, arith}
 use Rattle.std.proofs.lemmas.List.{get_or_default, length-set}
 use Rattle.ch_cost.specs.Cost.{length_of}
 use Rattle.ch_graph.specs.Hierarchy.{rank_of}
@@ -6,7 +6,7 @@ use Rattle.ch_query.specs.declared.seed.Seed.{Seed}
 use Rattle.ch_query.specs.Ways.{IsWay}
 use Rattle.ch_table.specs.Labels.{IsLabel, lane_of}
 use Rattle.ch_table.specs.Lengths.{IsLengthFromAny}
-use Rattle.ch_table.proofs.Rows.{row-more, row-all, written-none, written-some}
+use Rattle.ch_table.proofs.Rows.{row-more, written-none, written-some}
 use Rattle.ch_table.proofs.table.Table.put.Goals.{then-label-bound, else-label-bound}
 use Rattle.ch_table.proofs.table.Table.put.Goals as goal
 

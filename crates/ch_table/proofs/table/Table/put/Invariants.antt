@@ -1,4 +1,4 @@
-use Rattle.std.proofs.Common.{ℕ, ◌≡◌, List, length}
+use Rattle.std.proofs.Common.{◌≡◌, List, length}
 use Rattle.ch_query.specs.declared.seed.Seed.{Seed}
 use Rattle.ch_query.specs.Seeds.{AreSeeds}
 use Rattle.ch_query.specs.Ways.{IsWay}

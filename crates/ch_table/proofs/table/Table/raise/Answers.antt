@@ -1,4 +1,4 @@
-use Rattle.std.proofs.Common.{ℕ, ◌≡◌, ◌+◌, ◌-◌, ◌<◌, ◌∙◌, List, [], get_or, length, set, slice_index, ap, sym, subst, arith}
+use Rattle.std.proofs.Common.{ℕ, ◌≡◌, ◌+◌, ◌-◌, ◌<◌, ◌∙◌, List, [], get_or, length, set, slice_index, sym, subst, arith}
 use Rattle.std.proofs.lemmas.List.{get_or_default}
 use Rattle.ch_query.specs.declared.climb.Climbed.{Climbed}
 use Rattle.ch_table.specs.Labels.{HaveLanes, far, lane_of}

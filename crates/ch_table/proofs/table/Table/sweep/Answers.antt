@@ -1,9 +1,9 @@
-use Rattle.std.proofs.Common.{ℕ, ◌≡◌, ◌+◌, ◌-◌, ◌<◌, ◌≤◌, ◌∙◌, List, length, set, slice_index, ap, sym, subst, inl, inr, arith}
+use Rattle.std.proofs.Common.{ℕ, ◌≡◌, ◌+◌, ◌-◌, ◌<◌, ◌∙◌, List, length, set, slice_index, ap, sym, subst, inl, inr, arith}
 use Rattle.std.proofs.lemmas.Bool.{cases_eq}
 use Rattle.ch_query.specs.declared.seed.Seed.{Seed}
 use Rattle.ch_query.specs.declared.side.Side.TheVariants.{Rise}
 use Rattle.ch_query.specs.Ways.{IsClimb, IsWay}
-use Rattle.ch_table.specs.Labels.{AreSwept, IsLabel, far, lane_of}
+use Rattle.ch_table.specs.Labels.{AreSwept, IsLabel, lane_of}
 use Rattle.ch_table.proofs.LaneLabels.{lane-here, lane-elsewhere, lanes-set}
 use Rattle.ch_table.proofs.Sweeping.{swept-more, swept-all}
 use Rattle.ch_table.proofs.table.Table.sweep.Goals as goal
