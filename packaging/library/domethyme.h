@@ -112,8 +112,9 @@ uint32_t domethyme_open(domethyme *handle, const uint8_t *bytes, size_t count);
 void domethyme_close(domethyme *handle);
 
 /* Opens another handle of the same hierarchy, for another thread. `other` is another struct than `handle`; what it was open for
- * before is closed. It takes 48 bytes a node, and later what its own calls need. From then on the two are used, passed to
- * threads and closed apart from each other, in any order. DOMETHYME_NO_HANDLE, DOMETHYME_OUT_OF_MEMORY. */
+ * before is closed. It takes 48 bytes a node, and later what its own calls need; it shares what `handle` keeps of a table. From
+ * then on the two are used, passed to threads and closed apart from each other, in any order. DOMETHYME_NO_HANDLE,
+ * DOMETHYME_OUT_OF_MEMORY. */
 uint32_t domethyme_beside(domethyme *handle, domethyme *other);
 
 /* The number of nodes, and the version of the file, 1 or 2. DOMETHYME_NO_HANDLE. */
@@ -144,7 +145,8 @@ uint32_t domethyme_lengths(domethyme *handle, const domethyme_pair *pairs, size_
  *
  * Above 64 lengths it first selects what paths to the targets take: 4 bytes for each node of the hierarchy, 8 for each target,
  * and 12 for each node that is selected and for each link to one, with room for up to as many again. The handle keeps that for
- * the next table to the same targets, in the same order, until one to others comes; a call with no targets frees it. */
+ * the next table to the same targets, in the same order, until one to others comes; a call with no targets lets it go. Handles
+ * that are opened beside this one share it, and the last of them frees it. */
 uint32_t domethyme_table(domethyme *handle, const uint32_t *sources, size_t source_count,
                          const uint32_t *targets, size_t target_count, uint64_t *lengths, size_t room);
 

@@ -266,11 +266,12 @@ int main(int count, char **words)
     rows(&handle);
     reaches(&handle);
     rows(&handle);
-    /* A second handle lives on behind the first; a handle that is opened again closes what it had. */
+    /* A second handle lives on behind the first, whose selection it shares; a handle that is opened again closes what it had. */
     WANT(domethyme_beside(&handle, &other) == DOMETHYME_OK);
     WANT(domethyme_beside(&handle, &other) == DOMETHYME_OK);
     WANT(domethyme_open(&handle, hierarchy.bytes, hierarchy.count) == DOMETHYME_OK);
     domethyme_close(&handle);
+    rows(&other);
     single(&other);
     WANT(domethyme_open(&other, hierarchy.bytes, hierarchy.count - 1) == DOMETHYME_TRUNCATED);
     closed(&other);

@@ -9,6 +9,7 @@ ghost use Rattle.ch_route.specs.Between.{HasTooLongBetween, IsRowLengthFrom, IsR
 ghost use Rattle.ch_route.specs.Routes.{HasTooLong, IsRowLength};
 ghost use Rattle.ch_table.specs.Lengths.{AreRows, IsRow};
 ghost use Rattle.ch_table.specs.Selection.{IsSelection};
+ghost use Rattle.std.specs.Arc.{arc_value};
 ghost use Rattle.ch_unpack.specs.declared.error.UnpackError.TheVariants.{TooLong};
 
 use ch_graph::Hierarchy;
@@ -19,23 +20,25 @@ use std::marker::Model;
 use std::sync::Arc;
 
 /// What an open handle has: a router of a hierarchy, which other handles may share, the version of its file, and the
-/// selection of the last table, for another table to the same targets.
+/// selection of the last table, for another table to the same targets, which those opened beside it share.
 #[derive(Drop)]
 pub(crate) struct Engine {
     router: RouterOf<Arc<Hierarchy>>,
     version: u8,
-    kept: Option<Selection>,
+    kept: Option<Arc<Selection>>,
 }
 
 impl Model for Engine {
     ghost use Rattle.ch_graph.specs.Hierarchy as hierarchies;
+    ghost use Rattle.std.specs.Prelude.{option_map};
+    ghost use Rattle.std.specs.Arc.{arc_value};
     ghost use Rattle.domethyme_c.specs.Engines.{IsEngine};
 
     ghost Value = { hierarchies.Hierarchy };
 
     ghost view = { λ e. e.router };
 
-    ghost invariant = { λ e. IsEngine e.router e.version e.kept };
+    ghost invariant = { λ e. IsEngine e.router e.version (option_map arc_value e.kept) };
 }
 
 impl Engine {
@@ -115,10 +118,14 @@ impl Engine {
     }
 
     /// Returns a selection of these targets, the one that is kept if it is of them. None is kept then.
-    pub(crate) fn selection(&mut self, targets: &[u32]) -> Result<Selection, AllocError>
+    pub(crate) fn selection(
+        &mut self,
+        alloc: Global,
+        targets: &[u32],
+    ) -> Result<Arc<Selection>, AllocError>
         requires targets { All (λ t. t < length self.old.ranks) targets.now }
-        ensures selection { IfOk result (λ s. IsSelection self.old s) }
-        ensures targets { IfOk result (λ s. s.targets ≡ targets.now) }
+        ensures selection { IfOk result (λ s. IsSelection self.old (arc_value s)) }
+        ensures targets { IfOk result (λ s. (arc_value s).targets ≡ targets.now) }
         ensures kept { self.new ≡ self.old }
     {
         if let Some(kept) = self.kept.take() {
@@ -126,12 +133,13 @@ impl Engine {
                 return Ok(kept);
             }
         }
-        self.router.select(targets)
+        let selection = self.router.select(targets)?;
+        Ok(Arc::new(alloc, selection)?)
     }
 
     /// Keeps a selection for the next table, in place of any other.
-    pub(crate) fn keep(&mut self, selection: Selection)
-        requires { IsSelection self.old selection }
+    pub(crate) fn keep(&mut self, selection: Arc<Selection>)
+        requires { IsSelection self.old (arc_value selection) }
         ensures { self.new ≡ self.old }
     {
         self.kept = Some(selection);
@@ -180,15 +188,19 @@ impl Engine {
         self.router.lengths_from(starts, most, selection, row, 0)
     }
 
-    /// Another engine of the same hierarchy.
+    /// Another engine of the same hierarchy, which shares the kept selection.
     pub(crate) fn beside(&self) -> Result<Engine, AllocError>
         ensures { IfOk result (λ engine. engine ≡ self.now) }
     {
+        let kept = match &self.kept {
+            Some(kept) => Some(Arc::try_clone(kept)?),
+            None => None,
+        };
         let router = self.router.beside()?;
         Ok(Engine {
             router,
             version: self.version,
-            kept: None,
+            kept,
         })
     }
 }

@@ -120,12 +120,18 @@ pub extern "C" fn domethyme_table(
     let Some(mut engine) = handle.take(alloc) else {
         return NO_HANDLE;
     };
-    let code = answer_table(&mut engine, sources, targets, lengths);
+    let code = answer_table(alloc, &mut engine, sources, targets, lengths);
     handle.put(alloc, engine);
     code
 }
 
-fn answer_table(engine: &mut Engine, sources: &[u32], targets: &[u32], lengths: &mut [u64]) -> u32
+fn answer_table(
+    alloc: Global,
+    engine: &mut Engine,
+    sources: &[u32],
+    targets: &[u32],
+    lengths: &mut [u64],
+) -> u32
     ensures kept { engine.new ≡ engine.old }
     ensures answer { IsTableAnswer engine.old sources.now targets.now result lengths.old lengths.new }
 {
@@ -138,11 +144,12 @@ fn answer_table(engine: &mut Engine, sources: &[u32], targets: &[u32], lengths: 
     if !(are_nodes(engine, sources) & are_nodes(engine, targets)) {
         return NODE_RANGE;
     }
-    fill_table(engine, sources, targets, count, lengths)
+    fill_table(alloc, engine, sources, targets, count, lengths)
 }
 
 // Writes the lengths of a table that has room: pair by pair where they are few, and else row by row.
 fn fill_table(
+    alloc: Global,
     engine: &mut Engine,
     sources: &[u32],
     targets: &[u32],
@@ -162,7 +169,7 @@ fn fill_table(
     if count <= FEW {
         return fill_pairs(engine, sources, targets, count, lengths);
     }
-    let Ok(selection) = engine.selection(targets) else {
+    let Ok(selection) = engine.selection(alloc, targets) else {
         return OUT_OF_MEMORY;
     };
     let code = fill_rows(engine, sources, &selection, lengths);

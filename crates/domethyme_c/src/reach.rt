@@ -91,7 +91,7 @@ fn fill_reach(
     ensures refused { OnErr result (lengths.new ≡ lengths.old) }
 {
     let nodes = all_nodes(alloc, engine.nodes())?;
-    let selection = engine.selection(nodes.as_slice())?;
+    let selection = engine.selection(alloc, nodes.as_slice())?;
     let done = engine.lengths_from(starts, most, &selection, lengths);
     engine.keep(selection);
     done

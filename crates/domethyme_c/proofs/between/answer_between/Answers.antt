@@ -1,4 +1,4 @@
-use Rattle.std.proofs.Common.{◌≡◌, List, ℕ, subst, ◌∙◌, ap, sym}
+use Rattle.std.proofs.Common.{List, ℕ, subst, ◌∙◌, ap}
 use Rattle.domethyme_c.specs.Answers.{IsBetween, IsWritten, between_info_of}
 use Rattle.ch_route.specs.Between.{RouteBetween}
 use Rattle.domethyme_c.specs.Answers.IsFoundBetween.{found}

@@ -1,5 +1,5 @@
 use Rattle.std.proofs.Common.{List, map, refl, subst, ◌∙◌}
-use Rattle.domethyme_c.specs.Answers.{IsFoundBetween, IsBetweenAnswer, seed_of}
+use Rattle.domethyme_c.specs.Answers.{IsFoundBetween, seed_of}
 use Rattle.domethyme_c.specs.Answers.IsBetweenAnswer.{answered, no_end, no_start}
 use Rattle.ch_query.specs.declared.seed.Seed.{Seed}
 use Rattle.ch_query.specs.Seeds.{AreSeeds}

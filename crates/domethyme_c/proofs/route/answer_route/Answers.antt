@@ -1,4 +1,4 @@
-use Rattle.std.proofs.Common.{◌≡◌, List, ℕ, subst, ◌∙◌, ap, sym}
+use Rattle.std.proofs.Common.{List, ℕ, subst, ◌∙◌, ap}
 use Rattle.domethyme_c.specs.Answers.{IsRoute, IsWritten, info_of}
 use Rattle.ch_route.specs.Routes.{Route}
 use Rattle.domethyme_c.specs.Answers.IsRouteAnswer.{found}

@@ -1,4 +1,4 @@
-use Rattle.std.proofs.Common.{◌≡◌, Option, Some, ℕ, subst, ◌∙◌, ap, sym}
+use Rattle.std.proofs.Common.{◌≡◌, Option, subst, ◌∙◌, ap, sym}
 use Rattle.core.specs.Mem.{manually_drop_value}
 use Rattle.ch_graph.specs.Hierarchy.{Hierarchy}
 use Rattle.domethyme_c.specs.Answers.{Answers, IsRouteAnswer}
