@@ -253,6 +253,79 @@ fn are_plain(
     Ok(holds)
 }
 
+/// Sources of tables: none, one, and numbers about the eight whose rows are worked out together.
+const SOURCES: &[&[u32]] = &[
+    &[],
+    &[2],
+    &[5, 0, 2],
+    &[0, 1, 2, 3],
+    &[4, 3, 2, 1, 0],
+    &[0, 1, 2, 3, 4, 5, 0, 1],
+    &[5, 4, 3, 2, 1, 0, 5, 4, 3],
+];
+
+/// Numbers of which those from the second on are the rows of some nodes, if there is room.
+fn rows_from(
+    router: &mut Router<'_>,
+    selection: &Selection,
+    sources: &[u32],
+) -> Result<Option<[u64; 64]>, AllocError>
+    requires { IsSelection router.old selection.now }
+    ensures { router.new ≡ router.old }
+{
+    let mut rows = [OLD; 64];
+    let nodes = router.nodes();
+    let Some(cells) = sources.len().checked_mul(selection.targets().len()) else {
+        return Ok(None);
+    };
+    if cells > 63 || !sources.iter().all(|source| *source < nodes) {
+        return Ok(None);
+    }
+    router.lengths(sources, selection, &mut rows, 1)?;
+    Ok(Some(rows))
+}
+
+/// Whether they are those of a plain search of a graph from each source to each target, and the rest is as it was.
+fn are_rows(
+    graph: &Graph,
+    sources: &[u32],
+    targets: &[u32],
+    rows: Option<[u64; 64]>,
+) -> Result<bool, AllocError> {
+    let Some(rows) = rows else {
+        return Ok(false);
+    };
+    let mut cells = rows.iter();
+    let mut holds = cells.next() == Some(&OLD);
+    for source in sources {
+        for target in targets {
+            let length = length_in(graph, *source, *target)?;
+            holds &= cells.next() == Some(&length);
+        }
+    }
+    for cell in cells {
+        holds &= *cell == OLD;
+    }
+    Ok(holds)
+}
+
+/// Whether each table from these sources is.
+fn are_tables(
+    graph: &Graph,
+    router: &mut Router<'_>,
+    selection: &Selection,
+) -> Result<bool, AllocError>
+    requires { IsSelection router.old selection.now }
+    ensures { router.new ≡ router.old }
+{
+    let mut holds = true;
+    'tables: for at in 0..SOURCES.len() {
+        let rows = rows_from(router, selection, SOURCES[at])?;
+        holds &= are_rows(graph, SOURCES[at], selection.targets(), rows)?;
+    }
+    Ok(holds)
+}
+
 /// Whether a router of a hierarchy gives the rows of its graph to these targets.
 fn finds_rows(
     alloc: Global,
@@ -264,7 +337,7 @@ fn finds_rows(
     let Some(selection) = selected(&router, targets)? else {
         return Ok(false);
     };
-    Ok(are_plain(graph, &mut router, &selection)?)
+    Ok(are_plain(graph, &mut router, &selection)? & are_tables(graph, &mut router, &selection)?)
 }
 
 /// Whether those of a case do, to all nodes and to some.
