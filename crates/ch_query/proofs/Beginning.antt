@@ -26,8 +26,8 @@ use Rattle.ch_query.proofs.BestMeetings.{best-none}
 
 -- No seed is planted yet
 
-pub begun-none : (h : Hierarchy) (seeds : List Seed) (bound : Cost) (n : ℕ) → n ≡ length h.ranks → (marks : List (Mark Label)) → marks ≡ replicate n Unseen → IsBegun h seeds bound 0 marks
-begun-none h seeds bound n nodes marks unseen = record {
+pub begun-none : {h : Hierarchy} {seeds : List Seed} {bound : Cost} {n : ℕ} → n ≡ length h.ranks → {marks : List (Mark Label)} → marks ≡ replicate n Unseen → IsBegun h seeds bound 0 marks
+begun-none {n} nodes {marks} unseen = record {
   nodes = ap length unseen ∙ (length-replicate {A = Mark Label} n Unseen ∙ nodes);
   none = λ r e closed. unseen-settled (sym (unseen_at r) ∙ closed);
   of_seed = λ r e has. absurd (unseen-label (mark marks r) e (unseen_at r) has);
@@ -41,23 +41,23 @@ begun-none h seeds bound n nodes marks unseen = record {
 -- One more is
 
 -- each label stays at most what it was
-planted-kept : (bound : Cost) (r : ℕ) (c : Cost) (old new : List (Mark Label)) → r < length old → IsPlanted bound r c old new → (q : ℕ) (d : Cost) → IsAtMost label_cost (mark old q) d → IsAtMost label_cost (mark new q) d
-planted-kept bound r c old new within (inl put) q d most = subst (λ (ms : List (Mark Label)). IsAtMost label_cost (mark ms q) d) (sym put.2) (elim (cases_put (put-set old r (Open (record { cost = c; foot = r })) within) q) [
+planted-kept : {bound : Cost} {r : ℕ} {c : Cost} {old new : List (Mark Label)} → r < length old → IsPlanted bound r c old new → (q : ℕ) (d : Cost) → IsAtMost label_cost (mark old q) d → IsAtMost label_cost (mark new q) d
+planted-kept {r} {c} {old} within (inl put) q d most = subst (λ (ms : List (Mark Label)). IsAtMost label_cost (mark ms q) d) (sym put.2) (elim (cases_put (put-set old r (Open (record { cost = c; foot = r })) within) q) [
   | inl w ↦
       let e : Label = record { cost = c; foot = r } in
       let less = improves-below label_cost (mark old r) c d put.1 (subst (λ p. IsAtMost label_cost (mark old p) d) w.at most) in
       at_most-from_label label_cost (mark (set old r (Open e)) q) e d (label_open (mark (set old r (Open e)) q) e w.reads) less
   | inr k ↦ subst (λ (m : Mark Label). IsAtMost label_cost m d) (sym k.reads) most
 ])
-planted-kept bound r c old new within (inr kept) q d most = subst (λ (ms : List (Mark Label)). IsAtMost label_cost (mark ms q) d) (sym kept.1) most
+planted-kept within (inr kept) q d most = subst (λ (ms : List (Mark Label)). IsAtMost label_cost (mark ms q) d) (sym kept.1) most
 
 -- and where the seed is short, that of its node is at most its cost
-planted-here : (bound : Cost) (r : ℕ) (c : Cost) (old new : List (Mark Label)) → r < length old → IsPlanted bound r c old new → IsNoLonger c bound → IsAtMost label_cost (mark new r) c
-planted-here bound r c old new within (inl put) short =
+planted-here : {bound : Cost} {r : ℕ} {c : Cost} {old new : List (Mark Label)} → r < length old → IsPlanted bound r c old new → IsNoLonger c bound → IsAtMost label_cost (mark new r) c
+planted-here {r} {c} {old} within (inl put) short =
     let e : Label = record { cost = c; foot = r } in
     subst (λ (ms : List (Mark Label)). IsAtMost label_cost (mark ms r) c) (sym put.2)
     (at_most-from_label label_cost (mark (set old r (Open e)) r) e c (label_open (mark (set old r (Open e)) r) e (put-set old r (Open e) within).here) (at_most_refl c))
-planted-here bound r c old new within (inr kept) short = subst (λ (ms : List (Mark Label)). IsAtMost label_cost (mark ms r) c) (sym kept.1) (kept.0 short)
+planted-here {r} {c} within (inr kept) short = subst (λ (ms : List (Mark Label)). IsAtMost label_cost (mark ms r) c) (sym kept.1) (kept.0 short)
 
 -- a label is an older one, or that of the seed
 record IsNew (bound : Cost) (r : ℕ) (c : Cost) (q : ℕ) (e : Label) : Type 0 where
@@ -66,8 +66,8 @@ record IsNew (bound : Cost) (r : ℕ) (c : Cost) (q : ℕ) (e : Label) : Type 0 
   foot : e.foot ≡ r
   short : IsNoLonger c bound
 
-planted-label : (bound : Cost) (r : ℕ) (c : Cost) (old new : List (Mark Label)) → r < length old → IsPlanted bound r c old new → (q : ℕ) (e : Label) → HasLabel (mark new q) e → HasLabel (mark old q) e ⊎ IsNew bound r c q e
-planted-label bound r c old new within (inl put) q e has = elim (cases_put (put-set old r (Open (record { cost = c; foot = r })) within) q) [
+planted-label : {bound : Cost} {r : ℕ} {c : Cost} {old new : List (Mark Label)} → r < length old → IsPlanted bound r c old new → {q : ℕ} {e : Label} → HasLabel (mark new q) e → HasLabel (mark old q) e ⊎ IsNew bound r c q e
+planted-label {r} {c} {old} within (inl put) {q} {e} has = elim (cases_put (put-set old r (Open (record { cost = c; foot = r })) within) q) [
   | inl w ↦
       let first : Label = record { cost = c; foot = r } in
       let same : first ≡ e = one_label (mark (set old r (Open first)) q) first e (label_open (mark (set old r (Open first)) q) first w.reads) there in
@@ -77,44 +77,44 @@ planted-label bound r c old new within (inl put) q e has = elim (cases_put (put-
   where
     there : HasLabel (mark (set old r (Open (record { cost = c; foot = r }))) q) e
     there = subst (λ (ms : List (Mark Label)). HasLabel (mark ms q) e) put.2 has
-planted-label bound r c old new within (inr kept) q e has = inl (subst (λ (ms : List (Mark Label)). HasLabel (mark ms q) e) kept.1 has)
+planted-label within (inr kept) {q} {e} has = inl (subst (λ (ms : List (Mark Label)). HasLabel (mark ms q) e) kept.1 has)
 
-planted-none : (bound : Cost) (r : ℕ) (c : Cost) (old new : List (Mark Label)) → r < length old → IsPlanted bound r c old new → NoneSettled old → NoneSettled new
-planted-none bound r c old new within (inl put) none q e closed = elim (cases_put (put-set old r (Open (record { cost = c; foot = r })) within) q) [
+planted-none : {bound : Cost} {r : ℕ} {c : Cost} {old new : List (Mark Label)} → r < length old → IsPlanted bound r c old new → NoneSettled old → NoneSettled new
+planted-none {r} {c} {old} within (inl put) none q e closed = elim (cases_put (put-set old r (Open (record { cost = c; foot = r })) within) q) [
   | inl w ↦ open-settled (sym w.reads ∙ there)
   | inr k ↦ none q e (sym k.reads ∙ there)
 ]
   where
     there : mark (set old r (Open (record { cost = c; foot = r }))) q ≡ Settled e
     there = subst (λ (ms : List (Mark Label)). mark ms q ≡ Settled e) put.2 closed
-planted-none bound r c old new within (inr kept) none q e closed = none q e (subst (λ (ms : List (Mark Label)). mark ms q ≡ Settled e) kept.1 closed)
+planted-none within (inr kept) none q e closed = none q e (subst (λ (ms : List (Mark Label)). mark ms q ≡ Settled e) kept.1 closed)
 
-some_seed : (a b : Seed) → Some a ≡ Some b → a ≡ b
-some_seed a b is = cc
+some_seed : {a b : Seed} → Some a ≡ Some b → a ≡ b
+some_seed is = cc
 
-pub begun-more : (h : Hierarchy) (seeds : List Seed) (bound : Cost) (n : ℕ) (seed : Seed) (old new : List (Mark Label))
+pub begun-more : {h : Hierarchy} {seeds : List Seed} {bound : Cost} {n : ℕ} {seed : Seed} {old new : List (Mark Label)}
     → slice_get seeds n ≡ Some seed → rank_of h seed.node < length h.ranks → length new ≡ length old
     → IsPlanted bound (rank_of h seed.node) seed.cost old new → IsBegun h seeds bound n old → IsBegun h seeds bound (n + 1) new
-begun-more h seeds bound n seed old new at rank_in count planted was = record {
+begun-more {h} {seeds} {bound} {n} {seed} {old} {new} at rank_in count planted was = record {
   nodes = count ∙ was.nodes;
-  none = planted-none bound r seed.cost old new within planted was.none;
-  of_seed = λ q e has. elim (planted-label bound r seed.cost old new within planted q e has) [
+  none = planted-none within planted was.none;
+  of_seed = λ q e has. elim (planted-label within planted has) [
     | inl there ↦ was.of_seed q e there
     | inr is_new ↦ record {
-      seed = record { seed = seed; among = among-from_get seeds n seed at; rank = sym is_new.at; cost = sym is_new.cost };
+      seed = record { seed = seed; among = among-from_get seeds n at; rank = sym is_new.at; cost = sym is_new.cost };
       foot = is_new.foot ∙ sym is_new.at;
     }
   ];
-  short = λ q e has. elim (planted-label bound r seed.cost old new within planted q e has) [
+  short = λ q e has. elim (planted-label within planted has) [
     | inl there ↦ was.short q e there
     | inr is_new ↦ subst (λ (d : Cost). IsNoLonger d bound) (sym is_new.cost) is_new.short
   ];
   planted = λ k other low is short. elim (cases_lt k n) [
-    | inl before ↦ planted-kept bound r seed.cost old new within planted (rank_of h other.node) other.cost (was.planted k other before is short)
+    | inl before ↦ planted-kept within planted (rank_of h other.node) other.cost (was.planted k other before is short)
     | inr last ↦
         let here : k ≡ n = omega (arith, low, last) in
-        let same : seed ≡ other = some_seed seed other (sym at ∙ (ap (slice_get seeds) (sym here) ∙ is)) in
-        subst (λ (s : Seed). IsAtMost label_cost (mark new (rank_of h s.node)) s.cost) same (planted-here bound r seed.cost old new within planted (subst (λ (s : Seed). IsNoLonger s.cost bound) (sym same) short))
+        let same : seed ≡ other = some_seed (sym at ∙ (ap (slice_get seeds) (sym here) ∙ is)) in
+        subst (λ (s : Seed). IsAtMost label_cost (mark new (rank_of h s.node)) s.cost) same (planted-here within planted (subst (λ (s : Seed). IsNoLonger s.cost bound) (sym same) short))
   ];
 }
   where
@@ -126,29 +126,29 @@ begun-more h seeds bound n seed old new at rank_in count planted was = record {
 
 -- All are: a side has begun
 
-module _ (h : Hierarchy) (side : Side) (seeds : List Seed) (are : AreSeeds h seeds) (bound : Cost) (marks : List (Mark Label)) (begun : IsBegun h seeds bound (length seeds) marks) where
+module _ {h : Hierarchy} (side : Side) {seeds : List Seed} (are : AreSeeds h seeds) {bound : Cost} {marks : List (Mark Label)} (begun : IsBegun h seeds bound (length seeds) marks) where
   pub searching-begun : IsSearching h side seeds bound marks
   searching-begun = record {
     nodes = begun.nodes;
     origin = λ r e has. inl (begun.of_seed r e has);
     fits = λ r e has.
         let from : IsOfSeed h seeds r e = begun.of_seed r e has in
-        subst (λ (c : Cost). IsOfWalks (r + 1) c) from.seed.cost (of_walks_more {m = 1} {n = r + 1} (omega arith) (of_walks-from_arcs from.seed.seed.cost (seed-in h seeds from.seed.seed are from.seed.among).arcs));
+        subst (λ (c : Cost). IsOfWalks (r + 1) c) from.seed.cost (of_walks_more {m = 1} {n = r + 1} (omega arith) (of_walks-from_arcs from.seed.seed.cost (seed-in seeds are from.seed.among).arcs));
     short = begun.short;
   }
 
-  pub climbing-begun : (limit : Option Cost) → IsClimbing h side seeds bound limit marks
-  climbing-begun limit = search-begin label_cost begun.none at_starts (λ r e has. (begun.of_seed r e has).seed)
+  pub climbing-begun : {limit : Option Cost} → IsClimbing h side seeds bound limit marks
+  climbing-begun {limit} = search-begin label_cost begun.none at_starts (λ r e has. (begun.of_seed r e has).seed)
     where
       at_starts : (r : ℕ) (c : Cost) → IsSeedAt h seeds r c → CountsBelow bound limit c → IsAtMost label_cost (mark marks r) c
       at_starts r c is counts =
           let short : IsNoLonger is.seed.cost bound = subst (λ (d : Cost). IsNoLonger d bound) (sym is.cost) counts.short in
-          let there = begun.planted is.among.0 is.seed is.among.1 (get-from_among seeds is.seed is.among) short in
+          let there = begun.planted is.among.0 is.seed is.among.1 (get-from_among seeds is.among) short in
           subst (λ (d : Cost). IsAtMost label_cost (mark marks r) d) is.cost (subst (λ q. IsAtMost label_cost (mark marks q) is.seed.cost) is.rank there)
 
   -- the sides haven't met yet
-  pub best-begun : (down : List (Mark Label)) → IsBestSoFar bound marks down None
-  best-begun down = best-none bound marks down begun.none
+  pub best-begun : {down : List (Mark Label)} → IsBestSoFar bound marks down None
+  best-begun = best-none begun.none
 
 -- Turns
 
@@ -160,20 +160,20 @@ pub turned-count : (goes_on : Bool) (old new : List (Mark Label)) (limit best : 
 turned-count true old new limit best turned = turned
 turned-count false old new limit best turned = ap settled_count turned.1 ∙ omega arith
 
-pub not-turned : (goes_on : Bool) (old new : List (Mark Label)) (limit best : Option Cost) → goes_on ≡ false → IsTurned goes_on old new limit best → IsStopped old limit × (new ≡ old) × (best ≡ limit)
-not-turned true old new limit best is turned = absurd (cc)
-not-turned false old new limit best is turned = turned
+pub not-turned : {goes_on : Bool} {old new : List (Mark Label)} {limit best : Option Cost} → goes_on ≡ false → IsTurned goes_on old new limit best → IsStopped old limit × (new ≡ old) × (best ≡ limit)
+not-turned {goes_on = true} is turned = absurd (cc)
+not-turned {goes_on = false} is turned = turned
 
 -- neither side went on: both have stopped at the same best sum
-pub both-stopped : (up new_up down new_down : List (Mark Label)) (first second third : Option Cost) → IsStopped up first × (new_up ≡ up) × (second ≡ first) → IsStopped down second × (new_down ≡ down) × (third ≡ second) → IsStopped new_up third × IsStopped new_down third
-both-stopped up new_up down new_down first second third rose fell = (
+pub both-stopped : {up new_up down new_down : List (Mark Label)} {first second third : Option Cost} → IsStopped up first × (new_up ≡ up) × (second ≡ first) → IsStopped down second × (new_down ≡ down) × (third ≡ second) → IsStopped new_up third × IsStopped new_down third
+both-stopped {up} {down} {third} rose fell = (
   subst (λ (ms : List (Mark Label)). IsStopped ms third) (sym rose.1) (subst (λ (o : Option Cost). IsStopped up o) (sym (fell.2 ∙ rose.2)) rose.0),
   subst (λ (ms : List (Mark Label)). IsStopped ms third) (sym fell.1) (subst (λ (o : Option Cost). IsStopped down o) (sym fell.2) fell.0),
 )
 
-pub neither : (a b : Bool) → (a || b) ≡ false → (a ≡ false) × (b ≡ false)
-neither true b e = absurd (cc)
-neither false b e = (refl, e)
+pub neither : {a b : Bool} → (a || b) ≡ false → (a ≡ false) × (b ≡ false)
+neither {a = true} e = absurd (cc)
+neither {a = false} e = (refl, e)
 
 pub either-one : (a b : Bool) → (a || b) ≡ true → 1 ≤ one_if a + one_if b
 either-one true b e = omega arith

@@ -5,7 +5,7 @@ use Rattle.ch_cost.specs.Cost.{◌⊕◌, ◌≼◌, IsNoLonger}
 use Rattle.ch_cost.specs.Cost.Laws.{sum_comm, at_most_refl, at_most_trans, at_most_antisym, at_most-from_below, at_most_sum_left, at_most_sum_right, sum_at_most, no_longer_at_most}
 use Rattle.ch_graph.specs.declared.mark.Mark.{Mark}
 use Rattle.ch_graph.specs.declared.mark.Mark.TheVariants.{Settled}
-use Rattle.ch_graph.specs.Marks.{mark, label_in, settled, IsAtMost}
+use Rattle.ch_graph.specs.Marks.{mark, settled, IsAtMost}
 use Rattle.ch_graph.specs.Marks.Laws.{label_cases, at_most-from_label}
 use Rattle.ch_query.specs.declared.label.Label.{Label}
 use Rattle.ch_query.specs.declared.meeting.Meeting.{Meeting}
@@ -14,34 +14,34 @@ use Rattle.ch_query.specs.Marks.{costs_of, settled_in, settled_costs, IsBelow, H
 use Rattle.ch_query.specs.Meeting.{IsShortSum, IsBestMeeting, IsMet, IsBestSoFar, IsLooked, cost_of}
 use Rattle.ch_query.proofs.Marking.{has_label, cost_is, from_cost, settled_is, limit-given}
 
-same_given : (o : Option Cost) (c d : Cost) → o ≡ Some c → o ≡ Some d → c ≡ d
-same_given o c d is other = cc
+same_given : {o : Option Cost} {c d : Cost} → o ≡ Some c → o ≡ Some d → c ≡ d
+same_given is other = cc
 
 -- two labels have one sum
-one_sum : (bound : Cost) (up down : Option Cost) (c d : Cost) → AreShort bound up down c → AreShort bound up down d → c ≡ d
-one_sum bound up down c d first second =
-    let rise : first.rise ≡ second.rise = same_given up first.rise second.rise first.risen second.risen in
-    let fall : first.fall ≡ second.fall = same_given down first.fall second.fall first.fallen second.fallen in
+one_sum : {bound : Cost} {up down : Option Cost} {c d : Cost} → AreShort bound up down c → AreShort bound up down d → c ≡ d
+one_sum first second =
+    let rise : first.rise ≡ second.rise = same_given first.risen second.risen in
+    let fall : first.fall ≡ second.fall = same_given first.fallen second.fallen in
     first.sum ∙ ap (λ (a : Cost). a ⊕ first.fall) rise ∙ ap (λ (b : Cost). second.rise ⊕ b) fall ∙ sym second.sum
 
 -- either side may be named first
-meets-flip : (bound : Cost) (up down : ℕ → Option Cost) (r : ℕ) (c : Cost) → Meets bound up down r c → Meets bound down up r c
-meets-flip bound up down r c m = record { rise = m.fall; fall = m.rise; risen = m.fallen; fallen = m.risen; sum = m.sum ∙ sum_comm m.rise m.fall; short = m.short }
+meets-flip : {bound : Cost} (up down : ℕ → Option Cost) {r : ℕ} {c : Cost} → Meets bound up down r c → Meets bound down up r c
+meets-flip up down m = record { rise = m.fall; fall = m.rise; risen = m.fallen; fallen = m.risen; sum = m.sum ∙ sum_comm m.rise m.fall; short = m.short }
 
 met-flip : {bound : Cost} {up down : ℕ → Option Cost} {m : Meeting} → IsMet bound up down m → IsMet bound down up m
-met-flip {bound} {up} {down} {m} met = record { cost = met.cost; meets = meets-flip bound up down m.rank met.cost met.meets; at_most = met.at_most; short = met.short }
+met-flip {bound} {up} {down} {m} met = record { cost = met.cost; meets = meets-flip up down met.meets; at_most = met.at_most; short = met.short }
 
 pub best-flip : {bound : Cost} {up down : List (Mark Label)} {best : Option Meeting} → IsBestSoFar bound up down best → IsBestSoFar bound down up best
 best-flip {bound} {up} {down} is = record {
   met = λ m e. met-flip (is.met m e);
-  least = λ r c m. is.least r c (meets-flip bound (settled_costs down) (settled_costs up) r c m);
+  least = λ r c m. is.least r c (meets-flip (settled_costs down) (settled_costs up) m);
 }
 
 -- where one side has settled no node, there is no meeting yet
-pub best-none : (bound : Cost) (up down : List (Mark Label)) → ((r : ℕ) (e : Label) → mark up r ≡ Settled e → ⊥) → IsBestSoFar bound up down None
-best-none bound up down never = record {
+pub best-none : {bound : Cost} {up down : List (Mark Label)} → ((r : ℕ) (e : Label) → mark up r ≡ Settled e → ⊥) → IsBestSoFar bound up down None
+best-none never = record {
   met = λ m e. absurd (no_meeting m e);
-  least = λ r c m. let e = settled_is (mark up r) m.rise m.risen in absurd (never r e.0 e.1);
+  least = λ r c m. let e = settled_is m.risen in absurd (never r e.0 e.1);
 }
   where
     no_meeting : (m : Meeting) → None ≡ Some m → ⊥
@@ -56,17 +56,17 @@ limit-less no_more has = let b = no_more has.0 has.1 in (b.0, b.1, at_most_trans
 
 -- One look at a node, by whether the two labels make a short sum and whether that is below the best so far
 
-pub looked-skips : (bound : Cost) (r : ℕ) (c : Cost) (other : Option Cost) (best : Option Meeting) → IsShortSum bound (Some c) other None → IsLooked bound r c other best best
-looked-skips bound r c other best never = record {
+pub looked-skips : {bound : Cost} {r : ℕ} {c : Cost} {other : Option Cost} {best : Option Meeting} → IsShortSum bound (Some c) other None → IsLooked bound r c other best best
+looked-skips {best} never = record {
   less = no_more-refl (cost_of best);
   seen = λ d short. absurd (never d short);
   from = λ m e. inl e;
 }
 
-pub looked-less : (bound : Cost) (r : ℕ) (c : Cost) (other : Option Cost) (best : Option Meeting) (sum : Cost) → AreShort bound (Some c) other sum → IsBelow sum (cost_of best) → IsLooked bound r c other best (Some (record { rank = r; cost = sum }))
-looked-less bound r c other best sum short below = record {
+pub looked-less : {bound : Cost} {r : ℕ} {c : Cost} {other : Option Cost} {best : Option Meeting} {sum : Cost} → AreShort bound (Some c) other sum → IsBelow sum (cost_of best) → IsLooked bound r c other best (Some (record { rank = r; cost = sum }))
+looked-less {bound} {r} {c} {other} {sum} short below = record {
   less = λ a is. (sum, refl, at_most-from_below (subst (λ (o : Option Cost). IsBelow sum o) is below));
-  seen = λ d other_sum. (sum, refl, subst (λ (e : Cost). sum ≼ e) (one_sum bound (Some c) other sum d short other_sum) (at_most_refl sum));
+  seen = λ d other_sum. (sum, refl, subst (λ (e : Cost). sum ≼ e) (one_sum short other_sum) (at_most_refl sum));
   from = λ m e.
       let same : record { rank = r; cost = sum } ≡ m = given m e in
       inr (ap (λ (n : Meeting). n.rank) (sym same), subst (λ (n : Meeting). AreShort bound (Some c) other n.cost) same short);
@@ -75,10 +75,10 @@ looked-less bound r c other best sum short below = record {
     given : (m : Meeting) → Some (record { rank = r; cost = sum }) ≡ Some m → record { rank = r; cost = sum } ≡ m
     given m e = cc
 
-pub looked-stays : (bound : Cost) (r : ℕ) (c : Cost) (other : Option Cost) (best : Option Meeting) (sum : Cost) → AreShort bound (Some c) other sum → (IsBelow sum (cost_of best) → ⊥) → IsLooked bound r c other best best
-looked-stays bound r c other best sum short never = record {
+pub looked-stays : {bound : Cost} {r : ℕ} {c : Cost} {other : Option Cost} {best : Option Meeting} {sum : Cost} → AreShort bound (Some c) other sum → (IsBelow sum (cost_of best) → ⊥) → IsLooked bound r c other best best
+looked-stays {best} short never = record {
   less = no_more-refl (cost_of best);
-  seen = λ d other_sum. subst (λ (e : Cost). HasLimit (cost_of best) e) (one_sum bound (Some c) other sum d short other_sum) (limit-given sum (cost_of best) never);
+  seen = λ d other_sum. subst (λ (e : Cost). HasLimit (cost_of best) e) (one_sum short other_sum) (limit-given never);
   from = λ m e. inl e;
 }
 
@@ -87,26 +87,26 @@ pub met-kept : {bound : Cost} (old new : List (Mark Label)) {there : ℕ → Opt
 met-kept {bound} old new {there} {m} kept met =
     let rise : Cost = met.meets.rise in
     let fall : Cost = met.meets.fall in
-    let was = from_cost (label_in (mark old m.rank)) rise met.meets.risen in
-    let has = has_label (mark new m.rank) rise (kept m.rank rise (at_most-from_label label_cost (mark old m.rank) was.0 rise was.1 (subst (λ (x : Cost). was.0.cost ≼ x) was.2 (at_most_refl was.0.cost)))) in
+    let was = from_cost met.meets.risen in
+    let has = has_label (mark new m.rank) (kept m.rank rise (at_most-from_label label_cost (mark old m.rank) was.0 rise was.1 (subst (λ (x : Cost). was.0.cost ≼ x) was.2 (at_most_refl was.0.cost)))) in
     let sum : has.0.cost ⊕ fall ≼ met.cost = subst (λ (x : Cost). has.0.cost ⊕ fall ≼ x) (sym met.meets.sum) (sum_at_most has.2 (at_most_refl fall)) in
     record {
       cost = has.0.cost ⊕ fall;
-      meets = record { rise = has.0.cost; fall = fall; risen = cost_is new m.rank has.0 has.1; fallen = met.meets.fallen; sum = refl; short = no_longer_at_most sum met.meets.short };
+      meets = record { rise = has.0.cost; fall = fall; risen = cost_is new m.rank has.1; fallen = met.meets.fallen; sum = refl; short = no_longer_at_most sum met.meets.short };
       at_most = at_most_trans sum met.at_most;
       short = met.short;
     }
 
 -- a sum of two labels is a meeting
-pub met-from : {bound : Cost} {up down : ℕ → Option Cost} (m : Meeting) → Meets bound up down m.rank m.cost → IsMet bound up down m
-met-from m meets = record { cost = m.cost; meets = meets; at_most = at_most_refl m.cost; short = meets.short }
+pub met-from : {bound : Cost} {up down : ℕ → Option Cost} {m : Meeting} → Meets bound up down m.rank m.cost → IsMet bound up down m
+met-from {m} meets = record { cost = m.cost; meets = meets; at_most = at_most_refl m.cost; short = meets.short }
 
 -- Both sides have stopped: a node that one of them didn't settle has no lesser sum
 
 module _ (bound : Cost) (up down : List (Mark Label)) where
-  settled_or_stopped : (marks : List (Mark Label)) (limit : Option Cost) → IsStopped marks limit → (r : ℕ) (a : Cost) → costs_of marks r ≡ Some a → (settled_costs marks r ≡ Some a) ⊎ HasLimit limit a
-  settled_or_stopped marks limit stopped r a label =
-      let l = from_cost (label_in (mark marks r)) a label in
+  settled_or_stopped : (marks : List (Mark Label)) {limit : Option Cost} → IsStopped marks limit → (r : ℕ) {a : Cost} → costs_of marks r ≡ Some a → (settled_costs marks r ≡ Some a) ⊎ HasLimit limit a
+  settled_or_stopped marks {limit} stopped r label =
+      let l = from_cost label in
       elim (label_cases (mark marks r) l.0 l.1) [
         | inl opens ↦ inr (subst (λ (c : Cost). HasLimit limit c) l.2 (stopped r l.0 opens))
         | inr settled ↦ inl (ap settled_in settled ∙ ap (λ (c : Cost). Some c) l.2)
@@ -115,26 +115,26 @@ module _ (bound : Cost) (up down : List (Mark Label)) where
   limit-more : {limit : Option Cost} {c d : Cost} → c ≼ d → HasLimit limit c → HasLimit limit d
   limit-more less has = (has.0, has.1, at_most_trans has.2 less)
 
-  limit-of_meeting : (best : Option Meeting) → IsBestSoFar bound up down best → IsStopped up (cost_of best) → IsStopped down (cost_of best) → (r : ℕ) (c : Cost) → Meets bound (costs_of up) (costs_of down) r c → HasLimit (cost_of best) c
-  limit-of_meeting best is up_stopped down_stopped r c m = elim (settled_or_stopped up (cost_of best) up_stopped r m.rise m.risen) [
-    | inl risen ↦ elim (settled_or_stopped down (cost_of best) down_stopped r m.fall m.fallen) [
+  limit-of_meeting : {best : Option Meeting} → IsBestSoFar bound up down best → IsStopped up (cost_of best) → IsStopped down (cost_of best) → (r : ℕ) {c : Cost} → Meets bound (costs_of up) (costs_of down) r c → HasLimit (cost_of best) c
+  limit-of_meeting is up_stopped down_stopped r {c} m = elim (settled_or_stopped up up_stopped r m.risen) [
+    | inl risen ↦ elim (settled_or_stopped down down_stopped r m.fallen) [
       | inl fallen ↦ is.least r c (record { rise = m.rise; fall = m.fall; risen = risen; fallen = fallen; sum = m.sum; short = m.short })
       | inr limit ↦ limit-more (subst (λ (d : Cost). m.fall ≼ d) (sym m.sum) (at_most_sum_right m.rise m.fall)) limit
     ]
     | inr limit ↦ limit-more (subst (λ (d : Cost). m.rise ≼ d) (sym m.sum) (at_most_sum_left m.rise m.fall)) limit
   ]
 
-  no_limit : (a : Cost) → None ≡ Some a → ⊥
-  no_limit a e = cc
+  no_limit : {a : Cost} → None ≡ Some a → ⊥
+  no_limit e = cc
 
-  same_limit : (a b : Cost) → Some a ≡ Some b → b ≡ a
-  same_limit a b e = cc
+  same_limit : {a b : Cost} → Some a ≡ Some b → b ≡ a
+  same_limit e = cc
 
-  pub best-stopped : (best : Option Meeting) → IsBestSoFar bound up down best → IsStopped up (cost_of best) → IsStopped down (cost_of best) → IsBestMeeting bound (costs_of up) (costs_of down) best
-  best-stopped None is up_stopped down_stopped = λ r d m.
-      let limit = limit-of_meeting None is up_stopped down_stopped r d m in
-      no_limit limit.0 limit.1
-  best-stopped (Some m) is up_stopped down_stopped =
+  pub best-stopped : {best : Option Meeting} → IsBestSoFar bound up down best → IsStopped up (cost_of best) → IsStopped down (cost_of best) → IsBestMeeting bound (costs_of up) (costs_of down) best
+  best-stopped {best = None} is up_stopped down_stopped = λ r d m.
+      let limit = limit-of_meeting is up_stopped down_stopped r m in
+      no_limit limit.1
+  best-stopped {best = Some m} is up_stopped down_stopped =
       let met : IsMet bound (costs_of up) (costs_of down) m = is.met m refl in
       let back : m.cost ≼ met.cost = least m.rank met.cost met.meets in
       record {
@@ -144,16 +144,16 @@ module _ (bound : Cost) (up down : List (Mark Label)) where
     where
       least : (r : ℕ) (d : Cost) → Meets bound (costs_of up) (costs_of down) r d → m.cost ≼ d
       least r d meets =
-          let limit = limit-of_meeting (Some m) is up_stopped down_stopped r d meets in
-          subst (λ (c : Cost). c ≼ d) (same_limit m.cost limit.0 limit.1) limit.2
+          let limit = limit-of_meeting is up_stopped down_stopped r meets in
+          subst (λ (c : Cost). c ≼ d) (same_limit limit.1) limit.2
 
 -- what is found is within the bound
-pub looked-short : (bound : Cost) (up down : List (Mark Label)) (r : ℕ) (c : Cost) (other : Option Cost) (best found : Option Meeting) → IsBestSoFar bound up down best → IsLooked bound r c other best found → IsShortLimit bound (cost_of found)
-looked-short bound up down r c other best None was looked = λ b e. absurd (none_some b e)
+pub looked-short : {bound : Cost} {up down : List (Mark Label)} {r : ℕ} {c : Cost} {other : Option Cost} {best found : Option Meeting} → IsBestSoFar bound up down best → IsLooked bound r c other best found → IsShortLimit bound (cost_of found)
+looked-short {found = None} was looked = λ b e. absurd (none_some b e)
   where
     none_some : (b : Cost) → None ≡ Some b → ⊥
     none_some b e = cc
-looked-short bound up down r c other best (Some m) was looked = λ b e. subst (λ (d : Cost). IsNoLonger d bound) (some_some m.cost b e) (elim (looked.from m refl) [
+looked-short {bound} {found = Some m} was looked = λ b e. subst (λ (d : Cost). IsNoLonger d bound) (some_some m.cost b e) (elim (looked.from m refl) [
   | inl before ↦ (was.met m before).short
   | inr here ↦ here.1.short
 ])

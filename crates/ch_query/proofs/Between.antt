@@ -4,7 +4,7 @@ use Rattle.std.proofs.lemmas.Bool.{cases_eq}
 use Rattle.ch_graph.specs.Hierarchy.{Hierarchy, IsWellMade}
 use Rattle.ch_query.specs.declared.side.Side.{Side}
 use Rattle.ch_query.specs.declared.upward.UpwardStep.{UpwardStep}
-use Rattle.ch_query.specs.Climb.{foot_at, head_rank, LeadsUp}
+use Rattle.ch_query.specs.Climb.{head_rank, LeadsUp}
 use Rattle.ch_query.specs.Upward.{IsLaidOut}
 use Rattle.ch_query.specs.Searching.{IsStepAt}
 use Rattle.ch_query.proofs.Sides.{foot_in}
@@ -20,14 +20,14 @@ pub record IsAhead (h : Hierarchy) (side : Side) (first links : List ℕ) (q r p
   pub within : at < slice_index first (q + 1)
   pub head : head_rank h side (slice_index links at) ≡ r
 
-module _ (h : Hierarchy) (made : IsWellMade h) (side : Side) (first links : List ℕ) (steps : List UpwardStep) (laid : IsLaidOut h side first links steps) (q r k : ℕ) (leads : LeadsUp h side q r k) where
+module _ {h : Hierarchy} (made : IsWellMade h) {side : Side} {first links : List ℕ} {steps : List UpwardStep} (laid : IsLaidOut h side first links steps) {q r k : ℕ} (leads : LeadsUp h side q r k) where
   pub lower_in : q < length h.ranks
-  lower_in = subst (λ p. p < length h.ranks) leads.foot (rank_below h made (foot_at h side k) (foot_in h made side k leads.climbs.within))
+  lower_in = subst (λ p. p < length h.ranks) leads.foot (rank_below made (foot_in made side leads.climbs.within))
 
   pub ahead-first : IsAhead h side first links q r (slice_index first q)
   ahead-first =
-      let v = rank_taken h made q lower_in in
-      let among = (links_are h side first links steps laid v.0 q v.1 v.2).each k (from-climbs h made side v.0 k v.1 leads.climbs (leads.foot ∙ sym v.2)) in
+      let v = rank_taken made lower_in in
+      let among = (links_are laid v.1 v.2).each k (from-climbs made v.1 leads.climbs (leads.foot ∙ sym v.2)) in
       record {
         from = omega arith;
         at = among.0;
@@ -36,12 +36,12 @@ module _ (h : Hierarchy) (made : IsWellMade h) (side : Side) (first links : List
         head = ap (head_rank h side) among.3 ∙ leads.head;
       }
 
-  module _ (place : ℕ) (ahead : IsAhead h side first links q r place) where
+  module _ {place : ℕ} (ahead : IsAhead h side first links q r place) where
     place_within : place < slice_index first (q + 1)
     place_within = omega (arith, ahead.still, ahead.within)
 
     pub ahead-step : IsStepAt h side links steps place
-    ahead-step = step-made h made side first links steps laid q lower_in place ahead.from place_within
+    ahead-step = step-made made laid lower_in ahead.from place_within
 
     -- where it isn't this step, it is a later one
     pub ahead-next : head_rank h side (slice_index links place) ≢ r → IsAhead h side first links q r (place + 1)
@@ -59,6 +59,6 @@ module _ (h : Hierarchy) (made : IsWellMade h) (side : Side) (first links : List
     pub ahead-here : head_rank h side (slice_index links place) ≡ r → LeadsUp h side q r (slice_index links place)
     ahead-here head = record {
       climbs = ahead-step.climbs;
-      foot = foot-made h made side first links steps laid q lower_in place ahead.from place_within;
+      foot = foot-made made laid lower_in ahead.from place_within;
       head = head;
     }

@@ -24,8 +24,8 @@ use Rattle.ch_query.proofs.Following.{counts-short}
 use Rattle.ch_query.proofs.LeastSum.{counts_less}
 
 -- where no limit stops it, there is no open node
-pub end-stopped : (old new : List (Mark Label)) → new ≡ old → IsStopped old None → IsEnd old new
-end-stopped old new same stopped = record {
+pub end-stopped : {old new : List (Mark Label)} → new ≡ old → IsStopped old None → IsEnd old new
+end-stopped same stopped = record {
   same = same;
   none = λ v e opens. never ((stopped v e (subst (λ (ms : List (Mark Label)). mark ms v ≡ Open e) same opens)).1);
 }
@@ -34,16 +34,16 @@ end-stopped old new same stopped = record {
     never is = cc
 
 -- nothing is listed where nothing is settled
-pub listed-none : (marks : List (Mark Label)) (climbs : List Climbed) → climbs ≡ [] → NoneSettled marks → AreListed marks climbs
-listed-none marks climbs is none = record {
+pub listed-none : {marks : List (Mark Label)} {climbs : List Climbed} → climbs ≡ [] → NoneSettled marks → AreListed marks climbs
+listed-none {marks} is none = record {
   each = subst (All (λ (c : Climbed). (e : Label) × (mark marks c.rank ≡ Settled e) × (c.length ≡ length_of e.cost))) (sym is) (All-nil (λ (c : Climbed). (e : Label) × (mark marks c.rank ≡ Settled e) × (c.length ≡ length_of e.cost)));
   all = λ r e closed. absurd (none r e closed);
 }
 
 -- and one more node with it
-pub listed-more : (old new : List (Mark Label)) (climbs : List Climbed) (c : Climbed) (e : Label) → IsClimbedOn c.rank e old new → c.length ≡ length_of e.cost
+pub listed-more : {old new : List (Mark Label)} {climbs : List Climbed} {c : Climbed} {e : Label} → IsClimbedOn c.rank e old new → c.length ≡ length_of e.cost
     → AreListed old climbs → AreListed new (climbs ++ c ∷ [])
-listed-more old new climbs c e turn long was = record {
+listed-more {new} {climbs} {c} {e} turn long was = record {
   each = All-push (λ (c : Climbed). (e : Label) × (mark new c.rank ≡ Settled e) × (c.length ≡ length_of e.cost)) climbs c
       (λ k d low. let one = was.each k d low in (one.0, turn.stays (get_or climbs k d).rank one.0 one.1, one.2)) (e, turn.here, long);
   all = λ r d closed. elim (turn.settled r d closed) [
@@ -54,44 +54,44 @@ listed-more old new climbs c e turn long was = record {
   ];
 }
 
-module _ (h : Hierarchy) (side : Side) (seeds : List Seed) (bound : Cost) (marks : List (Mark Label)) (searching : IsSearching h side seeds bound marks) (climbing : IsClimbing h side seeds bound None marks) (none : NoneOpen (mark marks)) where
-  settled_below : (r : ℕ) (c : Cost) (m : Mark Label) → mark marks r ≡ m → IsAtMost label_cost m c → (e : Label) × (mark marks r ≡ Settled e) × (e.cost ≼ c)
-  settled_below r c Unseen is most = absurd most
-  settled_below r c (Open e) is most = absurd (none r e is)
-  settled_below r c (Settled e) is most = (e, is, most)
+module _ {h : Hierarchy} {side : Side} {seeds : List Seed} {bound : Cost} {marks : List (Mark Label)} (searching : IsSearching h side seeds bound marks) (climbing : IsClimbing h side seeds bound None marks) (none : NoneOpen (mark marks)) where
+  settled_below : (r : ℕ) {c : Cost} {m : Mark Label} → mark marks r ≡ m → IsAtMost label_cost m c → (e : Label) × (mark marks r ≡ Settled e) × (e.cost ≼ c)
+  settled_below r {m = Unseen} is most = absurd most
+  settled_below r {m = Open e} is most = absurd (none r e is)
+  settled_below r {m = Settled e} is most = (e, is, most)
 
   -- a climb leads to a settled node, whose label costs no more
-  climb-settled : (r : ℕ) (c : Cost) → IsClimb h side seeds bound r c → (e : Label) × (mark marks r ≡ Settled e) × (e.cost ≼ c)
-  climb-settled r c climb = elim (labelled_or_open label_cost (counts_less bound None) climbing climb.climb ((counts-short bound c).0 climb.short)) [
-    | inl most ↦ settled_below r c (mark marks r) refl most
+  climb-settled : {r : ℕ} {c : Cost} → IsClimb h side seeds bound r c → (e : Label) × (mark marks r ≡ Settled e) × (e.cost ≼ c)
+  climb-settled {r} {c} climb = elim (labelled_or_open label_cost (counts_less bound None) climbing climb.climb ((counts-short bound c).0 climb.short)) [
+    | inl most ↦ settled_below r refl most
     | inr passed ↦ absurd (none passed.node passed.label passed.opens)
   ]
 
-  one_settled : (r : ℕ) (e d : Label) → mark marks r ≡ Settled e → mark marks r ≡ Settled d → d ≡ e
-  one_settled r e d is other = same e d (sym is ∙ other)
+  one_settled : (r : ℕ) {e d : Label} → mark marks r ≡ Settled e → mark marks r ≡ Settled d → d ≡ e
+  one_settled r {e} {d} is other = same e d (sym is ∙ other)
     where
       same : (e d : Label) → Settled e ≡ Settled d → d ≡ e
       same e d is = cc
 
-  settled-least : (r : ℕ) (e : Label) → mark marks r ≡ Settled e → IsLeast (IsClimb h side seeds bound r) e.cost
-  settled-least r e is =
+  settled-least : {r : ℕ} {e : Label} → mark marks r ≡ Settled e → IsLeast (IsClimb h side seeds bound r) e.cost
+  settled-least {r} {e} is =
       let has : HasLabel (mark marks r) e = label_settled (mark marks r) e is in (
         record { climb = climbing.walks r e has; short = searching.short r e has },
         λ d climb.
-            let one = climb-settled r d climb in
-            subst (λ (l : Label). l.cost ≼ d) (one_settled r e one.0 is one.1) one.2,
+            let one = climb-settled climb in
+            subst (λ (l : Label). l.cost ≼ d) (one_settled r is one.1) one.2,
       )
 
-  pub climbs-listed : (climbs : List Climbed) → AreListed marks climbs → AreLeastClimbs h side seeds bound climbs
-  climbs-listed climbs are = record {
+  pub climbs-listed : {climbs : List Climbed} → AreListed marks climbs → AreLeastClimbs h side seeds bound climbs
+  climbs-listed {climbs} are = record {
     each = λ k d low.
         let one = are.each k d low in
         let c : Climbed = get_or climbs k d in
         record {
           rank_in = omega (arith, label-in marks c.rank one.0 (label_settled (mark marks c.rank) one.0 one.1), searching.nodes);
           cost = one.0.cost;
-          least = settled-least c.rank one.0 one.1;
+          least = settled-least one.1;
           long = one.2;
         };
-    all = λ r c climb. let one = climb-settled r c climb in are.all r one.0 one.1;
+    all = λ r c climb. let one = climb-settled climb in are.all r one.0 one.1;
   }

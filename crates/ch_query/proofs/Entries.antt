@@ -25,8 +25,8 @@ use Rattle.ch_query.specs.Marks.{label_cost, IsUpTo, IsLeastOpen, IsStopped}
 use Rattle.ch_query.specs.Front.{label_length, IsFront}
 use Rattle.ch_query.proofs.Marking.{limit-longer}
 
-pub contains_none : (r : ℕ) (xs : List ℕ) → length xs ≡ 0 → Contains xs r → ⊥
-contains_none r xs none_is (k, h, e) = omega (arith, h, none_is)
+pub contains_none : {r : ℕ} (xs : List ℕ) → length xs ≡ 0 → Contains xs r → ⊥
+contains_none xs none_is (k, h, e) = omega (arith, h, none_is)
 
 -- The order of entries
 
@@ -36,56 +36,56 @@ pub record IsFirst (x e : Entry ℕ) : Type 0 where
   pub rank : x.0.0 ≡ e.0.0 → x.0.1 ≤ e.0.1
 
 -- what the two comparisons say, where an entry isn't less
-not_less : (x e : Entry ℕ) (first second : Ordering) → MatchOrdering first (e.0.0 < x.0.0) (e.0.0 ≡ x.0.0) (x.0.0 < e.0.0) → MatchOrdering second (e.0.1 < x.0.1) (e.0.1 ≡ x.0.1) (x.0.1 < e.0.1) → is_lt (ordering_then first second) ≡ false → IsFirst x e
-not_less x e Less second h k is = absurd (cc)
-not_less x e Equal Less h k is = absurd (cc)
-not_less x e Equal Equal h k is = record { length = omega (arith, h); rank = λ d. omega (arith, k) }
-not_less x e Equal Greater h k is = record { length = omega (arith, h); rank = λ d. omega (arith, k) }
-not_less x e Greater second h k is = record { length = omega (arith, h); rank = λ d. absurd (omega (arith, h, d)) }
+not_less : {x e : Entry ℕ} (first second : Ordering) → MatchOrdering first (e.0.0 < x.0.0) (e.0.0 ≡ x.0.0) (x.0.0 < e.0.0) → MatchOrdering second (e.0.1 < x.0.1) (e.0.1 ≡ x.0.1) (x.0.1 < e.0.1) → is_lt (ordering_then first second) ≡ false → IsFirst x e
+not_less Less second h k is = absurd (cc)
+not_less Equal Less h k is = absurd (cc)
+not_less Equal Equal h k is = record { length = omega (arith, h); rank = λ d. omega (arith, k) }
+not_less Equal Greater h k is = record { length = omega (arith, h); rank = λ d. omega (arith, k) }
+not_less Greater second h k is = record { length = omega (arith, h); rank = λ d. absurd (omega (arith, h, d)) }
 
 first : (x e : Entry ℕ) → is_lt (entry_cmp nat_cmp x e) ≡ false → IsFirst x e
-first x e = not_less x e (nat_cmp e.0.0 x.0.0) (nat_cmp e.0.1 x.0.1) (ranks e.0.0 x.0.0) (ranks e.0.1 x.0.1)
+first x e = not_less (nat_cmp e.0.0 x.0.0) (nat_cmp e.0.1 x.0.1) (ranks e.0.0 x.0.0) (ranks e.0.1 x.0.1)
 
 -- what is no shorter than another is no more up to a limit than that
-up_to-shorter : (m n : ℕ) (limit : Option Cost) → m ≤ n → IsUpTo n limit → IsUpTo m limit
-up_to-shorter m n None most up = tt
-up_to-shorter m n (Some b) most up = omega (arith, most, up)
+up_to-shorter : {m n : ℕ} (limit : Option Cost) → m ≤ n → IsUpTo n limit → IsUpTo m limit
+up_to-shorter None most up = tt
+up_to-shorter (Some b) most up = omega (arith, most, up)
 
 -- where the greatest entry isn't up to the limit, none is
 pub none_up_to : (x : Entry ℕ) (xs : List (Entry ℕ)) (limit : Option Cost) → IsUpperBound (entry_cmp nat_cmp) x xs → (IsUpTo x.0.0 limit → ⊥) → All (λ (e : Entry ℕ). IsUpTo e.0.0 limit → ⊥) xs
 none_up_to x xs limit top never = All-weaker (λ (e : Entry ℕ). is_lt (entry_cmp nat_cmp x e) ≡ false) (λ (e : Entry ℕ). IsUpTo e.0.0 limit → ⊥)
-    (λ e h up. never (up_to-shorter x.0.0 e.0.0 limit (first x e h).length up)) xs
+    (λ e h up. never (up_to-shorter limit (first x e h).length up)) xs
     (All-from_recursion (λ (e : Entry ℕ). is_lt (entry_cmp nat_cmp x e) ≡ false) xs top)
 
 -- where no entry is up to the limit, no open node is below it
-pub front-stopped : (marks : List (Mark Label)) (entries : List (Entry ℕ)) (touched : List ℕ) (limit : Option Cost) → IsFront marks entries touched → All (λ (e : Entry ℕ). IsUpTo e.0.0 limit → ⊥) entries → IsStopped marks limit
-front-stopped marks entries touched limit front none r e opens =
-    limit-longer e.cost limit (All-contains (λ (x : Entry ℕ). IsUpTo x.0.0 limit → ⊥) entries (entry (length_of e.cost) r) none (front.queue.waits r e opens))
+pub front-stopped : {marks : List (Mark Label)} {entries : List (Entry ℕ)} {touched : List ℕ} {limit : Option Cost} → IsFront marks entries touched → All (λ (e : Entry ℕ). IsUpTo e.0.0 limit → ⊥) entries → IsStopped marks limit
+front-stopped {entries} {limit} front none r e opens =
+    limit-longer (All-contains (λ (x : Entry ℕ). IsUpTo x.0.0 limit → ⊥) entries (entry (length_of e.cost) r) none (front.queue.waits r e opens))
 
 -- Steps
 
 -- nothing is seen
-pub front-unseen : (marks : List (Mark Label)) (entries : List (Entry ℕ)) (touched : List ℕ) → ((r : ℕ) → mark marks r ≡ Unseen) → All (λ r. r < length marks) touched → entries ≡ [] → IsHeap (entry_cmp nat_cmp) entries → IsFront marks entries touched
-front-unseen marks entries touched unseen places no_entry heap = record {
+pub front-unseen : {marks : List (Mark Label)} {entries : List (Entry ℕ)} {touched : List ℕ} → ((r : ℕ) → mark marks r ≡ Unseen) → All (λ r. r < length marks) touched → entries ≡ [] → IsHeap (entry_cmp nat_cmp) entries → IsFront marks entries touched
+front-unseen {marks} {entries} unseen places no_entry heap = record {
   queue = queue-new ◌≤◌ label_length nat_cmp (mark marks) entries unseen no_entry heap;
   places = places;
   others = λ r never. unseen r;
 }
 
-pub front-new : (nodes : ℕ) (marks : List (Mark Label)) (entries : List (Entry ℕ)) (touched : List ℕ) → marks ≡ replicate nodes Unseen → entries ≡ [] → IsHeap (entry_cmp nat_cmp) entries → touched ≡ [] → IsFront marks entries touched
-front-new nodes marks entries touched unseen no_entry heap none =
-    front-unseen marks entries touched (λ r. ap (λ (ms : List (Mark Label)). mark ms r) unseen ∙ mark-replicate nodes r) (subst (λ (rs : List ℕ). All (λ r. r < length marks) rs) (sym none) (All-nil (λ r. r < length marks))) no_entry heap
+pub front-new : (nodes : ℕ) {marks : List (Mark Label)} {entries : List (Entry ℕ)} {touched : List ℕ} → marks ≡ replicate nodes Unseen → entries ≡ [] → IsHeap (entry_cmp nat_cmp) entries → touched ≡ [] → IsFront marks entries touched
+front-new nodes {marks} unseen no_entry heap none =
+    front-unseen (λ r. ap (λ (ms : List (Mark Label)). mark ms r) unseen ∙ mark-replicate nodes r) (subst (λ (rs : List ℕ). All (λ r. r < length marks) rs) (sym none) (All-nil (λ r. r < length marks))) no_entry heap
 
 -- more ranks are in the list
-pub front-touched : (marks : List (Mark Label)) (entries : List (Entry ℕ)) (old new : List ℕ) → IsFront marks entries old → ((r : ℕ) → Contains old r → Contains new r) → All (λ r. r < length marks) new → IsFront marks entries new
-front-touched marks entries old new front kept places = record {
+pub front-touched : {marks : List (Mark Label)} {entries : List (Entry ℕ)} {old new : List ℕ} → IsFront marks entries old → ((r : ℕ) → Contains old r → Contains new r) → All (λ r. r < length marks) new → IsFront marks entries new
+front-touched front kept places = record {
   queue = front.queue;
   places = places;
   others = λ r never. front.others r (λ among. never (kept r among));
 }
 
 -- a node is opened and put into the queue
-module _ (marks : List (Mark Label)) (entries new : List (Entry ℕ)) (old_touched touched : List ℕ) (r : ℕ) (e : Label)
+module _ {marks : List (Mark Label)} {entries new : List (Entry ℕ)} {old_touched : List ℕ} (touched : List ℕ) {r : ℕ} (e : Label)
     (front : IsFront marks entries old_touched) (within : r < length marks) (improves : Improves label_cost e.cost (mark marks r))
     (moved : IsPermutation (entry (length_of e.cost) r ∷ entries) new) (heap : IsHeap (entry_cmp nat_cmp) new)
     (kept : (q : ℕ) → Contains old_touched q → Contains touched q) (places : All (λ q. q < length marks) touched)
@@ -106,7 +106,7 @@ module _ (marks : List (Mark Label)) (entries new : List (Entry ℕ)) (old_touch
   }
 
 -- an entry was taken out
-module _ (marks : List (Mark Label)) (entries new : List (Entry ℕ)) (touched : List ℕ) (x : Entry ℕ) (front : IsFront marks entries touched) (moved : IsPermutation entries (x ∷ new)) where
+module _ {marks : List (Mark Label)} {entries new : List (Entry ℕ)} {touched : List ℕ} {x : Entry ℕ} (front : IsFront marks entries touched) (moved : IsPermutation entries (x ∷ new)) where
   popped : IsEntryOf ◌≤◌ label_length (mark marks) x
   popped = queue-popped ◌≤◌ label_length nat_cmp (mark marks) (mark marks) entries new front.queue x moved
 
@@ -122,7 +122,7 @@ module _ (marks : List (Mark Label)) (entries new : List (Entry ℕ)) (touched :
     others = front.others;
   }
 
-  module _ (e : Label) (opens : mark marks x.0.1 ≡ Open e) where
+  module _ {e : Label} (opens : mark marks x.0.1 ≡ Open e) where
     -- and an open one is settled
     pub front-settle : IsHeap (entry_cmp nat_cmp) new → IsFront (set marks x.0.1 (Settled e)) new touched
     front-settle heap = record {
@@ -154,13 +154,13 @@ pub record IsClearing (nodes : ℕ) (marks : List (Mark Label)) (touched : List 
   pub places : All (λ r. r < length marks) touched
   pub others : (r : ℕ) → (Contains touched r → ⊥) → mark marks r ≡ Unseen
 
-pub cleared : (nodes : ℕ) (marks : List (Mark Label)) (touched : List ℕ) → IsClearing nodes marks touched → length touched ≡ 0 → marks ≡ replicate {A = Mark Label} nodes Unseen
-cleared nodes marks touched is none_left = ext_get_or Unseen marks (replicate {A = Mark Label} nodes Unseen) (is.count ∙ sym (length-replicate {A = Mark Label} nodes Unseen)) (λ r low.
+pub cleared : {nodes : ℕ} {marks : List (Mark Label)} {touched : List ℕ} → IsClearing nodes marks touched → length touched ≡ 0 → marks ≡ replicate {A = Mark Label} nodes Unseen
+cleared {nodes} {marks} {touched} is none_left = ext_get_or Unseen marks (replicate {A = Mark Label} nodes Unseen) (is.count ∙ sym (length-replicate {A = Mark Label} nodes Unseen)) (λ r low.
     let low_too : r < nodes = omega (arith, low, is.count) in
-    is.others r (contains_none r touched none_left) ∙ sym (get_or-replicate {A = Mark Label} nodes r Unseen Unseen low_too))
+    is.others r (contains_none touched none_left) ∙ sym (get_or-replicate {A = Mark Label} nodes r Unseen Unseen low_too))
 
-pub clearing-more : (nodes : ℕ) (marks : List (Mark Label)) (touched rest : List ℕ) (r : ℕ) → IsClearing nodes marks touched → touched ≡ rest ++ r ∷ [] → IsClearing nodes (set marks r Unseen) rest
-clearing-more nodes marks touched rest r is parts =
+pub clearing-more : {nodes : ℕ} {marks : List (Mark Label)} {touched rest : List ℕ} (r : ℕ) → IsClearing nodes marks touched → touched ≡ rest ++ r ∷ [] → IsClearing nodes (set marks r Unseen) rest
+clearing-more {marks} {touched} {rest} r is parts =
     let popped = All-pop (λ q. q < length marks) touched rest (Some r) parts is.places in
     record {
       count = length-set marks r Unseen ∙ is.count;
@@ -174,5 +174,5 @@ clearing-more nodes marks touched rest r is parts =
       ];
     }
 
-pub front-cleared : (nodes : ℕ) (marks : List (Mark Label)) (entries : List (Entry ℕ)) (touched rest : List ℕ) → IsClearing nodes marks touched → length touched ≡ 0 → All (λ r. r < length marks) rest → entries ≡ [] → IsHeap (entry_cmp nat_cmp) entries → IsFront marks entries rest
-front-cleared nodes marks entries touched rest is none_left places no_entry heap = front-unseen marks entries rest (λ r. is.others r (contains_none r touched none_left)) places no_entry heap
+pub front-cleared : {nodes : ℕ} {marks : List (Mark Label)} {entries : List (Entry ℕ)} {touched rest : List ℕ} → IsClearing nodes marks touched → length touched ≡ 0 → All (λ r. r < length marks) rest → entries ≡ [] → IsHeap (entry_cmp nat_cmp) entries → IsFront marks entries rest
+front-cleared {touched} is none_left places no_entry heap = front-unseen (λ r. is.others r (contains_none touched none_left)) places no_entry heap

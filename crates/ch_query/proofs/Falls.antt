@@ -11,7 +11,7 @@ use Rattle.ch_graph.specs.Hierarchy.{Hierarchy, IsWellMade}
 use Rattle.ch_query.specs.declared.fall.Fall.{Fall}
 use Rattle.ch_query.specs.declared.side.Side.TheVariants.{Fall as falling}
 use Rattle.ch_query.specs.declared.upward.UpwardStep.{UpwardStep}
-use Rattle.ch_query.specs.Climb.{head_at, head_rank, cost_at}
+use Rattle.ch_query.specs.Climb.{head_rank, cost_at}
 use Rattle.ch_query.specs.Searching.{IsStepAt}
 use Rattle.ch_query.specs.Upward.{step_along, IsLaidOut}
 use Rattle.ch_query.specs.Ways.{fall_along, FallsTo, IsFallAbove, AreFallsTo}
@@ -28,8 +28,8 @@ pub record IsListing (h : Hierarchy) (r : ℕ) (links : List ℕ) (begin next : 
   pub above : All (IsFallAbove h r) falls
   pub each : (i : ℕ) → begin ≤ i → i < next → Contains listed (slice_index links i)
 
-pub listing-none : (h : Hierarchy) (r : ℕ) (links : List ℕ) (begin : ℕ) (falls : List Fall) → falls ≡ [] → IsListing h r links begin begin falls
-listing-none h r links begin falls is = record {
+pub listing-none : {h : Hierarchy} {r : ℕ} {links : List ℕ} {begin : ℕ} {falls : List Fall} → falls ≡ [] → IsListing h r links begin begin falls
+listing-none {h} {r} is = record {
   listed = [];
   along = is;
   only = All-nil (FallsTo h r);
@@ -37,20 +37,20 @@ listing-none h r links begin falls is = record {
   each = λ i from low. absurd (omega (arith, from, low));
 }
 
-fall-above : (h : Hierarchy) → IsWellMade h → (r k : ℕ) → FallsTo h r k → IsFallAbove h r (fall_along h k)
-fall-above h made r k to = record {
-  tail_in = rank_below h made (head_at h falling k) (head_in h made falling k to.falls.within);
+fall-above : {h : Hierarchy} → IsWellMade h → {r k : ℕ} → FallsTo h r k → IsFallAbove h r (fall_along h k)
+fall-above {h} made {k} to = record {
+  tail_in = rank_below made (head_in made falling to.falls.within);
   above = omega (arith, to.to, to.falls.rises);
-  short = lengths-in_limit (cost_at h k) (in_limit-from_within (within_trans (link-made h made k to.falls.within).within made.bound) (cost_of_arcs_in_limit _ _ (omega (arith, made.few_nodes)) (omega arith)));
+  short = lengths-in_limit (cost_at h k) (in_limit-from_within (within_trans (link-made made to.falls.within).within made.bound) (cost_of_arcs_in_limit _ _ (omega (arith, made.few_nodes)) (omega arith)));
 }
 
-pub listing-more : (h : Hierarchy) → IsWellMade h → (r : ℕ) (links : List ℕ) (begin next : ℕ) (falls : List Fall) (fall : Fall) → fall ≡ fall_along h (slice_index links next)
+pub listing-more : {h : Hierarchy} → IsWellMade h → {r : ℕ} {links : List ℕ} {begin next : ℕ} {falls : List Fall} {fall : Fall} → fall ≡ fall_along h (slice_index links next)
     → FallsTo h r (slice_index links next) → IsListing h r links begin next falls → IsListing h r links begin (next + 1) (falls ++ fall ∷ [])
-listing-more h made r links begin next falls fall is to was = record {
+listing-more {h} made {r} {links} {next} {falls} {fall} is to was = record {
   listed = was.listed ++ k ∷ [];
   along = ap (λ (f : Fall). falls ++ f ∷ []) is ∙ (ap (λ (fs : List Fall). fs ++ fall_along h k ∷ []) was.along ∙ sym (map_push (fall_along h) was.listed k));
   only = All-push (FallsTo h r) was.listed k was.only to;
-  above = All-push (IsFallAbove h r) falls fall was.above (subst (IsFallAbove h r) (sym is) (fall-above h made r k to));
+  above = All-push (IsFallAbove h r) falls fall was.above (subst (IsFallAbove h r) (sym is) (fall-above made to));
   each = λ i from low. elim (cases_lt i next) [
     | inl before ↦ Contains-append_left was.listed (k ∷ []) (slice_index links i) (was.each i from before)
     | inr last ↦
@@ -63,31 +63,31 @@ listing-more h made r links begin next falls fall is to was = record {
     k = slice_index links next
 
 -- what is read of a step is its fall
-pub fall-is : (h : Hierarchy) (links : List ℕ) (steps : List UpwardStep) (place : ℕ) → IsStepAt h falling links steps place → (step : UpwardStep) → step ≡ get_or steps place step
-    → (cost : Cost) → cost ≡ cost_at h (slice_index links place) → (long : ℕ) → long ≡ length_of cost → record { tail = step.head; length = long } ≡ fall_along h (slice_index links place)
-fall-is h links steps place at step read cost is long is_long =
+pub fall-is : {h : Hierarchy} {links : List ℕ} {steps : List UpwardStep} {place : ℕ} → IsStepAt h falling links steps place → {step : UpwardStep} → step ≡ get_or steps place step
+    → {cost : Cost} → cost ≡ cost_at h (slice_index links place) → {long : ℕ} → long ≡ length_of cost → record { tail = step.head; length = long } ≡ fall_along h (slice_index links place)
+fall-is {h} {links} {place} at {step} read is {long} is_long =
     let here : step ≡ step_along h falling (slice_index links place) = read ∙ at.along step in
     let head : step.head ≡ head_rank h falling (slice_index links place) = ap (λ (s : UpwardStep). s.head) here in
     let own : long ≡ length_of (cost_at h (slice_index links place)) = is_long ∙ ap length_of is in
     λ i. record { tail = head i; length = own i }
 
 -- what a rank has in the lists of the side
-module _ (h : Hierarchy) (made : IsWellMade h) (first links : List ℕ) (steps : List UpwardStep) (laid : IsLaidOut h falling first links steps) (r : ℕ) (low : r < length h.ranks) where
-  pub falls-here : (i : ℕ) → slice_index first r ≤ i → i < slice_index first (r + 1) → FallsTo h r (slice_index links i)
-  falls-here i from before = record {
-    falls = (step-made h made falling first links steps laid r low i from before).climbs;
-    to = foot-made h made falling first links steps laid r low i from before;
+module _ {h : Hierarchy} (made : IsWellMade h) {first links : List ℕ} {steps : List UpwardStep} (laid : IsLaidOut h falling first links steps) {r : ℕ} (low : r < length h.ranks) where
+  pub falls-here : {i : ℕ} → slice_index first r ≤ i → i < slice_index first (r + 1) → FallsTo h r (slice_index links i)
+  falls-here from before = record {
+    falls = (step-made made laid low from before).climbs;
+    to = foot-made made laid low from before;
   }
 
   -- all of them are listed
-  pub falls-listed : (next : ℕ) (falls : List Fall) → slice_index first (r + 1) ≤ next → IsListing h r links (slice_index first r) next falls → AreFallsTo h r falls
-  falls-listed next falls whole is = record {
+  pub falls-listed : {next : ℕ} {falls : List Fall} → slice_index first (r + 1) ≤ next → IsListing h r links (slice_index first r) next falls → AreFallsTo h r falls
+  falls-listed whole is = record {
     links = is.listed;
     along = is.along;
     only = is.only;
     above = is.above;
     each = λ k to.
-        let v = rank_taken h made r low in
-        let among = (links_are h falling first links steps laid v.0 r v.1 v.2).each k (from-climbs h made falling v.0 k v.1 to.falls (to.to ∙ sym v.2)) in
+        let v = rank_taken made low in
+        let among = (links_are laid v.1 v.2).each k (from-climbs made v.1 to.falls (to.to ∙ sym v.2)) in
         subst (λ j. Contains is.listed j) among.3 (is.each among.0 among.1 (omega (arith, among.2, whole)));
   }

@@ -17,7 +17,7 @@ use Rattle.ch_query.specs.declared.label.Label.{Label}
 use Rattle.ch_query.specs.declared.side.Side.{Side}
 use Rattle.ch_query.specs.declared.upward.UpwardStep.{UpwardStep}
 use Rattle.ch_query.specs.Labels.{CountsBelow}
-use Rattle.ch_query.specs.Climb.{foot_at, foot_rank, head_rank, cost_at, Climbs, ClimbsFrom}
+use Rattle.ch_query.specs.Climb.{foot_rank, head_rank, cost_at, Climbs, ClimbsFrom}
 use Rattle.ch_query.specs.Upward.{IsLaidOut}
 use Rattle.ch_query.specs.Marks.{label_cost, IsNoMore, IsLatest, IsSettledAtMost}
 use Rattle.ch_query.specs.Searching.{LinkArc, IsStepAt, IsFollowed, ClimbsTo, IsOpenedOver, ArePassed}
@@ -27,8 +27,8 @@ use Rattle.ch_query.proofs.Laying.{links_are, step_at, as_many}
 use Rattle.ch_query.proofs.Marking.{by_lengths}
 
 -- no link was followed yet
-pub opened-start : (h : Hierarchy) (side : Side) (bound : Cost) (r : ℕ) (c : Cost) (marks : List (Mark Label)) → IsOpenedOver h side bound r c marks marks
-opened-start h side bound r c marks = record { nodes = refl; count = refl; is = opened-none label_cost (ClimbsTo h side bound r c) (mark marks) }
+pub opened-start : {h : Hierarchy} {side : Side} {bound : Cost} {r : ℕ} {c : Cost} {marks : List (Mark Label)} → IsOpenedOver h side bound r c marks marks
+opened-start {h} {side} {bound} {r} {c} {marks} = record { nodes = refl; count = refl; is = opened-none label_cost (ClimbsTo h side bound r c) (mark marks) }
 
 pub opened-more : {h : Hierarchy} {side : Side} {bound : Cost} {r : ℕ} {c : Cost} {old mid new : List (Mark Label)} → IsOpenedOver h side bound r c old mid → IsOpenedOver h side bound r c mid new → IsOpenedOver h side bound r c old new
 opened-more {h} {side} {bound} {r} {c} first second = record {
@@ -38,54 +38,54 @@ opened-more {h} {side} {bound} {r} {c} first second = record {
 }
 
 -- the node of rank q is opened with the label e, to which a link leads
-pub opened-one : (h : Hierarchy) (side : Side) (bound : Cost) (r : ℕ) (c : Cost) (marks : List (Mark Label)) (q : ℕ) (e : Label) → q < length marks → Improves label_cost e.cost (mark marks q) → ClimbsTo h side bound r c q e → IsOpenedOver h side bound r c marks (set marks q (Open e))
-opened-one h side bound r c marks q e within improves climbs = record {
+pub opened-one : {h : Hierarchy} {side : Side} {bound : Cost} {r : ℕ} {c : Cost} {marks : List (Mark Label)} {q : ℕ} {e : Label} → q < length marks → Improves label_cost e.cost (mark marks q) → ClimbsTo h side bound r c q e → IsOpenedOver h side bound r c marks (set marks q (Open e))
+opened-one {h} {side} {bound} {r} {c} {marks} {q} {e} within improves climbs = record {
   nodes = length-set marks q (Open e);
   count = count-open marks q e within (improves-unsettled label_cost (mark marks q) e.cost improves);
   is = searching.opened-one label_cost (ClimbsTo h side bound r c) q e climbs improves (put-set marks q (Open e) within);
 }
 
 -- the step at a place leads on from its foot
-pub leads-step : (h : Hierarchy) (side : Side) (links : List ℕ) (steps : List UpwardStep) (place r : ℕ) (c : Cost) → IsStepAt h side links steps place
-    → foot_rank h side (slice_index links place) ≡ r → (head : ℕ) (sum : Cost) → head ≡ head_rank h side (slice_index links place)
+pub leads-step : {h : Hierarchy} {side : Side} {links : List ℕ} {steps : List UpwardStep} {place r : ℕ} {c : Cost} → IsStepAt h side links steps place
+    → foot_rank h side (slice_index links place) ≡ r → {head : ℕ} {sum : Cost} → head ≡ head_rank h side (slice_index links place)
     → sum ≡ c ⊕ cost_at h (slice_index links place) → LeadsTo (LinkArc h side) r c head sum
-leads-step h side links steps place r c step foot head sum at is_sum = record {
+leads-step {h} {links} {place} step foot {head} {sum} at is_sum = record {
   arc = cost_at h (slice_index links place);
   goes = record { link = slice_index links place; leads = record { climbs = step.climbs; foot = foot; head = sym at }; cost = refl };
   sum = sym is_sum;
 }
 
 -- if its head is settled, the label there costs at most the climb
-pub settled-step : (h : Hierarchy) (side : Side) (marks : List (Mark Label)) (r : ℕ) (c : Cost) (head : ℕ) (sum : Cost) → LeadsTo (LinkArc h side) r c head sum → IsLatest marks c r → IsSettledAtMost marks head sum
-settled-step h side marks r c head sum leads latest e closed = (by_lengths h side).back e.cost c sum r head leads (latest head e closed)
+pub settled-step : {h : Hierarchy} {side : Side} (marks : List (Mark Label)) {r : ℕ} {c : Cost} {head : ℕ} {sum : Cost} → LeadsTo (LinkArc h side) r c head sum → IsLatest marks c r → IsSettledAtMost marks head sum
+settled-step {h} {side} marks {r} {c} {head} {sum} leads latest e closed = (by_lengths h side).back e.cost c sum r head leads (latest head e closed)
 
 -- the link at k was followed where its head's mark is at most the sum
-followed-head : (h : Hierarchy) (side : Side) (c : Cost) (marks : List (Mark Label)) (k head : ℕ) (sum : Cost) → head ≡ head_rank h side k → sum ≡ c ⊕ cost_at h k → IsAtMost label_cost (mark marks head) sum → IsAtMost label_cost (mark marks (head_rank h side k)) (c ⊕ cost_at h k)
-followed-head h side c marks k head sum at is_sum most = subst (λ q. IsAtMost label_cost (mark marks q) (c ⊕ cost_at h k)) at (subst (λ (d : Cost). IsAtMost label_cost (mark marks head) d) is_sum most)
+followed-head : (h : Hierarchy) (side : Side) (c : Cost) (marks : List (Mark Label)) (k : ℕ) {head : ℕ} {sum : Cost} → head ≡ head_rank h side k → sum ≡ c ⊕ cost_at h k → IsAtMost label_cost (mark marks head) sum → IsAtMost label_cost (mark marks (head_rank h side k)) (c ⊕ cost_at h k)
+followed-head h side c marks k {head} at is_sum most = subst (λ q. IsAtMost label_cost (mark marks q) (c ⊕ cost_at h k)) at (subst (λ (d : Cost). IsAtMost label_cost (mark marks head) d) is_sum most)
 
 -- since it got the label
-pub followed-put : (h : Hierarchy) (side : Side) (bound c : Cost) (limit : Option Cost) (marks : List (Mark Label)) (k head : ℕ) (e : Label) → head < length marks → head ≡ head_rank h side k → e.cost ≡ c ⊕ cost_at h k → IsFollowed h side bound c limit (set marks head (Open e)) k
-followed-put h side bound c limit marks k head e within at is_sum counts =
-    followed-head h side c (set marks head (Open e)) k head e.cost at is_sum
+pub followed-put : (h : Hierarchy) (side : Side) (bound c : Cost) (limit : Option Cost) (marks : List (Mark Label)) (k : ℕ) {head : ℕ} (e : Label) → head < length marks → head ≡ head_rank h side k → e.cost ≡ c ⊕ cost_at h k → IsFollowed h side bound c limit (set marks head (Open e)) k
+followed-put h side bound c limit marks k {head} e within at is_sum counts =
+    followed-head h side c (set marks head (Open e)) k at is_sum
     (at_most-from_label label_cost (mark (set marks head (Open e)) head) e e.cost
     (label_open (mark (set marks head (Open e)) head) e (put-set marks head (Open e) within).here) (at_most_refl e.cost))
 
 -- or had one of no more
-pub followed-kept : (h : Hierarchy) (side : Side) (bound c : Cost) (limit : Option Cost) (marks : List (Mark Label)) (k head : ℕ) (sum : Cost)
+pub followed-kept : (h : Hierarchy) (side : Side) (bound c : Cost) (limit : Option Cost) (marks : List (Mark Label)) (k : ℕ) {head : ℕ} {sum : Cost}
     → (Improves label_cost sum (mark marks head) → ⊥) → IsSettledAtMost marks head sum → head ≡ head_rank h side k → sum ≡ c ⊕ cost_at h k
     → IsFollowed h side bound c limit marks k
-followed-kept h side bound c limit marks k head sum never above at is_sum counts = followed-head h side c marks k head sum at is_sum (not_improves-at_most label_cost (mark marks head) sum never above)
+followed-kept h side bound c limit marks k {head} {sum} never above at is_sum counts = followed-head h side c marks k at is_sum (not_improves-at_most label_cost (mark marks head) sum never above)
 
 -- what counts below a lesser limit counts below the greater one
-pub counts-more : (bound : Cost) {less more : Option Cost} {c : Cost} → IsNoMore less more → CountsBelow bound less c → CountsBelow bound more c
-counts-more bound no_more counts = record {
+pub counts-more : {bound : Cost} {less more : Option Cost} {c : Cost} → IsNoMore less more → CountsBelow bound less c → CountsBelow bound more c
+counts-more no_more counts = record {
   short = counts.short;
   below = λ a is. let limit = no_more a is in below_trans_at_most (counts.below limit.0 limit.1) limit.2;
 }
 
 -- what is below a limit no longer than the bound is so too
-pub counts-below : (bound b c : Cost) → IsNoLonger b bound → (c ≺ b) ↔ CountsBelow bound (Some b) c
-counts-below bound b c short = (
+pub counts-below : {bound b : Cost} (c : Cost) → IsNoLonger b bound → (c ≺ b) ↔ CountsBelow bound (Some b) c
+counts-below {b} c short = (
   λ below. record {
     short = no_longer_at_most (at_most-from_below below) short;
     below = λ a is. subst (λ (d : Cost). c ≺ d) (same b a is) below;
@@ -115,10 +115,10 @@ climbs-from {h} {side} {v} {k} from = record { within = from.within; rises = sub
 pub foot-from : {h : Hierarchy} {side : Side} {v k : ℕ} → ClimbsFrom h side v k → foot_rank h side k ≡ rank_of h v
 foot-from {h} from = ap (rank_of h) from.foot
 
-pub from-climbs : (h : Hierarchy) → IsWellMade h → (side : Side) (v k : ℕ) → v < length h.ranks → Climbs h side k → foot_rank h side k ≡ rank_of h v → ClimbsFrom h side v k
-from-climbs h made side v k v_in climbs foot = record {
+pub from-climbs : {h : Hierarchy} → IsWellMade h → {side : Side} {v k : ℕ} → v < length h.ranks → Climbs h side k → foot_rank h side k ≡ rank_of h v → ClimbsFrom h side v k
+from-climbs {h} made {side} {k} v_in climbs foot = record {
   within = climbs.within;
-  foot = same_node h made (foot_at h side k) v (foot_in h made side k climbs.within) v_in foot;
+  foot = same_node made (foot_in made side climbs.within) v_in foot;
   climbs = subst (λ q. q < head_rank h side k) foot climbs.rises;
 }
 
@@ -127,17 +127,17 @@ pub record IsPassing (h : Hierarchy) (side : Side) (bound : Cost) (r : ℕ) (c :
   pub opened : IsOpenedOver h side bound r c old new
   pub followed : (i : ℕ) → begin ≤ i → i < next → IsFollowed h side bound c limit new (slice_index links i)
 
-pub passing-none : (h : Hierarchy) (side : Side) (bound : Cost) (r : ℕ) (c : Cost) (links : List ℕ) (begin : ℕ) (limit : Option Cost) (marks : List (Mark Label)) → IsPassing h side bound r c links begin begin limit marks marks
-passing-none h side bound r c links begin limit marks = record {
-  opened = opened-start h side bound r c marks;
+pub passing-none : {h : Hierarchy} {side : Side} {bound : Cost} {r : ℕ} {c : Cost} {links : List ℕ} {begin : ℕ} {limit : Option Cost} {marks : List (Mark Label)} → IsPassing h side bound r c links begin begin limit marks marks
+passing-none = record {
+  opened = opened-start;
   followed = λ i from low. absurd (omega (arith, from, low));
 }
 
 -- one more link was followed
 pub passing-more : {h : Hierarchy} {side : Side} {bound : Cost} {r : ℕ} {c : Cost} {links : List ℕ} {begin : ℕ} {limit : Option Cost} {old mid new : List (Mark Label)}
-    (next : ℕ) → IsPassing h side bound r c links begin next limit old mid → IsOpenedOver h side bound r c mid new
+    {next : ℕ} → IsPassing h side bound r c links begin next limit old mid → IsOpenedOver h side bound r c mid new
     → IsFollowed h side bound c limit new (slice_index links next) → IsPassing h side bound r c links begin (next + 1) limit old new
-passing-more {h} {side} {bound} {r} {c} {links} {limit = limit} {new = new} next is opened done = record {
+passing-more {h} {side} {bound} {r} {c} {links} {limit = limit} {new = new} {next} is opened done = record {
   opened = opened-more is.opened opened;
   followed = λ i from low. elim (cases_lt i next) [
     | inl before ↦ λ counts. opened.is.kept (head_rank h side (slice_index links i)) (c ⊕ cost_at h (slice_index links i)) (is.followed i from before counts)
@@ -148,34 +148,34 @@ passing-more {h} {side} {bound} {r} {c} {links} {limit = limit} {new = new} next
 }
 
 -- what a rank has in the lists of a side
-module _ (h : Hierarchy) (made : IsWellMade h) (side : Side) (first links : List ℕ) (steps : List UpwardStep) (laid : IsLaidOut h side first links steps) (r : ℕ) (low : r < length h.ranks) where
+module _ {h : Hierarchy} (made : IsWellMade h) {side : Side} {first links : List ℕ} {steps : List UpwardStep} (laid : IsLaidOut h side first links steps) {r : ℕ} (low : r < length h.ranks) where
   -- all its links were followed
-  pub passed_over : (bound c : Cost) (next : ℕ) → slice_index first (r + 1) ≤ next → (limit : Option Cost) (old new : List (Mark Label)) → IsPassing h side bound r c links (slice_index first r) next limit old new → ArePassed h side bound r c limit new
-  passed_over bound c next whole limit old new is u d leads counts =
+  pub passed_over : {bound c : Cost} {next : ℕ} → slice_index first (r + 1) ≤ next → {limit : Option Cost} {old new : List (Mark Label)} → IsPassing h side bound r c links (slice_index first r) next limit old new → ArePassed h side bound r c limit new
+  passed_over {bound} {c} whole {limit} {new} is u d leads counts =
       let arc : LinkArc h side r u leads.arc = leads.goes in
-      let v = rank_taken h made r low in
-      let from : ClimbsFrom h side v.0 arc.link = from-climbs h made side v.0 arc.link v.1 arc.leads.climbs (arc.leads.foot ∙ sym v.2) in
-      let among = (links_are h side first links steps laid v.0 r v.1 v.2).each arc.link from in
+      let v = rank_taken made low in
+      let from : ClimbsFrom h side v.0 arc.link = from-climbs made v.1 arc.leads.climbs (arc.leads.foot ∙ sym v.2) in
+      let among = (links_are laid v.1 v.2).each arc.link from in
       let followed : IsFollowed h side bound c limit new arc.link = subst (λ j. IsFollowed h side bound c limit new j) among.3 (is.followed among.0 among.1 (omega (arith, among.2, whole))) in
       let sum : c ⊕ cost_at h arc.link ≡ d = ap (λ (a : Cost). c ⊕ a) arc.cost ∙ leads.sum in
       subst (λ q. IsAtMost label_cost (mark new q) d) arc.leads.head (subst (λ (a : Cost). IsAtMost label_cost (mark new (head_rank h side arc.link)) a) sum (followed (subst (λ (a : Cost). CountsBelow bound limit a) (sym sum) counts)))
 
   -- one of its links
-  from_here : (i : ℕ) → slice_index first r ≤ i → i < slice_index first (r + 1) → Climbs h side (slice_index links i) × (foot_rank h side (slice_index links i) ≡ r)
-  from_here i from before =
-      let v = rank_taken h made r low in
-      let one = (links_are h side first links steps laid v.0 r v.1 v.2).climb i from before in
+  from_here : {i : ℕ} → slice_index first r ≤ i → i < slice_index first (r + 1) → Climbs h side (slice_index links i) × (foot_rank h side (slice_index links i) ≡ r)
+  from_here {i} from before =
+      let v = rank_taken made low in
+      let one = (links_are laid v.1 v.2).climb i from before in
       (climbs-from one, foot-from one ∙ v.2)
 
-  pub foot-made : (i : ℕ) → slice_index first r ≤ i → i < slice_index first (r + 1) → foot_rank h side (slice_index links i) ≡ r
-  foot-made i from before = (from_here i from before).1
+  pub foot-made : {i : ℕ} → slice_index first r ≤ i → i < slice_index first (r + 1) → foot_rank h side (slice_index links i) ≡ r
+  foot-made from before = (from_here from before).1
 
-  pub step-made : (i : ℕ) → slice_index first r ≤ i → i < slice_index first (r + 1) → IsStepAt h side links steps i
-  step-made i from before =
+  pub step-made : {i : ℕ} → slice_index first r ≤ i → i < slice_index first (r + 1) → IsStepAt h side links steps i
+  step-made {i} from before =
       let within : i < length links = omega (arith, before, laid.within (r + 1) (omega (arith, low, laid.nodes))) in
       record {
         link_in = within;
-        step_in = omega (arith, within, as_many h side links steps laid.along);
-        climbs = (from_here i from before).0;
-        along = step_at h side links steps laid.along i within;
+        step_in = omega (arith, within, as_many h side links laid.along);
+        climbs = (from_here from before).0;
+        along = step_at h side links laid.along within;
       }

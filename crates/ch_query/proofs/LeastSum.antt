@@ -8,7 +8,7 @@ use Rattle.ch_graph.specs.declared.link.Link.{Link}
 use Rattle.ch_graph.specs.declared.mark.Mark.{Mark}
 use Rattle.ch_graph.specs.Walk.{Walk, Walk.stay, Walk.go}
 use Rattle.ch_graph.specs.Hierarchy.{Hierarchy, Chain, Chain.nothing, Chain.then, IsWellMade, IsRising, IsFalling, rank_of}
-use Rattle.ch_graph.specs.Marks.{mark, label_in}
+use Rattle.ch_graph.specs.Marks.{mark}
 use Rattle.ch_graph.specs.Searching.{StartedWalk, IsDownward}
 use Rattle.ch_graph.specs.Walk.Laws.{one_arc, join}
 use Rattle.ch_graph.specs.Hierarchy.Chains.{chain-same, chain-join, one_link}
@@ -18,7 +18,7 @@ use Rattle.ch_query.specs.declared.seed.Seed.{Seed}
 use Rattle.ch_query.specs.declared.side.Side.{Side}
 use Rattle.ch_query.specs.declared.side.Side.TheVariants.{Rise, Fall}
 use Rattle.ch_query.specs.Places.{link_at}
-use Rattle.ch_query.specs.Climb.{foot_of, head_of, head_at}
+use Rattle.ch_query.specs.Climb.{foot_of, head_of}
 use Rattle.ch_query.specs.Labels.{Meets, CountsBelow}
 use Rattle.ch_query.specs.Seeds.{AreSeeds, IsSeedAt, HasWalkBetween, cost_between}
 use Rattle.ch_query.proofs.SeedPlaces.{seed-in}
@@ -31,8 +31,8 @@ use Rattle.ch_query.proofs.Marking.{from_cost, cost_is, has_label}
 -- Rises and falls as walks of a side over ranks
 
 -- a link of the hierarchy is an arc of the side that climbs it
-link-arc : (h : Hierarchy) (side : Side) (l : Link) → Contains h.links l → rank_of h (foot_of side l) < rank_of h (head_of side l) → LinkArc h side (rank_of h (foot_of side l)) (rank_of h (head_of side l)) l.cost
-link-arc h side l among rises =
+link-arc : {h : Hierarchy} {side : Side} {l : Link} → Contains h.links l → rank_of h (foot_of side l) < rank_of h (head_of side l) → LinkArc h side (rank_of h (foot_of side l)) (rank_of h (head_of side l)) l.cost
+link-arc {h} {side} {l} among rises =
     let same : link_at h among.0 ≡ l = get_or_default h.links among.0 _ l among.1 ∙ among.2 in
     record {
       link = among.0;
@@ -44,39 +44,39 @@ link-arc h side l among rises =
       cost = ap (λ (m : Link). m.cost) same;
     }
 
-pub rise-walk : (h : Hierarchy) {ls : List Link} {x z : ℕ} {c : Cost} → Chain (IsRising h) ls x z c → Walk (LinkArc h Rise) (rank_of h x) (rank_of h z) c
-rise-walk h nothing = stay
-rise-walk h (then {l = l} rising from rest) = go (subst (λ n. LinkArc h Rise (rank_of h n) (rank_of h l.to) l.cost) from (link-arc h Rise l rising.among rising.rises)) (rise-walk h rest)
+pub rise-walk : {h : Hierarchy} {ls : List Link} {x z : ℕ} {c : Cost} → Chain (IsRising h) ls x z c → Walk (LinkArc h Rise) (rank_of h x) (rank_of h z) c
+rise-walk nothing = stay
+rise-walk {h} (then {l = l} rising from rest) = go (subst (λ n. LinkArc h Rise (rank_of h n) (rank_of h l.to) l.cost) from (link-arc rising.among rising.rises)) (rise-walk rest)
 
 -- against the links that fall
-pub fall-walk : (h : Hierarchy) {ls : List Link} {x z : ℕ} {c : Cost} → Chain (IsFalling h) ls x z c → Walk (LinkArc h Fall) (rank_of h z) (rank_of h x) c
-fall-walk h nothing = stay
-fall-walk h (then {l = l} {x = x} {z = z} {d = d} falling from rest) =
-    let last : LinkArc h Fall (rank_of h l.to) (rank_of h x) l.cost = subst (λ n. LinkArc h Fall (rank_of h l.to) (rank_of h n) l.cost) from (link-arc h Fall l falling.among falling.falls) in
-    subst (λ (e : Cost). Walk (LinkArc h Fall) (rank_of h z) (rank_of h x) e) (sum_comm d l.cost) (join (fall-walk h rest) (one_arc last))
+pub fall-walk : {h : Hierarchy} {ls : List Link} {x z : ℕ} {c : Cost} → Chain (IsFalling h) ls x z c → Walk (LinkArc h Fall) (rank_of h z) (rank_of h x) c
+fall-walk nothing = stay
+fall-walk {h} (then {l = l} {x = x} {z = z} {d = d} falling from rest) =
+    let last : LinkArc h Fall (rank_of h l.to) (rank_of h x) l.cost = subst (λ n. LinkArc h Fall (rank_of h l.to) (rank_of h n) l.cost) from (link-arc falling.among falling.falls) in
+    subst (λ (e : Cost). Walk (LinkArc h Fall) (rank_of h z) (rank_of h x) e) (sum_comm d l.cost) (join (fall-walk rest) (one_arc last))
 
-module _ (h : Hierarchy) (made : IsWellMade h) where
+module _ {h : Hierarchy} (made : IsWellMade h) where
   -- a walk of a side from the rank of a node ends at one
   pub end_in : {side : Side} {q r : ℕ} {c : Cost} → Walk (LinkArc h side) q r c → q < length h.ranks → r < length h.ranks
   end_in stay low = low
-  end_in {side} (go arc rest) low = end_in rest (subst (λ p. p < length h.ranks) arc.leads.head (rank_below h made (head_at h side arc.link) (head_in h made side arc.link arc.leads.climbs.within)))
+  end_in {side} (go arc rest) low = end_in rest (subst (λ p. p < length h.ranks) arc.leads.head (rank_below made (head_in made side arc.leads.climbs.within)))
 
   -- and is a rise, or a fall back to where it began
-  pub walk-rise : {q r : ℕ} {c : Cost} → Walk (LinkArc h Rise) q r c → (x z : ℕ) → x < length h.ranks → z < length h.ranks → rank_of h x ≡ q → rank_of h z ≡ r → (ls : List Link) × Chain (IsRising h) ls x z c
-  walk-rise stay x z x_in z_in at there = ([], subst (λ y. Chain (IsRising h) [] x y zero_cost) (same_node h made x z x_in z_in (at ∙ sym there)) nothing)
-  walk-rise (go {d = d} arc rest) x z x_in z_in at there =
+  pub walk-rise : {q r : ℕ} {c : Cost} → Walk (LinkArc h Rise) q r c → {x z : ℕ} → x < length h.ranks → z < length h.ranks → rank_of h x ≡ q → rank_of h z ≡ r → (ls : List Link) × Chain (IsRising h) ls x z c
+  walk-rise stay {x} x_in z_in at there = ([], subst (λ y. Chain (IsRising h) [] x y zero_cost) (same_node made x_in z_in (at ∙ sym there)) nothing)
+  walk-rise (go {d = d} arc rest) {x} x_in z_in at there =
       let l : Link = link_at h arc.link in
-      let from : l.from ≡ x = same_node h made l.from x (foot_in h made Rise arc.link arc.leads.climbs.within) x_in (arc.leads.foot ∙ sym at) in
-      let more = walk-rise rest l.to z (head_in h made Rise arc.link arc.leads.climbs.within) z_in arc.leads.head there in
-      (l ∷ more.0, chain-same (ap (λ (e : Cost). e ⊕ d) arc.cost) (then (record { among = link-among h arc.link arc.leads.climbs.within; rises = arc.leads.climbs.rises }) from more.1))
+      let from : l.from ≡ x = same_node made (foot_in made Rise arc.leads.climbs.within) x_in (arc.leads.foot ∙ sym at) in
+      let more = walk-rise rest (head_in made Rise arc.leads.climbs.within) z_in arc.leads.head there in
+      (l ∷ more.0, chain-same (ap (λ (e : Cost). e ⊕ d) arc.cost) (then (record { among = link-among h arc.leads.climbs.within; rises = arc.leads.climbs.rises }) from more.1))
 
-  pub walk-fall : {q r : ℕ} {c : Cost} → Walk (LinkArc h Fall) q r c → (x z : ℕ) → x < length h.ranks → z < length h.ranks → rank_of h x ≡ q → rank_of h z ≡ r → (ls : List Link) × Chain (IsFalling h) ls z x c
-  walk-fall stay x z x_in z_in at there = ([], subst (λ y. Chain (IsFalling h) [] y x zero_cost) (same_node h made x z x_in z_in (at ∙ sym there)) nothing)
-  walk-fall (go {c = c} {d = d} arc rest) x z x_in z_in at there =
+  pub walk-fall : {q r : ℕ} {c : Cost} → Walk (LinkArc h Fall) q r c → {x z : ℕ} → x < length h.ranks → z < length h.ranks → rank_of h x ≡ q → rank_of h z ≡ r → (ls : List Link) × Chain (IsFalling h) ls z x c
+  walk-fall stay {x} x_in z_in at there = ([], subst (λ y. Chain (IsFalling h) [] y x zero_cost) (same_node made x_in z_in (at ∙ sym there)) nothing)
+  walk-fall (go {c = c} {d = d} arc rest) {x} {z} x_in z_in at there =
       let l : Link = link_at h arc.link in
-      let to : l.to ≡ x = same_node h made l.to x (foot_in h made Fall arc.link arc.leads.climbs.within) x_in (arc.leads.foot ∙ sym at) in
-      let more = walk-fall rest l.from z (head_in h made Fall arc.link arc.leads.climbs.within) z_in arc.leads.head there in
-      let longer = chain-join more.1 (one_link l (record { among = link-among h arc.link arc.leads.climbs.within; falls = arc.leads.climbs.rises })) in
+      let to : l.to ≡ x = same_node made (foot_in made Fall arc.leads.climbs.within) x_in (arc.leads.foot ∙ sym at) in
+      let more = walk-fall rest (head_in made Fall arc.leads.climbs.within) z_in arc.leads.head there in
+      let longer = chain-join more.1 (one_link l (record { among = link-among h arc.leads.climbs.within; falls = arc.leads.climbs.rises })) in
       (more.0 ++ l ∷ [], subst (λ n. Chain (IsFalling h) (more.0 ++ l ∷ []) z n (c ⊕ d)) to (chain-same (ap (λ (e : Cost). d ⊕ e) arc.cost ∙ sum_comm d c) longer))
 
 -- The law of the stop
@@ -98,22 +98,22 @@ both_parts p a q b =
 pub seed_parts : {h : Hierarchy} {side : Side} {seeds : List Seed} {r : ℕ} {d c : Cost} (w : StartedWalk (LinkArc h side) (IsSeedAt h seeds) r d) → d ≡ c → c ≡ w.begins.seed.cost ⊕ w.rest
 seed_parts w is = sym is ∙ (sym w.sum ∙ ap (λ (e : Cost). e ⊕ w.rest) (sym w.begins.cost))
 
-module _ (h : Hierarchy) (made : IsWellMade h) (starts ends : List Seed) (begins : AreSeeds h starts) (stops : AreSeeds h ends) (bound : Cost) (up down : List (Mark Label)) (best : Option Cost) (rises : IsClimbing h Rise starts bound best up) (falls : IsClimbing h Fall ends bound best down) where
+module _ {h : Hierarchy} (made : IsWellMade h) {starts ends : List Seed} (begins : AreSeeds h starts) (stops : AreSeeds h ends) {bound : Cost} (up down : List (Mark Label)) {best : Option Cost} (rises : IsClimbing h Rise starts bound best up) (falls : IsClimbing h Fall ends bound best down) where
   -- two labels of a node are the two parts of a rise-fall walk
-  meeting_walk : (r : ℕ) (c : Cost) → Meets bound (costs_of up) (costs_of down) r c → HasWalkBetween h starts ends bound c
-  meeting_walk r c meets =
-      let e = from_cost (label_in (mark up r)) meets.rise meets.risen in
-      let f = from_cost (label_in (mark down r)) meets.fall meets.fallen in
+  meeting_walk : (r : ℕ) {c : Cost} → Meets bound (costs_of up) (costs_of down) r c → HasWalkBetween h starts ends bound c
+  meeting_walk r meets =
+      let e = from_cost meets.risen in
+      let f = from_cost meets.fallen in
       let w : StartedWalk (LinkArc h Rise) (IsSeedAt h starts) r e.0.cost = rises.walks r e.0 e.1 in
       let v : StartedWalk (LinkArc h Fall) (IsSeedAt h ends) r f.0.cost = falls.walks r f.0 f.1 in
       let a : Seed = w.begins.seed in
       let b : Seed = v.begins.seed in
-      let a_in : a.node < length h.ranks = (seed-in h starts a begins w.begins.among).node_in in
-      let b_in : b.node < length h.ranks = (seed-in h ends b stops v.begins.among).node_in in
-      let low : w.start < length h.ranks = subst (λ q. q < length h.ranks) w.begins.rank (rank_below h made a.node a_in) in
-      let node = rank_taken h made r (end_in h made w.walk low) in
-      let rise = walk-rise h made w.walk a.node node.0 a_in node.1 w.begins.rank node.2 in
-      let fall = walk-fall h made v.walk b.node node.0 b_in node.1 v.begins.rank node.2 in
+      let a_in : a.node < length h.ranks = (seed-in starts begins w.begins.among).node_in in
+      let b_in : b.node < length h.ranks = (seed-in ends stops v.begins.among).node_in in
+      let low : w.start < length h.ranks = subst (λ q. q < length h.ranks) w.begins.rank (rank_below made a_in) in
+      let node = rank_taken made (end_in made w.walk low) in
+      let rise = walk-rise made w.walk a_in node.1 w.begins.rank node.2 in
+      let fall = walk-fall made v.walk b_in node.1 v.begins.rank node.2 in
       let risen : meets.rise ≡ a.cost ⊕ w.rest = seed_parts w e.2 in
       let fallen : meets.fall ≡ b.cost ⊕ v.rest = seed_parts v f.2 in
       record {
@@ -143,16 +143,16 @@ module _ (h : Hierarchy) (made : IsWellMade h) (starts ends : List Seed) (begins
     met_below : {c : Cost} → HasWalkBetween h starts ends bound c → CountsBelow bound best c → (r : ℕ) × (d : Cost) × Meets bound (costs_of up) (costs_of down) r d × (d ≼ c)
     met_below {c} walk counts = elim (both_labelled_or_open label_cost (counts_less bound best) rises falls risen fallen (subst (λ (d : Cost). CountsBelow bound best d) sum counts)) [
       | inl both ↦
-          let e = has_label (mark up top) rise both.0 in
-          let f = has_label (mark down top) fall both.1 in
+          let e = has_label (mark up top) both.0 in
+          let f = has_label (mark down top) both.1 in
           let less : e.0.cost ⊕ f.0.cost ≼ c = subst (λ (d : Cost). e.0.cost ⊕ f.0.cost ≼ d) (sym sum) (sum_at_most e.2 f.2) in (
             top,
             e.0.cost ⊕ f.0.cost,
             record {
               rise = e.0.cost;
               fall = f.0.cost;
-              risen = cost_is up top e.0 e.1;
-              fallen = cost_is down top f.0 f.1;
+              risen = cost_is up top e.1;
+              fallen = cost_is down top f.1;
               sum = refl;
               short = no_longer_at_most less walk.short;
             },
@@ -182,7 +182,7 @@ module _ (h : Hierarchy) (made : IsWellMade h) (starts ends : List Seed) (begins
           first = walk.start.cost;
           begins = record { seed = walk.start; among = walk.begins; rank = refl; cost = refl };
           rest = walk.leads.up;
-          walk = rise-walk h walk.leads.rises;
+          walk = rise-walk walk.leads.rises;
           sum = refl;
         }
 
@@ -192,7 +192,7 @@ module _ (h : Hierarchy) (made : IsWellMade h) (starts ends : List Seed) (begins
           first = walk.stop.cost;
           begins = record { seed = walk.stop; among = walk.stops; rank = refl; cost = refl };
           rest = walk.leads.down;
-          walk = fall-walk h walk.leads.falls;
+          walk = fall-walk walk.leads.falls;
           sum = refl;
         }
 
@@ -202,23 +202,23 @@ module _ (h : Hierarchy) (made : IsWellMade h) (starts ends : List Seed) (begins
             let limit = stopped is.node is.label is.opens in
             below_not_at_most (counts.below limit.0 limit.1) (at_most_trans limit.2 (subst (λ (d : Cost). is.label.cost ≼ d) (sym sum) is.at_most))
 
-some_same : (b a : Cost) → Some b ≡ Some a → b ≡ a
-some_same b a is = cc
+some_same : {b a : Cost} → Some b ≡ Some a → b ≡ a
+some_same is = cc
 
-some_none : (a : Cost) → None ≡ Some a → ⊥
-some_none a is = cc
+some_none : {a : Cost} → None ≡ Some a → ⊥
+some_none is = cc
 
 pub stop_right : StopIsRight
 stop_right h starts ends bound up down None made begins stops rises falls up_stopped down_stopped is = λ c walk.
-    let counts : CountsBelow bound None c = record { short = walk.short; below = λ b none_is. absurd (some_none b none_is) } in
-    let met = met_below h made starts ends begins stops bound up down None rises falls up_stopped down_stopped walk counts in
+    let counts : CountsBelow bound None c = record { short = walk.short; below = λ b none_is. absurd (some_none none_is) } in
+    let met = met_below made begins stops up down rises falls up_stopped down_stopped walk counts in
     is met.1 (met.0, met.2)
 stop_right h starts ends bound up down (Some b) made begins stops rises falls up_stopped down_stopped is = (
-  meeting_walk h made starts ends begins stops bound up down (Some b) rises falls is.0.0 b is.0.1,
+  meeting_walk made begins stops up down rises falls is.0.0 is.0.1,
   λ d walk. elim (cases_cost d b) [
     | inl below ↦
-        let counts : CountsBelow bound (Some b) d = record { short = walk.short; below = λ a same. subst (λ (e : Cost). d ≺ e) (some_same b a same) below } in
-        let met = met_below h made starts ends begins stops bound up down (Some b) rises falls up_stopped down_stopped walk counts in
+        let counts : CountsBelow bound (Some b) d = record { short = walk.short; below = λ a same. subst (λ (e : Cost). d ≺ e) (some_same same) below } in
+        let met = met_below made begins stops up down rises falls up_stopped down_stopped walk counts in
         at_most_trans (is.1 met.1 (met.0, met.2)) met.3
     | inr most ↦ most
   ],

@@ -17,39 +17,39 @@ use Rattle.ch_query.specs.Marks.{option_cost, costs_of, mark_in, marks_in, settl
 use Rattle.ch_query.specs.Searching.{LinkArc}
 
 -- a cost is that of a label
-pub from_cost : (o : Option Label) (c : Cost) → option_cost o ≡ Some c → (e : Label) × (o ≡ Some e) × (e.cost ≡ c)
-from_cost None c is = absurd (cc)
-from_cost (Some e) c is = (e, refl, cc)
+pub from_cost : {o : Option Label} {c : Cost} → option_cost o ≡ Some c → (e : Label) × (o ≡ Some e) × (e.cost ≡ c)
+from_cost {o = None} is = absurd (cc)
+from_cost {o = Some e} is = (e, refl, cc)
 
-pub cost_is : (marks : List (Mark Label)) (r : ℕ) (e : Label) → HasLabel (mark marks r) e → costs_of marks r ≡ Some e.cost
-cost_is marks r e is = ap option_cost is
+pub cost_is : (marks : List (Mark Label)) (r : ℕ) {e : Label} → HasLabel (mark marks r) e → costs_of marks r ≡ Some e.cost
+cost_is marks r is = ap option_cost is
 
 -- and a settled node's that of the label with which it was settled
-pub settled_is : (m : Mark Label) (c : Cost) → settled_in m ≡ Some c → (e : Label) × (m ≡ Settled e) × (e.cost ≡ c)
-settled_is Unseen c is = absurd (cc)
-settled_is (Open e) c is = absurd (cc)
-settled_is (Settled e) c is = (e, refl, cc)
+pub settled_is : {m : Mark Label} {c : Cost} → settled_in m ≡ Some c → (e : Label) × (m ≡ Settled e) × (e.cost ≡ c)
+settled_is {m = Unseen} is = absurd (cc)
+settled_is {m = Open e} is = absurd (cc)
+settled_is {m = Settled e} is = (e, refl, cc)
 
-pub settled-cost : (marks : List (Mark Label)) (r : ℕ) (c : Cost) → settled_costs marks r ≡ Some c → costs_of marks r ≡ Some c
-settled-cost marks r c is =
-    let e = settled_is (mark marks r) c is in
+pub settled-cost : (marks : List (Mark Label)) (r : ℕ) {c : Cost} → settled_costs marks r ≡ Some c → costs_of marks r ≡ Some c
+settled-cost marks r is =
+    let e = settled_is is in
     ap (λ (m : Mark Label). option_cost (label_in m)) e.1 ∙ ap (λ (d : Cost). Some d) e.2
 
 -- what isn't below a limit is at least that
-pub limit-given : (c : Cost) (limit : Option Cost) → (IsBelow c limit → ⊥) → HasLimit limit c
-limit-given c None never = absurd (never tt)
-limit-given c (Some b) never = (b, refl, elim (cases_cost c b) [ inl below ↦ absurd (never below) | inr most ↦ most ])
+pub limit-given : {c : Cost} {limit : Option Cost} → (IsBelow c limit → ⊥) → HasLimit limit c
+limit-given {limit = None} never = absurd (never tt)
+limit-given {c} {limit = Some b} never = (b, refl, elim (cases_cost c b) [ inl below ↦ absurd (never below) | inr most ↦ most ])
 
 -- what is longer than a limit is at least that
-pub limit-longer : (c : Cost) (limit : Option Cost) → (IsUpTo (length_of c) limit → ⊥) → HasLimit limit c
-limit-longer c None never = absurd (never tt)
-limit-longer c (Some b) never = (b, refl, elim (cases_lt (length_of b) (length_of c)) [ inl longer ↦ at_most-from_below (below-from_lengths b c longer) | inr most ↦ absurd (never most) ])
+pub limit-longer : {c : Cost} {limit : Option Cost} → (IsUpTo (length_of c) limit → ⊥) → HasLimit limit c
+limit-longer {limit = None} never = absurd (never tt)
+limit-longer {c} {limit = Some b} never = (b, refl, elim (cases_lt (length_of b) (length_of c)) [ inl longer ↦ at_most-from_below (below-from_lengths b c longer) | inr most ↦ absurd (never most) ])
 
 -- what is at most a cost has a label that is
-pub has_label : (m : Mark Label) (c : Cost) → IsAtMost label_cost m c → (e : Label) × HasLabel m e × (e.cost ≼ c)
-has_label Unseen c most = absurd most
-has_label (Open e) c most = (e, refl, most)
-has_label (Settled e) c most = (e, refl, most)
+pub has_label : (m : Mark Label) {c : Cost} → IsAtMost label_cost m c → (e : Label) × HasLabel m e × (e.cost ≼ c)
+has_label Unseen most = absurd most
+has_label (Open e) most = (e, refl, most)
+has_label (Settled e) most = (e, refl, most)
 
 -- The order in which nodes are settled
 
@@ -66,8 +66,8 @@ no_later-trans {c} {d} {e} first second = record {
 }
 
 -- where a climb leads on to comes later
-no_later-climb : (c w : Cost) {q r : ℕ} → r < q → IsNoLater c r (c ⊕ w) q
-no_later-climb c w higher = record { length = omega (arith, length_of-sum c w); rank = λ alike. omega (arith, higher) }
+no_later-climb : {c : Cost} (w : Cost) {q r : ℕ} → r < q → IsNoLater c r (c ⊕ w) q
+no_later-climb {c} w higher = record { length = omega (arith, length_of-sum c w); rank = λ alike. omega (arith, higher) }
 
 -- and if it was settled before, its label is shorter than the climb
 no_later-settled : {d c : Cost} {q r : ℕ} (w : Cost) → IsNoLater d q c r → r < q → d ≼ c ⊕ w
@@ -84,17 +84,17 @@ pub by_lengths : (h : Hierarchy) (side : Side) → IsOrder (LinkArc h side) IsNo
 by_lengths h side = record {
   same = no_later-refl;
   chain = λ b c d u v w first second. no_later-trans first second;
-  onward = λ c d v u leads. subst (λ (e : Cost). IsNoLater c v e u) leads.sum (no_later-climb c leads.arc (arc-rises leads.goes));
+  onward = λ c d v u leads. subst (λ (e : Cost). IsNoLater c v e u) leads.sum (no_later-climb leads.arc (arc-rises leads.goes));
   back = λ b c d v u leads before. subst (λ (e : Cost). b ≼ e) leads.sum (no_later-settled leads.arc before (arc-rises leads.goes));
 }
 
 -- A climb is better than a label where it costs less
-pub better_than : (m : Mark Label) (c known : Cost) → ((e : Label) → m ≡ Settled e → e.cost ≼ c) → Some known ≡ option_cost (label_in m) → (c ≺ known) ↔ Improves label_cost c m
-better_than Unseen c known latest is = absurd (cc)
-better_than (Open e) c known latest is =
+pub better_than : {m : Mark Label} {c known : Cost} → ((e : Label) → m ≡ Settled e → e.cost ≼ c) → Some known ≡ option_cost (label_in m) → (c ≺ known) ↔ Improves label_cost c m
+better_than {m = Unseen} latest is = absurd (cc)
+better_than {m = Open e} {c} {known} latest is =
     let same : known ≡ e.cost = cc in
     (λ below. subst (λ (d : Cost). c ≺ d) same below, λ below. subst (λ (d : Cost). c ≺ d) (sym same) below)
-better_than (Settled e) c known latest is =
+better_than {m = Settled e} {c} {known} latest is =
     let same : known ≡ e.cost = cc in
     (λ below. below_not_at_most (subst (λ (d : Cost). c ≺ d) same below) (latest e refl), λ improves. absurd improves)
 
@@ -103,11 +103,11 @@ better_than (Settled e) c known latest is =
 pub as_many : (kept : List KeptMark) → length (marks_in kept) ≡ length kept
 as_many kept = length-map kept mark_in
 
-pub mark_read : (kept : List KeptMark) (r : ℕ) (k : KeptMark) → r < length kept → k ≡ get_or kept r k → mark_in k ≡ mark (marks_in kept) r
-mark_read kept r k within read = ap mark_in read ∙ sym (get_or-map mark_in kept r k Unseen within)
+pub mark_read : (kept : List KeptMark) {r : ℕ} {k : KeptMark} → r < length kept → k ≡ get_or kept r k → mark_in k ≡ mark (marks_in kept) r
+mark_read kept {r} {k} within read = ap mark_in read ∙ sym (get_or-map mark_in kept r k Unseen within)
 
-pub mark_written : (kept : List KeptMark) (r : ℕ) (k : KeptMark) (m : Mark Label) → mark_in k ≡ m → marks_in (set kept r k) ≡ set (marks_in kept) r m
-mark_written kept r k m is = map-set mark_in kept r k ∙ ap (λ (n : Mark Label). set (marks_in kept) r n) is
+pub mark_written : (kept : List KeptMark) (r : ℕ) (k : KeptMark) {m : Mark Label} → mark_in k ≡ m → marks_in (set kept r k) ≡ set (marks_in kept) r m
+mark_written kept r k is = map-set mark_in kept r k ∙ ap (λ (n : Mark Label). set (marks_in kept) r n) is
 
 pub first_marks : (nodes : ℕ) (k : KeptMark) → mark_in k ≡ Unseen → marks_in (replicate nodes k) ≡ replicate nodes Unseen
 first_marks zero k is = refl

@@ -9,12 +9,12 @@ use Rattle.std.proofs.lemmas.Map.Made.{IsDistinct-from_AllPairs}
 use Rattle.std.proofs.lemmas.Map.Steps.{length-le_from_distinct_below}
 use Rattle.ch_graph.specs.Hierarchy.{Hierarchy, IsWellMade, rank_of}
 
-pub rank_below : (h : Hierarchy) → IsWellMade h → (x : ℕ) → x < length h.ranks → rank_of h x < length h.ranks
-rank_below h made x low = made.in_range x 0 low
+pub rank_below : {h : Hierarchy} → IsWellMade h → {x : ℕ} → x < length h.ranks → rank_of h x < length h.ranks
+rank_below made {x} low = made.in_range x 0 low
 
 -- two nodes of one rank are one node
-pub same_node : (h : Hierarchy) → IsWellMade h → (x y : ℕ) → x < length h.ranks → y < length h.ranks → rank_of h x ≡ rank_of h y → x ≡ y
-same_node h made x y x_in y_in same = elim (cases_eq x y) [
+pub same_node : {h : Hierarchy} → IsWellMade h → {x y : ℕ} → x < length h.ranks → y < length h.ranks → rank_of h x ≡ rank_of h y → x ≡ y
+same_node made {x} {y} x_in y_in same = elim (cases_eq x y) [
   | inl e ↦ e
   | inr other ↦ elim (cases_lt x y) [
     | inl before ↦ absurd (made.once x y 0 before y_in same)
@@ -33,21 +33,21 @@ found_or_apart r (n ∷ ns) = elim (cases_eq r n) [
   ]
 ]
 
-any_below : (n : ℕ) (xs : List ℕ) → All (λ r. r < n) xs → (q : ℕ) → list_any (eqb q) xs ≡ true → q < n
-any_below n [] all q among = absurd (cc)
-any_below n (x ∷ xs) all q among = elim (cases_eq q x) [
+any_below : {n : ℕ} (xs : List ℕ) → All (λ r. r < n) xs → (q : ℕ) → list_any (eqb q) xs ≡ true → q < n
+any_below [] all q among = absurd (cc)
+any_below {n} (x ∷ xs) all q among = elim (cases_eq q x) [
   | inl here ↦ omega (arith, here, All-head (λ r. r < n) x xs all)
   | inr other ↦
       let apart : eqb q x ≡ false = grind (arith, nat_tests, other) in
-      any_below n xs (All-tail (λ r. r < n) x xs all) q (rw apart at among)
+      any_below xs (All-tail (λ r. r < n) x xs all) q (rw apart at among)
 ]
 
 -- n different numbers below n are all of these
-pub rank_taken : (h : Hierarchy) → IsWellMade h → (r : ℕ) → r < length h.ranks → (x : ℕ) × (x < length h.ranks) × (rank_of h x ≡ r)
-rank_taken h made r low = elim (found_or_apart r h.ranks) [
+pub rank_taken : {h : Hierarchy} → IsWellMade h → {r : ℕ} → r < length h.ranks → (x : ℕ) × (x < length h.ranks) × (rank_of h x ≡ r)
+rank_taken {h} made {r} low = elim (found_or_apart r h.ranks) [
   | inl found ↦ found
   | inr apart ↦
       let distinct = AllPairs-cons (λ q n. q ≢ n) r h.ranks apart made.once in
-      let few : length (r ∷ h.ranks) ≤ length h.ranks = length-le_from_distinct_below (r ∷ h.ranks) (length h.ranks) (IsDistinct-from_AllPairs Decides-eqb (r ∷ h.ranks) distinct) (any_below (length h.ranks) (r ∷ h.ranks) (All-cons (λ n. n < length h.ranks) r h.ranks low made.in_range)) in
+      let few : length (r ∷ h.ranks) ≤ length h.ranks = length-le_from_distinct_below (r ∷ h.ranks) (length h.ranks) (IsDistinct-from_AllPairs Decides-eqb (r ∷ h.ranks) distinct) (any_below (r ∷ h.ranks) (All-cons (λ n. n < length h.ranks) r h.ranks low made.in_range)) in
       absurd (omega (arith, few))
 ]

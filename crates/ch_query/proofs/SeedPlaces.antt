@@ -8,14 +8,14 @@ use Rattle.ch_graph.specs.Hierarchy.{Hierarchy, rank_of}
 use Rattle.ch_query.specs.declared.seed.Seed.{Seed}
 use Rattle.ch_query.specs.Seeds.{IsSeed, AreSeeds, IsSeedAt}
 
-pub among-from_get : (seeds : List Seed) (k : ℕ) (seed : Seed) → slice_get seeds k ≡ Some seed → Contains seeds seed
-among-from_get seeds k seed is = (k, slice_get_within seeds k seed is, get_or_from_slice_get seeds k seed seed is)
+pub among-from_get : (seeds : List Seed) (k : ℕ) {seed : Seed} → slice_get seeds k ≡ Some seed → Contains seeds seed
+among-from_get seeds k {seed} is = (k, slice_get_within seeds k seed is, get_or_from_slice_get seeds k seed seed is)
 
-pub get-from_among : (seeds : List Seed) (seed : Seed) → (among : Contains seeds seed) → slice_get seeds among.0 ≡ Some seed
-get-from_among seeds seed among = slice_get-get_or seeds among.0 seed among.1 ∙ ap (λ (s : Seed). Some s) among.2
+pub get-from_among : (seeds : List Seed) {seed : Seed} → (among : Contains seeds seed) → slice_get seeds among.0 ≡ Some seed
+get-from_among seeds {seed} among = slice_get-get_or seeds among.0 seed among.1 ∙ ap (λ (s : Seed). Some s) among.2
 
-pub seed-in : (h : Hierarchy) (seeds : List Seed) (seed : Seed) → AreSeeds h seeds → Contains seeds seed → IsSeed h seed
-seed-in h seeds seed all among = All-contains (IsSeed h) seeds seed all among
+pub seed-in : {h : Hierarchy} (seeds : List Seed) {seed : Seed} → AreSeeds h seeds → Contains seeds seed → IsSeed h seed
+seed-in {h} seeds {seed} all among = All-contains (IsSeed h) seeds seed all among
 
 -- a seed is at the node of a rank and costs this
 abbrev pub IsThere : Hierarchy → ℕ → Option Cost → Seed → Type 0
@@ -29,23 +29,23 @@ pub record IsSeedAhead (h : Hierarchy) (seeds : List Seed) (rank : ℕ) (cost : 
   pub is : slice_get seeds at ≡ Some seed
   pub there : IsThere h rank cost seed
 
-pub seed_ahead-first : (h : Hierarchy) (seeds : List Seed) (rank : ℕ) (c : Cost) (cost : Option Cost) → cost ≡ Some c → IsSeedAt h seeds rank c → IsSeedAhead h seeds rank cost 0
-seed_ahead-first h seeds rank c cost is one = record {
+pub seed_ahead-first : {h : Hierarchy} {seeds : List Seed} {rank : ℕ} {c : Cost} {cost : Option Cost} → cost ≡ Some c → IsSeedAt h seeds rank c → IsSeedAhead h seeds rank cost 0
+seed_ahead-first {seeds} is one = record {
   at = one.among.0;
   still = omega arith;
   seed = one.seed;
-  is = get-from_among seeds one.seed one.among;
+  is = get-from_among seeds one.among;
   there = (one.rank, is ∙ ap (λ (d : Cost). Some d) (sym one.cost));
 }
 
-some_seed : (a b : Seed) → Some a ≡ Some b → a ≡ b
-some_seed a b is = cc
+some_seed : {a b : Seed} → Some a ≡ Some b → a ≡ b
+some_seed is = cc
 
 -- where it isn't that at this place, it is a later one
-pub seed_ahead-next : {h : Hierarchy} {seeds : List Seed} {rank : ℕ} {cost : Option Cost} {place : ℕ} (seed : Seed) → slice_get seeds place ≡ Some seed → (IsThere h rank cost seed → ⊥) → IsSeedAhead h seeds rank cost place → IsSeedAhead h seeds rank cost (place + 1)
-seed_ahead-next {h} {seeds} {rank} {cost} {place} seed is other ahead = elim (cases_eq place ahead.at) [
+pub seed_ahead-next : {h : Hierarchy} {seeds : List Seed} {rank : ℕ} {cost : Option Cost} {place : ℕ} {seed : Seed} → slice_get seeds place ≡ Some seed → (IsThere h rank cost seed → ⊥) → IsSeedAhead h seeds rank cost place → IsSeedAhead h seeds rank cost (place + 1)
+seed_ahead-next {h} {seeds} {rank} {cost} {place} {seed} is other ahead = elim (cases_eq place ahead.at) [
   | inl here ↦
-      let same : ahead.seed ≡ seed = some_seed ahead.seed seed (sym ahead.is ∙ (ap (slice_get seeds) (sym here) ∙ is)) in
+      let same : ahead.seed ≡ seed = some_seed (sym ahead.is ∙ (ap (slice_get seeds) (sym here) ∙ is)) in
       absurd (other (subst (IsThere h rank cost) same ahead.there))
   | inr later ↦ record {
     at = ahead.at;

@@ -7,16 +7,16 @@ use Rattle.ch_query.specs.declared.side.Side.TheVariants.{Rise, Fall}
 use Rattle.ch_query.specs.Places.{link_at}
 use Rattle.ch_query.specs.Climb.{foot_at, head_at}
 
-pub link-among : (h : Hierarchy) (k : ℕ) → k < length h.links → Contains h.links (link_at h k)
-link-among h k within = Contains-get_or h.links k _ within
+pub link-among : (h : Hierarchy) {k : ℕ} → k < length h.links → Contains h.links (link_at h k)
+link-among h {k} within = Contains-get_or h.links k _ within
 
-pub link-made : (h : Hierarchy) → IsWellMade h → (k : ℕ) → k < length h.links → IsLinkWellMade h (link_at h k)
-link-made h made k within = All-contains (IsLinkWellMade h) h.links (link_at h k) made.links (link-among h k within)
+pub link-made : {h : Hierarchy} → IsWellMade h → {k : ℕ} → k < length h.links → IsLinkWellMade h (link_at h k)
+link-made {h} made {k} within = All-contains (IsLinkWellMade h) h.links (link_at h k) made.links (link-among h within)
 
-pub foot_in : (h : Hierarchy) → IsWellMade h → (side : Side) (k : ℕ) → k < length h.links → foot_at h side k < length h.ranks
-foot_in h made Rise k within = (link-made h made k within).from_in
-foot_in h made Fall k within = (link-made h made k within).to_in
+pub foot_in : {h : Hierarchy} → IsWellMade h → (side : Side) {k : ℕ} → k < length h.links → foot_at h side k < length h.ranks
+foot_in made Rise within = (link-made made within).from_in
+foot_in made Fall within = (link-made made within).to_in
 
-pub head_in : (h : Hierarchy) → IsWellMade h → (side : Side) (k : ℕ) → k < length h.links → head_at h side k < length h.ranks
-head_in h made Rise k within = (link-made h made k within).to_in
-head_in h made Fall k within = (link-made h made k within).from_in
+pub head_in : {h : Hierarchy} → IsWellMade h → (side : Side) {k : ℕ} → k < length h.links → head_at h side k < length h.ranks
+head_in made Rise within = (link-made made within).to_in
+head_in made Fall within = (link-made made within).from_in

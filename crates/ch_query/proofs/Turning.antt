@@ -7,7 +7,7 @@ use Rattle.ch_cost.specs.Cost.Laws.{of_walks_one, of_walks_sum, of_walks_more, s
 use Rattle.ch_graph.specs.declared.mark.Mark.{Mark}
 use Rattle.ch_graph.specs.declared.mark.Mark.TheVariants.{Settled}
 use Rattle.ch_graph.specs.Hierarchy.{Hierarchy, IsWellMade, rank_of}
-use Rattle.ch_graph.specs.Marks.{mark, label_in, HasLabel, IsPut, settled_count}
+use Rattle.ch_graph.specs.Marks.{mark, HasLabel, IsPut, settled_count}
 use Rattle.ch_graph.specs.Searching.{LeadsTo, IsSearch, IsTurn}
 use Rattle.ch_graph.specs.Marks.Laws.{put-set, open-in, label-in, label_open, count-settle}
 use Rattle.ch_graph.specs.Searching.Laws.{settle-latest, turn-here, turn-stays, turn-settled, turn-kept, turn-label, search-fewer, search-turn}
@@ -28,21 +28,21 @@ use Rattle.ch_query.proofs.Following.{counts-more}
 use Rattle.ch_query.proofs.BestMeetings.{limit-less, met-kept, met-from}
 use Rattle.ch_query.proofs.Marking.{from_cost, settled_is, settled-cost, cost_is, arc-rises, by_lengths}
 
-module _ (h : Hierarchy) (made : IsWellMade h) where
+module _ {h : Hierarchy} (made : IsWellMade h) where
   -- the bound of a well made hierarchy is small enough to be a summand
   pub bound_in_limit : IsInLimit h.bound
   bound_in_limit = in_limit-from_within made.bound (cost_of_arcs_in_limit _ _ (omega (arith, made.few_nodes)) (omega arith))
 
   -- and so is a link's cost
-  pub link_summable : (k : ℕ) → k < length h.links → IsSummable (cost_at h k)
-  link_summable k within = summable-from_in_limit (in_limit-from_within (within_trans (link-made h made k within).within made.bound) (cost_of_arcs_in_limit _ _ (omega (arith, made.few_nodes)) (omega arith)))
+  pub link_summable : {k : ℕ} → k < length h.links → IsSummable (cost_at h k)
+  link_summable within = summable-from_in_limit (in_limit-from_within (within_trans (link-made made within).within made.bound) (cost_of_arcs_in_limit _ _ (omega (arith, made.few_nodes)) (omega arith)))
 
   -- an arc's cost is of one walk
   arc_of_walks : {side : Side} {q r : ℕ} {c : Cost} → LinkArc h side q r c → IsOfWalks 1 c
-  arc_of_walks arc = subst (IsOfWalks 1) arc.cost (of_walks_one (length h.ranks - 1) (2 ^ 32 - 1) (omega (arith, made.few_nodes)) (omega arith) made.bound (link-made h made arc.link arc.leads.climbs.within).within)
+  arc_of_walks arc = subst (IsOfWalks 1) arc.cost (of_walks_one (length h.ranks - 1) (2 ^ 32 - 1) (omega (arith, made.few_nodes)) (omega arith) made.bound (link-made made arc.leads.climbs.within).within)
 
-  pub rank_few : (x : ℕ) → x < length h.ranks → rank_of h x + 1 ≤ 2 ^ 25
-  rank_few x low = omega (arith, rank_below h made x low, made.few_nodes)
+  pub rank_few : {x : ℕ} → x < length h.ranks → rank_of h x + 1 ≤ 2 ^ 25
+  rank_few low = omega (arith, rank_below made low, made.few_nodes)
 
   -- a climb to the foot of an arc goes on to its head
   climb_of_walks : {side : Side} {q r : ℕ} {c d : Cost} → LeadsTo (LinkArc h side) q c r d → IsOfWalks (q + 1) c → IsOfWalks (r + 1) d
@@ -53,29 +53,29 @@ module _ (h : Hierarchy) (made : IsWellMade h) where
     labels_fit r e label = summable-from_walks (omega (arith, label-in marks r e label, is.nodes, made.few_nodes)) (is.fits r e label) (is.short r e label) summable
 
 -- the cost of a label, if there is one, is small enough to be a summand
-pub fits-cost : (marks : List (Mark Label)) → FitAll marks → (r : ℕ) (o : Option Cost) → o ≡ costs_of marks r → IfSome o (λ (d : Cost). IsSummable d)
-fits-cost marks fit r None is = tt
-fits-cost marks fit r (Some d) is =
-    let own = from_cost (label_in (mark marks r)) d (sym is) in
+pub fits-cost : (marks : List (Mark Label)) → FitAll marks → (r : ℕ) {o : Option Cost} → o ≡ costs_of marks r → IfSome o (λ (d : Cost). IsSummable d)
+fits-cost marks fit r {o = None} is = tt
+fits-cost marks fit r {o = Some d} is =
+    let own = from_cost (sym is) in
     subst (λ (c : Cost). IsSummable c) own.2 (fit r own.0 own.1)
 
 -- a lesser limit lets fewer sums count
-pub climbing-less : (h : Hierarchy) (bound : Cost) {side : Side} {seeds : List Seed} {limit found : Option Cost} {marks : ℕ → Mark Label}
+pub climbing-less : {h : Hierarchy} {bound : Cost} {side : Side} {seeds : List Seed} {limit found : Option Cost} {marks : ℕ → Mark Label}
     → IsNoMore found limit → IsSearch label_cost IsNoLater (LinkArc h side) (CountsBelow bound limit) (IsSeedAt h seeds) marks
     → IsSearch label_cost IsNoLater (LinkArc h side) (CountsBelow bound found) (IsSeedAt h seeds) marks
-climbing-less h bound less climbing = search-fewer label_cost (λ c counts. counts-more bound less counts) climbing
+climbing-less less climbing = search-fewer label_cost (λ c counts. counts-more less counts) climbing
 
 -- A turn: the node of rank r is settled, and then its links are followed
 
-module _ (h : Hierarchy) (side : Side) (seeds : List Seed) (bound : Cost) (old : List (Mark Label)) (r : ℕ) (e : Label) (is : IsSearching h side seeds bound old) (next : IsLeastOpen old r e) where
+module _ {h : Hierarchy} {side : Side} {seeds : List Seed} {bound : Cost} {old : List (Mark Label)} {r : ℕ} {e : Label} (is : IsSearching h side seeds bound old) (next : IsLeastOpen old r e) where
   abbrev mid : List (Mark Label)
   mid = set old r (Settled e)
 
   settles : IsPut (mark old) r (Settled e) (mark mid)
   settles = put-set old r (Settled e) (open-in old r e next.opens)
 
-  pub turn-latest : (limit : Option Cost) → IsClimbing h side seeds bound limit old → IsLatest (set old r (Settled e)) e.cost r
-  turn-latest limit climbing = settle-latest label_cost IsNoLater next settles (by_lengths h side).same (climbing.ordered r e next.opens)
+  pub turn-latest : {limit : Option Cost} → IsClimbing h side seeds bound limit old → IsLatest (set old r (Settled e)) e.cost r
+  turn-latest climbing = settle-latest label_cost IsNoLater next settles (by_lengths h side).same (climbing.ordered r e next.opens)
 
   pub turn-fits : IsOfWalks (r + 1) e.cost
   turn-fits = is.fits r e (label_open (mark old r) e next.opens)
@@ -83,21 +83,21 @@ module _ (h : Hierarchy) (side : Side) (seeds : List Seed) (bound : Cost) (old :
   pub turn-short : IsNoLonger e.cost bound
   turn-short = is.short r e (label_open (mark old r) e next.opens)
 
-  module _ (new : List (Mark Label)) (opened : IsOpenedOver h side bound r e.cost (set old r (Settled e)) new) where
+  module _ {new : List (Mark Label)} (opened : IsOpenedOver h side bound r e.cost (set old r (Settled e)) new) where
     turn : IsTurn label_cost IsNoLater (ClimbsTo h side bound r e.cost) r e (mark old) (mark new)
     turn = record { mid = mark mid; next = next; put = settles; opened = opened.is }
 
-    pub climbing-turn : (limit found : Option Cost) → IsNoMore found limit → IsClimbing h side seeds bound limit old → ArePassed h side bound r e.cost found new → IsClimbing h side seeds bound found new
-    climbing-turn limit found less climbing passed = search-turn label_cost (by_lengths h side) (climbing-less h bound less climbing) turn (λ q d climbs. climbs.over) passed
+    pub climbing-turn : {limit found : Option Cost} → IsNoMore found limit → IsClimbing h side seeds bound limit old → ArePassed h side bound r e.cost found new → IsClimbing h side seeds bound found new
+    climbing-turn less climbing passed = search-turn label_cost (by_lengths h side) (climbing-less less climbing) turn (λ q d climbs. climbs.over) passed
 
-    from-more : (q : ℕ) (d : Label) → IsFrom h side seeds old q d → IsFrom h side seeds new q d
-    from-more q d from = elim from [
+    from-more : {q : ℕ} {d : Label} → IsFrom h side seeds old q d → IsFrom h side seeds new q d
+    from-more {d} from = elim from [
       | inl first ↦ inl first
       | inr comes ↦ inr (record { foot = comes.foot; settled = turn-stays label_cost IsNoLater (ClimbsTo h side bound r e.cost) turn d.foot comes.foot comes.settled; over = comes.over })
     ]
 
-    climbed-from : (q : ℕ) (d : Label) → ClimbsTo h side bound r e.cost q d → IsFrom h side seeds new q d
-    climbed-from q d climbs = inr (record {
+    climbed-from : {q : ℕ} {d : Label} → ClimbsTo h side bound r e.cost q d → IsFrom h side seeds new q d
+    climbed-from {q} {d} climbs = inr (record {
       foot = e;
       settled = subst (λ p. mark new p ≡ Settled e) (sym climbs.foot) (turn-here label_cost IsNoLater (ClimbsTo h side bound r e.cost) turn);
       over = subst (λ p. LeadsTo (LinkArc h side) p e.cost q d.cost) (sym climbs.foot) climbs.over;
@@ -107,12 +107,12 @@ module _ (h : Hierarchy) (side : Side) (seeds : List Seed) (bound : Cost) (old :
     searching-turn made = record {
       nodes = opened.nodes ∙ (length-set old r (Settled e) ∙ is.nodes);
       origin = λ q d has. elim (came q d has) [
-        | inl there ↦ from-more q d (is.origin q d there)
-        | inr climbs ↦ climbed-from q d climbs
+        | inl there ↦ from-more (is.origin q d there)
+        | inr climbs ↦ climbed-from climbs
       ];
       fits = λ q d has. elim (came q d has) [
         | inl there ↦ is.fits q d there
-        | inr climbs ↦ climb_of_walks h made climbs.over turn-fits
+        | inr climbs ↦ climb_of_walks made climbs.over turn-fits
       ];
       short = λ q d has. elim (came q d has) [
         | inl there ↦ is.short q d there
@@ -139,21 +139,21 @@ module _ (h : Hierarchy) (side : Side) (seeds : List Seed) (bound : Cost) (old :
     }
 
     -- the best meeting so far, once the other side was looked at there
-    pub best-turn : (there : List (Mark Label)) (best found : Option Meeting) → IsBestSoFar bound old there best → IsLooked bound r e.cost (costs_of there r) best found → IsBestSoFar bound new there found
-    best-turn there best found was looked = record {
+    pub best-turn : {there : List (Mark Label)} {best found : Option Meeting} → IsBestSoFar bound old there best → IsLooked bound r e.cost (costs_of there r) best found → IsBestSoFar bound new there found
+    best-turn {there} was looked = record {
       met = λ m is. met-kept old new (turn-kept label_cost IsNoLater (ClimbsTo h side bound r e.cost) turn) (elim (looked.from m is) [
         | inl before ↦ was.met m before
-        | inr here ↦ met-from m (meets_here m here.0 here.1)
+        | inr here ↦ met-from (meets_here m here.0 here.1)
       ]);
       least = λ q c m.
-          let d = settled_is (mark new q) m.rise m.risen in
+          let d = settled_is m.risen in
           let cost : Some d.0.cost ≡ Some m.rise = ap (λ (a : Cost). Some a) d.2 in
           elim (turn-settled label_cost IsNoLater (ClimbsTo h side bound r e.cost) turn q d.0 d.1) [
             | inl this ↦ looked.seen c (record {
               rise = m.rise;
               fall = m.fall;
               risen = ap (λ (l : Label). Some l.cost) this.1 ∙ cost;
-              fallen = subst (λ p. costs_of there p ≡ Some m.fall) this.0 (settled-cost there q m.fall m.fallen);
+              fallen = subst (λ p. costs_of there p ≡ Some m.fall) this.0 (settled-cost there q m.fallen);
               sum = m.sum;
               short = m.short;
             })
@@ -172,7 +172,7 @@ module _ (h : Hierarchy) (side : Side) (seeds : List Seed) (bound : Cost) (old :
         meets_here m at short = subst (λ p. Meets bound (costs_of old) (costs_of there) p m.cost) (sym at) (record {
           rise = short.rise;
           fall = short.fall;
-          risen = cost_is old r e (label_open _ e next.opens) ∙ short.risen;
+          risen = cost_is old r (label_open _ e next.opens) ∙ short.risen;
           fallen = short.fallen;
           sum = short.sum;
           short = short.short;

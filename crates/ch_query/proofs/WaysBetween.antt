@@ -21,16 +21,16 @@ use Rattle.ch_query.proofs.Pairs.{least_pair}
 free_end : (a u d : Cost) → (a ⊕ u) ⊕ d ≡ (a ⊕ (u ⊕ d)) ⊕ zero_cost
 free_end a u d = sum_assoc a u d ∙ sym (sum-zero_cost (a ⊕ (u ⊕ d)))
 
-module _ (h : Hierarchy) (made : IsWellMade h) (starts : List Seed) (begins : AreSeeds h starts) (bound : Cost) (t : ℕ) (t_in : t < length h.ranks) (c : Cost) where
+module _ {h : Hierarchy} (made : IsWellMade h) {starts : List Seed} (begins : AreSeeds h starts) {bound : Cost} {t : ℕ} (t_in : t < length h.ranks) {c : Cost} where
   walk-from_way : IsWay h starts bound (rank_of h t) c → HasWalkBetween h starts (free t ∷ []) bound c
   walk-from_way way =
       let w : StartedWalk (LinkArc h Rise) (IsSeedAt h starts) way.top way.up = way.rise in
       let a : Seed = w.begins.seed in
-      let a_in : a.node < length h.ranks = (seed-in h starts a begins w.begins.among).node_in in
-      let low : w.start < length h.ranks = subst (λ q. q < length h.ranks) w.begins.rank (rank_below h made a.node a_in) in
-      let node = rank_taken h made way.top (end_in h made w.walk low) in
-      let rise = walk-rise h made w.walk a.node node.0 a_in node.1 w.begins.rank node.2 in
-      let fall = walk-fall h made way.fall t node.0 t_in node.1 refl node.2 in
+      let a_in : a.node < length h.ranks = (seed-in starts begins w.begins.among).node_in in
+      let low : w.start < length h.ranks = subst (λ q. q < length h.ranks) w.begins.rank (rank_below made a_in) in
+      let node = rank_taken made (end_in made w.walk low) in
+      let rise = walk-rise made w.walk a_in node.1 w.begins.rank node.2 in
+      let fall = walk-fall made way.fall t_in node.1 refl node.2 in
       record {
         start = a;
         stop = free t;
@@ -55,7 +55,7 @@ module _ (h : Hierarchy) (made : IsWellMade h) (starts : List Seed) (begins : Ar
 
   way-from_walk : HasWalkBetween h starts (free t ∷ []) bound c → IsWay h starts bound (rank_of h t) c
   way-from_walk walk =
-      let stop : walk.stop ≡ free t = same_seed t walk.stop walk.stops in
+      let stop : walk.stop ≡ free t = same_seed walk.stops in
       record {
         top = rank_of h walk.leads.top;
         up = walk.start.cost ⊕ walk.leads.up;
@@ -64,20 +64,20 @@ module _ (h : Hierarchy) (made : IsWellMade h) (starts : List Seed) (begins : Ar
           first = walk.start.cost;
           begins = record { seed = walk.start; among = walk.begins; rank = refl; cost = refl };
           rest = walk.leads.up;
-          walk = rise-walk h walk.leads.rises;
+          walk = rise-walk walk.leads.rises;
           sum = refl;
         };
         down = walk.leads.down;
-        fall = subst (λ (s : Seed). Walk (LinkArc h falling) (rank_of h s.node) (rank_of h walk.leads.top) walk.leads.down) stop (fall-walk h walk.leads.falls);
+        fall = subst (λ (s : Seed). Walk (LinkArc h falling) (rank_of h s.node) (rank_of h walk.leads.top) walk.leads.down) stop (fall-walk walk.leads.falls);
         sum = walk.sum ∙ (ap (λ (s : Seed). cost_between walk.start walk.way s) stop ∙ (ap (λ (d : Cost). cost_between walk.start d (free t)) walk.leads.sum ∙ sym (free_end walk.start.cost walk.leads.up walk.leads.down)));
         short = walk.short;
       }
 
 pub ways_walks : WaysAreWalks
-ways_walks h starts bound t made begins t_in c = (walk-from_way h made starts begins bound t t_in c, way-from_walk h made starts begins bound t t_in c)
+ways_walks h starts bound t made begins t_in c = (walk-from_way made begins t_in, way-from_walk made begins t_in)
 
 pub free_value : FreeValueIsValue
 free_value h s t v value = value-one h s t v value
 
 pub longest_exact : LongestIsExact
-longest_exact h starts ends v made begins stops value g right = least_pair g h right made starts ends begins stops v value
+longest_exact h starts ends v made begins stops value g right = least_pair right made starts ends begins stops v value

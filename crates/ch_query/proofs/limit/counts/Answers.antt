@@ -6,7 +6,7 @@ use Rattle.ch_query.proofs.limit.counts.Goals as goal
 
 pub returns-in-Some : goal.returns-in-Some
 returns-in-Some c =
-    let same = counts-below c.args.bound c.in-Some.limit c.args.sum (c.requires c.in-Some.limit c.in-Some.is) in
+    let same = counts-below c.args.sum (c.requires c.in-Some.limit c.in-Some.is) in
     subst (λ (o : Option Cost). IsTrue c.is_below.result ↔ CountsBelow c.args.bound o c.args.sum) (sym c.in-Some.is) (λ t. same.0 (c.is_below.ensures.0 t), λ counts. c.is_below.ensures.1 (same.1 counts))
 
 pub returns-in-None : goal.returns-in-None

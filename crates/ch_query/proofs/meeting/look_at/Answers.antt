@@ -6,10 +6,10 @@ use Rattle.ch_query.proofs.BestMeetings.{looked-skips, looked-less, looked-stays
 use Rattle.ch_query.proofs.meeting.look_at.Goals as goal
 
 pub returns-in_default : goal.returns-in_default
-returns-in_default c = looked-skips c.args.bound c.args.rank c.args.cost c.args.other c.args.best c.in_default.ensures
+returns-in_default c = looked-skips c.in_default.ensures
 
 pub returns-then-is_below : goal.returns-then-is_below
-returns-then-is_below c = looked-less c.args.bound c.args.rank c.args.cost c.args.other c.args.best c.in-Some.sum c.in-Some.ensures (subst (λ (o : Option Cost). IsBelow c.in-Some.sum o) c.cost_of.ensures (c.is_below.ensures.0 c.if-is_below.true))
+returns-then-is_below c = looked-less c.in-Some.ensures (subst (λ (o : Option Cost). IsBelow c.in-Some.sum o) c.cost_of.ensures (c.is_below.ensures.0 c.if-is_below.true))
 
 pub returns : goal.returns
-returns c = looked-stays c.args.bound c.args.rank c.args.cost c.args.other c.args.best c.in-Some.sum c.in-Some.ensures (subst (λ (o : Option Cost). IsBelow c.in-Some.sum o → ⊥) c.cost_of.ensures (iff_false c.is_below.ensures c.if-is_below.false))
+returns c = looked-stays c.in-Some.ensures (subst (λ (o : Option Cost). IsBelow c.in-Some.sum o → ⊥) c.cost_of.ensures (iff_false c.is_below.ensures c.if-is_below.false))

@@ -1,6 +1,5 @@
 use Rattle.std.proofs.Common.{◌≡◌, ◌<◌, List, Some, None, replicate, length, refl, sym, subst, arith}
 use Rattle.std.proofs.lemmas.List.Elements.{All-pop}
-use Rattle.std.specs.BinaryHeap.{heap_items}
 use Rattle.ch_graph.specs.declared.mark.Mark.{Mark}
 use Rattle.ch_graph.specs.declared.mark.Mark.TheVariants.{Unseen}
 use Rattle.ch_query.specs.declared.label.Label.{Label}
@@ -18,8 +17,8 @@ touched-init c = record {
 
 pub touched-preserved : goal.touched-preserved
 touched-preserved c = record {
-  clearing = subst (λ (ms : List (Mark Label)). IsClearing (length (marks_in c.self.inside.marks.items)) ms c.pop.new.self.items) (sym (mark_written c.touched.self-inside.marks.items c.in-Some.rank c.unseen.result Unseen c.unseen.ensures))
-      (clearing-more _ (marks_in c.touched.self-inside.marks.items) c.touched.self-inside.touched.items c.pop.new.self.items c.in-Some.rank c.touched.invariant.clearing c.in-Some.ensures.items);
+  clearing = subst (λ (ms : List (Mark Label)). IsClearing (length (marks_in c.self.inside.marks.items)) ms c.pop.new.self.items) (sym (mark_written c.touched.self-inside.marks.items c.in-Some.rank c.unseen.result c.unseen.ensures))
+      (clearing-more c.in-Some.rank c.touched.invariant.clearing c.in-Some.ensures.items);
   no_entry = c.touched.invariant.no_entry;
   heap = c.touched.invariant.heap;
 }
@@ -28,12 +27,12 @@ pub invariant_of-self : goal.invariant_of-self
 invariant_of-self c =
     let none_left : length c.touched.self-inside.touched.items ≡ 0 = omega (arith, c.in_default.ensures.cases, c.touched.self-inside.touched.ok) in
     let rest = All-pop (λ q. q < length (marks_in c.touched.self-inside.marks.items)) c.touched.self-inside.touched.items c.pop.new.self.items None c.in_default.ensures.items c.touched.invariant.clearing.places in
-    front-cleared _ (marks_in c.touched.self-inside.marks.items) (heap_items c.touched.self-inside.queue) c.touched.self-inside.touched.items c.pop.new.self.items c.touched.invariant.clearing none_left rest.0 c.touched.invariant.no_entry c.touched.invariant.heap
+    front-cleared c.touched.invariant.clearing none_left rest.0 c.touched.invariant.no_entry c.touched.invariant.heap
 
 pub returns : goal.returns
 returns c =
     let none_left : length c.touched.self-inside.touched.items ≡ 0 = omega (arith, c.in_default.ensures.cases, c.touched.self-inside.touched.ok) in
-    subst (λ (xs : List (Mark Label)). marks_in c.touched.self-inside.marks.items ≡ replicate (length xs) Unseen) c.self.view_is (cleared _ (marks_in c.touched.self-inside.marks.items) c.touched.self-inside.touched.items c.touched.invariant.clearing none_left)
+    subst (λ (xs : List (Mark Label)). marks_in c.touched.self-inside.marks.items ≡ replicate (length xs) Unseen) c.self.view_is (cleared c.touched.invariant.clearing none_left)
 
 pub index_mut-requires : goal.index_mut-requires
 index_mut-requires c =

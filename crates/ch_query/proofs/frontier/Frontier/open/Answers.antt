@@ -17,15 +17,14 @@ pub invariant_of-self : goal.invariant_of-self
 invariant_of-self c =
     let marks : List (Mark Label) = marks_in c.self.inside.marks.items in
     let within : c.args.rank < length marks = subst (λ (xs : List (Mark Label)). c.args.rank < length xs) (sym c.self.view_is) c.requires.rank_in in
-    front-touched marks (heap_items c.self.inside.queue) c.self.inside.touched.items c.touch.new.touched.items c.self.invariant c.touch.ensures.kept (c.touch.ensures.within (length marks) within c.self.invariant.places)
+    front-touched c.self.invariant c.touch.ensures.kept (c.touch.ensures.within (length marks) within c.self.invariant.places)
 
 pub invariant_of-self-in_err-push : goal.invariant_of-self-in_err-push
 invariant_of-self-in_err-push c =
     let marks : List (Mark Label) = marks_in c.self.inside.marks.items in
     let within : c.args.rank < length marks = subst (λ (xs : List (Mark Label)). c.args.rank < length xs) (sym c.self.view_is) c.requires.rank_in in
-    let touched : IsFront marks (heap_items c.self.inside.queue) c.touch.new.touched.items = front-touched marks
-    (heap_items c.self.inside.queue) c.self.inside.touched.items c.touch.new.touched.items c.self.invariant c.touch.ensures.kept
-    (c.touch.ensures.within (length marks) within c.self.invariant.places) in
+    let touched : IsFront marks (heap_items c.self.inside.queue) c.touch.new.touched.items = front-touched c.self.invariant
+    c.touch.ensures.kept (c.touch.ensures.within (length marks) within c.self.invariant.places) in
     subst (λ (xs : List (Entry ℕ)). IsFront marks xs c.touch.new.touched.items) (sym c.in_err-push.ensures.unchanged.0) touched
 
 pub invariant_of-self-2 : goal.invariant_of-self-2
@@ -37,13 +36,12 @@ invariant_of-self-2 c =
     (λ n. IsPermutation (record { 0 = (n, c.args.rank) } ∷ heap_items c.self.inside.queue)
     (heap_items c.push.new.self)) c.length.ensures c.in_ok-push.ensures.permutation in
     let read : c.mark-known.result ≡ mark marks c.args.rank = subst (λ (xs : List (Mark Label)). c.mark-known.result ≡ mark xs c.args.rank) (sym c.self.view_is) c.mark-known.ensures in
-    subst (λ (ms : List (Mark Label)). IsFront ms (heap_items c.push.new.self) c.touch.new.touched.items) (sym (mark_written c.self.inside.marks.items c.args.rank c.open.result (Open c.args.label) c.open.ensures))
-    (front-open marks (heap_items c.self.inside.queue)
-    (heap_items c.push.new.self) c.self.inside.touched.items c.touch.new.touched.items c.args.rank c.args.label c.self.invariant within improves moved
+    subst (λ (ms : List (Mark Label)). IsFront ms (heap_items c.push.new.self) c.touch.new.touched.items) (sym (mark_written c.self.inside.marks.items c.args.rank c.open.result c.open.ensures))
+    (front-open c.touch.new.touched.items c.args.label c.self.invariant within improves moved
     (c.in_ok-push.ensures.heap_order c.self.invariant.queue.heap) c.touch.ensures.kept
     (c.touch.ensures.within (length marks) within c.self.invariant.places) (λ unseen. c.in_ok-touch.ensures.put (read ∙ unseen)))
 
 pub returns-clause-opened : goal.returns-clause-opened
 returns-clause-opened c =
-    mark_written c.self.inside.marks.items c.args.rank c.open.result (Open c.args.label) c.open.ensures
+    mark_written c.self.inside.marks.items c.args.rank c.open.result c.open.ensures
     ∙ ap (λ (ms : List (Mark Label)). set ms c.args.rank (Open c.args.label)) c.self.view_is

@@ -1,4 +1,4 @@
-use Rattle.std.proofs.Common.{List, None, Option, IfNone, IfSome, sym, subst, arith}
+use Rattle.std.proofs.Common.{List, Option, IfNone, IfSome, sym, subst, arith}
 use Rattle.ch_graph.specs.Marks.Laws.{count-most}
 use Rattle.ch_query.specs.declared.climb.Climbed.{Climbed}
 use Rattle.ch_query.specs.declared.frontier.Reached.{Reached}
@@ -9,18 +9,17 @@ use Rattle.ch_query.proofs.half.Half.climb.Goals as goal
 
 pub turns-init : goal.turns-init
 turns-init c =
-    let h = c.args.self.now.hierarchy.now in
     record {
-      searching = searching-begun h c.args.self.now.side c.args.self.now.seeds.now c.requires.half.seeds c.args.self.now.bound c.begin.new.marks c.in_ok-begin.ensures.begun;
-      climbing = climbing-begun h c.args.self.now.side c.args.self.now.seeds.now c.requires.half.seeds c.args.self.now.bound c.begin.new.marks c.in_ok-begin.ensures.begun None;
-      listed = listed-none c.begin.new.marks c.clear.new.self.items c.clear.ensures.items c.in_ok-begin.ensures.begun.none;
+      searching = searching-begun c.args.self.now.side c.requires.half.seeds c.in_ok-begin.ensures.begun;
+      climbing = climbing-begun c.args.self.now.side c.requires.half.seeds c.in_ok-begin.ensures.begun;
+      listed = listed-none c.clear.ensures.items c.in_ok-begin.ensures.begun.none;
     }
 
 pub returns-in-None-clause-climbs : goal.returns-in-None-clause-climbs
 returns-in-None-clause-climbs c =
     let end : IsEnd c.turns.marks c.climb_on.new.marks = subst (λ (o : Option Reached). IfNone o (IsEnd c.turns.marks c.climb_on.new.marks)) c.in-None.is c.in_ok-reached.ensures.end in
-    climbs-listed c.args.self.now.hierarchy.now c.args.self.now.side c.args.self.now.seeds.now c.args.self.now.bound c.climb_on.new.marks
-    c.in_ok-reached.ensures.searching c.in_ok-reached.ensures.climbing end.none c.turns.climbs.items (subst (λ ms. AreListed ms c.turns.climbs.items) (sym end.same) c.turns.invariant.listed)
+    climbs-listed c.in_ok-reached.ensures.searching c.in_ok-reached.ensures.climbing end.none
+    (subst (λ ms. AreListed ms c.turns.climbs.items) (sym end.same) c.turns.invariant.listed)
 
 turned : (c : goal.In_ok-push-in-Some) → IsClimbedOn c.in-Some.reached.rank c.in-Some.reached.label c.turns.marks c.climb_on.new.marks
 turned c = subst (λ (o : Option Reached). IfSome o (λ (r : Reached). IsClimbedOn r.rank r.label c.turns.marks c.climb_on.new.marks)) c.in-Some.is c.in_ok-reached.ensures.settled
@@ -30,10 +29,9 @@ turns-smaller c = omega (arith, (turned c).count, count-most c.climb_on.new.mark
 
 pub turns-preserved : goal.turns-preserved
 turns-preserved c =
-    let one : Climbed = record { rank = c.in-Some.reached.rank; length = c.length-length.result } in
     record {
       searching = c.in_ok-reached.ensures.searching;
       climbing = c.in_ok-reached.ensures.climbing;
       listed = subst (λ (cs : List Climbed). AreListed c.climb_on.new.marks cs) (sym c.in_ok-push-in-Some.ensures.items)
-          (listed-more c.turns.marks c.climb_on.new.marks c.turns.climbs.items one c.in-Some.reached.label (turned c) c.length-length.ensures c.turns.invariant.listed);
+          (listed-more (turned c) c.length-length.ensures c.turns.invariant.listed);
     }

@@ -9,13 +9,11 @@ use Rattle.ch_query.proofs.half.Half.climb_on.Goals as goal
 
 pub pass_over-requires-clause-fits : goal.pass_over-requires-clause-fits
 pass_over-requires-clause-fits c =
-    turn-fits c.args.self.now.hierarchy.now c.args.self.now.side c.args.self.now.seeds.now c.args.self.now.bound
-    c.args.marks.now c.in-Some.reached.rank c.in-Some.reached.label c.requires.searching c.in-Some.ensures.least
+    turn-fits c.requires.searching c.in-Some.ensures.least
 
 pub pass_over-requires-clause-short : goal.pass_over-requires-clause-short
 pass_over-requires-clause-short c =
-    turn-short c.args.self.now.hierarchy.now c.args.self.now.side c.args.self.now.seeds.now c.args.self.now.bound
-    c.args.marks.now c.in-Some.reached.rank c.in-Some.reached.label c.requires.searching c.in-Some.ensures.least
+    turn-short c.requires.searching c.in-Some.ensures.least
 
 opened : (c : goal.In_ok-pass_over)
     → IsOpenedOver c.args.self.now.hierarchy.now c.args.self.now.side c.args.self.now.bound c.in-Some.reached.rank
@@ -28,19 +26,13 @@ opened c =
 
 pub returns-clause-searching : goal.returns-clause-searching
 returns-clause-searching c =
-    searching-turn c.args.self.now.hierarchy.now c.args.self.now.side c.args.self.now.seeds.now c.args.self.now.bound
-    c.args.marks.now c.in-Some.reached.rank c.in-Some.reached.label c.requires.searching c.in-Some.ensures.least
-    c.pass_over.new.here (opened c) c.requires.half.made
+    searching-turn c.requires.searching c.in-Some.ensures.least (opened c) c.requires.half.made
 
 pub returns-clause-climbing : goal.returns-clause-climbing
 returns-clause-climbing c =
-    climbing-turn c.args.self.now.hierarchy.now c.args.self.now.side c.args.self.now.seeds.now c.args.self.now.bound
-    c.args.marks.now c.in-Some.reached.rank c.in-Some.reached.label
-    c.requires.searching c.in-Some.ensures.least c.pass_over.new.here (opened c) None None
-    (no_more-refl None) c.requires.climbing c.in_ok-pass_over.ensures.passed
+    climbing-turn c.requires.searching c.in-Some.ensures.least (opened c) (no_more-refl None) c.requires.climbing
+    c.in_ok-pass_over.ensures.passed
 
 pub returns-clause-settled : goal.returns-clause-settled
 returns-clause-settled c =
-    turn-climbed_on c.args.self.now.hierarchy.now c.args.self.now.side c.args.self.now.seeds.now c.args.self.now.bound
-    c.args.marks.now c.in-Some.reached.rank c.in-Some.reached.label c.requires.searching c.in-Some.ensures.least
-    c.pass_over.new.here (opened c)
+    turn-climbed_on c.requires.searching c.in-Some.ensures.least (opened c)

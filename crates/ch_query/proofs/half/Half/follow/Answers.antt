@@ -9,7 +9,7 @@ use Rattle.ch_query.specs.declared.upward.UpwardStep.{UpwardStep}
 use Rattle.ch_query.specs.declared.label.Label.{Label}
 use Rattle.ch_query.specs.Upward.{step_along}
 use Rattle.ch_query.specs.Labels.{CountsBelow}
-use Rattle.ch_query.specs.Climb.{foot_at, head_at, head_rank, cost_at}
+use Rattle.ch_query.specs.Climb.{head_rank, cost_at}
 use Rattle.ch_query.specs.Marks.{IsSettledAtMost, label_cost}
 use Rattle.ch_query.specs.Searching.{IsOpenedOver, IsFollowed, ClimbsTo}
 use Rattle.ch_query.proofs.Sides.{foot_in, head_in}
@@ -23,16 +23,12 @@ step_cost-requires c = (c.args.self.now.side, c.requires.step)
 
 pub plus_wide-sum-requires-clause-first : goal.plus_wide-sum-requires-clause-first
 plus_wide-sum-requires-clause-first c =
-    let h = c.args.self.now.hierarchy.now in
-    let k : ℕ = slice_index c.args.self.now.steps.now.links.items c.args.place in
-    let few = rank_few h c.requires.half.made (foot_at h c.args.self.now.side k) (foot_in h c.requires.half.made c.args.self.now.side k c.requires.step.climbs.within) in
+    let few = rank_few c.requires.half.made (foot_in c.requires.half.made c.args.self.now.side c.requires.step.climbs.within) in
     summable-from_walks (subst (λ q. q + 1 ≤ 2 ^ 25) c.requires.foot few) c.requires.fits c.requires.short c.requires.half.bound
 
 pub plus_wide-sum-requires-clause-second : goal.plus_wide-sum-requires-clause-second
 plus_wide-sum-requires-clause-second c =
-    let h = c.args.self.now.hierarchy.now in
-    let k : ℕ = slice_index c.args.self.now.steps.now.links.items c.args.place in
-    subst (λ (d : Cost). IsSummable d) (sym c.step_cost.ensures) (link_summable h c.requires.half.made k c.requires.step.climbs.within)
+    subst (λ (d : Cost). IsSummable d) (sym c.step_cost.ensures) (link_summable c.requires.half.made c.requires.step.climbs.within)
 
 pub is_improved_by-requires-clause-settled : goal.is_improved_by-requires-clause-settled
 is_improved_by-requires-clause-settled c =
@@ -42,9 +38,7 @@ is_improved_by-requires-clause-settled c =
     let is : step ≡ step_along h c.args.self.now.side k = c.index-step.ensures ∙ c.requires.step.along step in
     let head : step.head ≡ head_rank h c.args.self.now.side k = ap (λ (s : UpwardStep). s.head) is in
     let sum : c.plus_wide-sum.result ≡ c.args.from.label.cost ⊕ cost_at h k = c.plus_wide-sum.ensures ∙ ap (λ (d : Cost). c.args.from.label.cost ⊕ d) c.step_cost.ensures in
-    settled-step h c.args.self.now.side c.args.here.now c.args.from.rank c.args.from.label.cost step.head c.plus_wide-sum.result
-    (leads-step h c.args.self.now.side c.args.self.now.steps.now.links.items c.args.self.now.steps.now.steps.items c.args.place c.args.from.rank c.args.from.label.cost c.requires.step
-    c.requires.foot step.head c.plus_wide-sum.result head sum) c.requires.latest
+    settled-step c.args.here.now (leads-step c.requires.step c.requires.foot head sum) c.requires.latest
 
 true_false : {b : Bool} → b ≡ true → b ≡ false → ⊥
 true_false first second = cc
@@ -65,10 +59,9 @@ returns-then-not-is_improved_by-clause-followed c counted =
     let head : step.head ≡ head_rank h c.args.self.now.side k = ap (λ (s : UpwardStep). s.head) is in
     let sum : c.plus_wide-sum.result ≡ c.args.from.label.cost ⊕ cost_at h k = c.plus_wide-sum.ensures ∙ ap (λ (d : Cost). c.args.from.label.cost ⊕ d) c.step_cost.ensures in
     let never : Improves label_cost c.plus_wide-sum.result (mark c.args.here.now step.head) → ⊥ = λ improves. true_false (c.is_improved_by.ensures.1 improves) c.if-not-is_improved_by.true in
-    let above : IsSettledAtMost c.args.here.now step.head c.plus_wide-sum.result = settled-step h c.args.self.now.side c.args.here.now c.args.from.rank c.args.from.label.cost
-    step.head c.plus_wide-sum.result (leads-step h c.args.self.now.side c.args.self.now.steps.now.links.items c.args.self.now.steps.now.steps.items c.args.place
-    c.args.from.rank c.args.from.label.cost c.requires.step c.requires.foot step.head c.plus_wide-sum.result head sum) c.requires.latest in
-    followed-kept h c.args.self.now.side c.args.self.now.bound c.args.from.label.cost c.args.limit c.args.here.now k step.head c.plus_wide-sum.result never above head sum counted
+    let above : IsSettledAtMost c.args.here.now step.head c.plus_wide-sum.result = settled-step c.args.here.now (leads-step
+    c.requires.step c.requires.foot head sum) c.requires.latest in
+    followed-kept h c.args.self.now.side c.args.self.now.bound c.args.from.label.cost c.args.limit c.args.here.now k never above head sum counted
 
 pub returns-clause-opened : goal.returns-clause-opened
 returns-clause-opened c =
@@ -82,15 +75,14 @@ returns-clause-opened c =
     let sum : c.plus_wide-sum.result ≡ c.args.from.label.cost ⊕ cost_at h k = c.plus_wide-sum.ensures ∙ ap (λ (d : Cost). c.args.from.label.cost ⊕ d) c.step_cost.ensures in
     let short : IsNoLonger c.plus_wide-sum.result c.args.self.now.bound = (c.counts.ensures.0 c.if-not-counts.false).short in
     let improves : Improves label_cost c.plus_wide-sum.result (mark marks step.head) = c.is_improved_by.ensures.0 c.if-not-is_improved_by.false in
-    let within : step.head < length marks = omega (arith, c.requires.here_nodes, head, rank_below h c.requires.half.made (head_at h side k) (head_in h c.requires.half.made side k c.requires.step.climbs.within)) in
+    let within : step.head < length marks = omega (arith, c.requires.here_nodes, head, rank_below c.requires.half.made (head_in c.requires.half.made side c.requires.step.climbs.within)) in
     let e : Label = record { cost = c.plus_wide-sum.result; foot = c.args.from.rank } in
     let climbs : ClimbsTo h side c.args.self.now.bound c.args.from.rank c.args.from.label.cost step.head e = record {
-      over = leads-step h side c.args.self.now.steps.now.links.items c.args.self.now.steps.now.steps.items c.args.place c.args.from.rank c.args.from.label.cost c.requires.step
-          c.requires.foot step.head c.plus_wide-sum.result head sum;
+      over = leads-step c.requires.step c.requires.foot head sum;
       foot = refl;
       short = short;
     } in
-    subst (λ (ms : List (Mark Label)). IsOpenedOver h side c.args.self.now.bound c.args.from.rank c.args.from.label.cost marks ms) (sym c.in_ok-open.ensures.opened) (opened-one h side c.args.self.now.bound c.args.from.rank c.args.from.label.cost marks step.head e within improves climbs)
+    subst (λ (ms : List (Mark Label)). IsOpenedOver h side c.args.self.now.bound c.args.from.rank c.args.from.label.cost marks ms) (sym c.in_ok-open.ensures.opened) (opened-one within improves climbs)
 
 pub returns-clause-followed : goal.returns-clause-followed
 returns-clause-followed c =
@@ -102,6 +94,6 @@ returns-clause-followed c =
     let side = c.args.self.now.side in
     let marks : List (Mark Label) = c.args.here.now in
     let sum : c.plus_wide-sum.result ≡ c.args.from.label.cost ⊕ cost_at h k = c.plus_wide-sum.ensures ∙ ap (λ (d : Cost). c.args.from.label.cost ⊕ d) c.step_cost.ensures in
-    let within : step.head < length marks = omega (arith, c.requires.here_nodes, head, rank_below h c.requires.half.made (head_at h side k) (head_in h c.requires.half.made side k c.requires.step.climbs.within)) in
+    let within : step.head < length marks = omega (arith, c.requires.here_nodes, head, rank_below c.requires.half.made (head_in c.requires.half.made side c.requires.step.climbs.within)) in
     let e : Label = record { cost = c.plus_wide-sum.result; foot = c.args.from.rank } in
-    subst (λ (ms : List (Mark Label)). IsFollowed h side c.args.self.now.bound c.args.from.label.cost c.args.limit ms k) (sym c.in_ok-open.ensures.opened) (followed-put h side c.args.self.now.bound c.args.from.label.cost c.args.limit marks k step.head e within head sum)
+    subst (λ (ms : List (Mark Label)). IsFollowed h side c.args.self.now.bound c.args.from.label.cost c.args.limit ms k) (sym c.in_ok-open.ensures.opened) (followed-put h side c.args.self.now.bound c.args.from.label.cost c.args.limit marks k e within head sum)

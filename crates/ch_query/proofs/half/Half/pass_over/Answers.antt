@@ -14,24 +14,17 @@ loop-place-init c =
       end = c.get-end.ensures;
       passing = subst (λ n. IsPassing h c.args.self.now.side c.args.self.now.bound c.args.from.rank c.args.from.label.cost
           links from n c.args.limit c.args.here.now c.args.here.now) (sym begin)
-          (passing-none h c.args.self.now.side c.args.self.now.bound c.args.from.rank c.args.from.label.cost links from
-          c.args.limit c.args.here.now);
+          (passing-none);
     }
 
 pub follow-requires-clause-step : goal.follow-requires-clause-step
 follow-requires-clause-step c =
-    let h = c.args.self.now.hierarchy.now in
-    step-made h c.requires.half.made c.args.self.now.side c.args.self.now.steps.now.first.items
-    c.args.self.now.steps.now.links.items c.args.self.now.steps.now.steps.items c.requires.half.laid c.args.from.rank
-    c.requires.rank_in c.loop-place.place c.loop-place.invariant.from
+    step-made c.requires.half.made c.requires.half.laid c.requires.rank_in c.loop-place.invariant.from
     (omega (arith, c.loop-place.invariant.end, c.loop-place-test.true))
 
 pub follow-requires-clause-foot : goal.follow-requires-clause-foot
 follow-requires-clause-foot c =
-    let h = c.args.self.now.hierarchy.now in
-    foot-made h c.requires.half.made c.args.self.now.side c.args.self.now.steps.now.first.items
-    c.args.self.now.steps.now.links.items c.args.self.now.steps.now.steps.items c.requires.half.laid c.args.from.rank
-    c.requires.rank_in c.loop-place.place c.loop-place.invariant.from
+    foot-made c.requires.half.made c.requires.half.laid c.requires.rank_in c.loop-place.invariant.from
     (omega (arith, c.loop-place.invariant.end, c.loop-place-test.true))
 
 pub follow-requires-clause-latest : goal.follow-requires-clause-latest
@@ -41,15 +34,10 @@ pub loop-place-preserved : goal.loop-place-preserved
 loop-place-preserved c = record {
   from = omega (arith, c.loop-place.invariant.from);
   end = c.loop-place.invariant.end;
-  passing = passing-more c.loop-place.place c.loop-place.invariant.passing c.in_ok-follow.ensures.opened
-      c.in_ok-follow.ensures.followed;
+  passing = passing-more c.loop-place.invariant.passing c.in_ok-follow.ensures.opened c.in_ok-follow.ensures.followed;
 }
 
 pub returns-clause-passed : goal.returns-clause-passed
 returns-clause-passed c =
-    let h = c.args.self.now.hierarchy.now in
-    passed_over h c.requires.half.made c.args.self.now.side c.args.self.now.steps.now.first.items
-    c.args.self.now.steps.now.links.items c.args.self.now.steps.now.steps.items
-    c.requires.half.laid c.args.from.rank c.requires.rank_in c.args.self.now.bound c.args.from.label.cost c.loop-place.place
-    (omega (arith, c.loop-place.invariant.end, c.loop-place-test.false)) c.args.limit c.args.here.now c.loop-place.here
-    c.loop-place.invariant.passing
+    passed_over c.requires.half.made c.requires.half.laid c.requires.rank_in
+    (omega (arith, c.loop-place.invariant.end, c.loop-place-test.false)) c.loop-place.invariant.passing

@@ -2,4 +2,4 @@ use Rattle.ch_query.proofs.SeedPlaces.{seed_ahead-first}
 use Rattle.ch_query.proofs.half.Half.seed_at.Goals as goal
 
 pub seeds-init : goal.seeds-init
-seeds-init c = seed_ahead-first c.args.self.now.hierarchy.now c.args.self.now.seeds.now c.args.rank c.requires.one.0 c.args.cost c.requires.one.1 c.requires.one.2
+seeds-init c = seed_ahead-first c.requires.one.1 c.requires.one.2

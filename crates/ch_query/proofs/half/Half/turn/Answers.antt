@@ -16,27 +16,23 @@ use Rattle.ch_query.proofs.half.Half.turn.Goals as goal
 
 pub look_at-found-requires-clause-fits : goal.look_at-found-requires-clause-fits
 look_at-found-requires-clause-fits c =
-    labels_fit c.args.self.now.hierarchy.now c.requires.half.made c.requires.half.bound c.requires.searching
-    c.in-Some.reached.rank c.in-Some.reached.label (label_open _ c.in-Some.reached.label c.in-Some.ensures.least.opens)
+    labels_fit c.requires.half.made c.requires.half.bound c.requires.searching c.in-Some.reached.rank
+    c.in-Some.reached.label (label_open _ c.in-Some.reached.label c.in-Some.ensures.least.opens)
 
 pub look_at-found-requires-clause-other_fits : goal.look_at-found-requires-clause-other_fits
 look_at-found-requires-clause-other_fits c =
-    fits-cost c.args.there.now c.requires.there_fits c.in-Some.reached.rank c.cost.result c.cost.ensures
+    fits-cost c.args.there.now c.requires.there_fits c.in-Some.reached.rank c.cost.ensures
 
 pub pass_over-requires-clause-limit : goal.pass_over-requires-clause-limit
 pass_over-requires-clause-limit c =
     subst (λ (o : Option Cost). IsShortLimit c.args.self.now.bound o) (sym c.cost_of-limit.ensures)
-    (looked-short c.args.self.now.bound c.args.here.now c.args.there.now c.in-Some.reached.rank c.in-Some.reached.label.cost
-    c.cost.result c.args.best.now
-    c.look_at-found.result c.requires.best c.look_at-found.ensures)
+    (looked-short c.requires.best c.look_at-found.ensures)
 
 pub pass_over-requires-clause-latest : goal.pass_over-requires-clause-latest
 pass_over-requires-clause-latest c =
     subst (λ (ms : List (Mark Label)). IsLatest ms c.in-Some.reached.label.cost c.in-Some.reached.rank)
     (sym c.in-Some.ensures.settled)
-    (turn-latest c.args.self.now.hierarchy.now c.args.self.now.side c.args.self.now.seeds.now c.args.self.now.bound
-    c.args.here.now c.in-Some.reached.rank c.in-Some.reached.label
-    c.requires.searching c.in-Some.ensures.least (cost_of c.args.best.now) c.requires.climbing)
+    (turn-latest c.requires.searching c.in-Some.ensures.least c.requires.climbing)
 
 pub pass_over-requires-clause-rank_in : goal.pass_over-requires-clause-rank_in
 pass_over-requires-clause-rank_in c =
@@ -48,13 +44,11 @@ pass_over-requires-clause-rank_in c =
 
 pub pass_over-requires-clause-fits : goal.pass_over-requires-clause-fits
 pass_over-requires-clause-fits c =
-    turn-fits c.args.self.now.hierarchy.now c.args.self.now.side c.args.self.now.seeds.now c.args.self.now.bound
-    c.args.here.now c.in-Some.reached.rank c.in-Some.reached.label c.requires.searching c.in-Some.ensures.least
+    turn-fits c.requires.searching c.in-Some.ensures.least
 
 pub pass_over-requires-clause-short : goal.pass_over-requires-clause-short
 pass_over-requires-clause-short c =
-    turn-short c.args.self.now.hierarchy.now c.args.self.now.side c.args.self.now.seeds.now c.args.self.now.bound
-    c.args.here.now c.in-Some.reached.rank c.in-Some.reached.label c.requires.searching c.in-Some.ensures.least
+    turn-short c.requires.searching c.in-Some.ensures.least
 
 looked : (c : goal.In_ok-pass_over) → IsLooked c.args.self.now.bound c.in-Some.reached.rank c.in-Some.reached.label.cost
     (costs_of c.args.there.now c.in-Some.reached.rank) c.args.best.now c.look_at-found.result
@@ -73,9 +67,7 @@ opened c =
 
 pub returns-clause-searching : goal.returns-clause-searching
 returns-clause-searching c =
-    searching-turn c.args.self.now.hierarchy.now c.args.self.now.side c.args.self.now.seeds.now c.args.self.now.bound
-    c.args.here.now c.in-Some.reached.rank c.in-Some.reached.label c.requires.searching c.in-Some.ensures.least
-    c.pass_over.new.here (opened c) c.requires.half.made
+    searching-turn c.requires.searching c.in-Some.ensures.least (opened c) c.requires.half.made
 
 pub returns-clause-less : goal.returns-clause-less
 returns-clause-less c = (looked c).less
@@ -85,18 +77,11 @@ returns-clause-climbing c =
     let passed = subst (λ (o : Option Cost). ArePassed c.args.self.now.hierarchy.now c.args.self.now.side
     c.args.self.now.bound c.in-Some.reached.rank c.in-Some.reached.label.cost o c.pass_over.new.here)
     c.cost_of-limit.ensures c.in_ok-pass_over.ensures.passed in
-    climbing-turn c.args.self.now.hierarchy.now c.args.self.now.side c.args.self.now.seeds.now c.args.self.now.bound
-    c.args.here.now c.in-Some.reached.rank c.in-Some.reached.label
-    c.requires.searching c.in-Some.ensures.least c.pass_over.new.here (opened c) (cost_of c.args.best.now)
-    (cost_of c.look_at-found.result)
-    (looked c).less c.requires.climbing passed
+    climbing-turn c.requires.searching c.in-Some.ensures.least (opened c) (looked c).less c.requires.climbing passed
 
 pub returns-clause-best : goal.returns-clause-best
 returns-clause-best c =
-    best-turn c.args.self.now.hierarchy.now c.args.self.now.side c.args.self.now.seeds.now c.args.self.now.bound
-    c.args.here.now c.in-Some.reached.rank c.in-Some.reached.label
-    c.requires.searching c.in-Some.ensures.least c.pass_over.new.here
-    (opened c) c.args.there.now c.args.best.now c.look_at-found.result c.requires.best (looked c)
+    best-turn c.requires.searching c.in-Some.ensures.least (opened c) c.requires.best (looked c)
 
 pub returns-in_default-clause-less : goal.returns-in_default-clause-less
 returns-in_default-clause-less c = no_more-refl (cost_of c.args.best.now)

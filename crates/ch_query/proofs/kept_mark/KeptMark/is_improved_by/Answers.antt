@@ -6,7 +6,7 @@ use Rattle.ch_graph.specs.Marks.{label_in, Improves}
 use Rattle.ch_query.specs.declared.kept_mark.State.{State}
 use Rattle.ch_query.specs.declared.kept_mark.State.TheVariants.{Unseen, Open, Settled}
 use Rattle.ch_query.specs.declared.label.Label.{Label}
-use Rattle.ch_query.specs.Marks.{mark_of, mark_in, option_cost, label_cost}
+use Rattle.ch_query.specs.Marks.{mark_of, option_cost, label_cost}
 use Rattle.ch_query.proofs.Marking.{better_than}
 use Rattle.ch_query.proofs.kept_mark.KeptMark.is_improved_by.Goals as goal
 
@@ -32,5 +32,5 @@ returns-then-length c =
 pub returns : goal.returns
 returns c =
     let kept = c.args.self.now in
-    let better = better_than (mark_in kept) c.args.cost kept.cost c.requires (seen_cost kept.state (record { cost = kept.cost; foot = kept.foot }) c.in_default.not-Unseen) in
+    let better = better_than c.requires (seen_cost kept.state (record { cost = kept.cost; foot = kept.foot }) c.in_default.not-Unseen) in
     (λ is. better.0 (c.is_below.ensures.0 is), λ improves. c.is_below.ensures.1 (better.1 improves))

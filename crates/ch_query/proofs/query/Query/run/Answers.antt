@@ -1,4 +1,4 @@
-use Rattle.std.proofs.Common.{◌≡◌, ◌+◌, ◌≤◌, None, arith}
+use Rattle.std.proofs.Common.{◌≡◌, ◌+◌, ◌≤◌, arith}
 use Rattle.ch_graph.specs.Marks.{settled_count}
 use Rattle.ch_graph.specs.Marks.Laws.{count-most}
 use Rattle.ch_query.specs.declared.side.Side.TheVariants.{Rise, Fall}
@@ -12,52 +12,48 @@ use Rattle.ch_query.proofs.query.Query.run.Goals as goal
 
 pub turns-init : goal.turns-init
 turns-init c =
-    let h = c.args.self.now.hierarchy.now in
     record {
-      rises = searching-begun h Rise c.args.self.now.starts.now c.requires.query.starts c.args.self.now.bound c.begin.new.marks c.in_ok-begin.ensures.begun;
-      falls = searching-begun h Fall c.args.self.now.ends.now c.requires.query.ends c.args.self.now.bound c.begin-2.new.marks c.in_ok-begin-2.ensures.begun;
-      up_climbing = climbing-begun h Rise c.args.self.now.starts.now c.requires.query.starts c.args.self.now.bound c.begin.new.marks c.in_ok-begin.ensures.begun None;
-      down_climbing = climbing-begun h Fall c.args.self.now.ends.now c.requires.query.ends c.args.self.now.bound c.begin-2.new.marks c.in_ok-begin-2.ensures.begun None;
-      best = best-begun h Rise c.args.self.now.starts.now c.requires.query.starts c.args.self.now.bound c.begin.new.marks c.in_ok-begin.ensures.begun c.begin-2.new.marks;
+      rises = searching-begun Rise c.requires.query.starts c.in_ok-begin.ensures.begun;
+      falls = searching-begun Fall c.requires.query.ends c.in_ok-begin-2.ensures.begun;
+      up_climbing = climbing-begun Rise c.requires.query.starts c.in_ok-begin.ensures.begun;
+      down_climbing = climbing-begun Fall c.requires.query.ends c.in_ok-begin-2.ensures.begun;
+      best = best-begun Rise c.requires.query.starts c.in_ok-begin.ensures.begun;
     }
 
 pub turn-requires-clause-there_fits : goal.turn-requires-clause-there_fits
-turn-requires-clause-there_fits c = labels_fit c.args.self.now.hierarchy.now c.requires.query.made c.requires.query.bound c.turns.invariant.falls
+turn-requires-clause-there_fits c = labels_fit c.requires.query.made c.requires.query.bound c.turns.invariant.falls
 
 pub turn-requires-in-turns-clause-there_fits : goal.turn-requires-in-turns-clause-there_fits
-turn-requires-in-turns-clause-there_fits c = labels_fit c.args.self.now.hierarchy.now c.requires.query.made c.requires.query.bound c.in_ok-rose.ensures.searching
+turn-requires-in-turns-clause-there_fits c = labels_fit c.requires.query.made c.requires.query.bound c.in_ok-rose.ensures.searching
 
 pub turn-requires-in-turns-clause-best : goal.turn-requires-in-turns-clause-best
 turn-requires-in-turns-clause-best c = best-flip c.in_ok-rose.ensures.best
 
 pub turn-requires-in-turns-clause-climbing : goal.turn-requires-in-turns-clause-climbing
-turn-requires-in-turns-clause-climbing c = climbing-less c.args.self.now.hierarchy.now c.args.self.now.bound c.in_ok-rose.ensures.less c.turns.invariant.down_climbing
+turn-requires-in-turns-clause-climbing c = climbing-less c.in_ok-rose.ensures.less c.turns.invariant.down_climbing
 
 stopped : (c : goal.Then-not-goes_on) → IsStopped c.turn.new.here (cost_of c.turn-in-turns.new.best) × IsStopped c.turn-in-turns.new.here (cost_of c.turn-in-turns.new.best)
 stopped c =
-    let both = neither c.in_ok-rose.rose c.in_ok-fell.fell c.if-not-goes_on.true in
-    let rose = not-turned c.in_ok-rose.rose c.turns.up c.turn.new.here (cost_of c.turns.best) (cost_of c.turn.new.best) both.0 c.in_ok-rose.ensures.turned in
-    let fell = not-turned c.in_ok-fell.fell c.turns.down c.turn-in-turns.new.here (cost_of c.turn.new.best) (cost_of c.turn-in-turns.new.best) both.1 c.in_ok-fell.ensures.turned in
-    both-stopped c.turns.up c.turn.new.here c.turns.down c.turn-in-turns.new.here (cost_of c.turns.best) (cost_of c.turn.new.best) (cost_of c.turn-in-turns.new.best) rose fell
+    let both = neither c.if-not-goes_on.true in
+    let rose = not-turned both.0 c.in_ok-rose.ensures.turned in
+    let fell = not-turned both.1 c.in_ok-fell.ensures.turned in
+    both-stopped rose fell
 
 best : (c : goal.Then-not-goes_on) → IsBestMeeting c.args.self.now.bound (costs_of c.turn.new.here) (costs_of c.turn-in-turns.new.here) c.turn-in-turns.new.best
 best c =
     let both = stopped c in
-    best-stopped c.args.self.now.bound c.turn.new.here c.turn-in-turns.new.here c.turn-in-turns.new.best (best-flip c.in_ok-fell.ensures.best) both.0 both.1
+    best-stopped c.args.self.now.bound c.turn.new.here c.turn-in-turns.new.here (best-flip c.in_ok-fell.ensures.best) both.0 both.1
 
 pub returns-then-not-goes_on-clause-value : goal.returns-then-not-goes_on-clause-value
 returns-then-not-goes_on-clause-value c =
-    let query = c.args.self.now in
     let both = stopped c in
-    let rising = climbing-less query.hierarchy.now query.bound c.in_ok-fell.ensures.less c.in_ok-rose.ensures.climbing in
-    answered query.hierarchy.now c.requires.query.made query.starts.now query.ends.now c.requires.query.starts c.requires.query.ends query.bound
-    c.turn.new.here c.turn-in-turns.new.here c.turn-in-turns.new.best rising c.in_ok-fell.ensures.climbing both.0 both.1 (best c)
+    let rising = climbing-less c.in_ok-fell.ensures.less c.in_ok-rose.ensures.climbing in
+    answered c.requires.query.made c.requires.query.starts c.requires.query.ends c.turn.new.here c.turn-in-turns.new.here
+    c.turn-in-turns.new.best rising c.in_ok-fell.ensures.climbing both.0 both.1 (best c)
 
 pub returns-then-not-goes_on-clause-met : goal.returns-then-not-goes_on-clause-met
 returns-then-not-goes_on-clause-met c =
-    let query = c.args.self.now in
-    meeting_of query.hierarchy.now query.starts.now query.ends.now query.bound c.turn.new.here c.turn-in-turns.new.here
-    c.in_ok-rose.ensures.searching c.in_ok-fell.ensures.searching c.turn-in-turns.new.best (best c)
+    meeting_of c.in_ok-rose.ensures.searching c.in_ok-fell.ensures.searching c.turn-in-turns.new.best (best c)
 
 pub turns-smaller : goal.turns-smaller
 turns-smaller c =
@@ -70,7 +66,7 @@ pub turns-preserved : goal.turns-preserved
 turns-preserved c = record {
   rises = c.in_ok-rose.ensures.searching;
   falls = c.in_ok-fell.ensures.searching;
-  up_climbing = climbing-less c.args.self.now.hierarchy.now c.args.self.now.bound c.in_ok-fell.ensures.less c.in_ok-rose.ensures.climbing;
+  up_climbing = climbing-less c.in_ok-fell.ensures.less c.in_ok-rose.ensures.climbing;
   down_climbing = c.in_ok-fell.ensures.climbing;
   best = best-flip c.in_ok-fell.ensures.best;
 }

@@ -2,12 +2,12 @@ use Rattle.std.proofs.Common.{Option}
 use Rattle.std.proofs.lemmas.Result.{IfOk-weaker}
 use Rattle.ch_query.specs.declared.search.FoundBetween.{FoundBetween}
 use Rattle.ch_query.specs.Seeds.{IsValueBetween}
-use Rattle.ch_query.proofs.Pairs.{longest_summable, cost_found, IsWalkFound, IsLeastFound, IsExact, exact_here, least_here}
+use Rattle.ch_query.proofs.Pairs.{longest_summable, cost_found, IsExact, exact_here, least_here}
 use Rattle.ch_query.proofs.Results.{if_ok-both}
 use Rattle.ch_query.proofs.search.SearchOf.between.Goals as goal
 
 pub least_walk-requires-clause-bound : goal.least_walk-requires-clause-bound
-least_walk-requires-clause-bound g c = longest_summable c.of_walk-limit.result c.of_walk-limit.ensures
+least_walk-requires-clause-bound g c = longest_summable c.of_walk-limit.ensures
 
 pub returns-clause-exact : goal.returns-clause-exact
 returns-clause-exact g c =
@@ -17,17 +17,13 @@ returns-clause-exact g c =
     IfOk-weaker c.least_walk.result
     (λ (found : Option FoundBetween). IsValueBetween h starts ends c.of_walk-limit.result (cost_found found))
     (λ (found : Option FoundBetween). IsExact h starts ends (cost_found found))
-    (λ found. exact_here h c.least_walk.ensures.made starts ends c.requires.starts c.requires.ends c.of_walk-limit.result c.of_walk-limit.ensures (cost_found found))
+    (λ found. exact_here c.least_walk.ensures.made starts ends c.requires.starts c.requires.ends c.of_walk-limit.ensures (cost_found found))
     c.least_walk.ensures.value
 
 pub returns-clause-walk : goal.returns-clause-walk
 returns-clause-walk g c =
-    let h = c.args.self.now in
     let starts = c.args.starts.now in
     let ends = c.args.ends.now in
     if_ok-both c.least_walk.result
-    (λ (found : Option FoundBetween). IsValueBetween h starts ends c.of_walk-limit.result (cost_found found))
-    (IsWalkFound h starts ends)
-    (IsLeastFound h starts ends)
-    (least_here h c.least_walk.ensures.made starts ends c.requires.starts c.requires.ends c.of_walk-limit.result c.of_walk-limit.ensures)
+    (least_here c.least_walk.ensures.made starts ends c.requires.starts c.requires.ends c.of_walk-limit.ensures)
     c.least_walk.ensures.value c.least_walk.ensures.walk

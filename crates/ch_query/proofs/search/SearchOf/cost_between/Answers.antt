@@ -4,7 +4,7 @@ use Rattle.ch_query.proofs.Pairs.{longest_summable, IsExact, exact_here}
 use Rattle.ch_query.proofs.search.SearchOf.cost_between.Goals as goal
 
 pub least_cost-requires-clause-bound : goal.least_cost-requires-clause-bound
-least_cost-requires-clause-bound g c = longest_summable c.of_walk-most.result c.of_walk-most.ensures
+least_cost-requires-clause-bound g c = longest_summable c.of_walk-most.ensures
 
 pub returns-clause-exact : goal.returns-clause-exact
 returns-clause-exact g c =
@@ -14,5 +14,5 @@ returns-clause-exact g c =
     IfOk-weaker c.least_cost.result
     (IsValueBetween h starts ends c.of_walk-most.result)
     (IsExact h starts ends)
-    (exact_here h c.least_cost.ensures.made starts ends c.requires.starts c.requires.ends c.of_walk-most.result c.of_walk-most.ensures)
+    (exact_here c.least_cost.ensures.made starts ends c.requires.starts c.requires.ends c.of_walk-most.ensures)
     c.least_cost.ensures.value

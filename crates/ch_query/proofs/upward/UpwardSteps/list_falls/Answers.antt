@@ -10,8 +10,8 @@ use Rattle.ch_query.proofs.upward.UpwardSteps.list_falls.Goals as goal
 pub step_cost-requires : goal.step_cost-requires
 step_cost-requires c = (
   falling,
-  step-made c.args.hierarchy.now c.requires.made falling c.args.self.now.first.items c.args.self.now.links.items c.args.self.now.steps.items c.requires.laid c.args.rank
-      c.requires.rank_in c.places.place c.places.invariant.from (omega (arith, c.places.invariant.end, c.places-test.true)),
+  step-made c.requires.made c.requires.laid c.requires.rank_in c.places.invariant.from
+      (omega (arith, c.places.invariant.end, c.places-test.true)),
 )
 
 pub places-preserved : goal.places-preserved
@@ -19,19 +19,19 @@ places-preserved c =
     let h = c.args.hierarchy.now in
     let links = c.args.self.now.links.items in
     let before : c.places.place < slice_index c.args.self.now.first.items (c.args.rank + 1) = omega (arith, c.places.invariant.end, c.places-test.true) in
-    let step : IsStepAt h falling links c.args.self.now.steps.items c.places.place = step-made h c.requires.made falling c.args.self.now.first.items links c.args.self.now.steps.items c.requires.laid c.args.rank
-    c.requires.rank_in c.places.place c.places.invariant.from before in
+    let step : IsStepAt h falling links c.args.self.now.steps.items c.places.place = step-made c.requires.made c.requires.laid
+    c.requires.rank_in c.places.invariant.from before in
     let fall : Fall = record { tail = c.index.result.now.head; length = c.length-length.result } in
-    let is : fall ≡ fall_along h (slice_index links c.places.place) = fall-is h links c.args.self.now.steps.items c.places.place step c.index.result.now c.index.ensures c.step_cost.result c.step_cost.ensures c.length-length.result c.length-length.ensures in
+    let is : fall ≡ fall_along h (slice_index links c.places.place) = fall-is step c.index.ensures c.step_cost.ensures c.length-length.ensures in
     record {
       from = omega (arith, c.places.invariant.from);
       end = c.places.invariant.end;
-      listing = subst (λ (fs : List Fall). IsListing h c.args.rank links (slice_index c.args.self.now.first.items c.args.rank) (c.places.place + 1) fs) (sym c.in_ok-push.ensures.items) (listing-more h c.requires.made c.args.rank links (slice_index c.args.self.now.first.items c.args.rank) c.places.place c.places.falls.items fall is
-          (falls-here h c.requires.made c.args.self.now.first.items links c.args.self.now.steps.items c.requires.laid c.args.rank c.requires.rank_in c.places.place c.places.invariant.from before) c.places.invariant.listing);
+      listing = subst (λ (fs : List Fall). IsListing h c.args.rank links (slice_index c.args.self.now.first.items c.args.rank) (c.places.place + 1) fs) (sym c.in_ok-push.ensures.items) (listing-more c.requires.made is
+          (falls-here c.requires.made c.requires.laid c.requires.rank_in c.places.invariant.from before) c.places.invariant.listing);
     }
 
 pub returns : goal.returns
 returns c = record {
-  falls = falls-listed c.args.hierarchy.now c.requires.made c.args.self.now.first.items c.args.self.now.links.items c.args.self.now.steps.items c.requires.laid c.args.rank c.requires.rank_in
-      c.places.place c.places.falls.items (omega (arith, c.places.invariant.end, c.places-test.false)) c.places.invariant.listing;
+  falls = falls-listed c.requires.made c.requires.laid c.requires.rank_in
+      (omega (arith, c.places.invariant.end, c.places-test.false)) c.places.invariant.listing;
 }

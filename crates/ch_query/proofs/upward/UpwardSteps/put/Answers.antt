@@ -14,7 +14,7 @@ get-place-requires c =
     let self = c.args.self.now in
     let f : ℕ = c.rank-foot.result in
     let foot : foot_rank h side c.args.at ≡ f = sym (c.rank-foot.ensures ∙ ap (rank_of h) (c.foot.ensures ∙ ap (λ (l : Link). foot_of side l) c.link_at.ensures)) in
-    let low : f < length self.first.items = foot_room h side c.requires.made c.args.at f self.first.items self.links.items self.steps.items c.requires.climbs foot c.requires.filled in
+    let low : f < length self.first.items = foot_room c.requires.made c.requires.climbs foot c.requires.filled in
     low
 
 pub overflow_sub-place : goal.overflow_sub-place
@@ -24,8 +24,8 @@ overflow_sub-place c =
     let self = c.args.self.now in
     let f : ℕ = c.rank-foot.result in
     let foot : foot_rank h side c.args.at ≡ f = sym (c.rank-foot.ensures ∙ ap (rank_of h) (c.foot.ensures ∙ ap (λ (l : Link). foot_of side l) c.link_at.ensures)) in
-    let low : f < length self.first.items = foot_room h side c.requires.made c.args.at f self.first.items self.links.items self.steps.items c.requires.climbs foot c.requires.filled in
-    omega (arith, c.get-place.ensures, place-left h side c.args.at f self.first.items self.links.items self.steps.items c.requires.climbs foot low c.requires.filled)
+    let low : f < length self.first.items = foot_room c.requires.made c.requires.climbs foot c.requires.filled in
+    omega (arith, c.get-place.ensures, place-left c.requires.climbs foot low c.requires.filled)
 
 pub set-requires-clause-index_in : goal.set-requires-clause-index_in
 set-requires-clause-index_in c =
@@ -34,7 +34,7 @@ set-requires-clause-index_in c =
     let self = c.args.self.now in
     let f : ℕ = c.rank-foot.result in
     let foot : foot_rank h side c.args.at ≡ f = sym (c.rank-foot.ensures ∙ ap (rank_of h) (c.foot.ensures ∙ ap (λ (l : Link). foot_of side l) c.link_at.ensures)) in
-    let low : f < length self.first.items = foot_room h side c.requires.made c.args.at f self.first.items self.links.items self.steps.items c.requires.climbs foot c.requires.filled in
+    let low : f < length self.first.items = foot_room c.requires.made c.requires.climbs foot c.requires.filled in
     low
 
 pub set-requires-clause-fits : goal.set-requires-clause-fits
@@ -44,10 +44,10 @@ set-requires-clause-fits c =
     let self = c.args.self.now in
     let f : ℕ = c.rank-foot.result in
     let foot : foot_rank h side c.args.at ≡ f = sym (c.rank-foot.ensures ∙ ap (rank_of h) (c.foot.ensures ∙ ap (λ (l : Link). foot_of side l) c.link_at.ensures)) in
-    let low : f < length self.first.items = foot_room h side c.requires.made c.args.at f self.first.items self.links.items self.steps.items c.requires.climbs foot c.requires.filled in
+    let low : f < length self.first.items = foot_room c.requires.made c.requires.climbs foot c.requires.filled in
     let place : ℕ = c.get-place.result - 1 in
-    let before : place + 1 ≡ slice_index self.first.items f = one_before h side c.args.at f c.get-place.result self.first.items self.links.items self.steps.items c.requires.climbs foot low c.requires.filled c.get-place.ensures in
-    omega (arith, c.requires.room.first_room, here_few h side c.requires.made c.args.at f place self.first.items self.links.items self.steps.items c.requires.climbs foot low c.requires.filled before)
+    let before : place + 1 ≡ slice_index self.first.items f = one_before c.requires.climbs foot low c.requires.filled c.get-place.ensures in
+    omega (arith, c.requires.room.first_room, here_few c.requires.made place c.requires.climbs foot low c.requires.filled before)
 
 pub set-requires-2-clause-index_in : goal.set-requires-2-clause-index_in
 set-requires-2-clause-index_in c =
@@ -56,10 +56,10 @@ set-requires-2-clause-index_in c =
     let self = c.args.self.now in
     let f : ℕ = c.rank-foot.result in
     let foot : foot_rank h side c.args.at ≡ f = sym (c.rank-foot.ensures ∙ ap (rank_of h) (c.foot.ensures ∙ ap (λ (l : Link). foot_of side l) c.link_at.ensures)) in
-    let low : f < length self.first.items = foot_room h side c.requires.made c.args.at f self.first.items self.links.items self.steps.items c.requires.climbs foot c.requires.filled in
+    let low : f < length self.first.items = foot_room c.requires.made c.requires.climbs foot c.requires.filled in
     let place : ℕ = c.get-place.result - 1 in
-    let before : place + 1 ≡ slice_index self.first.items f = one_before h side c.args.at f c.get-place.result self.first.items self.links.items self.steps.items c.requires.climbs foot low c.requires.filled c.get-place.ensures in
-    here_in h side c.requires.made c.args.at f place self.first.items self.links.items self.steps.items c.requires.climbs foot low c.requires.filled before
+    let before : place + 1 ≡ slice_index self.first.items f = one_before c.requires.climbs foot low c.requires.filled c.get-place.ensures in
+    here_in c.requires.made place c.requires.climbs foot low c.requires.filled before
 
 pub set-requires-2-clause-fits : goal.set-requires-2-clause-fits
 set-requires-2-clause-fits c = omega (arith, c.requires.room.links_room, c.requires.climbs.within)
@@ -71,11 +71,11 @@ index_mut-requires c =
     let self = c.args.self.now in
     let f : ℕ = c.rank-foot.result in
     let foot : foot_rank h side c.args.at ≡ f = sym (c.rank-foot.ensures ∙ ap (rank_of h) (c.foot.ensures ∙ ap (λ (l : Link). foot_of side l) c.link_at.ensures)) in
-    let low : f < length self.first.items = foot_room h side c.requires.made c.args.at f self.first.items self.links.items self.steps.items c.requires.climbs foot c.requires.filled in
+    let low : f < length self.first.items = foot_room c.requires.made c.requires.climbs foot c.requires.filled in
     let place : ℕ = c.get-place.result - 1 in
-    let before : place + 1 ≡ slice_index self.first.items f = one_before h side c.args.at f c.get-place.result self.first.items self.links.items self.steps.items c.requires.climbs foot low c.requires.filled c.get-place.ensures in
-    let within : place < length self.links.items = here_in h side c.requires.made c.args.at f place self.first.items self.links.items self.steps.items c.requires.climbs foot low c.requires.filled before in
-    omega (arith, within, self.steps.ok, as_many h side self.links.items self.steps.items c.requires.filled.along)
+    let before : place + 1 ≡ slice_index self.first.items f = one_before c.requires.climbs foot low c.requires.filled c.get-place.ensures in
+    let within : place < length self.links.items = here_in c.requires.made place c.requires.climbs foot low c.requires.filled before in
+    omega (arith, within, self.steps.ok, as_many h side self.links.items c.requires.filled.along)
 
 pub returns-clause-filled : goal.returns-clause-filled
 returns-clause-filled c =
@@ -84,10 +84,10 @@ returns-clause-filled c =
     let self = c.args.self.now in
     let f : ℕ = c.rank-foot.result in
     let foot : foot_rank h side c.args.at ≡ f = sym (c.rank-foot.ensures ∙ ap (rank_of h) (c.foot.ensures ∙ ap (λ (l : Link). foot_of side l) c.link_at.ensures)) in
-    let low : f < length self.first.items = foot_room h side c.requires.made c.args.at f self.first.items self.links.items self.steps.items c.requires.climbs foot c.requires.filled in
+    let low : f < length self.first.items = foot_room c.requires.made c.requires.climbs foot c.requires.filled in
     let place : ℕ = c.get-place.result - 1 in
-    let before : place + 1 ≡ slice_index self.first.items f = one_before h side c.args.at f c.get-place.result self.first.items self.links.items self.steps.items c.requires.climbs foot low c.requires.filled c.get-place.ensures in
+    let before : place + 1 ≡ slice_index self.first.items f = one_before c.requires.climbs foot low c.requires.filled c.get-place.ensures in
     subst (λ (fs : List ℕ). IsFilled h side (c.args.at + 1) fs c.set-2.new.self.items (set self.steps.items place c.step_along-step.result)) (sym c.set.ensures.items)
     (subst (λ (ls : List ℕ). IsFilled h side (c.args.at + 1) (set self.first.items f place) ls (set self.steps.items place c.step_along-step.result)) (sym c.set-2.ensures.items)
     (subst (λ (s : UpwardStep). IsFilled h side (c.args.at + 1) (set self.first.items f place) (set self.links.items place c.args.at) (set self.steps.items place s)) (sym c.step_along-step.ensures)
-    (filled-more h side c.requires.made c.args.at f place self.first.items self.links.items self.steps.items c.requires.climbs foot low c.requires.filled before)))
+    (filled-more c.requires.made place c.requires.climbs foot low c.requires.filled before)))
