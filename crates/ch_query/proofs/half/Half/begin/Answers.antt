@@ -4,8 +4,7 @@ use Rattle.ch_query.proofs.Beginning.{begun-none, begun-more}
 use Rattle.ch_query.proofs.half.Half.begin.Goals as goal
 
 pub seeds-init : goal.seeds-init
-seeds-init c =
-    begun-none c.requires.nodes c.clear.ensures
+seeds-init c = begun-none c.requires.nodes c.clear.ensures
 
 pub seeds-preserved : goal.seeds-preserved
 seeds-preserved c =

@@ -8,12 +8,10 @@ use Rattle.ch_query.proofs.Turning.{turn-fits, turn-short, searching-turn, climb
 use Rattle.ch_query.proofs.half.Half.climb_on.Goals as goal
 
 pub pass_over-requires-clause-fits : goal.pass_over-requires-clause-fits
-pass_over-requires-clause-fits c =
-    turn-fits c.requires.searching c.in-Some.ensures.least
+pass_over-requires-clause-fits c = turn-fits c.requires.searching c.in-Some.ensures.least
 
 pub pass_over-requires-clause-short : goal.pass_over-requires-clause-short
-pass_over-requires-clause-short c =
-    turn-short c.requires.searching c.in-Some.ensures.least
+pass_over-requires-clause-short c = turn-short c.requires.searching c.in-Some.ensures.least
 
 opened : (c : goal.In_ok-pass_over)
     → IsOpenedOver c.args.self.now.hierarchy.now c.args.self.now.side c.args.self.now.bound c.in-Some.reached.rank
@@ -25,8 +23,7 @@ opened c =
     c.in_ok-pass_over.ensures.opened
 
 pub returns-clause-searching : goal.returns-clause-searching
-returns-clause-searching c =
-    searching-turn c.requires.searching c.in-Some.ensures.least (opened c) c.requires.half.made
+returns-clause-searching c = searching-turn c.requires.searching c.in-Some.ensures.least (opened c) c.requires.half.made
 
 pub returns-clause-climbing : goal.returns-clause-climbing
 returns-clause-climbing c =
@@ -34,5 +31,4 @@ returns-clause-climbing c =
     c.in_ok-pass_over.ensures.passed
 
 pub returns-clause-settled : goal.returns-clause-settled
-returns-clause-settled c =
-    turn-climbed_on c.requires.searching c.in-Some.ensures.least (opened c)
+returns-clause-settled c = turn-climbed_on c.requires.searching c.in-Some.ensures.least (opened c)

@@ -43,12 +43,10 @@ pass_over-requires-clause-rank_in c =
     )
 
 pub pass_over-requires-clause-fits : goal.pass_over-requires-clause-fits
-pass_over-requires-clause-fits c =
-    turn-fits c.requires.searching c.in-Some.ensures.least
+pass_over-requires-clause-fits c = turn-fits c.requires.searching c.in-Some.ensures.least
 
 pub pass_over-requires-clause-short : goal.pass_over-requires-clause-short
-pass_over-requires-clause-short c =
-    turn-short c.requires.searching c.in-Some.ensures.least
+pass_over-requires-clause-short c = turn-short c.requires.searching c.in-Some.ensures.least
 
 looked : (c : goal.In_ok-pass_over) → IsLooked c.args.self.now.bound c.in-Some.reached.rank c.in-Some.reached.label.cost
     (costs_of c.args.there.now c.in-Some.reached.rank) c.args.best.now c.look_at-found.result
@@ -66,8 +64,7 @@ opened c =
     c.in_ok-pass_over.ensures.opened
 
 pub returns-clause-searching : goal.returns-clause-searching
-returns-clause-searching c =
-    searching-turn c.requires.searching c.in-Some.ensures.least (opened c) c.requires.half.made
+returns-clause-searching c = searching-turn c.requires.searching c.in-Some.ensures.least (opened c) c.requires.half.made
 
 pub returns-clause-less : goal.returns-clause-less
 returns-clause-less c = (looked c).less
@@ -80,8 +77,7 @@ returns-clause-climbing c =
     climbing-turn c.requires.searching c.in-Some.ensures.least (opened c) (looked c).less c.requires.climbing passed
 
 pub returns-clause-best : goal.returns-clause-best
-returns-clause-best c =
-    best-turn c.requires.searching c.in-Some.ensures.least (opened c) c.requires.best (looked c)
+returns-clause-best c = best-turn c.requires.searching c.in-Some.ensures.least (opened c) c.requires.best (looked c)
 
 pub returns-in_default-clause-less : goal.returns-in_default-clause-less
 returns-in_default-clause-less c = no_more-refl (cost_of c.args.best.now)

@@ -7,12 +7,10 @@ use Rattle.ch_query.proofs.FreeSeeds.{seeds-of, bound-of, value-of}
 use Rattle.ch_query.proofs.search.SearchOf.cost.Goals as goal
 
 pub least_cost-requires-clause-starts : goal.least_cost-requires-clause-starts
-least_cost-requires-clause-starts g c =
-    seeds-of c.free.ensures c.requires.source_in
+least_cost-requires-clause-starts g c = seeds-of c.free.ensures c.requires.source_in
 
 pub least_cost-requires-clause-ends : goal.least_cost-requires-clause-ends
-least_cost-requires-clause-ends g c =
-    seeds-of c.free-2.ensures c.requires.target_in
+least_cost-requires-clause-ends g c = seeds-of c.free-2.ensures c.requires.target_in
 
 pub least_cost-requires-clause-bound : goal.least_cost-requires-clause-bound
 least_cost-requires-clause-bound g c =

@@ -33,9 +33,7 @@ walk : (g : Over) (c : goal.In-Some g) → IsWalkBetween c.args.self.now (c.free
 walk g c = subst (λ (o : Option FoundBetween). IfSome o (λ (f : FoundBetween). IsWalkBetween c.args.self.now (c.free.result ∷ []) (c.free-2.result ∷ []) f.start f.end f.links.items f.cost)) c.in-Some.is c.in_ok-found.ensures.walk
 
 pub returns-clause-walk : goal.returns-clause-walk
-returns-clause-walk g c =
-    (walk-of c.free.ensures c.free-2.ensures (walk g c)).0
+returns-clause-walk g c = (walk-of c.free.ensures c.free-2.ensures (walk g c)).0
 
 pub returns-clause-joined : goal.returns-clause-joined
-returns-clause-joined g c =
-    (walk-of c.free.ensures c.free-2.ensures (walk g c)).1
+returns-clause-joined g c = (walk-of c.free.ensures c.free-2.ensures (walk g c)).1
