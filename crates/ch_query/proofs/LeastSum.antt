@@ -129,7 +129,7 @@ module _ {h : Hierarchy} (made : IsWellMade h) {starts ends : List Seed} (begins
           top = node.0;
           up = w.rest;
           down = v.rest;
-          parts = refl;
+          parts = refl {a = rise.0 ++ fall.0};
           rises = rise.1;
           falls = fall.1;
           sum = refl;

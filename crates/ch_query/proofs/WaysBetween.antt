@@ -44,7 +44,7 @@ module _ {h : Hierarchy} (made : IsWellMade h) {starts : List Seed} (begins : Ar
           top = node.0;
           up = w.rest;
           down = way.down;
-          parts = refl;
+          parts = refl {a = rise.0 ++ fall.0};
           rises = rise.1;
           falls = fall.1;
           sum = refl;

@@ -13,8 +13,7 @@ loop-place-init c =
       from = omega (arith, begin);
       end = c.get-end.ensures;
       passing = subst (λ n. IsPassing h c.args.self.now.side c.args.self.now.bound c.args.from.rank c.args.from.label.cost
-          links from n c.args.limit c.args.here.now c.args.here.now) (sym begin)
-          (passing-none);
+          links from n c.args.limit c.args.here.now c.args.here.now) (sym begin) passing-none;
     }
 
 pub follow-requires-clause-step : goal.follow-requires-clause-step
