@@ -1,5 +1,5 @@
 -- Why answers by routes of a right hierarchy are answers by least walks of its graph, in either version.
-use Rattle.std.proofs.Common.{ℕ, suc, ◌≡◌, ◌-◌, ◌<◌, List, [], ◌∷◌, ◌++◌, length, take, Option, inl, inr, refl, sym, subst, arith}
+use Rattle.std.proofs.Common.{ℕ, suc, ◌≡◌, ◌<◌, List, [], ◌∷◌, ◌++◌, length, take, Option, inl, inr, sym, subst, arith}
 use Rattle.std.specs.Prelude.{⊤, Some, None, IfSome, All, Result, OnOk, Ok, Err, IfErr, IsErrAnd, MatchResult}
 use Rattle.std.proofs.lemmas.List.Elements.{All-take}
 use Rattle.ch_graph.specs.Graph.{Graph}
@@ -17,11 +17,12 @@ use Rattle.hierfile.specs.Fault.{first_fault}
 use Rattle.hierfile.specs.declared.error.HierError.{HierError}
 use Rattle.std.specs.Io.KnownBytes.{Keeps}
 use Rattle.ch_service.specs.Answer.{Route, IsAnswer, AreAnswers, nothing, one_more, IsLeastWalk, AnswersBy, AnswersFirst}
-use Rattle.ch_service.specs.Outcome.{IfTold, IfTextFault, Writes, IsFaultOf, StopsShort, ComesOfTexts, ComesOfAnswering}
+use Rattle.ch_service.specs.Outcome.{AreTexts, IfTold, StopsAnswering, StopsShort, Writes}
 use Rattle.ch_service.specs.Routing.{StopsRouting}
 use Rattle.ch_service.specs.Route.{Spells, IsRightIn, IsRouteBy, HasTooLong, Routed, StopsAtTooLong, Routes, RoutesFirst, RoutesToTooLong}
 use Rattle.ch_unpack.specs.declared.error.UnpackError.TheVariants as unpacking
-use Rattle.ch_workers.specs.declared.error.BuildError.{BuildError}
+use Rattle.ch_workers.specs.Options.{AreGood}
+use Rattle.ch_workers.specs.declared.options.Options.{Options}
 use Rattle.ch_service.specs.declared.error.ServiceError.{ServiceError}
 use Rattle.ch_service.specs.declared.error.ServiceError.TheVariants.{Graph as GraphFault, Queries, Hierarchy as HierarchyFault, Build, Unpack, Write, OutOfMemory}
 
@@ -61,17 +62,6 @@ module _ (v : Version) {Is : Graph → ℕ → ℕ → Option Route → Type 0} 
 
   pub right-routes : (g : Graph) (h : Hierarchy) (pairs : List (ℕ × ℕ)) (text : List ℕ) → IsGraph g → IsRightIn v g h → All (IsPair g.nodes) pairs → Routed h pairs text → AreAnswers (Is g) pairs text
   right-routes g h pairs text graph right within answers = answered-right g h graph right (subst (λ n. All (IsPair n) pairs) (sym (right-nodes v g h right)) within) answers
-
--- a refused call wrote texts of these kinds, so of these others
-stops-weaker : (P P' Q Q' : List ℕ → Type 0) (old new : Option (List ℕ)) (e : ServiceError) → ((text : List ℕ) → P text → P' text) → ((text : List ℕ) → Q text → Q' text) → StopsShort P Q old new e → StopsShort P' Q' old new e
-stops-weaker P P' Q Q' old new (GraphFault fault) f g s = tt
-stops-weaker P P' Q Q' old new (Queries fault) f g s = tt
-stops-weaker P P' Q Q' old new (HierarchyFault fault) f g s = tt
-stops-weaker P P' Q Q' old new (Build e) f g s = s
-stops-weaker P P' Q Q' old new (Unpack unpacking.OutOfMemory) f g s = (s.0, f s.0 s.1, s.2)
-stops-weaker P P' Q Q' old new (Unpack unpacking.TooLong) f g s = (s.0, g s.0 s.1, s.2)
-stops-weaker P P' Q Q' old new (Write fault) f g s = (s.0, f s.0 s.1, s.2, s.3)
-stops-weaker P P' Q Q' old new OutOfMemory f g s = elim s [ inl kept ↦ inl kept | inr w ↦ inr (w.0, f w.0 w.1, w.2) ]
 
 -- no route of a hierarchy is too long that is right for a graph, of this version and well made
 abbrev pub RightRoutesAreShort : Version → Type 0
@@ -129,19 +119,19 @@ module _ (h : Hierarchy) (pairs : List (ℕ × ℕ)) (hier queries left old new 
   where_read : (R : List ℕ → List ℕ → Type 0) → ((bytes text : List ℕ) → Spells bytes h → pairs_of (length h.ranks) text ≡ Ok pairs → R bytes text) → IfTold hier queries R
   where_read R f = of_both (λ bytes. Spells bytes h) (λ text. pairs_of (length h.ranks) text ≡ Ok pairs) R hier queries f spells read
 
-  stopped : (e : ServiceError) → ComesOfAnswering e → StopsShort (λ text. (count : ℕ) × Routed h (take count pairs) text) (StopsAtTooLong h pairs) old new e → StopsRouting hier queries left old new e
-  stopped (GraphFault fault) f s = absurd f
-  stopped (Queries fault) f s = absurd f
-  stopped (HierarchyFault e) f s = absurd f
-  stopped (Build e) f s = absurd f
-  stopped (Unpack unpacking.OutOfMemory) f s = where_read _ (λ bytes text are reads. (s.0, first-spelled h pairs bytes text s.0 are reads s.1, s.2))
-  stopped (Unpack unpacking.TooLong) f s = where_read _ (λ bytes text are reads. (s.0, too_long-spelled h pairs bytes text s.0 are reads s.1, s.2))
-  stopped (Write fault) f s = where_read _ (λ bytes text are reads. (s.0, first-spelled h pairs bytes text s.0 are reads s.1, s.2, s.3))
-  stopped OutOfMemory f s = where_read _ (λ bytes text are reads. ((h, are, (pairs, reads)), elim s [ inl kept ↦ inl kept | inr w ↦ inr (w.0, first-spelled h pairs bytes text w.0 are reads w.1, w.2) ]))
+  stopped : (e : ServiceError) → StopsShort (λ text. (count : ℕ) × Routed h (take count pairs) text) (StopsAtTooLong h pairs) old new e → StopsRouting hier queries left old new e
+  stopped (GraphFault fault) s = absurd s
+  stopped (Queries fault) s = absurd s
+  stopped (HierarchyFault e) s = absurd s
+  stopped (Build e) s = absurd s
+  stopped (Unpack unpacking.OutOfMemory) s = where_read _ (λ bytes text are reads. (s.0, first-spelled h pairs bytes text s.0 are reads s.1, s.2))
+  stopped (Unpack unpacking.TooLong) s = where_read _ (λ bytes text are reads. (s.0, too_long-spelled h pairs bytes text s.0 are reads s.1, s.2))
+  stopped (Write fault) s = where_read _ (λ bytes text are reads. (s.0, first-spelled h pairs bytes text s.0 are reads s.1, s.2, s.3))
+  stopped OutOfMemory s = where_read _ (λ bytes text are reads. ((h, are, (pairs, reads)), elim s [ inl kept ↦ inl kept | inr w ↦ inr (w.0, first-spelled h pairs bytes text w.0 are reads w.1, w.2) ]))
 
-  pub stops-routing : (r : Result ⊤ ServiceError) → IfErr r ComesOfAnswering → IfErr r (StopsShort (λ text. (count : ℕ) × Routed h (take count pairs) text) (StopsAtTooLong h pairs) old new) → IfErr r (StopsRouting hier queries left old new)
-  stops-routing (Ok x) f s = tt
-  stops-routing (Err e) f s = stopped e f s
+  pub stops-routing : (r : Result ⊤ ServiceError) → IfErr r (StopsShort (λ text. (count : ℕ) × Routed h (take count pairs) text) (StopsAtTooLong h pairs) old new) → IfErr r (StopsRouting hier queries left old new)
+  stops-routing (Ok x) s = tt
+  stops-routing (Err e) s = stopped e s
 
 -- routes by a hierarchy whose file is known of the reader
 pub routes-told : (h : Hierarchy) (pairs : List (ℕ × ℕ)) (hier queries old new : Option (List ℕ)) (r : Result ⊤ ServiceError) → IfSome hier (λ bytes. Spells bytes h) → IfSome queries (λ text. pairs_of (length h.ranks) text ≡ Ok pairs)
@@ -151,17 +141,6 @@ routes-told h pairs None queries old new (Ok x) spells read w = tt
 routes-told h pairs (Some bytes) None old new (Ok x) spells read w = tt
 routes-told h pairs (Some bytes) (Some pairs_text) old new (Ok x) spells read w =
     (w.0, record { hierarchy = h; pairs = pairs; spells = spells; pairs_read = read; routed = w.1 }, w.2)
-
--- it is no fault of a text
-pub no_text_fault : (P Q : GrError → Type 0) (r : Result ⊤ ServiceError) → IfErr r ComesOfAnswering → IfErr r (IfTextFault P Q)
-no_text_fault P Q (Ok x) f = tt
-no_text_fault P Q (Err (GraphFault fault)) f = absurd f
-no_text_fault P Q (Err (Queries fault)) f = absurd f
-no_text_fault P Q (Err (HierarchyFault e)) f = tt
-no_text_fault P Q (Err (Build e)) f = tt
-no_text_fault P Q (Err (Unpack e)) f = tt
-no_text_fault P Q (Err (Write fault)) f = tt
-no_text_fault P Q (Err OutOfMemory) f = tt
 
 -- answers by a hierarchy that is right for the graph whose text is known of the reader
 pub answers-told : {Is : Graph → ℕ → ℕ → Option Route → Type 0} → RightRoutesAre Two Is → (g : Graph) (h : Hierarchy) (pairs : List (ℕ × ℕ)) (gr queries old new : Option (List ℕ)) (r : Result ⊤ ServiceError)
@@ -184,58 +163,40 @@ first-answered law g h pairs graph_text pairs_text text reads read graph right w
   answered = right-routes Two (walk-right law) g h (take first.0 pairs) text graph right (All-take (IsPair g.nodes) first.0 pairs within) first.1;
 }
 
-pub stops-answered : RoutesAreFewest → NoneTooLong → (g : Graph) (h : Hierarchy) (pairs : List (ℕ × ℕ)) (gr queries old new : Option (List ℕ)) (r : Result ⊤ ServiceError) → IfSome gr (λ text. graph_of text ≡ Ok g) → IfSome queries (λ text. pairs_of g.nodes text ≡ Ok pairs)
-    → IsGraph g → IsRight g h → All (IsPair g.nodes) pairs → IfErr r (StopsShort (λ text. (count : ℕ) × Routed h (take count pairs) text) (StopsAtTooLong h pairs) old new)
-    → IfErr r (λ e. IfTold gr queries (λ graph_text pairs_text. StopsShort (AnswersFirst graph_text pairs_text) (λ _. ⊥) old new e))
-stops-answered law never g h pairs gr queries old new (Ok x) reads read graph right within s = tt
-stops-answered law never g h pairs None queries old new (Err e) reads read graph right within s = tt
-stops-answered law never g h pairs (Some text) None old new (Err e) reads read graph right within s = tt
-stops-answered law never g h pairs (Some text) (Some pairs_text) old new (Err e) reads read graph right within s =
-    let in_range : All (IsPair (length h.ranks)) pairs = subst (λ n. All (IsPair n) pairs) (sym right.nodes) within in
-    stops-weaker _ _ _ _ old new e (λ answered_text. first-answered law g h pairs text pairs_text answered_text reads read graph right within) (λ answered_text stops. none_too_long g h pairs answered_text right.nodes (λ s t. never g h s t graph right) in_range stops) s
+-- What is said of the texts of a graph and of pairs, where the first was read
+module _ (g : Graph) (gr queries : Option (List ℕ)) (reads : IfSome gr (λ text. graph_of text ≡ Ok g)) where
+  -- and the second refused
+  pub pairs_refused : (fault : GrError) → IfSome queries (λ text. FromText fault.kind (pairs_of g.nodes text ≡ Err fault))
+      → IfTold gr queries (λ graph_text text. (k : Graph) × (graph_of graph_text ≡ Ok k) × FromText fault.kind (pairs_of k.nodes text ≡ Err fault))
+  pairs_refused fault wrong = of_both (λ text. graph_of text ≡ Ok g) (λ text. FromText fault.kind (pairs_of g.nodes text ≡ Err fault)) _ gr queries (λ graph_text text is not. (g, is, not)) reads wrong
 
--- a refusal while they are answered comes only where both texts were read
+  -- or read too
+  module _ (pairs : List (ℕ × ℕ)) (read : IfSome queries (λ text. pairs_of g.nodes text ≡ Ok pairs)) where
+    known : (R : List ℕ → List ℕ → Type 0) → ((graph_text text : List ℕ) → graph_of graph_text ≡ Ok g → pairs_of g.nodes text ≡ Ok pairs → R graph_text text) → IfTold gr queries R
+    known R f = of_both (λ text. graph_of text ≡ Ok g) (λ text. pairs_of g.nodes text ≡ Ok pairs) R gr queries f reads read
 
-fault-over : (g : Graph) (pairs : List (ℕ × ℕ)) (old new : Option (List ℕ)) (graph_text pairs_text : List ℕ) (P : List ℕ → Type 0) (e : ServiceError) → graph_of graph_text ≡ Ok g → pairs_of g.nodes pairs_text ≡ Ok pairs
-    → ComesOfAnswering e → StopsShort P (λ _. ⊥) old new e → IsFaultOf graph_text pairs_text e
-fault-over g pairs old new graph_text pairs_text P (GraphFault fault) reads read f s = absurd f
-fault-over g pairs old new graph_text pairs_text P (Queries fault) reads read f s = absurd f
-fault-over g pairs old new graph_text pairs_text P (HierarchyFault e) reads read f s = f
-fault-over g pairs old new graph_text pairs_text P (Build e) reads read f s = absurd f
-fault-over g pairs old new graph_text pairs_text P (Unpack unpacking.OutOfMemory) reads read f s = (refl, (g, reads, (pairs, read)))
-fault-over g pairs old new graph_text pairs_text P (Unpack unpacking.TooLong) reads read f s = absurd s.1
-fault-over g pairs old new graph_text pairs_text P (Write fault) reads read f s = (g, reads, (pairs, read))
-fault-over g pairs old new graph_text pairs_text P OutOfMemory reads read f s = (g, reads, (pairs, read))
+    pub both_read : IfTold gr queries AreTexts
+    both_read = known AreTexts (λ graph_text text is are. (g, is, (pairs, are)))
 
-texts-kind : (g : Graph) (h : Hierarchy) (pairs : List (ℕ × ℕ)) (old new : Option (List ℕ)) (P : List ℕ → Type 0) (e : ServiceError) → NoneTooLong → IsGraph g → IsRight g h → All (IsPair (length h.ranks)) pairs
-    → ComesOfAnswering e → StopsShort P (StopsAtTooLong h pairs) old new e → ComesOfTexts e
-texts-kind g h pairs old new P (GraphFault fault) never graph right within f s = tt
-texts-kind g h pairs old new P (Queries fault) never graph right within f s = tt
-texts-kind g h pairs old new P (HierarchyFault e) never graph right within f s = f
-texts-kind g h pairs old new P (Build e) never graph right within f s = tt
-texts-kind g h pairs old new P (Unpack unpacking.OutOfMemory) never graph right within f s = refl
-texts-kind g h pairs old new P (Unpack unpacking.TooLong) never graph right within f s = absurd (none_too_long g h pairs s.0 right.nodes (λ s t. never g h s t graph right) within s.1)
-texts-kind g h pairs old new P (Write fault) never graph right within f s = tt
-texts-kind g h pairs old new P OutOfMemory never graph right within f s = tt
+    -- and a refusal came behind the build
+    module _ (o : Options) (lists : ℕ) (graph_left pairs_left old new : Option (List ℕ)) (law : RoutesAreFewest) (never : NoneTooLong) (good : AreGood o lists) (h : Hierarchy) (graph : IsGraph g) (right : IsRight g h) (within : All (IsPair g.nodes) pairs) where
+      first : {graph_text text : List ℕ} (written : List ℕ) → graph_of graph_text ≡ Ok g → pairs_of g.nodes text ≡ Ok pairs → ((count : ℕ) × Routed h (take count pairs) written) → AnswersFirst graph_text text written
+      first {graph_text} {text} written is are = first-answered law g h pairs graph_text text written is are graph right within
 
-pub texts-kinds : NoneTooLong → (g : Graph) (h : Hierarchy) (pairs : List (ℕ × ℕ)) (old new : Option (List ℕ)) (r : Result ⊤ ServiceError) → IsGraph g → IsRight g h → All (IsPair g.nodes) pairs → IfErr r ComesOfAnswering
-    → IfErr r (StopsShort (λ text. (count : ℕ) × Routed h (take count pairs) text) (StopsAtTooLong h pairs) old new) → IfErr r ComesOfTexts
-texts-kinds never g h pairs old new (Ok x) graph right within f s = tt
-texts-kinds never g h pairs old new (Err e) graph right within f s = texts-kind g h pairs old new _ e never graph right (subst (λ n. All (IsPair n) pairs) (sym right.nodes) within) f s
+      answering : (e : ServiceError) → StopsShort (λ text. (count : ℕ) × Routed h (take count pairs) text) (StopsAtTooLong h pairs) old new e → StopsAnswering o lists gr graph_left queries pairs_left old new e
+      answering (GraphFault fault) s = absurd s
+      answering (Queries fault) s = absurd s
+      answering (HierarchyFault e) s = absurd s
+      answering (Build e) s = absurd s
+      answering (Unpack unpacking.OutOfMemory) s = (good, known _ (λ a b is are. (s.0, first s.0 is are s.1, s.2)))
+      answering (Unpack unpacking.TooLong) s =
+          absurd (none_too_long g h pairs s.0 right.nodes (λ s t. never g h s t graph right) (subst (λ n. All (IsPair n) pairs) (sym right.nodes) within) s.1)
+      answering (Write fault) s = (good, known _ (λ a b is are. (s.0, first s.0 is are s.1, s.2, s.3)))
+      answering OutOfMemory s = (good, known _ (λ a b is are. ((g, is, (pairs, are)), elim s [ inl kept ↦ inl kept | inr w ↦ inr (w.0, first w.0 is are w.1, w.2) ])))
 
-pub fault-answering : (g : Graph) (pairs : List (ℕ × ℕ)) (gr queries old new : Option (List ℕ)) (r : Result ⊤ ServiceError) → IfSome gr (λ text. graph_of text ≡ Ok g) → IfSome queries (λ text. pairs_of g.nodes text ≡ Ok pairs)
-    → IfErr r ComesOfAnswering → IfErr r (λ e. IfTold gr queries (λ graph_text pairs_text. StopsShort (AnswersFirst graph_text pairs_text) (λ _. ⊥) old new e)) → IfErr r (λ e. IfTold gr queries (λ graph_text pairs_text. IsFaultOf graph_text pairs_text e))
-fault-answering g pairs gr queries old new (Ok x) reads read f s = tt
-fault-answering g pairs None queries old new (Err e) reads read f s = tt
-fault-answering g pairs (Some text) None old new (Err e) reads read f s = tt
-fault-answering g pairs (Some text) (Some pairs_text) old new (Err e) reads read f s = fault-over g pairs old new text pairs_text (AnswersFirst text pairs_text) e reads read f s
-
--- the pairs were refused
-pub fault-answered : (g : Graph) (fault : GrError) (gr queries : Option (List ℕ)) (r : Result ⊤ ServiceError) → IfSome gr (λ text. graph_of text ≡ Ok g) → IfSome queries (λ text. FromText fault.kind (pairs_of g.nodes text ≡ Err fault))
-    → r ≡ Err (Queries fault) → IfErr r (λ e. IfTold gr queries (λ graph_text pairs_text. IsFaultOf graph_text pairs_text e))
-fault-answered g fault None queries r reads read is = rw is tt
-fault-answered g fault (Some text) None r reads read is = rw is tt
-fault-answered g fault (Some text) (Some pairs_text) r reads read is = rw is (g, reads, read)
+      pub stops-answering : (r : Result ⊤ ServiceError) → IfErr r (StopsShort (λ text. (count : ℕ) × Routed h (take count pairs) text) (StopsAtTooLong h pairs) old new) → IfErr r (StopsAnswering o lists gr graph_left queries pairs_left old new)
+      stops-answering (Ok x) s = tt
+      stops-answering (Err e) s = answering e s
 
 -- and where they are answered by the file of a hierarchy
 pub queries-refused : {V : Type 0} (h : Hierarchy) (hier queries left old new : Option (List ℕ)) (read : Result V GrError) (told : Result V ServiceError) (e : ServiceError) (r : Result ⊤ ServiceError) → IfSome hier (λ bytes. Spells bytes h)
@@ -257,8 +218,3 @@ file-refused hier queries left old new (Ok v) told e r fault keeps cases was is 
 file-refused hier queries left old new (Err x) (Ok v) e r fault keeps cases was is = absurd cases
 file-refused hier queries left old new (Err x) (Err t) e (Ok v) fault keeps cases was is = tt
 file-refused hier queries left old new (Err x) (Err t) e (Err y) fault keeps cases was is = let same : HierarchyFault x ≡ y = cc in subst (StopsRouting hier queries left old new) same (fault, keeps)
-
--- what was refused is no refusal of the build
-
-pub pairs_refused : (r : Result ⊤ ServiceError) (fault : GrError) (e : BuildError) → r ≡ Err (Queries fault) → r ≡ Err (Build e) → ⊥
-pairs_refused r fault e was is = cc

@@ -2,7 +2,6 @@ pub mod ByWalks
 pub mod Exact
 mod InMemory
 pub mod FromBuild
-pub mod JoinedFaults
 pub mod JoinedLines
 pub mod LineFeeds
 pub mod Prepared

@@ -1,7 +1,7 @@
 -- Line feeds as they are counted, and the lines that are reached in a joined input.
-use Rattle.std.proofs.Common.{ℕ, ◌≡◌, ◌≢◌, ◌+◌, Bool, true, false, if◌then◌else◌, ◌==◌, List, [], ◌++◌, cond, refl, sym, ◌∙◌, ap, subst, arith}
-use Rattle.std.specs.Prelude.{Option, Some, None, IfSome}
-use Rattle.std.specs.Io.KnownBytes.{Consumes, IsAtEnd}
+use Rattle.std.proofs.Common.{ℕ, ◌≡◌, ◌≢◌, ◌+◌, Bool, true, false, if◌then◌else◌, ◌==◌, List, [], ◌++◌, cond, inl, inr, refl, sym, ◌∙◌, ap, subst, arith}
+use Rattle.std.specs.Prelude.{Option, Some, None, IfSome, option_map}
+use Rattle.std.specs.Io.KnownBytes.{Consumes, IsAtEnd, Keeps}
 use Rattle.std.proofs.lemmas.List.{append-nil}
 use Rattle.std.specs.List.{count_by}
 use Rattle.std.proofs.lemmas.List.Recursion.{is_count_by}
@@ -15,7 +15,9 @@ use Rattle.grfile.specs.declared.error.GrErrorKind.TheVariants.{Read, UnknownLin
 use Rattle.ch_service.specs.declared.error.ServiceError.{ServiceError}
 use Rattle.ch_service.specs.declared.error.ServiceError.TheVariants.{Graph, Queries, Hierarchy, Build, Unpack, Write, OutOfMemory}
 use Rattle.ch_service.specs.Joined.{graph_part, pairs_part}
-use Rattle.ch_service.specs.Outcome.{ComesOfReading, IfTextFault, StopsInJoined, StopsWithin, of_fault, of_whole}
+use Rattle.ch_unpack.specs.declared.error.UnpackError.TheVariants as unpacking
+use Rattle.ch_workers.specs.declared.options.TheConstants.Options.{PLAIN}
+use Rattle.ch_service.specs.Outcome.{AreTexts, IfTold, StopsAnswering, StopsInJoined, of_fault, of_whole}
 
 one_more : (b : Bool) (n : ℕ) → (if b then n + 1 else n) ≡ cond b (1 + n) n
 one_more true n = omega arith
@@ -44,17 +46,7 @@ at_kind P text TooManyNodes own failed other = other (λ is. absurd (cc))
 at_kind P text TooManyArcs own failed other = other (λ is. absurd (cc))
 at_kind P text ArcCount own failed other = other (λ is. absurd (cc))
 
--- what is said of a refusal is said of that of the whole input, if it is of a failed read behind it
-pub of_whole_too : (P : ServiceError → Type 0) (text : List ℕ) (e : ServiceError) → ((fault : GrError) → P (Graph fault) → P (Graph (read_behind text))) → ((fault : GrError) → P (Queries fault) → P (Graph (read_behind text))) → P e → P (of_whole text e)
-of_whole_too P text (Graph fault) first second h = at_kind P text fault.kind (Graph fault) (first fault h) (λ _. h)
-of_whole_too P text (Queries fault) first second h = at_kind P text fault.kind (Queries fault) (second fault h) (λ _. h)
-of_whole_too P text (Hierarchy fault) first second h = h
-of_whole_too P text (Build fault) first second h = h
-of_whole_too P text (Unpack fault) first second h = h
-of_whole_too P text (Write fault) first second h = h
-of_whole_too P text OutOfMemory first second h = h
-
-pub read_failed : (had left : Option (List ℕ)) (input : List ℕ) → Consumes had left input → StopsAtReached had left (read_behind input)
+read_failed : (had left : Option (List ℕ)) (input : List ℕ) → Consumes had left input → StopsAtReached had left (read_behind input)
 read_failed None left input taken = λ nothing. tt
 read_failed (Some bytes) None input taken = absurd taken
 read_failed (Some bytes) (Some rest) input taken = λ nothing. (
@@ -71,38 +63,41 @@ read_failed (Some bytes) (Some rest) input taken = λ nothing. (
   },
 )
 
-module _ (had left first second : Option (List ℕ)) (input graph pairs : List ℕ) (taken : Consumes had left input) (ended : IsAtEnd left) (graph_is : graph ≡ graph_part input) (pairs_are : pairs ≡ pairs_part input) where
+module _ (had left first second old new : Option (List ℕ)) (input graph pairs : List ℕ) (taken : Consumes had left input) (ended : IsAtEnd left) (graph_is : graph ≡ graph_part input) (pairs_are : pairs ≡ pairs_part input) where
+  -- what is said of the texts is said of the parts of the input, where it is known
+
   whole : (had left : Option (List ℕ)) → Consumes had left input → IsAtEnd left → IfSome had (λ bytes. bytes ≡ input)
   whole None left taken ended = tt
   whole (Some bytes) None taken ended = absurd taken
   whole (Some bytes) (Some rest) taken ended = taken ∙ ap (λ l. input ++ l) ended ∙ append-nil input
 
-  failed : StopsInJoined had left (Graph (read_behind input))
-  failed = (λ _. read_failed had left input taken, λ other. absurd (other refl))
+  part : (had : Option (List ℕ)) → IfSome had (λ bytes. bytes ≡ input) → (part_of : List ℕ → List ℕ) (text : List ℕ) → text ≡ part_of input → (P : List ℕ → Type 0) → P text → IfSome (option_map part_of had) P
+  part None is part_of text same P p = tt
+  part (Some bytes) is part_of text same P p = subst P (same ∙ ap part_of (sym is)) p
 
-  within_graph : (had : Option (List ℕ)) → IfSome had (λ bytes. bytes ≡ input) → (fault : GrError) → StopsAtReached (Some graph) first fault → IfSome had (λ bytes. StopsWithin (graph_part bytes) fault)
-  within_graph None is fault h = tt
-  within_graph (Some bytes) is fault h = (first, subst (λ l. StopsAtReached (Some l) first fault) (graph_is ∙ ap graph_part (sym is)) h)
+  one : (part_of : List ℕ → List ℕ) (text : List ℕ) → text ≡ part_of input → (P : List ℕ → Type 0) → P text → IfSome (option_map part_of had) P
+  one = part had (whole had left taken ended)
 
-  within_pairs : (had : Option (List ℕ)) → IfSome had (λ bytes. bytes ≡ input) → (fault : GrError) → StopsAtReached (Some pairs) second fault → IfSome had (λ bytes. StopsWithin (pairs_part bytes) fault)
-  within_pairs None is fault h = tt
-  within_pairs (Some bytes) is fault h = (second, subst (λ l. StopsAtReached (Some l) second fault) (pairs_are ∙ ap pairs_part (sym is)) h)
+  both : (R : List ℕ → List ℕ → Type 0) → R graph pairs → IfTold (option_map graph_part had) (option_map pairs_part had) R
+  both R r = one graph_part graph graph_is (λ a. IfSome (option_map pairs_part had) (R a)) (one pairs_part pairs pairs_are (R graph) r)
 
-  pub stops_in_joined : (e : ServiceError) → IfTextFault (StopsAtReached (Some graph) first) (StopsAtReached (Some pairs) second) e → StopsInJoined had left (of_whole input e)
-  stops_in_joined (Graph fault) h = at_kind (StopsInJoined had left) input fault.kind (Graph fault) failed (λ other. (λ read. absurd (other read), λ _. (ended, within_graph had (whole had left taken ended) fault h)))
-  stops_in_joined (Queries fault) h = at_kind (StopsInJoined had left) input fault.kind (Queries fault) failed (λ other. (other, ended, within_pairs had (whole had left taken ended) fault h))
-  stops_in_joined (Hierarchy fault) h = tt
-  stops_in_joined (Build fault) h = tt
-  stops_in_joined (Unpack fault) h = tt
-  stops_in_joined (Write fault) h = tt
-  stops_in_joined OutOfMemory h = tt
+  failed : Keeps old new → StopsInJoined had left old new (Graph (read_behind input))
+  failed keeps = inl ((refl, read_failed had left input taken), keeps)
 
--- where the whole input wasn't read
-pub stops_in_reading : (had left : Option (List ℕ)) (e : ServiceError) → ComesOfReading e → IfTextFault (StopsAtReached had left) (λ _. ⊥) e → StopsInJoined had left e
-stops_in_reading had left (Graph fault) kind h = (λ read. h, λ other. absurd (other kind))
-stops_in_reading had left (Queries fault) kind h = absurd kind
-stops_in_reading had left (Hierarchy fault) kind h = absurd kind
-stops_in_reading had left (Build fault) kind h = absurd kind
-stops_in_reading had left (Unpack fault) kind h = absurd kind
-stops_in_reading had left (Write fault) kind h = absurd kind
-stops_in_reading had left OutOfMemory kind h = tt
+  refused : (e : ServiceError) → StopsAnswering PLAIN 0 (Some graph) first (Some pairs) second old new e → StopsInJoined had left old new (of_whole input e)
+  refused (Graph fault) s =
+      at_kind (StopsInJoined had left old new) input fault.kind (Graph fault) (failed s.2)
+      (λ other. inr (other, ended, (first, second, (one graph_part graph graph_is _ s.0, (λ nothing. one graph_part graph graph_is _ (s.1 nothing)), s.2))))
+  refused (Queries fault) s =
+      at_kind (StopsInJoined had left old new) input fault.kind (Queries fault) (failed s.2)
+      (λ other. inr (other, ended, (first, second, (both _ s.0, (λ nothing. one pairs_part pairs pairs_are _ (s.1 nothing)), s.2))))
+  refused (Hierarchy e) s = absurd s
+  refused (Build e) s = inr (tt, ended, (first, second, (s.0, both AreTexts s.1, s.2)))
+  refused (Unpack unpacking.OutOfMemory) s = inr (tt, ended, (first, second, (s.0, both _ s.1)))
+  refused (Unpack unpacking.TooLong) s = absurd s
+  refused (Write fault) s = inr (tt, ended, (first, second, (s.0, both _ s.1)))
+  refused OutOfMemory s = inr (tt, ended, (first, second, (s.0, both _ s.1)))
+
+  -- a refusal of the parts is one of the whole input
+  pub parts_refused : (lists : ℕ) (e : ServiceError) → lists ≡ 0 → StopsAnswering PLAIN lists (Some graph) first (Some pairs) second old new e → StopsInJoined had left old new (of_whole input e)
+  parts_refused lists e none s = refused e (subst (λ n. StopsAnswering PLAIN n (Some graph) first (Some pairs) second old new e) none s)

@@ -1,5 +1,5 @@
 -- How far the pairs are answered, while the answers are put into a sink.
-use Rattle.std.proofs.Common.{ℕ, ◌≡◌, ◌+◌, ◌<◌, ◌≤◌, List, [], ◌∷◌, ◌++◌, length, take, drop, Bool, true, false, Option, inr, refl, sym, ◌∙◌, ap, subst, append_assoc, append-nil, get_or}
+use Rattle.std.proofs.Common.{ℕ, ◌≡◌, ◌+◌, ◌<◌, List, [], ◌∷◌, ◌++◌, length, take, drop, Bool, true, false, Option, inr, refl, sym, ◌∙◌, ap, subst, append_assoc, append-nil, get_or}
 use Rattle.std.specs.Prelude.{⊤, Result, Ok, Err, IfErr, OnOk}
 use Rattle.std.specs.Io.KnownBytes.{Appends}
 use Rattle.std.specs.declared.io.Error.{Error}
@@ -12,7 +12,7 @@ use Rattle.ch_route.specs.Routes.{HasTooLong}
 use Rattle.ch_unpack.specs.declared.error.UnpackError.{UnpackError}
 use Rattle.ch_unpack.specs.declared.error.UnpackError.TheVariants as unpacking
 use Rattle.ch_service.specs.Answer.{Route, IsAnswer, AreAnswers, line_of, nothing, one_more}
-use Rattle.ch_service.specs.Outcome.{Writes, StopsShort, IsPairFault, ComesOfAnswering}
+use Rattle.ch_service.specs.Outcome.{Writes, StopsShort, IsPairFault}
 use Rattle.ch_service.specs.Progress.{PutsPairs}
 use Rattle.ch_service.specs.Route.{IsRouteBy, Routed, StopsAtTooLong}
 use Rattle.ch_service.specs.declared.error.ServiceError.{ServiceError}
@@ -60,9 +60,9 @@ module _ {W : Type 0} {step : W → W → Result ℕ Error → Type 0} {contents
   all-written (Ok u) from to p well given = (p.text, subst (λ ps. Routed h ps p.text) (take_all p.count pairs (p.ends well)) p.routed, given)
 
   short-by : (from to : Option (List ℕ)) (e : ServiceError) → (p : PutsPairs step contents h pairs was now old last (Err e)) → Appends from to p.text → StopsShort (λ text. (count : ℕ) × Routed h (take count pairs) text) (StopsAtTooLong h pairs) from to e
-  short-by from to (Graph fault) p given = tt
-  short-by from to (Queries fault) p given = tt
-  short-by from to (HierarchyFault fault) p given = tt
+  short-by from to (Graph fault) p given = absurd p.ends.3
+  short-by from to (Queries fault) p given = absurd p.ends.3
+  short-by from to (HierarchyFault fault) p given = absurd p.ends.3
   short-by from to (Build e) p given = absurd p.ends.3
   short-by from to (Unpack unpacking.OutOfMemory) p given = (p.text, (p.count, p.routed), given)
   short-by from to (Unpack unpacking.TooLong) p given = (p.text, record { first = take p.count pairs; pair = p.ends.0; rest = p.ends.1; parts = p.ends.2; routed = p.routed; too_long = p.ends.3 }, given)
@@ -72,19 +72,6 @@ module _ {W : Type 0} {step : W → W → Result ℕ Error → Type 0} {contents
   pub short-written : (r : Result ⊤ ServiceError) (from to : Option (List ℕ)) → (p : PutsPairs step contents h pairs was now old last r) → Appends from to p.text → IfErr r (StopsShort (λ text. (count : ℕ) × Routed h (take count pairs) text) (StopsAtTooLong h pairs) from to)
   short-written (Ok u) from to p given = tt
   short-written (Err e) from to p given = short-by from to e p given
-
-  comes-by : (e : ServiceError) → PutsPairs step contents h pairs was now old last (Err e) → ComesOfAnswering e
-  comes-by (Graph fault) p = p.ends.3
-  comes-by (Queries fault) p = p.ends.3
-  comes-by (HierarchyFault fault) p = p.ends.3
-  comes-by (Build e) p = p.ends.3
-  comes-by (Unpack e) p = tt
-  comes-by (Write fault) p = tt
-  comes-by OutOfMemory p = tt
-
-  pub comes_of_answering : (r : Result ⊤ ServiceError) → PutsPairs step contents h pairs was now old last r → IfErr r ComesOfAnswering
-  comes_of_answering (Ok u) p = tt
-  comes_of_answering (Err e) p = comes-by e p
 
 -- by the hierarchy of the router
 pub pairs-by : {W : Type 0} {step : W → W → Result ℕ Error → Type 0} {contents : W → Option (List ℕ)} {k h : Hierarchy} {pairs : List (ℕ × ℕ)} {was now : Gathered} {old last : W} {r : Result ⊤ ServiceError} → k ≡ h → PutsPairs step contents k pairs was now old last r → PutsPairs step contents h pairs was now old last r

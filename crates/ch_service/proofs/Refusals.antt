@@ -1,19 +1,22 @@
 -- Why a refusal says by its cause what its call says of it.
-use Rattle.std.proofs.Common.{ℕ, ◌≡◌, List, length, Option, inl, inr, refl, ap}
+use Rattle.std.proofs.Common.{ℕ, ◌≡◌, List, length, Option, inl, inr, refl, sym, ap, subst, arith}
 use Rattle.std.specs.Prelude.{Some, None, IfSome, Ok, Err}
+use Rattle.std.specs.Io.KnownBytes.{Keeps}
 use Rattle.grfile.specs.Reading.{graph_of, pairs_of}
 use Rattle.hierfile.specs.Fault.{first_fault}
 use Rattle.outcomes.specs.Cases.{text_case, file_case}
+use Rattle.outcomes.specs.Causes.{of_text}
 use Rattle.outcomes.specs.declared.cause.Cause.TheVariants as causes
 use Rattle.outcomes.specs.declared.cause.Input.TheVariants as inputs
+use Rattle.ch_workers.specs.Options.{AreGood}
 use Rattle.ch_workers.specs.declared.error.BuildError.TheVariants as building
+use Rattle.ch_workers.specs.declared.options.Options.{Options}
+use Rattle.ch_workers.specs.declared.options.TheConstants.Options.{PLAIN}
 use Rattle.ch_unpack.specs.declared.error.UnpackError.TheVariants as unpacking
 use Rattle.ch_service.specs.declared.error.ServiceError.{ServiceError}
 use Rattle.ch_service.specs.declared.error.ServiceError.TheVariants.{Graph, Queries, Hierarchy, Build, Unpack, Write, OutOfMemory}
-use Rattle.ch_service.specs.Answer.{AnswersFirst}
 use Rattle.ch_service.specs.Cause.{cause_of}
-use Rattle.ch_service.specs.Joined.{graph_part, pairs_part}
-use Rattle.ch_service.specs.Outcome.{IfTold, IsFaultOf, IsFaultOfJoined, IsPreparingFault, KeepsAtFault, KeepsUnlessWriting, BreaksOff, StopsShort, ComesOfTexts, ComesOfPreparing}
+use Rattle.ch_service.specs.Outcome.{IfTold, IsPreparingFault, KeepsUnlessWriting, BreaksOff, ComesOfPreparing, StopsAnswering, StopsReading}
 use Rattle.ch_service.specs.Refusals.{RefusesAnswers, RefusesPreparing, RefusesRoutes, AnswersTell, JoinedAnswersTell, PreparationsTell, RoutesTell}
 use Rattle.ch_service.specs.Route.{Prepares}
 use Rattle.ch_service.specs.Routing.{StopsRouting}
@@ -40,41 +43,55 @@ of_first (Some a) None P told = tt
 of_first (Some a) (Some b) P told = told
 
 -- where pairs are answered from two texts
-answers : (graph pairs old new : Option (List ℕ)) (e : ServiceError) → (e ≡ Build building.BadOptions → ⊥) → ComesOfTexts e → IfTold graph pairs (λ g p. IsFaultOf g p e) → KeepsAtFault old new e
-    → IfTold graph pairs (λ g p. StopsShort (AnswersFirst g p) (λ _. ⊥) old new e) → RefusesAnswers graph pairs old new (cause_of e)
-answers graph pairs old new (Graph fault) good c f k s =
-    text_case fault.kind inputs.Graph (causes.Graph fault) (RefusesAnswers graph pairs old new) (of_all graph pairs _ (λ g p. inl k)) (inl refl, k) (λ own. (of_told graph pairs _ _ (λ g p. own (graph_of g ≡ Err fault)) f, k))
-answers graph pairs old new (Queries fault) good c f k s =
-    text_case fault.kind inputs.Queries (causes.Queries fault) (RefusesAnswers graph pairs old new) (of_all graph pairs _ (λ g p. inl k)) (inr refl, k)
-    (λ own. (of_told graph pairs _ _ (λ g p h. (h.0, h.1, own (pairs_of h.0.nodes p ≡ Err fault) h.2)) f, k))
-answers graph pairs old new (Hierarchy fault) good c f k s = absurd c
-answers graph pairs old new (Build building.OutOfMemory) good c f k s = of_all graph pairs _ (λ g p. inl k)
-answers graph pairs old new (Build building.BadOptions) good c f k s = absurd (good refl)
-answers graph pairs old new (Build building.Mixed) good c f k s = (f, k)
-answers graph pairs old new (Unpack unpacking.OutOfMemory) good c f k s = of_told graph pairs _ _ (λ g p w. inr w) s
-answers graph pairs old new (Unpack unpacking.TooLong) good c f k s = absurd (cc)
-answers graph pairs old new (Write fault) good c f k s = s
-answers graph pairs old new OutOfMemory good c f k s = s
+module _ (o : Options) (lists : ℕ) (graph graph_left pairs pairs_left old new : Option (List ℕ)) (good : AreGood o lists) where
+  answers : (e : ServiceError) → StopsAnswering o lists graph graph_left pairs pairs_left old new e → RefusesAnswers graph pairs old new (cause_of e)
+  answers (Graph fault) s =
+      text_case fault.kind inputs.Graph (causes.Graph fault) (RefusesAnswers graph pairs old new) (of_all graph pairs _ (λ g p. inl s.2)) (inl refl, s.2)
+      (λ own. (of_first graph pairs _ (of_some graph _ _ (λ g. own (graph_of g ≡ Err fault)) s.0), s.2))
+  answers (Queries fault) s =
+      text_case fault.kind inputs.Queries (causes.Queries fault) (RefusesAnswers graph pairs old new) (of_all graph pairs _ (λ g p. inl s.2)) (inr refl, s.2)
+      (λ own. (of_told graph pairs _ _ (λ g p h. (h.0, h.1, own (pairs_of h.0.nodes p ≡ Err fault) h.2)) s.0, s.2))
+  answers (Hierarchy fault) s = absurd s
+  answers (Build building.OutOfMemory) s = of_all graph pairs _ (λ g p. inl s.2)
+  answers (Build building.BadOptions) s = absurd (s.0.0 refl good)
+  answers (Build building.Mixed) s = (s.1, s.2)
+  answers (Unpack unpacking.OutOfMemory) s = of_told graph pairs _ _ (λ g p w. inr w) s.1
+  answers (Unpack unpacking.TooLong) s = absurd s
+  answers (Write fault) s = s.1
+  answers OutOfMemory s = of_told graph pairs _ _ (λ g p w. w.1) s.1
 
 pub answers-tell : AnswersTell
-answers-tell graph pairs old new (Ok x) good c f k s = tt
-answers-tell graph pairs old new (Err e) good c f k s = answers graph pairs old new e (λ is. good (ap Err is)) c f k s
+answers-tell o lists graph graph_left pairs pairs_left old new (Ok x) good s = tt
+answers-tell o lists graph graph_left pairs pairs_left old new (Err e) good s = answers o lists graph graph_left pairs pairs_left old new good e s
 
--- and where both are in one input
-joined : (text : List ℕ) (old new : Option (List ℕ)) (e : ServiceError) → (e ≡ Build building.BadOptions → ⊥) → ComesOfTexts e → IsFaultOfJoined text e → KeepsAtFault old new e → StopsShort (AnswersFirst (graph_part text) (pairs_part text)) (λ _. ⊥) old new e
-    → RefusesAnswers (Some (graph_part text)) (Some (pairs_part text)) old new (cause_of e)
-joined text old new (Graph fault) good c f k s = answers (Some (graph_part text)) (Some (pairs_part text)) old new (Graph fault) good c f k s
-joined text old new (Queries fault) good c f k s = answers (Some (graph_part text)) (Some (pairs_part text)) old new (Queries fault) good c f k s
-joined text old new (Hierarchy fault) good c f k s = absurd c
-joined text old new (Build e) good c f k s = answers (Some (graph_part text)) (Some (pairs_part text)) old new (Build e) good c f k s
-joined text old new (Unpack e) good c f k s = answers (Some (graph_part text)) (Some (pairs_part text)) old new (Unpack e) good c f k s
-joined text old new (Write fault) good c f k s = s
-joined text old new OutOfMemory good c f k s = s
+-- and where both are in one input, which wasn't read, or was
+
+unread : (graph pairs had left old new : Option (List ℕ)) (e : ServiceError) → StopsReading had left e → Keeps old new → RefusesAnswers graph pairs old new (cause_of e)
+unread graph pairs had left old new (Graph fault) s k = subst (λ kind. RefusesAnswers graph pairs old new (of_text kind inputs.Graph (causes.Graph fault))) (sym s.0) (inl refl, k)
+unread graph pairs had left old new (Queries fault) s k = absurd s
+unread graph pairs had left old new (Hierarchy fault) s k = absurd s
+unread graph pairs had left old new (Build fault) s k = absurd s
+unread graph pairs had left old new (Unpack fault) s k = absurd s
+unread graph pairs had left old new (Write fault) s k = absurd s
+unread graph pairs had left old new OutOfMemory s k = of_all graph pairs _ (λ g p. inl k)
+
+plain_is_good : AreGood PLAIN 0
+plain_is_good = record {
+  workers = omega arith;
+  heaps = record { above = omega arith; below = omega arith };
+  settle = record { above = omega arith; below = omega arith };
+  defer = omega arith;
+  turns = record { above = omega arith; below = omega arith };
+  stint = record { above = omega arith; below = omega arith };
+  a_list_each = refl;
+}
 
 pub joined-tell : JoinedAnswersTell
-joined-tell input old new (Ok x) good c f k s = tt
-joined-tell None old new (Err e) good c f k s = answers None None old new e (λ is. good (ap Err is)) c tt k tt
-joined-tell (Some text) old new (Err e) good c f k s = joined text old new e (λ is. good (ap Err is)) c f k s
+joined-tell input left old new (Ok x) s = tt
+joined-tell input left old new (Err e) s = elim s [
+  | inl stopped ↦ unread _ _ input left old new e stopped.0 stopped.1
+  | inr was ↦ answers PLAIN 0 _ was.2.0 _ was.2.1 old new plain_is_good e was.2.2
+]
 
 -- where a hierarchy is prepared
 preparing : (graph old new : Option (List ℕ)) (e : ServiceError) → (e ≡ Build building.BadOptions → ⊥) → ComesOfPreparing e → IfSome graph (λ g. IsPreparingFault g e) → KeepsUnlessWriting old new e → IfSome graph (λ g. BreaksOff (Prepares g) old new e)

@@ -1,5 +1,5 @@
 -- What an answering call has done where it refuses.
-use Rattle.std.specs.Prelude.{ℕ, ◌≡◌, ◌≢◌, ◌⊎◌, ⊤, List, Option, Some, IfSome, Ok, Err}
+use Rattle.std.specs.Prelude.{ℕ, ◌≡◌, ◌≢◌, ◌⊎◌, ◌↔◌, ⊤, List, Option, option_map, IfSome, Ok, Err}
 use Rattle.std.specs.Io.KnownBytes.{IsAtEnd, Keeps}
 pub use Rattle.outcomes.specs.Written.{IfTold, Writes, WritesFirst}
 use Rattle.ch_graph.specs.Graph.{Graph}
@@ -15,6 +15,11 @@ use Rattle.hierfile.specs.Bytes.{SaysNothing}
 use Rattle.ch_service.specs.declared.error.ServiceError.{ServiceError}
 use Rattle.ch_service.specs.declared.error.ServiceError.TheVariants.{Graph as GraphFault, Queries, Hierarchy as HierarchyFault, Build, Unpack, Write, OutOfMemory}
 use Rattle.ch_unpack.specs.declared.error.UnpackError.TheVariants as unpacking
+use Rattle.ch_workers.specs.Options.{AreBad, AreGood}
+use Rattle.ch_workers.specs.declared.error.BuildError.TheVariants.{BadOptions}
+use Rattle.ch_workers.specs.declared.options.Options.{Options}
+use Rattle.ch_workers.specs.declared.options.TheConstants.Options.{PLAIN}
+use Rattle.ch_service.specs.Answer.{AnswersFirst}
 use Rattle.ch_service.specs.Joined.{graph_part, pairs_part}
 use Rattle.ch_service.specs.Route.{HasTooLong}
 
@@ -26,21 +31,39 @@ IsGraphText graph_text = (g : Graph) × (graph_of graph_text ≡ Ok g)
 abbrev pub AreTexts : List ℕ → List ℕ → Type 0
 AreTexts graph_text pairs_text = (g : Graph) × (graph_of graph_text ≡ Ok g) × ((pairs : List (ℕ × ℕ)) × (pairs_of g.nodes pairs_text ≡ Ok pairs))
 
--- A fault of a text is the first that it has, and one of the pairs comes only where the graph has none. Every other
--- refusal comes only where neither text has one. No route over a graph is too long.
-abbrev pub IsFaultOf : List ℕ → List ℕ → ServiceError → Type 0
-IsFaultOf graph_text pairs_text (GraphFault fault) = FromText fault.kind (graph_of graph_text ≡ Err fault)
-IsFaultOf graph_text pairs_text (Queries fault) = (g : Graph) × (graph_of graph_text ≡ Ok g) × FromText fault.kind (pairs_of g.nodes pairs_text ≡ Err fault)
-IsFaultOf graph_text pairs_text (HierarchyFault e) = ⊥
-IsFaultOf graph_text pairs_text (Build e) = AreTexts graph_text pairs_text
-IsFaultOf graph_text pairs_text (Unpack e) = (e ≡ unpacking.OutOfMemory) × AreTexts graph_text pairs_text
-IsFaultOf graph_text pairs_text (Write fault) = AreTexts graph_text pairs_text
-IsFaultOf graph_text pairs_text OutOfMemory = AreTexts graph_text pairs_text
+-- By the options and the number of lists; of the texts of the graph and of the pairs, of what their readers have left, and of
+-- what the writer had before and has now. A fault of a text is its first, and has the line that was reached; one of the pairs
+-- comes only where the graph has none. The build is refused only where both are read. Nothing is written then. Each other
+-- refusal comes behind the build: behind the answers to the first pairs, or behind the first bytes of such answers, where a
+-- write fails. No route over a graph is too long.
+module _ (o : Options) (lists : ℕ) (graph graph_left pairs pairs_left old new : Option (List ℕ)) where
+  abbrev pub StopsAnswering : ServiceError → Type 0
+  StopsAnswering (GraphFault fault) = IfSome graph (λ text. FromText fault.kind (graph_of text ≡ Err fault)) × StopsAtReached graph graph_left fault × Keeps old new
+  StopsAnswering (Queries fault) = IfTold graph pairs (λ graph_text pairs_text. (g : Graph) × (graph_of graph_text ≡ Ok g) × FromText fault.kind (pairs_of g.nodes pairs_text ≡ Err fault)) × StopsAtReached pairs pairs_left fault × Keeps old new
+  StopsAnswering (Build e) = ((e ≡ BadOptions) ↔ AreBad o lists) × IfTold graph pairs AreTexts × Keeps old new
+  StopsAnswering (Unpack unpacking.OutOfMemory) = AreGood o lists × IfTold graph pairs (λ graph_text pairs_text. Writes (AnswersFirst graph_text pairs_text) old new)
+  StopsAnswering (Write fault) = AreGood o lists × IfTold graph pairs (λ graph_text pairs_text. WritesFirst (AnswersFirst graph_text pairs_text) old new fault.written)
+  StopsAnswering OutOfMemory = AreGood o lists × IfTold graph pairs (λ graph_text pairs_text. AreTexts graph_text pairs_text × (Keeps old new ⊎ Writes (AnswersFirst graph_text pairs_text) old new))
+  StopsAnswering e = ⊥
 
--- The same where both are in one input. Memory may run out before they are read.
-abbrev pub IsFaultOfJoined : List ℕ → ServiceError → Type 0
-IsFaultOfJoined input OutOfMemory = ⊤
-IsFaultOfJoined input e = IsFaultOf (graph_part input) (pairs_part input) e
+-- A whole input wasn't read: a read failed, which is a fault of the graph's text, of the line that was reached; or memory ran
+-- out.
+abbrev pub StopsReading : Option (List ℕ) → Option (List ℕ) → ServiceError → Type 0
+StopsReading had left (GraphFault fault) = (fault.kind ≡ Read) × StopsAtReached had left fault
+StopsReading had left OutOfMemory = ⊤
+StopsReading had left e = ⊥
+
+-- it comes of no failed read
+abbrev pub IsNoRead : ServiceError → Type 0
+IsNoRead (GraphFault fault) = fault.kind ≢ Read
+IsNoRead (Queries fault) = fault.kind ≢ Read
+IsNoRead e = ⊤
+
+-- Where both texts are in one input, which is read first: it wasn't read, and nothing is written; or it was, to its end, and its
+-- two parts were refused as such texts are.
+abbrev pub StopsInJoined : (input left old new : Option (List ℕ)) → ServiceError → Type 0
+StopsInJoined input left old new e = (StopsReading input left e × Keeps old new) ⊎ (IsNoRead e × IsAtEnd left
+    × ((graph_left : Option (List ℕ)) × (pairs_left : Option (List ℕ)) × StopsAnswering PLAIN 0 (option_map graph_part input) graph_left (option_map pairs_part input) pairs_left old new e))
 
 -- The same where a hierarchy is prepared from the text of a graph.
 abbrev pub IsPreparingFault : List ℕ → ServiceError → Type 0
@@ -63,13 +86,7 @@ IsFaultInMemory graph_text pairs_text (Unpack e) = (e ≡ unpacking.OutOfMemory)
 IsFaultInMemory graph_text pairs_text (Write fault) = IsGraphText graph_text
 IsFaultInMemory graph_text pairs_text OutOfMemory = AreTexts graph_text pairs_text
 
--- The refusals of a call that answers from the texts of a graph and of pairs, whatever is known of its readers.
-abbrev pub ComesOfTexts : ServiceError → Type 0
-ComesOfTexts (HierarchyFault e) = ⊥
-ComesOfTexts (Unpack e) = e ≡ unpacking.OutOfMemory
-ComesOfTexts e = ⊤
-
--- those of one that prepares a hierarchy
+-- the refusals of a call that prepares a hierarchy
 abbrev pub ComesOfPreparing : ServiceError → Type 0
 ComesOfPreparing (GraphFault fault) = ⊤
 ComesOfPreparing (Build e) = ⊤
@@ -93,17 +110,6 @@ IfTextFault P Q e = ⊤
 abbrev pub IsReadFault : List ℕ → GrError → Type 0
 IsReadFault bytes fault = fault ≡ record { kind = Read; line = next_line (line_feeds bytes) }
 
--- a line of this text was reached, where a refusal to read it says nothing of it
-abbrev pub StopsWithin : List ℕ → GrError → Type 0
-StopsWithin text fault = (left : Option (List ℕ)) × StopsAtReached (Some text) left fault
-
--- The same where both texts are in one input, which is read first. A read that fails is a fault of the graph's text,
--- whatever text it fails in, at the line of the input that was reached. Each other fault of a text comes behind the input's
--- end, and memory runs out at a line of the text's own.
-abbrev pub StopsInJoined : Option (List ℕ) → Option (List ℕ) → ServiceError → Type 0
-StopsInJoined had left = IfTextFault (λ fault. (fault.kind ≡ Read → StopsAtReached had left fault) × (fault.kind ≢ Read → IsAtEnd left × IfSome had (λ input. StopsWithin (graph_part input) fault)))
-    (λ fault. (fault.kind ≢ Read) × IsAtEnd left × IfSome had (λ input. StopsWithin (pairs_part input) fault))
-
 -- the read that failed behind these bytes, or the refusal itself, by the kind of its fault
 abbrev pub of_fault : List ℕ → GrErrorKind → ServiceError → ServiceError
 of_fault text Read own = GraphFault (record { kind = Read; line = next_line (line_feeds text) })
@@ -115,16 +121,6 @@ of_whole text (GraphFault fault) = of_fault text fault.kind (GraphFault fault)
 of_whole text (Queries fault) = of_fault text fault.kind (Queries fault)
 of_whole text e = e
 
--- where what is read is at fault, or nothing is built, nothing is written
-abbrev pub KeepsAtFault : Option (List ℕ) → Option (List ℕ) → ServiceError → Type 0
-KeepsAtFault old new (GraphFault fault) = Keeps old new
-KeepsAtFault old new (Queries fault) = Keeps old new
-KeepsAtFault old new (HierarchyFault e) = Keeps old new
-KeepsAtFault old new (Build e) = Keeps old new
-KeepsAtFault old new (Unpack e) = ⊤
-KeepsAtFault old new (Write fault) = ⊤
-KeepsAtFault old new OutOfMemory = ⊤
-
 -- only where a write fails, something may be written
 abbrev pub KeepsUnlessWriting : Option (List ℕ) → Option (List ℕ) → ServiceError → Type 0
 KeepsUnlessWriting old new (Write fault) = ⊤
@@ -135,27 +131,15 @@ abbrev pub BreaksOff : (List ℕ → Type 0) → Option (List ℕ) → Option (L
 BreaksOff P old new (Write fault) = WritesFirst P old new fault.written
 BreaksOff P old new e = ⊤
 
--- Where a write fails, the writer took the first `written` bytes of a text of the first kind. Where memory runs out,
--- it took a whole text of this kind, or nothing at all, and where a route is too long, a whole text of the second kind.
+-- Where pairs are answered by a hierarchy and a write fails, the writer took the first `written` bytes of a text of the first
+-- kind. Where memory runs out, it took a whole text of this kind, or nothing at all, and where a route is too long, a whole
+-- text of the second kind. No other refusal comes.
 abbrev pub StopsShort : (List ℕ → Type 0) → (List ℕ → Type 0) → Option (List ℕ) → Option (List ℕ) → ServiceError → Type 0
-StopsShort P Q old new (GraphFault fault) = ⊤
-StopsShort P Q old new (Queries fault) = ⊤
-StopsShort P Q old new (HierarchyFault e) = ⊤
-StopsShort P Q old new (Build e) = Keeps old new
 StopsShort P Q old new (Unpack unpacking.OutOfMemory) = Writes P old new
 StopsShort P Q old new (Unpack unpacking.TooLong) = Writes Q old new
 StopsShort P Q old new (Write fault) = WritesFirst P old new fault.written
 StopsShort P Q old new OutOfMemory = Keeps old new ⊎ Writes P old new
-
--- the refusals that come while pairs are answered by a hierarchy
-abbrev pub ComesOfAnswering : ServiceError → Type 0
-ComesOfAnswering (GraphFault fault) = ⊥
-ComesOfAnswering (Queries fault) = ⊥
-ComesOfAnswering (HierarchyFault e) = ⊥
-ComesOfAnswering (Build e) = ⊥
-ComesOfAnswering (Unpack e) = ⊤
-ComesOfAnswering (Write fault) = ⊤
-ComesOfAnswering OutOfMemory = ⊤
+StopsShort P Q old new e = ⊥
 
 -- the refusals that come while a pair is answered: a route is too long only where it is that pair's
 abbrev pub IsPairFault : Hierarchy → ℕ × ℕ → ServiceError → Type 0
@@ -163,13 +147,3 @@ IsPairFault h pair (Unpack unpacking.OutOfMemory) = ⊤
 IsPairFault h pair (Unpack unpacking.TooLong) = HasTooLong h pair.0 pair.1
 IsPairFault h pair OutOfMemory = ⊤
 IsPairFault h pair e = ⊥
-
--- the refusals that come while a joined input is read
-abbrev pub ComesOfReading : ServiceError → Type 0
-ComesOfReading (GraphFault fault) = fault.kind ≡ Read
-ComesOfReading (Queries fault) = ⊥
-ComesOfReading (HierarchyFault e) = ⊥
-ComesOfReading (Build e) = ⊥
-ComesOfReading (Unpack e) = ⊥
-ComesOfReading (Write fault) = ⊥
-ComesOfReading OutOfMemory = ⊤

@@ -5,7 +5,9 @@ use Rattle.ch_graph.specs.Graph.{Graph}
 use Rattle.ch_graph.specs.Hierarchy.{Hierarchy}
 use Rattle.grfile.specs.Reading.{graph_of, pairs_of}
 use Rattle.hierfile.specs.Fault.{first_fault}
+use Rattle.ch_workers.specs.Options.{AreGood}
 use Rattle.ch_workers.specs.declared.error.BuildError.TheVariants.{BadOptions}
+use Rattle.ch_workers.specs.declared.options.Options.{Options}
 use Rattle.outcomes.specs.Resources.{IsEither, OfResource}
 use Rattle.outcomes.specs.declared.cause.Cause.{Cause}
 use Rattle.outcomes.specs.declared.cause.Cause.TheVariants.{Graph as GraphFault, Queries, Hierarchy as HierarchyFault, TooLong, Mixed}
@@ -15,7 +17,7 @@ use Rattle.ch_service.specs.declared.error.ServiceError.TheVariants.{Build}
 use Rattle.ch_service.specs.Answer.{AnswersFirst}
 use Rattle.ch_service.specs.Cause.{cause_of}
 use Rattle.ch_service.specs.Joined.{graph_part, pairs_part}
-use Rattle.ch_service.specs.Outcome.{IfTold, Writes, IsGraphText, AreTexts, IsFaultOf, IsFaultOfJoined, IsPreparingFault, KeepsAtFault, KeepsUnlessWriting, BreaksOff, StopsShort, ComesOfTexts, ComesOfPreparing}
+use Rattle.ch_service.specs.Outcome.{IfTold, Writes, IsGraphText, AreTexts, IsPreparingFault, KeepsUnlessWriting, BreaksOff, ComesOfPreparing, StopsAnswering, StopsInJoined}
 use Rattle.ch_service.specs.Route.{Spells, Prepares, RoutesFirst, RoutesToTooLong}
 use Rattle.ch_service.specs.Routing.{StopsRouting}
 
@@ -46,12 +48,10 @@ NotBad r = r ≡ Err (Build BadOptions) → ⊥
 -- Why what the contracts say of a refusal shows this of its cause.
 
 abbrev pub AnswersTell : Type 0
-AnswersTell = (graph pairs old new : Option (List ℕ)) (r : Result ⊤ ServiceError) → NotBad r → IfErr r ComesOfTexts → IfErr r (λ e. IfTold graph pairs (λ graph_text pairs_text. IsFaultOf graph_text pairs_text e)) → IfErr r (KeepsAtFault old new)
-    → IfErr r (λ e. IfTold graph pairs (λ graph_text pairs_text. StopsShort (AnswersFirst graph_text pairs_text) (λ _. ⊥) old new e)) → IfErr r (λ e. RefusesAnswers graph pairs old new (cause_of e))
+AnswersTell = (o : Options) (lists : ℕ) (graph graph_left pairs pairs_left old new : Option (List ℕ)) (r : Result ⊤ ServiceError) → AreGood o lists → IfErr r (StopsAnswering o lists graph graph_left pairs pairs_left old new) → IfErr r (λ e. RefusesAnswers graph pairs old new (cause_of e))
 
 abbrev pub JoinedAnswersTell : Type 0
-JoinedAnswersTell = (input old new : Option (List ℕ)) (r : Result ⊤ ServiceError) → NotBad r → IfErr r ComesOfTexts → IfErr r (λ e. IfSome input (λ text. IsFaultOfJoined text e)) → IfErr r (KeepsAtFault old new)
-    → IfErr r (λ e. IfSome input (λ text. StopsShort (AnswersFirst (graph_part text) (pairs_part text)) (λ _. ⊥) old new e)) → IfErr r (λ e. RefusesAnswers (option_map graph_part input) (option_map pairs_part input) old new (cause_of e))
+JoinedAnswersTell = (input left old new : Option (List ℕ)) (r : Result ⊤ ServiceError) → IfErr r (StopsInJoined input left old new) → IfErr r (λ e. RefusesAnswers (option_map graph_part input) (option_map pairs_part input) old new (cause_of e))
 
 abbrev pub PreparationsTell : Type 0
 PreparationsTell = (graph old new : Option (List ℕ)) (r : Result ⊤ ServiceError) → NotBad r → IfErr r ComesOfPreparing → IfErr r (λ e. IfSome graph (λ graph_text. IsPreparingFault graph_text e)) → IfErr r (KeepsUnlessWriting old new)

@@ -3,7 +3,7 @@ use Rattle.std.specs.Prelude.{ℕ, ◌≡◌, List, ◌∷◌, ◌++◌, length,
 use Rattle.ch_graph.specs.Graph.{Graph}
 use Rattle.ch_graph.specs.Limits.{IsGraph}
 use Rattle.ch_graph.specs.declared.version.Version.{Version}
-use Rattle.ch_graph.specs.declared.version.Version.TheVariants.{One, Two}
+use Rattle.ch_graph.specs.declared.version.Version.TheVariants.{Two}
 use Rattle.ch_graph.specs.Hierarchy.{Hierarchy}
 pub use Rattle.ch_answer.specs.File.{Spells, IsRightIn, PreparesIn}
 pub use Rattle.ch_route.specs.Routes.{IsUnfoldedRoute, IsRouteBy, HasTooLong}

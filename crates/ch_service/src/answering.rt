@@ -1,12 +1,8 @@
-ghost use Rattle.std.specs.Prelude.{◌≡◌, ◌↔◌, [], All, OnOk, IfErr, IfSome, vec_len};
-ghost use Rattle.grfile.specs.Taken.{StopsAtReached};
-ghost use Rattle.ch_service.specs.Answer.{Answers, AnswersByFewest, AnswersFirst};
+ghost use Rattle.std.specs.Prelude.{◌≡◌, [], All, OnOk, IfErr, IfSome, vec_len};
+ghost use Rattle.ch_service.specs.Answer.{Answers, AnswersByFewest};
 ghost use Rattle.ch_service.specs.Joined.{graph_part, pairs_part};
-ghost use Rattle.ch_service.specs.Outcome.{IfBuilt, IfTold, IfTextFault, Writes, ComesOfTexts, IsFaultOf, IsFaultOfJoined, KeepsAtFault, StopsInJoined, StopsShort};
-ghost use Rattle.ch_service.specs.declared.error.ServiceError.TheVariants.{Build};
-ghost use Rattle.ch_workers.specs.Options.{AreBad, AreGood};
-ghost use Rattle.ch_workers.specs.declared.error.BuildError.{BuildError};
-ghost use Rattle.ch_workers.specs.declared.error.BuildError.TheVariants.{BadOptions};
+ghost use Rattle.ch_service.specs.Outcome.{IfTold, StopsAnswering, StopsInJoined, Writes};
+ghost use Rattle.ch_workers.specs.Options.{AreGood};
 
 use crate::error::ServiceError;
 use crate::input::{of_whole, read_whole};
@@ -51,16 +47,7 @@ pub fn answer<G: Read, Q: Read, W: Write, P: Gate, R: Threads + Wait + Sync>(
     ensures leases { leases.new ≡ record leases.old { out = 0 } }
 
     // At a refusal.
-    ensures bad { (e : BuildError) → result ≡ Err (Build e) → (e ≡ BadOptions) ↔ AreBad options (vec_len lists) }
-    ensures ready { IfErr result (IfBuilt (AreGood options (vec_len lists))) }
-    ensures kinds { IfErr result ComesOfTexts }
-    ensures fault { IfErr result (λ e. IfTold (G.remaining gr.old) (Q.remaining queries.old)
-        (λ graph pairs. IsFaultOf graph pairs e)) }
-    ensures reached { IfErr result (IfTextFault (StopsAtReached (G.remaining gr.old) (G.remaining gr.new))
-        (StopsAtReached (Q.remaining queries.old) (Q.remaining queries.new))) }
-    ensures untouched { IfErr result (KeepsAtFault (W.contents out.old) (W.contents out.new)) }
-    ensures stops { IfErr result (λ e. IfTold (G.remaining gr.old) (Q.remaining queries.old)
-        (λ graph pairs. StopsShort (AnswersFirst graph pairs) (λ _. ⊥) (W.contents out.old) (W.contents out.new) e)) }
+    ensures refused { IfErr result (StopsAnswering options (vec_len lists) (G.remaining gr.old) (G.remaining gr.new) (Q.remaining queries.old) (Q.remaining queries.new) (W.contents out.old) (W.contents out.new)) }
 {
     let graph = match read_graph(alloc, gr) {
         Ok(graph) => graph,
@@ -91,15 +78,7 @@ pub fn answer_joined<I: Read, W: Write, R: Threads + Wait + Sync>(
     ensures fewest { OnOk result (IfSome (I.remaining input.old)
         (λ text. Writes (AnswersByFewest (graph_part text) (pairs_part text)) (W.contents out.old) (W.contents out.new))) }
 
-    // At a refusal.
-    ensures good { result ≡ Err (Build BadOptions) → ⊥ }
-    ensures kinds { IfErr result ComesOfTexts }
-    ensures fault { IfErr result (λ e. IfSome (I.remaining input.old)
-        (λ text. IsFaultOfJoined text e)) }
-    ensures reached { IfErr result (StopsInJoined (I.remaining input.old) (I.remaining input.new)) }
-    ensures untouched { IfErr result (KeepsAtFault (W.contents out.old) (W.contents out.new)) }
-    ensures stops { IfErr result (λ e. IfSome (I.remaining input.old)
-        (λ text. StopsShort (AnswersFirst (graph_part text) (pairs_part text)) (λ _. ⊥) (W.contents out.old) (W.contents out.new) e)) }
+    ensures refused { IfErr result (StopsInJoined (I.remaining input.old) (I.remaining input.new) (W.contents out.old) (W.contents out.new)) }
 {
     let text = read_whole(alloc, input)?;
     let (mut graph, mut pairs) = parts(text.as_slice());

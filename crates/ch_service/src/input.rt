@@ -1,8 +1,7 @@
 ghost use Rattle.std.specs.Prelude.{◌≡◌, IfOk, IfErr, IfSome};
 ghost use Rattle.std.specs.Io.KnownBytes.{Consumes, IsAtEnd};
 ghost use Rattle.text_lines.specs.Lines.{line_feeds};
-ghost use Rattle.grfile.specs.Taken.{StopsAtReached};
-ghost use Rattle.ch_service.specs.Outcome.{ComesOfReading, IfTextFault, IsReadFault, of_fault, of_whole};
+ghost use Rattle.ch_service.specs.Outcome.{IsReadFault, StopsReading, of_fault, of_whole};
 
 use crate::error::ServiceError;
 use counted_io::WholeFault;
@@ -14,8 +13,7 @@ use std::io::Read;
 pub fn read_whole<R: Read>(alloc: Global, input: &mut R) -> Result<Vec<u8>, ServiceError>
     ensures whole { IfOk result (λ text. IfSome (R.remaining input.old) (λ bytes. text.items ≡ bytes)) }
     ensures ended { IfOk result (λ text. Consumes (R.remaining input.old) (R.remaining input.new) text.items × IsAtEnd (R.remaining input.new)) }
-    ensures kinds { IfErr result ComesOfReading }
-    ensures reached { IfErr result (IfTextFault (StopsAtReached (R.remaining input.old) (R.remaining input.new)) (λ _. ⊥)) }
+    ensures refused { IfErr result (StopsReading (R.remaining input.old) (R.remaining input.new)) }
 {
     let mut text = Vec::new(alloc);
     match counted_io::read_whole(input, &mut text) {

@@ -1,6 +1,6 @@
 ghost use Rattle.std.specs.Prelude.{◌≡◌, ℕ, All, OnOk, IfErr, length, take};
 ghost use Rattle.grfile.specs.Reading.{IsPair};
-ghost use Rattle.ch_service.specs.Outcome.{Writes, StopsShort, ComesOfAnswering};
+ghost use Rattle.ch_service.specs.Outcome.{Writes, StopsShort};
 ghost use Rattle.ch_service.specs.Progress.{PutsPairs};
 ghost use Rattle.ch_service.specs.Route.{Routed, StopsAtTooLong};
 
@@ -22,7 +22,6 @@ pub fn answer_pairs<W: Write>(
 ) -> Result<(), ServiceError>
     requires { All (IsPair (length hierarchy.now.ranks)) pairs.now }
     ensures routed { OnOk result (Writes (Routed hierarchy.now pairs.now) (W.contents out.old) (W.contents out.new)) }
-    ensures fault { IfErr result ComesOfAnswering }
     ensures stops { IfErr result (StopsShort (λ text. (count : ℕ) × Routed hierarchy.now (take count pairs.now) text) (StopsAtTooLong hierarchy.now pairs.now) (W.contents out.old) (W.contents out.new)) }
 {
     let mut router = Router::new(alloc, hierarchy)?;

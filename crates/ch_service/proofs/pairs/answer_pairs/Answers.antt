@@ -3,7 +3,7 @@ use Rattle.std.proofs.lemmas.Result.{err_from_is_err_and}
 use Rattle.counted_io.specs.Sinks.Laws.{finishes, goes_on}
 use Rattle.grfile.specs.Reading.{IsPair}
 use Rattle.ch_graph.specs.Hierarchy.{Hierarchy}
-use Rattle.ch_service.proofs.Progress.{all-written, comes_of_answering, pairs-by, short-written}
+use Rattle.ch_service.proofs.Progress.{all-written, pairs-by, short-written}
 use Rattle.ch_service.proofs.pairs.answer_pairs.Goals as goal
 
 pub put_pairs-answered-requires : goal.put_pairs-answered-requires
@@ -20,9 +20,6 @@ pub returns-clause-routed : goal.returns-clause-routed
 returns-clause-routed g c =
     let put = pairs-by c.in_ok-router.ensures c.put_pairs-answered.ensures in
     all-written c.put_pairs-answered.result _ _ put (goes_on c.in_ok-finish.ensures) (finishes c.new-sink.ensures put.puts c.in_ok-finish.ensures).ok
-
-pub returns-clause-fault : goal.returns-clause-fault
-returns-clause-fault g c = comes_of_answering c.put_pairs-answered.result c.put_pairs-answered.ensures
 
 pub returns-clause-stops : goal.returns-clause-stops
 returns-clause-stops g c =

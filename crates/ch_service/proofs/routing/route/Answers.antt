@@ -8,7 +8,7 @@ use Rattle.ch_service.proofs.routing.route.Goals as goal
 
 pub returns-clause-refused : goal.returns-clause-refused
 returns-clause-refused g c =
-    stops-routing c.in_ok-hierarchy.hierarchy c.as_slice.result.now _ _ _ _ _ (search rules) (search rules) c.answer_pairs.result c.answer_pairs.ensures.fault c.answer_pairs.ensures.stops
+    stops-routing c.in_ok-hierarchy.hierarchy c.as_slice.result.now _ _ _ _ _ (search rules) (search rules) c.answer_pairs.result c.answer_pairs.ensures.stops
 
 pub returns-in_err-pairs-clause-refused : goal.returns-in_err-pairs-clause-refused
 returns-in_err-pairs-clause-refused g c =

@@ -5,7 +5,7 @@ use Rattle.performing.proofs.answering.perform_joined.Goals as goal
 tells : goal.returns-clause-told
 tells g c =
     after _ _ _ _ c.outcome_of.ensures (joined_told _ _ _ c.answer_joined.result c.answer_joined.ensures.fewest
-    (c.causes_tell_refusals.ensures.joined _ _ _ c.answer_joined.result c.answer_joined.ensures.good c.answer_joined.ensures.kinds c.answer_joined.ensures.fault c.answer_joined.ensures.untouched c.answer_joined.ensures.stops))
+    (c.causes_tell_refusals.ensures.joined _ _ _ _ c.answer_joined.result c.answer_joined.ensures.refused))
 
 pub returns-clause-told : goal.returns-clause-told
 returns-clause-told g c = tells g c
