@@ -9,25 +9,27 @@ use Rattle.hierfile.specs.Laws.{HierarchiesHaveOneSpelling, SpellingsHaveNoFault
 use Rattle.hierfile.specs.declared.error.HierError.{HierError}
 use Rattle.hierfile.specs.declared.error.HierError.TheVariants as files
 use Rattle.ch_graph.specs.declared.version.Version.TheVariants.{Two}
-use Rattle.ch_service.specs.Outcome.{ComesOfPreparing, IsFaultInMemory, IsGraphText, IsPreparingFault}
+use Rattle.ch_service.specs.Outcome.{IsGraphText, StopsInMemory}
+use Rattle.ch_service.specs.Preparation.{StopsPreparing}
 use Rattle.ch_service.specs.Route.{Prepares, RoutesFirst}
 use Rattle.ch_service.specs.Routing.{StopsRouting}
 use Rattle.ch_service.specs.declared.error.ServiceError.{ServiceError}
 use Rattle.ch_service.specs.declared.error.ServiceError.TheVariants.{Graph, Queries, Hierarchy, Build, Unpack, Write, OutOfMemory}
+use Rattle.ch_workers.specs.declared.options.Options.{Options}
 use Rattle.ch_unpack.specs.declared.error.UnpackError.TheVariants as unpacking
 use Rattle.ch_unpack.specs.declared.error.UnpackError.TheVariants.{TooLong}
 use Rattle.ch_service.proofs.ByWalks.{right-nodes}
 use Rattle.ch_service.proofs.Exact.{is_prepared}
 
 -- what the first call refuses
-pub refused-preparing : (graph_text pairs_text : List ℕ) (e : ServiceError) → ComesOfPreparing e → IsPreparingFault graph_text e → IsFaultInMemory graph_text pairs_text e
-refused-preparing graph_text pairs_text (Graph fault) kind h = h
-refused-preparing graph_text pairs_text (Queries fault) kind h = absurd kind
-refused-preparing graph_text pairs_text (Hierarchy e) kind h = absurd kind
-refused-preparing graph_text pairs_text (Build e) kind h = h
-refused-preparing graph_text pairs_text (Unpack e) kind h = absurd kind
-refused-preparing graph_text pairs_text (Write fault) kind h = h
-refused-preparing graph_text pairs_text OutOfMemory kind h = absurd kind
+pub refused-preparing : (o : Options) (lists : ℕ) (graph_text pairs_text : List ℕ) (left old new : Option (List ℕ)) (e : ServiceError) → StopsPreparing o lists (Some graph_text) left old new e → StopsInMemory o lists graph_text pairs_text e
+refused-preparing o lists graph_text pairs_text left old new (Graph fault) s = s.0
+refused-preparing o lists graph_text pairs_text left old new (Queries fault) s = absurd s
+refused-preparing o lists graph_text pairs_text left old new (Hierarchy e) s = absurd s
+refused-preparing o lists graph_text pairs_text left old new (Build e) s = (s.0, s.1)
+refused-preparing o lists graph_text pairs_text left old new (Unpack e) s = absurd s
+refused-preparing o lists graph_text pairs_text left old new (Write fault) s = let file : Prepares graph_text s.1.0 = s.1.1 in (file.graph, file.graph_reads)
+refused-preparing o lists graph_text pairs_text left old new OutOfMemory s = absurd s
 
 -- bytes without a fault are refused for none
 faultless : (e : HierError) {P : Type 0} → (P → ⊥) → OfBytes e P → SaysNothing e
@@ -48,7 +50,7 @@ faultless files.HalfMissing none h = none h
 faultless files.HalfSum none h = none h
 faultless files.Trailing none h = none h
 
-module _ (one : HierarchiesHaveOneSpelling) (clean : SpellingsHaveNoFault) (graphs : SpelledGraphsAreInRange) (graph_text pairs_text bytes : List ℕ) (p : Prepares graph_text bytes) where
+module _ (o : Options) (lists : ℕ) (one : HierarchiesHaveOneSpelling) (clean : SpellingsHaveNoFault) (graphs : SpelledGraphsAreInRange) (graph_text pairs_text bytes : List ℕ) (p : Prepares graph_text bytes) where
   prepared : IsGraphText graph_text
   prepared = (p.graph, p.graph_reads)
 
@@ -59,7 +61,7 @@ module _ (one : HierarchiesHaveOneSpelling) (clean : SpellingsHaveNoFault) (grap
       absurd (cc)
 
   -- and the second
-  pub refused-routing : (left old new : Option (List ℕ)) (e : ServiceError) → StopsRouting (Some bytes) (Some pairs_text) left old new e → (e ≡ Unpack TooLong → ⊥) → IsFaultInMemory graph_text pairs_text e
+  pub refused-routing : (left old new : Option (List ℕ)) (e : ServiceError) → StopsRouting (Some bytes) (Some pairs_text) left old new e → (e ≡ Unpack TooLong → ⊥) → StopsInMemory o lists graph_text pairs_text e
   refused-routing left old new (Graph fault) h short = absurd h
   refused-routing left old new (Queries fault) h short =
       let texts = h.0 in
@@ -70,7 +72,7 @@ module _ (one : HierarchiesHaveOneSpelling) (clean : SpellingsHaveNoFault) (grap
   refused-routing left old new (Unpack unpacking.OutOfMemory) h short =
       let first : RoutesFirst bytes pairs_text h.0 = h.1 in
       let q = is_prepared Two one graphs graph_text bytes first.hierarchy p first.spells in
-      (refl, (q.graph, q.reads, (first.pairs, subst (λ (n : ℕ). pairs_of n pairs_text ≡ Ok first.pairs) (right-nodes Two q.graph first.hierarchy q.right) first.pairs_read)))
+      (q.graph, q.reads, (first.pairs, subst (λ (n : ℕ). pairs_of n pairs_text ≡ Ok first.pairs) (right-nodes Two q.graph first.hierarchy q.right) first.pairs_read))
   refused-routing left old new (Unpack unpacking.TooLong) h short = absurd (short refl)
   refused-routing left old new (Write fault) h short = prepared
   refused-routing left old new OutOfMemory h short =

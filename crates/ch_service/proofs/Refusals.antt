@@ -1,5 +1,5 @@
 -- Why a refusal says by its cause what its call says of it.
-use Rattle.std.proofs.Common.{ℕ, ◌≡◌, List, length, Option, inl, inr, refl, sym, ap, subst, arith}
+use Rattle.std.proofs.Common.{ℕ, ◌≡◌, List, length, Option, inl, inr, refl, sym, subst, arith}
 use Rattle.std.specs.Prelude.{Some, None, IfSome, Ok, Err}
 use Rattle.std.specs.Io.KnownBytes.{Keeps}
 use Rattle.grfile.specs.Reading.{graph_of, pairs_of}
@@ -16,9 +16,9 @@ use Rattle.ch_unpack.specs.declared.error.UnpackError.TheVariants as unpacking
 use Rattle.ch_service.specs.declared.error.ServiceError.{ServiceError}
 use Rattle.ch_service.specs.declared.error.ServiceError.TheVariants.{Graph, Queries, Hierarchy, Build, Unpack, Write, OutOfMemory}
 use Rattle.ch_service.specs.Cause.{cause_of}
-use Rattle.ch_service.specs.Outcome.{IfTold, IsPreparingFault, KeepsUnlessWriting, BreaksOff, ComesOfPreparing, StopsAnswering, StopsReading}
+use Rattle.ch_service.specs.Outcome.{IfTold, StopsAnswering, StopsReading}
+use Rattle.ch_service.specs.Preparation.{StopsPreparing}
 use Rattle.ch_service.specs.Refusals.{RefusesAnswers, RefusesPreparing, RefusesRoutes, AnswersTell, JoinedAnswersTell, PreparationsTell, RoutesTell}
-use Rattle.ch_service.specs.Route.{Prepares}
 use Rattle.ch_service.specs.Routing.{StopsRouting}
 
 -- what is so of all texts, and what follows of texts that are known
@@ -94,21 +94,21 @@ joined-tell input left old new (Err e) s = elim s [
 ]
 
 -- where a hierarchy is prepared
-preparing : (graph old new : Option (List ℕ)) (e : ServiceError) → (e ≡ Build building.BadOptions → ⊥) → ComesOfPreparing e → IfSome graph (λ g. IsPreparingFault g e) → KeepsUnlessWriting old new e → IfSome graph (λ g. BreaksOff (Prepares g) old new e)
-    → RefusesPreparing graph old new (cause_of e)
-preparing graph old new (Graph fault) good c f k b = text_case fault.kind inputs.Graph (causes.Graph fault) (RefusesPreparing graph old new) k (refl, k) (λ own. (of_some graph _ _ (λ g. own (graph_of g ≡ Err fault)) f, k))
-preparing graph old new (Queries fault) good c f k b = absurd c
-preparing graph old new (Hierarchy fault) good c f k b = absurd c
-preparing graph old new (Build building.OutOfMemory) good c f k b = k
-preparing graph old new (Build building.BadOptions) good c f k b = absurd (good refl)
-preparing graph old new (Build building.Mixed) good c f k b = (f, k)
-preparing graph old new (Unpack e) good c f k b = absurd c
-preparing graph old new (Write fault) good c f k b = b
-preparing graph old new OutOfMemory good c f k b = absurd c
+module _ (o : Options) (lists : ℕ) (graph left old new : Option (List ℕ)) (good : AreGood o lists) where
+  preparing : (e : ServiceError) → StopsPreparing o lists graph left old new e → RefusesPreparing graph old new (cause_of e)
+  preparing (Graph fault) s = text_case fault.kind inputs.Graph (causes.Graph fault) (RefusesPreparing graph old new) s.2 (refl, s.2) (λ own. (of_some graph _ _ (λ g. own (graph_of g ≡ Err fault)) s.0, s.2))
+  preparing (Queries fault) s = absurd s
+  preparing (Hierarchy fault) s = absurd s
+  preparing (Build building.OutOfMemory) s = s.2
+  preparing (Build building.BadOptions) s = absurd (s.0.0 refl good)
+  preparing (Build building.Mixed) s = (s.1, s.2)
+  preparing (Unpack e) s = absurd s
+  preparing (Write fault) s = s.1
+  preparing OutOfMemory s = absurd s
 
 pub preparations-tell : PreparationsTell
-preparations-tell graph old new (Ok x) good c f k b = tt
-preparations-tell graph old new (Err e) good c f k b = preparing graph old new e (λ is. good (ap Err is)) c f k b
+preparations-tell o lists graph left old new (Ok x) good s = tt
+preparations-tell o lists graph left old new (Err e) good s = preparing o lists graph left old new good e s
 
 -- and where pairs are answered by the file of one
 routes : (file pairs left old new : Option (List ℕ)) (e : ServiceError) → StopsRouting file pairs left old new e → RefusesRoutes file pairs old new (cause_of e)

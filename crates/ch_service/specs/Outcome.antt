@@ -65,46 +65,18 @@ abbrev pub StopsInJoined : (input left old new : Option (List ℕ)) → ServiceE
 StopsInJoined input left old new e = (StopsReading input left e × Keeps old new) ⊎ (IsNoRead e × IsAtEnd left
     × ((graph_left : Option (List ℕ)) × (pairs_left : Option (List ℕ)) × StopsAnswering PLAIN 0 (option_map graph_part input) graph_left (option_map pairs_part input) pairs_left old new e))
 
--- The same where a hierarchy is prepared from the text of a graph.
-abbrev pub IsPreparingFault : List ℕ → ServiceError → Type 0
-IsPreparingFault graph_text (GraphFault fault) = FromText fault.kind (graph_of graph_text ≡ Err fault)
-IsPreparingFault graph_text (Queries fault) = ⊥
-IsPreparingFault graph_text (HierarchyFault e) = ⊥
-IsPreparingFault graph_text (Build e) = IsGraphText graph_text
-IsPreparingFault graph_text (Unpack e) = ⊥
-IsPreparingFault graph_text (Write fault) = IsGraphText graph_text
-IsPreparingFault graph_text OutOfMemory = ⊥
-
 -- Where a hierarchy is prepared and pairs are answered by its file, both in memory. The file has no fault, so it is
 -- refused only where memory runs out or a read fails, and no route is too long.
-abbrev pub IsFaultInMemory : List ℕ → List ℕ → ServiceError → Type 0
-IsFaultInMemory graph_text pairs_text (GraphFault fault) = FromText fault.kind (graph_of graph_text ≡ Err fault)
-IsFaultInMemory graph_text pairs_text (Queries fault) = (g : Graph) × (graph_of graph_text ≡ Ok g) × FromText fault.kind (pairs_of g.nodes pairs_text ≡ Err fault)
-IsFaultInMemory graph_text pairs_text (HierarchyFault e) = IsGraphText graph_text × SaysNothing e
-IsFaultInMemory graph_text pairs_text (Build e) = IsGraphText graph_text
-IsFaultInMemory graph_text pairs_text (Unpack e) = (e ≡ unpacking.OutOfMemory) × AreTexts graph_text pairs_text
-IsFaultInMemory graph_text pairs_text (Write fault) = IsGraphText graph_text
-IsFaultInMemory graph_text pairs_text OutOfMemory = AreTexts graph_text pairs_text
-
--- the refusals of a call that prepares a hierarchy
-abbrev pub ComesOfPreparing : ServiceError → Type 0
-ComesOfPreparing (GraphFault fault) = ⊤
-ComesOfPreparing (Build e) = ⊤
-ComesOfPreparing (Write fault) = ⊤
-ComesOfPreparing e = ⊥
-
--- This is said where a refusal comes behind the build of a hierarchy: a write failed, or a pair wasn't answered.
-abbrev pub IfBuilt : Type 0 → ServiceError → Type 0
-IfBuilt P (Unpack e) = P
-IfBuilt P (Write fault) = P
-IfBuilt P OutOfMemory = P
-IfBuilt P e = ⊤
-
--- these facts of a fault, where a refusal is one of the graph's text or one of the pairs'
-abbrev pub IfTextFault : (GrError → Type 0) → (GrError → Type 0) → ServiceError → Type 0
-IfTextFault P Q (GraphFault fault) = P fault
-IfTextFault P Q (Queries fault) = Q fault
-IfTextFault P Q e = ⊤
+module _ (o : Options) (lists : ℕ) (graph_text pairs_text : List ℕ) where
+  abbrev pub StopsInMemory : ServiceError → Type 0
+  StopsInMemory (GraphFault fault) = FromText fault.kind (graph_of graph_text ≡ Err fault)
+  StopsInMemory (Queries fault) = (g : Graph) × (graph_of graph_text ≡ Ok g) × FromText fault.kind (pairs_of g.nodes pairs_text ≡ Err fault)
+  StopsInMemory (HierarchyFault e) = IsGraphText graph_text × SaysNothing e
+  StopsInMemory (Build e) = ((e ≡ BadOptions) ↔ AreBad o lists) × IsGraphText graph_text
+  StopsInMemory (Unpack unpacking.OutOfMemory) = AreTexts graph_text pairs_text
+  StopsInMemory (Unpack unpacking.TooLong) = ⊥
+  StopsInMemory (Write fault) = IsGraphText graph_text
+  StopsInMemory OutOfMemory = AreTexts graph_text pairs_text
 
 -- a read that failed behind these bytes, at one more than their line feeds
 abbrev pub IsReadFault : List ℕ → GrError → Type 0
@@ -120,16 +92,6 @@ abbrev pub of_whole : List ℕ → ServiceError → ServiceError
 of_whole text (GraphFault fault) = of_fault text fault.kind (GraphFault fault)
 of_whole text (Queries fault) = of_fault text fault.kind (Queries fault)
 of_whole text e = e
-
--- only where a write fails, something may be written
-abbrev pub KeepsUnlessWriting : Option (List ℕ) → Option (List ℕ) → ServiceError → Type 0
-KeepsUnlessWriting old new (Write fault) = ⊤
-KeepsUnlessWriting old new e = Keeps old new
-
--- where it fails, the writer took the first `written` bytes of a text of this kind
-abbrev pub BreaksOff : (List ℕ → Type 0) → Option (List ℕ) → Option (List ℕ) → ServiceError → Type 0
-BreaksOff P old new (Write fault) = WritesFirst P old new fault.written
-BreaksOff P old new e = ⊤
 
 -- Where pairs are answered by a hierarchy and a write fails, the writer took the first `written` bytes of a text of the first
 -- kind. Where memory runs out, it took a whole text of this kind, or nothing at all, and where a route is too long, a whole

@@ -6,18 +6,17 @@ use Rattle.ch_graph.specs.Hierarchy.{Hierarchy}
 use Rattle.grfile.specs.Reading.{graph_of, pairs_of}
 use Rattle.hierfile.specs.Fault.{first_fault}
 use Rattle.ch_workers.specs.Options.{AreGood}
-use Rattle.ch_workers.specs.declared.error.BuildError.TheVariants.{BadOptions}
 use Rattle.ch_workers.specs.declared.options.Options.{Options}
 use Rattle.outcomes.specs.Resources.{IsEither, OfResource}
 use Rattle.outcomes.specs.declared.cause.Cause.{Cause}
 use Rattle.outcomes.specs.declared.cause.Cause.TheVariants.{Graph as GraphFault, Queries, Hierarchy as HierarchyFault, TooLong, Mixed}
 use Rattle.outcomes.specs.declared.cause.Input.TheVariants as inputs
 use Rattle.ch_service.specs.declared.error.ServiceError.{ServiceError}
-use Rattle.ch_service.specs.declared.error.ServiceError.TheVariants.{Build}
 use Rattle.ch_service.specs.Answer.{AnswersFirst}
 use Rattle.ch_service.specs.Cause.{cause_of}
 use Rattle.ch_service.specs.Joined.{graph_part, pairs_part}
-use Rattle.ch_service.specs.Outcome.{IfTold, Writes, IsGraphText, AreTexts, IsPreparingFault, KeepsUnlessWriting, BreaksOff, ComesOfPreparing, StopsAnswering, StopsInJoined}
+use Rattle.ch_service.specs.Outcome.{IfTold, Writes, IsGraphText, AreTexts, StopsAnswering, StopsInJoined}
+use Rattle.ch_service.specs.Preparation.{StopsPreparing}
 use Rattle.ch_service.specs.Route.{Spells, Prepares, RoutesFirst, RoutesToTooLong}
 use Rattle.ch_service.specs.Routing.{StopsRouting}
 
@@ -41,10 +40,6 @@ RefusesRoutes file pairs old new (HierarchyFault fault) = IfTold file pairs (λ 
 RefusesRoutes file pairs old new TooLong = IfTold file pairs (λ bytes pairs_text. Writes (RoutesToTooLong bytes pairs_text) old new)
 RefusesRoutes file pairs old new cause = OfResource true (IsEither inputs.Hierarchy inputs.Queries) file pairs RoutesFirst old new cause
 
--- no refusal of a build is that of its options
-abbrev pub NotBad : Result ⊤ ServiceError → Type 0
-NotBad r = r ≡ Err (Build BadOptions) → ⊥
-
 -- Why what the contracts say of a refusal shows this of its cause.
 
 abbrev pub AnswersTell : Type 0
@@ -54,8 +49,7 @@ abbrev pub JoinedAnswersTell : Type 0
 JoinedAnswersTell = (input left old new : Option (List ℕ)) (r : Result ⊤ ServiceError) → IfErr r (StopsInJoined input left old new) → IfErr r (λ e. RefusesAnswers (option_map graph_part input) (option_map pairs_part input) old new (cause_of e))
 
 abbrev pub PreparationsTell : Type 0
-PreparationsTell = (graph old new : Option (List ℕ)) (r : Result ⊤ ServiceError) → NotBad r → IfErr r ComesOfPreparing → IfErr r (λ e. IfSome graph (λ graph_text. IsPreparingFault graph_text e)) → IfErr r (KeepsUnlessWriting old new)
-    → IfErr r (λ e. IfSome graph (λ graph_text. BreaksOff (Prepares graph_text) old new e)) → IfErr r (λ e. RefusesPreparing graph old new (cause_of e))
+PreparationsTell = (o : Options) (lists : ℕ) (graph left old new : Option (List ℕ)) (r : Result ⊤ ServiceError) → AreGood o lists → IfErr r (StopsPreparing o lists graph left old new) → IfErr r (λ e. RefusesPreparing graph old new (cause_of e))
 
 abbrev pub RoutesTell : Type 0
 RoutesTell = (file pairs left old new : Option (List ℕ)) (r : Result ⊤ ServiceError) → IfErr r (StopsRouting file pairs left old new) → IfErr r (λ e. RefusesRoutes file pairs old new (cause_of e))

@@ -1,10 +1,7 @@
-ghost use Rattle.std.specs.Prelude.{◌≡◌, ◌↔◌, [], All, IfErr, IfOk, OnOk, vec_len};
+ghost use Rattle.std.specs.Prelude.{◌≡◌, [], All, IfErr, IfOk, OnOk, vec_len};
 ghost use Rattle.ch_service.specs.Answer.{Answers, AnswersByFewest};
-ghost use Rattle.ch_service.specs.Outcome.{IsFaultInMemory};
-ghost use Rattle.ch_service.specs.declared.error.ServiceError.TheVariants.{Build};
-ghost use Rattle.ch_workers.specs.Options.{AreBad, AreGood};
-ghost use Rattle.ch_workers.specs.declared.error.BuildError.{BuildError};
-ghost use Rattle.ch_workers.specs.declared.error.BuildError.TheVariants.{BadOptions};
+ghost use Rattle.ch_service.specs.Outcome.{StopsInMemory};
+ghost use Rattle.ch_workers.specs.Options.{AreGood};
 
 use crate::error::ServiceError;
 use crate::preparing::prepare;
@@ -40,8 +37,7 @@ pub fn routes_in_memory<P: Gate, R: Threads + Wait + Sync>(
     ensures exact { IfOk result (λ text. Answers graph.now pairs.now text.items) }
     ensures fewest { IfOk result (λ text. AnswersByFewest graph.now pairs.now text.items) }
     ensures good { OnOk result (AreGood options (vec_len lists)) }
-    ensures bad { (e : BuildError) → result ≡ Err (Build e) → (e ≡ BadOptions) ↔ AreBad options (vec_len lists) }
-    ensures fault { IfErr result (IsFaultInMemory graph.now pairs.now) }
+    ensures refused { IfErr result (StopsInMemory options (vec_len lists) graph.now pairs.now) }
     ensures leases { leases.new ≡ record leases.old { out = 0 } }
 {
     hierarchies_have_one_spelling();

@@ -6,7 +6,7 @@ use Rattle.outcomes.specs.declared.cause.Cause.TheVariants as causes
 use Rattle.outcomes.specs.declared.outcome.Outcome.{Outcome}
 use Rattle.outcomes.specs.declared.outcome.Outcome.TheVariants.{Done, Wrong, NotShown, Refused}
 use Rattle.ch_service.specs.Route.{Prepares, RoutesHaveFewestArcs}
-use Rattle.performing.specs.Status.{EndsWith, RoutesAreExactAfter, TellsRouted}
+use Rattle.performing.specs.Status.{RoutesAreExactAfter, TellsRouted}
 
 -- with status 0 a job is done, and no other way
 at_zero : (Says : Outcome → Type 0) (outcome : Outcome) → 0 ≡ status_after outcome → Says outcome → Says Done

@@ -1,23 +1,19 @@
 -- What a call says by its outcome.
-use Rattle.std.proofs.Common.{ℕ, ◌≡◌, List, Option, Bool, true, false, refl, sym, subst, inl}
-use Rattle.std.specs.Prelude.{⊤, ◌↔◌, Some, None, option_map, MatchBool, Result, Ok, Err, OnOk, IfErr, IfSome, IsErrAnd}
+use Rattle.std.proofs.Common.{ℕ, ◌≡◌, List, Option, Bool, true, false, sym, subst, inl}
+use Rattle.std.specs.Prelude.{⊤, Some, None, option_map, MatchBool, Result, Ok, Err, OnOk, IfErr, IfSome, IsErrAnd}
 use Rattle.std.specs.Io.KnownBytes.{Appends, Keeps}
 use Rattle.outcomes.specs.Outcomes.{Ends, outcome_after}
 use Rattle.outcomes.specs.declared.cause.Cause.{Cause}
 use Rattle.outcomes.specs.declared.cause.Cause.TheVariants as causes
 use Rattle.outcomes.specs.declared.outcome.Outcome.{Outcome}
 use Rattle.outcomes.specs.declared.outcome.Outcome.TheVariants.{Done, Refused}
-use Rattle.ch_workers.specs.Options.{AreGood, AreBad}
-use Rattle.ch_workers.specs.declared.options.Options.{Options}
-use Rattle.ch_workers.specs.declared.error.BuildError.{BuildError}
-use Rattle.ch_workers.specs.declared.error.BuildError.TheVariants.{BadOptions}
 use Rattle.ch_service.specs.declared.error.ServiceError.{ServiceError}
-use Rattle.ch_service.specs.declared.error.ServiceError.TheVariants.{Build, OutOfMemory}
+use Rattle.ch_service.specs.declared.error.ServiceError.TheVariants.{OutOfMemory}
 use Rattle.ch_service.specs.Answer.{AnswersByFewest}
 use Rattle.ch_service.specs.Cause.{cause_of}
 use Rattle.ch_service.specs.Joined.{graph_part, pairs_part}
 use Rattle.ch_service.specs.Outcome.{IfTold, Writes}
-use Rattle.ch_service.specs.Refusals.{NotBad, RefusesAnswers}
+use Rattle.ch_service.specs.Refusals.{RefusesAnswers}
 use Rattle.ch_verify.specs.Refusal.{RefusesCheck}
 use Rattle.ch_verify.specs.Verdict.{Says, verdict_line}
 use Rattle.ch_verify.specs.declared.verdict.Verdict.{Verdict}
@@ -69,10 +65,6 @@ joined_told None old new (Ok x) w f = is_done _ _ tt
 joined_told None old new (Err e) w f = is_refused (cause_of e) _ _ f
 joined_told (Some text) old new (Ok x) w f = is_done _ _ w
 joined_told (Some text) old new (Err e) w f = is_refused (cause_of e) _ _ f
-
--- the build doesn't refuse good options
-pub not_bad : (r : Result ⊤ ServiceError) (o : Options) (lists : ℕ) → AreGood o lists → ((e : BuildError) → r ≡ Err (Build e) → (e ≡ BadOptions) ↔ AreBad o lists) → NotBad r
-not_bad r o lists good bad is = (bad BadOptions is).0 refl good
 
 -- a check that came to a verdict
 pub found : (v : Verdict) (outcome : Outcome) (graph file old new : Option (List ℕ)) → outcome ≡ outcome_found v → IfTold graph file (Says v) → Appends old new (verdict_line v) → TellsChecked outcome graph file old new

@@ -18,25 +18,20 @@ returns-clause-fewest g c =
     prepared-in_memory IsFewestWalk c.args.graph.now c.args.pairs.now c.new-file.result.items c.prepare.new.out.items c.as_slice-bytes.result.now c.new-text.result.items c.route.new.out.items
     (search rules) (search rules) (search rules) c.in_ok-prepare.ensures.prepared.prepares c.in_ok-route.ensures.fewest
 
-pub returns-in_err-prepare-clause-bad : goal.returns-in_err-prepare-clause-bad
-returns-in_err-prepare-clause-bad g c e is =
-    let exit = err_from_is_err_and c.from_residual.result c.from_residual.ensures.1 in
-    c.in_err-prepare.ensures.prepared.bad e (ap Err (cc))
-
 pub returns-clause-good : goal.returns-clause-good
 returns-clause-good g c = c.in_ok-prepare.ensures.prepared.good
 
-pub returns-in_err-prepare-clause-fault : goal.returns-in_err-prepare-clause-fault
-returns-in_err-prepare-clause-fault g c =
+pub returns-in_err-prepare-clause-refused : goal.returns-in_err-prepare-clause-refused
+returns-in_err-prepare-clause-refused g c =
     let exit = err_from_is_err_and c.from_residual.result c.from_residual.ensures.1 in
-    rw (exit.1, exit.2) (refused-preparing c.args.graph.now c.args.pairs.now c.in_err-prepare.field-0.0 c.in_err-prepare.ensures.prepared.kinds c.in_err-prepare.ensures.prepared.fault)
+    rw (exit.1, exit.2) (refused-preparing _ _ c.args.graph.now c.args.pairs.now (Some c.prepare.new.gr.now) (Some c.new-file.result.items) (Some c.prepare.new.out.items) c.in_err-prepare.field-0.0 c.in_err-prepare.ensures.prepared.refused)
 
-pub returns-in_err-route-clause-fault : goal.returns-in_err-route-clause-fault
-returns-in_err-route-clause-fault g c =
+pub returns-in_err-route-clause-refused : goal.returns-in_err-route-clause-refused
+returns-in_err-route-clause-refused g c =
     let exit = err_from_is_err_and c.from_residual-in_err-route.result c.from_residual-in_err-route.ensures.1 in
     let text : List ℕ = c.args.graph.now in
     let file : List ℕ = c.as_slice-bytes.result.now in
     let written : Prepares text c.prepare.new.out.items = all_of (Prepares text) c.new-file.result.items c.prepare.new.out.items (search rules) c.in_ok-prepare.ensures.prepared.prepares in
     let p : Prepares text file = subst (Prepares text) (sym c.as_slice-bytes.ensures.value) written in
-    rw (exit.1, exit.2) (refused-routing c.hierarchies_have_one_spelling.ensures c.spellings_have_no_fault.ensures c.spelled_graphs_are_in_range.ensures text c.args.pairs.now file p (Some c.route.new.queries.now) (Some c.new-text.result.items) (Some c.route.new.out.items) c.in_err-route.field-0.0 c.in_err-route.ensures.refused
+    rw (exit.1, exit.2) (refused-routing _ _ c.hierarchies_have_one_spelling.ensures c.spellings_have_no_fault.ensures c.spelled_graphs_are_in_range.ensures text c.args.pairs.now file p (Some c.route.new.queries.now) (Some c.new-text.result.items) (Some c.route.new.out.items) c.in_err-route.field-0.0 c.in_err-route.ensures.refused
     (λ is. c.in_err-route.ensures.never_long (ap Err is) text p))

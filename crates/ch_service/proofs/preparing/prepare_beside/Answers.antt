@@ -4,7 +4,7 @@ use Rattle.std.proofs.lemmas.Grind.{common_steps}
 use Rattle.std.proofs.lemmas.Result.{err_from_is_err_and}
 use Rattle.ch_graph.specs.Hierarchy.{version_number}
 use Rattle.ch_service.proofs.FromBuild.{built-good, refused-bad}
-use Rattle.ch_service.proofs.Prepared.{is_done, is_unread, is_unbuilt, is_unwritten}
+use Rattle.ch_service.proofs.Prepared.{breaks, is_text, writes}
 use Rattle.ch_service.proofs.preparing.prepare_beside.Goals as goal
 
 pub write-written-requires : goal.write-written-requires
@@ -14,21 +14,24 @@ pub returns-clause-prepared : goal.returns-clause-prepared
 returns-clause-prepared g c =
     let good = built-good c.build_plain.result _ _ _ (Ok tt) c.in_ok-built.was c.build_plain.ensures.built.bad in
     let built = c.in_ok-built.ensures.built.ok in
-    is_done _ _ _ _ _ _ c.in-Ok.graph c.in_ok-built.built.hierarchy good c.in-Ok.ensures.reads.reading built.right (search rules)
-    built.made.made.version c.in_ok-written.ensures.writes.ok
+    record {
+      prepares = writes c.in-Ok.graph c.in_ok-built.built.hierarchy _ _ _ c.in-Ok.ensures.reads.reading built.right (search rules) built.made.made.version c.in_ok-written.ensures.writes.ok;
+      good = good;
+      refused = tt;
+    }
 
 pub returns-clause-leases : goal.returns-clause-leases
 returns-clause-leases c = grind (arith, common_steps) steps 600000
 
 pub returns-in-Err-clause-prepared : goal.returns-in-Err-clause-prepared
-returns-in-Err-clause-prepared g c = rw c.refuse.ensures.refused (is_unread _ _ _ _ _ _ c.in-Err.fault c.in-Err.ensures.reads.reading c.in-Err.ensures.reads.reached (search rules))
+returns-in-Err-clause-prepared g c = rw c.refuse.ensures.refused (record { prepares = tt; good = tt; refused = (c.in-Err.ensures.reads.reading, c.in-Err.ensures.reads.reached, search rules) })
 
 pub returns-in_err-built-clause-prepared : goal.returns-in_err-built-clause-prepared
 returns-in_err-built-clause-prepared g c =
     let exit = err_from_is_err_and c.from_residual.result c.from_residual.ensures.1 in
     let fault = c.in_err-built.field-0.0 in
     let bad = refused-bad c.build_plain.result fault _ _ c.in_err-built.was c.build_plain.ensures.built.bad in
-    rw (exit.1, exit.2) (is_unbuilt _ _ _ _ _ _ c.in-Ok.graph fault bad c.in-Ok.ensures.reads.reading (search rules))
+    rw (exit.1, exit.2) (record { prepares = tt; good = tt; refused = (bad, is_text c.in-Ok.graph _ c.in-Ok.ensures.reads.reading, search rules) })
 
 pub returns-in_err-written-clause-prepared : goal.returns-in_err-written-clause-prepared
 returns-in_err-written-clause-prepared g c =
@@ -36,5 +39,8 @@ returns-in_err-written-clause-prepared g c =
     let good = built-good c.build_plain.result _ _ _ (Ok tt) c.in_ok-built.was c.build_plain.ensures.built.bad in
     let built = c.in_ok-built.ensures.built.ok in
     rw (exit.1, exit.2)
-    (is_unwritten _ _ _ _ _ _ c.in-Ok.graph c.in_ok-built.built.hierarchy c.in_err-written.field-0.0 good c.in-Ok.ensures.reads.reading
-    built.right (search rules) built.made.made.version c.in_err-written.ensures.writes.err)
+    (record {
+      prepares = tt;
+      good = tt;
+      refused = (good, breaks c.in-Ok.graph c.in_ok-built.built.hierarchy _ _ _ c.in_err-written.field-0.0 c.in-Ok.ensures.reads.reading built.right (search rules) built.made.made.version c.in_err-written.ensures.writes.err);
+    })

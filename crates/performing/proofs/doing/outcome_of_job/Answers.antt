@@ -1,4 +1,4 @@
-use Rattle.std.proofs.Common.{refl, rules}
+use Rattle.std.proofs.Common.{rules}
 use Rattle.performing.proofs.Outcomes.{of_joined, of_two}
 use Rattle.performing.proofs.doing.outcome_of_job.Goals as goal
 

@@ -1,6 +1,6 @@
 use Rattle.std.proofs.Common.{rules}
 use Rattle.performing.proofs.OneForEach.{all_for}
-use Rattle.performing.proofs.Outcomes.{told, not_bad, wants_memory}
+use Rattle.performing.proofs.Outcomes.{told, wants_memory}
 use Rattle.performing.proofs.preparing.prepare_by.Goals as goal
 
 -- each estimator is one that was made for an order and a lease
@@ -11,9 +11,7 @@ pub returns : goal.returns
 returns g c =
     let asked = c.prepare_beside in
     let is = asked.ensures.prepared in
-    let bad = not_bad asked.result c.options-options.result _ (search rules) is.bad in
-    let refused = c.causes_tell_refusals.ensures.prepared _ _ _ asked.result bad in
-    told asked.result _ _ is.prepares (refused is.kinds is.fault is.untouched is.broken)
+    told asked.result _ _ is.prepares (c.causes_tell_refusals.ensures.prepared _ _ _ _ _ _ asked.result (search rules) is.refused)
 
 pub returns-in_err-leases : goal.returns-in_err-leases
 returns-in_err-leases g c = wants_memory c.from_residual.result _ _ c.from_residual.ensures.1 (search rules)
