@@ -8,7 +8,7 @@ use Rattle.ch_graph.specs.Hierarchy.{Hierarchy, IsWellMade, IsRight}
 use Rattle.ch_graph.specs.declared.version.Version.{Version}
 use Rattle.ch_graph.specs.declared.version.Version.TheVariants.{One, Two}
 use Rattle.ch_route.specs.Laws.{RoutesAreFewest, RoutesAreLeastByWeight, NoneTooLong, NoneTooLongByWeight}
-use Rattle.grfile.specs.Outcome.{FromText}
+use Rattle.grfile.specs.Outcome.{FromText, IsReading}
 use Rattle.grfile.specs.declared.error.GrError.{GrError}
 use Rattle.grfile.specs.Reading.{IsPair, graph_of, pairs_of}
 use Rattle.grfile.specs.Taken.{StopsAtReached}
@@ -198,7 +198,13 @@ module _ (g : Graph) (gr queries : Option (List ℕ)) (reads : IfSome gr (λ tex
       stops-answering (Ok x) s = tt
       stops-answering (Err e) s = answering e s
 
--- and where they are answered by the file of a hierarchy
+-- And where they are answered by the file of a hierarchy
+
+pub pairs-fault : {V : Type 0} (view : V → List (ℕ × ℕ)) (n m : ℕ) (known : Option (List ℕ)) (r : Result V GrError) → n ≡ m → IfSome known (λ text. IsReading view r (pairs_of n text))
+    → IfErr r (λ fault. IfSome known (λ text. FromText fault.kind (pairs_of m text ≡ Err fault)))
+pairs-fault view n m known (Ok x) same h = tt
+pairs-fault view n m known (Err e) same h = subst (λ k. IfSome known (λ text. FromText e.kind (pairs_of k text ≡ Err e))) same h
+
 pub queries-refused : {V : Type 0} (h : Hierarchy) (hier queries left old new : Option (List ℕ)) (read : Result V GrError) (told : Result V ServiceError) (e : ServiceError) (r : Result ⊤ ServiceError) → IfSome hier (λ bytes. Spells bytes h)
     → IfErr read (λ fault. IfSome queries (λ text. FromText fault.kind (pairs_of (length h.ranks) text ≡ Err fault))) → IfErr read (StopsAtReached queries left) → Keeps old new
     → MatchResult read (λ x. told ≡ Ok x) (λ fault. IsErrAnd told (λ x. x ≡ Queries fault)) → told ≡ Err e → IsErrAnd r (λ x. x ≡ e) → IfErr r (StopsRouting hier queries left old new)

@@ -7,4 +7,3 @@ pub mod LineFeeds
 pub mod Prepared
 pub mod Progress
 pub mod Refusals
-mod TextFaults

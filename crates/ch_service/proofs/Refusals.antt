@@ -1,5 +1,5 @@
 -- Why a refusal says by its cause what its call says of it.
-use Rattle.std.proofs.Common.{ℕ, ◌≡◌, List, length, Option, inl, inr, refl, sym, subst, arith}
+use Rattle.std.proofs.Common.{ℕ, ◌≡◌, List, length, Option, inl, inr, refl, sym, ap, subst, arith}
 use Rattle.std.specs.Prelude.{Some, None, IfSome, Ok, Err}
 use Rattle.std.specs.Io.KnownBytes.{Keeps}
 use Rattle.grfile.specs.Reading.{graph_of, pairs_of}
@@ -43,26 +43,26 @@ of_first (Some a) None P told = tt
 of_first (Some a) (Some b) P told = told
 
 -- where pairs are answered from two texts
-module _ (o : Options) (lists : ℕ) (graph graph_left pairs pairs_left old new : Option (List ℕ)) (good : AreGood o lists) where
-  answers : (e : ServiceError) → StopsAnswering o lists graph graph_left pairs pairs_left old new e → RefusesAnswers graph pairs old new (cause_of e)
-  answers (Graph fault) s =
+module _ (o : Options) (lists : ℕ) (graph graph_left pairs pairs_left old new : Option (List ℕ)) where
+  answers : (e : ServiceError) → (e ≡ Build building.BadOptions → AreGood o lists) → StopsAnswering o lists graph graph_left pairs pairs_left old new e → RefusesAnswers graph pairs old new (cause_of e)
+  answers (Graph fault) good s =
       text_case fault.kind inputs.Graph (causes.Graph fault) (RefusesAnswers graph pairs old new) (of_all graph pairs _ (λ g p. inl s.2)) (inl refl, s.2)
       (λ own. (of_first graph pairs _ (of_some graph _ _ (λ g. own (graph_of g ≡ Err fault)) s.0), s.2))
-  answers (Queries fault) s =
+  answers (Queries fault) good s =
       text_case fault.kind inputs.Queries (causes.Queries fault) (RefusesAnswers graph pairs old new) (of_all graph pairs _ (λ g p. inl s.2)) (inr refl, s.2)
       (λ own. (of_told graph pairs _ _ (λ g p h. (h.0, h.1, own (pairs_of h.0.nodes p ≡ Err fault) h.2)) s.0, s.2))
-  answers (Hierarchy fault) s = absurd s
-  answers (Build building.OutOfMemory) s = of_all graph pairs _ (λ g p. inl s.2)
-  answers (Build building.BadOptions) s = absurd (s.0.0 refl good)
-  answers (Build building.Mixed) s = (s.1, s.2)
-  answers (Unpack unpacking.OutOfMemory) s = of_told graph pairs _ _ (λ g p w. inr w) s.1
-  answers (Unpack unpacking.TooLong) s = absurd s
-  answers (Write fault) s = s.1
-  answers OutOfMemory s = of_told graph pairs _ _ (λ g p w. w.1) s.1
+  answers (Hierarchy fault) good s = absurd s
+  answers (Build building.OutOfMemory) good s = of_all graph pairs _ (λ g p. inl s.2)
+  answers (Build building.BadOptions) good s = absurd (s.0.0 refl (good refl))
+  answers (Build building.Mixed) good s = (s.1, s.2)
+  answers (Unpack unpacking.OutOfMemory) good s = of_told graph pairs _ _ (λ g p w. inr w) s.1
+  answers (Unpack unpacking.TooLong) good s = absurd s
+  answers (Write fault) good s = s.1
+  answers OutOfMemory good s = of_told graph pairs _ _ (λ g p w. w.1) s.1
 
 pub answers-tell : AnswersTell
 answers-tell o lists graph graph_left pairs pairs_left old new (Ok x) good s = tt
-answers-tell o lists graph graph_left pairs pairs_left old new (Err e) good s = answers o lists graph graph_left pairs pairs_left old new good e s
+answers-tell o lists graph graph_left pairs pairs_left old new (Err e) good s = answers o lists graph graph_left pairs pairs_left old new e (λ is. good (ap Err is)) s
 
 -- and where both are in one input, which wasn't read, or was
 
@@ -90,25 +90,25 @@ pub joined-tell : JoinedAnswersTell
 joined-tell input left old new (Ok x) s = tt
 joined-tell input left old new (Err e) s = elim s [
   | inl stopped ↦ unread _ _ input left old new e stopped.0 stopped.1
-  | inr was ↦ answers PLAIN 0 _ was.2.0 _ was.2.1 old new plain_is_good e was.2.2
+  | inr was ↦ answers PLAIN 0 _ was.2.0 _ was.2.1 old new e (λ _. plain_is_good) was.2.2
 ]
 
 -- where a hierarchy is prepared
-module _ (o : Options) (lists : ℕ) (graph left old new : Option (List ℕ)) (good : AreGood o lists) where
-  preparing : (e : ServiceError) → StopsPreparing o lists graph left old new e → RefusesPreparing graph old new (cause_of e)
-  preparing (Graph fault) s = text_case fault.kind inputs.Graph (causes.Graph fault) (RefusesPreparing graph old new) s.2 (refl, s.2) (λ own. (of_some graph _ _ (λ g. own (graph_of g ≡ Err fault)) s.0, s.2))
-  preparing (Queries fault) s = absurd s
-  preparing (Hierarchy fault) s = absurd s
-  preparing (Build building.OutOfMemory) s = s.2
-  preparing (Build building.BadOptions) s = absurd (s.0.0 refl good)
-  preparing (Build building.Mixed) s = (s.1, s.2)
-  preparing (Unpack e) s = absurd s
-  preparing (Write fault) s = s.1
-  preparing OutOfMemory s = absurd s
+module _ (o : Options) (lists : ℕ) (graph left old new : Option (List ℕ)) where
+  preparing : (e : ServiceError) → (e ≡ Build building.BadOptions → AreGood o lists) → StopsPreparing o lists graph left old new e → RefusesPreparing graph old new (cause_of e)
+  preparing (Graph fault) good s = text_case fault.kind inputs.Graph (causes.Graph fault) (RefusesPreparing graph old new) s.2 (refl, s.2) (λ own. (of_some graph _ _ (λ g. own (graph_of g ≡ Err fault)) s.0, s.2))
+  preparing (Queries fault) good s = absurd s
+  preparing (Hierarchy fault) good s = absurd s
+  preparing (Build building.OutOfMemory) good s = s.2
+  preparing (Build building.BadOptions) good s = absurd (s.0.0 refl (good refl))
+  preparing (Build building.Mixed) good s = (s.1, s.2)
+  preparing (Unpack e) good s = absurd s
+  preparing (Write fault) good s = s.1
+  preparing OutOfMemory good s = absurd s
 
 pub preparations-tell : PreparationsTell
 preparations-tell o lists graph left old new (Ok x) good s = tt
-preparations-tell o lists graph left old new (Err e) good s = preparing o lists graph left old new good e s
+preparations-tell o lists graph left old new (Err e) good s = preparing o lists graph left old new e (λ is. good (ap Err is)) s
 
 -- and where pairs are answered by the file of one
 routes : (file pairs left old new : Option (List ℕ)) (e : ServiceError) → StopsRouting file pairs left old new e → RefusesRoutes file pairs old new (cause_of e)

@@ -6,12 +6,14 @@ use Rattle.ch_graph.specs.Hierarchy.{Hierarchy}
 use Rattle.grfile.specs.Reading.{graph_of, pairs_of}
 use Rattle.hierfile.specs.Fault.{first_fault}
 use Rattle.ch_workers.specs.Options.{AreGood}
+use Rattle.ch_workers.specs.declared.error.BuildError.TheVariants.{BadOptions}
 use Rattle.ch_workers.specs.declared.options.Options.{Options}
 use Rattle.outcomes.specs.Resources.{IsEither, OfResource}
 use Rattle.outcomes.specs.declared.cause.Cause.{Cause}
 use Rattle.outcomes.specs.declared.cause.Cause.TheVariants.{Graph as GraphFault, Queries, Hierarchy as HierarchyFault, TooLong, Mixed}
 use Rattle.outcomes.specs.declared.cause.Input.TheVariants as inputs
 use Rattle.ch_service.specs.declared.error.ServiceError.{ServiceError}
+use Rattle.ch_service.specs.declared.error.ServiceError.TheVariants.{Build}
 use Rattle.ch_service.specs.Answer.{AnswersFirst}
 use Rattle.ch_service.specs.Cause.{cause_of}
 use Rattle.ch_service.specs.Joined.{graph_part, pairs_part}
@@ -40,16 +42,16 @@ RefusesRoutes file pairs old new (HierarchyFault fault) = IfTold file pairs (λ 
 RefusesRoutes file pairs old new TooLong = IfTold file pairs (λ bytes pairs_text. Writes (RoutesToTooLong bytes pairs_text) old new)
 RefusesRoutes file pairs old new cause = OfResource true (IsEither inputs.Hierarchy inputs.Queries) file pairs RoutesFirst old new cause
 
--- Why what the contracts say of a refusal shows this of its cause.
+-- Why what the contracts say of a refusal shows this of its cause, unless bad options were refused.
 
 abbrev pub AnswersTell : Type 0
-AnswersTell = (o : Options) (lists : ℕ) (graph graph_left pairs pairs_left old new : Option (List ℕ)) (r : Result ⊤ ServiceError) → AreGood o lists → IfErr r (StopsAnswering o lists graph graph_left pairs pairs_left old new) → IfErr r (λ e. RefusesAnswers graph pairs old new (cause_of e))
+AnswersTell = (o : Options) (lists : ℕ) (graph graph_left pairs pairs_left old new : Option (List ℕ)) (r : Result ⊤ ServiceError) → (r ≡ Err (Build BadOptions) → AreGood o lists) → IfErr r (StopsAnswering o lists graph graph_left pairs pairs_left old new) → IfErr r (λ e. RefusesAnswers graph pairs old new (cause_of e))
 
 abbrev pub JoinedAnswersTell : Type 0
 JoinedAnswersTell = (input left old new : Option (List ℕ)) (r : Result ⊤ ServiceError) → IfErr r (StopsInJoined input left old new) → IfErr r (λ e. RefusesAnswers (option_map graph_part input) (option_map pairs_part input) old new (cause_of e))
 
 abbrev pub PreparationsTell : Type 0
-PreparationsTell = (o : Options) (lists : ℕ) (graph left old new : Option (List ℕ)) (r : Result ⊤ ServiceError) → AreGood o lists → IfErr r (StopsPreparing o lists graph left old new) → IfErr r (λ e. RefusesPreparing graph old new (cause_of e))
+PreparationsTell = (o : Options) (lists : ℕ) (graph left old new : Option (List ℕ)) (r : Result ⊤ ServiceError) → (r ≡ Err (Build BadOptions) → AreGood o lists) → IfErr r (StopsPreparing o lists graph left old new) → IfErr r (λ e. RefusesPreparing graph old new (cause_of e))
 
 abbrev pub RoutesTell : Type 0
 RoutesTell = (file pairs left old new : Option (List ℕ)) (r : Result ⊤ ServiceError) → IfErr r (StopsRouting file pairs left old new) → IfErr r (λ e. RefusesRoutes file pairs old new (cause_of e))

@@ -1,9 +1,8 @@
 use Rattle.std.proofs.Common.{rules}
 use Rattle.ch_graph.specs.declared.version.Version.TheVariants.{One, Two}
 use Rattle.ch_service.specs.Answer.{IsLeastWalk, IsFewestWalk}
-use Rattle.ch_service.proofs.ByWalks.{routes-told, stops-routing, queries-refused, file-refused, short-in_two, short-in_one}
+use Rattle.ch_service.proofs.ByWalks.{routes-told, stops-routing, pairs-fault, queries-refused, file-refused, short-in_two, short-in_one}
 use Rattle.ch_service.proofs.Exact.{prepared-told, never_long-told}
-use Rattle.ch_service.proofs.TextFaults.{pairs-fault}
 use Rattle.ch_service.proofs.routing.route.Goals as goal
 
 pub returns-clause-refused : goal.returns-clause-refused

@@ -11,7 +11,7 @@ pub returns : goal.returns
 returns g c =
     let asked = c.prepare_beside in
     let is = asked.ensures.prepared in
-    told asked.result _ _ is.prepares (c.causes_tell_refusals.ensures.prepared _ _ _ _ _ _ asked.result (search rules) is.refused)
+    told asked.result _ _ is.prepares (c.causes_tell_refusals.ensures.prepared _ _ _ _ _ _ asked.result (λ _. search rules) is.refused)
 
 pub returns-in_err-leases : goal.returns-in_err-leases
 returns-in_err-leases g c = wants_memory c.from_residual.result _ _ c.from_residual.ensures.1 (search rules)
