@@ -15,12 +15,12 @@ import numpy as np
 
 from kit.counted import parser  # (finds domethyme too)
 
-from domethyme import dimacs
 from domethyme.network import geo, indexes, net_file, reading, tables
 
 STEP, LON, LAT = 400.0, 9.0, 47.0
 METRES = geo.EARTH_RADIUS * np.pi / 180
 KINDS = [(128, "motorway", 110), (32, "primary", 80), (8, "tertiary", 50), (1, "residential", 30)]
+CHUNK = 1_000_000
 ON_ROAD = np.array([0, 0, 0, 0, 1, 1, 2, 2, 2, 3])
 
 
@@ -128,14 +128,16 @@ def main():
     words.add_argument("network", metavar="NETWORK")
     words.add_argument("--tables", action="store_true")
     given = words.parse_args()
-    if not 1000 <= given.nodes <= 10_000_000:
-        words.error("NODES is from 1,000 to 10,000,000")
+    if not 1000 <= given.nodes <= 25_000_000:
+        words.error("NODES is from 1,000 to 25,000,000")
     arrays = make(given.nodes, given.seed)
     if problem := net_file.find_inconsistency(arrays):
         raise AssertionError(problem)
-    arcs = np.column_stack((arrays.arc_from, arrays.arc_to, arrays.arc_weight)).tolist()
+    arcs = np.column_stack((arrays.arc_from, arrays.arc_to, arrays.arc_weight))
     with open(f"{given.network}.gr", "w") as file:
-        dimacs.write_graph(file, len(arrays.node_osm), arcs)
+        file.write(f"p sp {len(arrays.node_osm)} {len(arcs)}\n")
+        for begin in range(0, len(arcs), CHUNK):
+            file.writelines(f"a {start} {end} {weight}\n" for start, end, weight in arcs[begin : begin + CHUNK].tolist())
     if given.tables:
         arrays = arrays._replace(sizes=np.array(write_tables(given.network, arrays)))
     with open(tables.Files(given.network).binary, "wb") as file:
