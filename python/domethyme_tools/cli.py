@@ -5,7 +5,7 @@
                                  an interrupt, 143 after SIGTERM; a reader of standard output that went away is status 1
                                  without a line. Arguments that argparse refuses are status 2.
     warn(text)                   a line on standard error, with the tool's name
-    argument_parser(doc, *examples)  an argparse parser whose `--help` begins with the docstring as it is and ends with examples
+    argument_parser(doc, *examples)  an argparse parser whose `--help` begins with the docstring and ends with examples
     require_packages()   `with require_packages(): import numpy` ends with one line and status 1 if one is missing
     add_hierarchy(parser)        the option --hierarchy, and need_hierarchy(options) compares it with NETWORK
     refuse_overwriting(parser, outputs, inputs)     status 2 where an output is an input
@@ -19,7 +19,6 @@ import signal
 import stat
 import sys
 from collections.abc import Callable, Iterable, Iterator, Mapping
-from types import FrameType
 from typing import NoReturn
 
 from domethyme import belonging
@@ -32,26 +31,30 @@ class ToolError(FileError):
 
 def run(main: Callable[[], None]) -> NoReturn:
     """Calls main() and ends the process as the module's docstring says."""
-    signal.signal(signal.SIGTERM, exit_on_signal)
-    line: str | None
+    # (an exception, so that with-blocks remove what they have begun)
+    signal.signal(signal.SIGTERM, lambda number, _: sys.exit(128 + number))
+    status, line = 1, ""
     try:
         main()
         sys.stdout.flush()
-        status, line = 0, None
+        status = 0
     except DomethymeError as fault:
         status, line = fault.status, str(fault)
     except KeyboardInterrupt:
-        status, line = 130, None
+        status = 130
     except BrokenPipeError:
-        status, line = 1, None
+        pass
     except OSError as error:
-        status, line = 1, os_error_text(error)
+        reason = error.strerror or str(error)
+        line = f"{error.filename}: {reason}" if error.filename else reason
     except MemoryError:
-        status, line = 1, "there isn't enough memory"
-    if line is not None:
+        line = "there isn't enough memory"
+    if line:
         warn(line)
     if status != 0:
-        discard_stdout()
+        # Python flushes again at its end, and would fail a second time: what is left goes nowhere
+        with contextlib.suppress(OSError, ValueError):
+            os.dup2(os.open(os.devnull, os.O_WRONLY), sys.stdout.fileno())
     sys.exit(status)
 
 
@@ -60,31 +63,14 @@ def warn(text: str) -> None:
     print(f"{pathlib.Path(sys.argv[0]).name}: {' '.join(text.split())}", file=sys.stderr)
 
 
-def exit_on_signal(number: int, _frame: FrameType | None) -> NoReturn:
-    """Ends the process in order, so that with-blocks remove what they have begun."""
-    sys.exit(128 + number)
-
-
-def os_error_text(error: OSError) -> str:
-    reason = error.strerror or str(error)
-    return f"{error.filename}: {reason}" if error.filename else reason
-
-
-def discard_stdout() -> None:
-    """Sends what is still to be flushed nowhere: Python flushes again at its end, and would fail a second time."""
-    with contextlib.suppress(OSError, ValueError):
-        os.dup2(os.open(os.devnull, os.O_WRONLY), sys.stdout.fileno())
-
-
 @contextlib.contextmanager
 def require_packages() -> Iterator[None]:
     """Around imports of Debian's modules, in scripts: one that is missing ends the tool with one line and status 1."""
     try:
         yield
     except ModuleNotFoundError as error:
-        tool = pathlib.Path(sys.argv[0]).name
         remedy = "run tools/check_packages, and the tool by /usr/bin/python3"
-        print(f"{tool}: Python's module {error.name} is missing: {remedy}", file=sys.stderr)
+        warn(f"Python's module {error.name} is missing: {remedy}")
         sys.exit(1)
 
 
@@ -94,23 +80,20 @@ def display_name(path: str) -> str:
 
 
 def argument_parser(doc: str | None, *examples: str) -> argparse.ArgumentParser:
-    """A parser of a tool's arguments. Its `--help` shows the docstring line by line, and ends with calls of the tool, in which
-    `%(prog)s` is the name that it was called by."""
+    """A parser of a tool's arguments. Its `--help` shows the docstring line by line, and ends with calls of the tool, in
+    which `%(prog)s` is the name that it was called by."""
     epilog = "\n  ".join(["examples:", *examples]) if examples else None
     return argparse.ArgumentParser(description=doc, epilog=epilog, formatter_class=argparse.RawDescriptionHelpFormatter)
 
 
-def current_arguments(parser: argparse.ArgumentParser, renamed: Mapping[str, str]) -> list[str]:
-    """The arguments of this call, with options by an old word as they are called now: a line says so for each. The old words go with
-    the next version."""
+def current_arguments(renamed: Mapping[str, str]) -> list[str]:
+    """The arguments of this call, with options by an old word as they are called now: a line says so for each. The old words
+    go with the next version."""
     arguments = sys.argv[1:]
     for place, word in enumerate(arguments[: arguments.index("--")] if "--" in arguments else arguments):
         option, equals, value = word.partition("=")
         if option in renamed:
-            print(
-                f"{parser.prog}: {option} is now {renamed[option]}; the old word goes with the next version",
-                file=sys.stderr,
-            )
+            warn(f"{option} is now {renamed[option]}; the old word goes with the next version")
             arguments[place] = f"{renamed[option]}{equals}{value}"
     return arguments
 
@@ -118,6 +101,10 @@ def current_arguments(parser: argparse.ArgumentParser, renamed: Mapping[str, str
 def add_hierarchy(parser: argparse.ArgumentParser, option: str = "--hierarchy", what: str = "its hierarchy") -> None:
     """Adds the option by which a hierarchy and a network are compared."""
     parser.add_argument(option, metavar=option[2:].upper(), help=f"{what}, which is compared: another one is refused")
+    add_compare_all(parser)
+
+
+def add_compare_all(parser: argparse.ArgumentParser) -> None:
     parser.add_argument("--compare-all", action="store_true", help="compare all links, also of more than ten million")
 
 
@@ -131,10 +118,10 @@ def refuse_overwriting(
     parser: argparse.ArgumentParser, outputs: Iterable[str | None], inputs: Iterable[str | None]
 ) -> None:
     """Ends with status 2 where an output is a file that is read too, by whatever name, or by standard input."""
-    given = {path: file for path in inputs if path is not None and (file := file_at(path)) is not None}
+    given = [(path, file) for path in inputs if path is not None and (file := file_at(path)) is not None]
     for output in outputs:
         found = None if output in (None, "-") else file_at(str(output))
-        for path, file in given.items():
+        for path, file in given:
             if found is not None and os.path.samestat(found, file):
                 parser.error(f"{output} and {display_name(path)} are one file: it would be overwritten")
 

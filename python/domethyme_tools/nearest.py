@@ -29,27 +29,29 @@ arguments that are refused.
 """
 import argparse
 import csv
-import functools
 import itertools
 import math
 import sys
-import typing
 from collections.abc import Collection, Iterable, Iterator, Sequence
-from typing import Any
+from typing import Any, NamedTuple
 
 import numpy
+from numpy.typing import NDArray
 
 from domethyme.atomic_files import atomic_write
 from domethyme.csv_tables import escape_formula, excerpt, open_table, parse_float
 from domethyme.dimacs import write_pairs
 from domethyme.limits import MAX_LINES
 from domethyme.network.geo import Point
-from domethyme.network.node_index import load_node_index
+from domethyme.network.node_index import NodeIndex, load_node_index
 from domethyme.network.reading import read_nodes
 from domethyme.network.tables import ENDS, KEY, Side, is_coordinates, paths_of
 
 from .cli import ToolError, add_hierarchy, argument_parser, current_arguments, need_hierarchy, refuse_overwriting, warn
+from .on_roads import request_lines
 
+Ints = NDArray[numpy.int64]
+Floats = NDArray[numpy.float64]
 SIDES: tuple[Side, Side] = ("from", "to")
 PREFIXES = ("from_", "to_")
 NO_PREFIX = ("",)
@@ -65,19 +67,14 @@ def parse_args() -> argparse.Namespace:
     parser.add_argument("network", metavar="NETWORK", help="the network, or a .co file")
     parser.add_argument("trips", metavar="TRIPS", help="the table of trips, or with --matrix of places")
     parser.add_argument("-o", dest="output", metavar="PAIRS", default="-", help="by default standard output")
-    parser.add_argument(
-        "--max-distance",
-        metavar="METRES",
-        type=distance,
-        default=1000.0,
-        help="refuse a place that is further from each node (default: 1000)",
-    )
+    add_max_distance(parser, "node")
     parser.add_argument("--skip-far", action="store_true", help="leave out trips with such a place, and report how many")
-    parser.add_argument("--matrix", action="store_true", help="from each place to each; goes with the next version: see table")
+    parser.add_argument("--matrix", action="store_true",
+                        help="from each place to each; goes with the next version: see table")
     parser.add_argument("--snapped", metavar="FILE", help="write the table of trips with their nodes too")
     parser.add_argument("--on-roads", action="store_true", help="write lines for routecli serve, with places on roads")
     add_hierarchy(parser)
-    options = parser.parse_args(current_arguments(parser, {"--within": "--max-distance"}))
+    options = parser.parse_args(current_arguments({"--within": "--max-distance"}))
     if options.on_roads and (options.matrix or options.skip_far or options.snapped):
         parser.error("--on-roads goes with neither --matrix, --skip-far nor --snapped")
     if is_coordinates(options.trips) and not options.matrix:
@@ -90,6 +87,12 @@ def parse_args() -> argparse.Namespace:
     return options
 
 
+def add_max_distance(parser: argparse.ArgumentParser, what: str) -> None:
+    """Adds the option --max-distance, by how far a place is from what."""
+    far = f"refuse a place that is further from each {what} (default: 1000)"
+    parser.add_argument("--max-distance", metavar="METRES", type=distance, default=1000.0, help=far)
+
+
 def distance(text: str) -> float:
     """The value of --max-distance, in metres."""
     value = float(text)
@@ -98,7 +101,7 @@ def distance(text: str) -> float:
     return value
 
 
-class Trips(typing.NamedTuple):
+class Trips(NamedTuple):
     """A table of trips or places. `ends` has the degrees of its places, by the beginnings of their columns' names."""
 
     path: str
@@ -130,84 +133,71 @@ def parse_degrees(fields: dict[str, str], column: str, most: float, path: str, r
     return value
 
 
-def places_of_coordinates(path: str) -> Trips:
-    """The places of a .co file as a table with the columns place, lon and lat."""
+def read_places(path: str) -> Trips:
+    """The places of a CSV file, or of a .co file as a table with the columns place, lon and lat."""
+    if not is_coordinates(path):
+        return read_trips(path, NO_PREFIX)
     nodes = read_nodes(path)
-    places = list(zip(nodes.lon, nodes.lat))
-    numbers = range(1, len(places) + 1)
-    fields = [[place, lon, lat] for place, (lon, lat) in zip(numbers, places)]
-    return Trips(path, ["place", "lon", "lat"], [None] * len(places), fields, {"": places})
+    fields: list[list[Any]] = [[place, *each] for place, each in enumerate(zip(nodes.lon, nodes.lat), 1)]
+    return Trips(path, ["place", "lon", "lat"], [None] * len(fields), fields, {"": list(zip(nodes.lon, nodes.lat))})
 
 
-class NodeLookup:
-    """The nodes of a network, for look-ups by place."""
-
-    def __init__(self, network: str) -> None:
-        self.nodes = load_node_index(network)
-
-    def nodes_at(self, places: list[Point], side: Side = "from") -> tuple[Any, Any]:
-        """The nearest node of each (lon, lat) where routes begin (from) or end (to), and the metres to it, as arrays."""
-        lon, lat = numpy.array(places, dtype=float).reshape(-1, 2).T
-        nodes, metres = self.nodes.nearest(lon, lat, side)
-        return nodes + 1, metres
-
-    def begins_of(self, ends: Any) -> Any:
-        """The nodes where routes begin at the junctions of nodes where they end: the same, but for junctions with turn restrictions."""
-        different, places = numpy.unique(ends, return_inverse=True)
-        return numpy.array([self._begin_of(node - 1) + 1 for node in different.tolist()], dtype=numpy.int64)[places]
-
-    @functools.lru_cache(1 << 16)
-    def _begin_of(self, node: int) -> int:
-        return next((each for each in self.nodes.split_nodes(node) if self.nodes.ends[each] == ENDS.index("from")), node)
+def nodes_at(index: NodeIndex, places: list[Point], side: Side = "from") -> tuple[Ints, Floats]:
+    """The nearest node, from 1, to each (lon, lat) where routes begin (from) or end (to), and the metres to it."""
+    lon, lat = numpy.array(places, dtype=float).reshape(-1, 2).T
+    nodes, metres = index.nearest(lon, lat, side)
+    return nodes + 1, metres
 
 
-def end_nodes(starts: Any, ends: Any, begins: Any) -> Any:
-    """The nodes at the ends of routes, where one that ends at the junction where it begins stays there."""
-    return numpy.where(begins == starts, starts, ends)
+def begins_of(index: NodeIndex, ends: Ints) -> Ints:
+    """The nodes where routes begin at the junctions of nodes where they end: the same, but for junctions with turn
+    restrictions."""
+    different, places = numpy.unique(ends - 1, return_inverse=True)
+    begins = (
+        next((each for each in index.split_nodes(node) if index.ends[each] == ENDS.index("from")), node)
+        for node in different.tolist()
+    )
+    return numpy.fromiter(begins, numpy.int64, len(different))[places] + 1
 
 
-class Snapped(typing.NamedTuple):
+class Snapped(NamedTuple):
     """The trips whose places are near enough: their fields, and for each end of a route (from, to) the nodes and metres."""
 
     fields: list[list[Any]]
-    nodes: dict[str, Any]
-    metres: dict[str, Any]
+    nodes: list[Ints]
+    metres: list[Floats]
 
 
-def snap(trips: Trips, nearest: NodeLookup, within: float, skip_far: bool) -> Snapped:
+def snap(trips: Trips, index: NodeIndex, within: float, skip_far: bool) -> Snapped:
     """Snaps each trip. One with a place that is too far is left out, or refused."""
-    found = {side: nearest.nodes_at(trips.ends[f"{side}_" if f"{side}_" in trips.ends else ""], side) for side in SIDES}
-    far = numpy.logical_or.reduce([distances > within for _, distances in found.values()])
+    found = {side: nodes_at(index, trips.ends[f"{side}_" if f"{side}_" in trips.ends else ""], side) for side in SIDES}
+    far = numpy.logical_or.reduce([metres > within for _, metres in found.values()])
     if far.any():
         if not skip_far:
-            raise too_far_error(trips, int(far.argmax()), found, nearest, within)
+            raise too_far_error(trips, int(far.argmax()), found, index, within)
         print(f"nearest: left out {far.sum()} of {len(far)} rows, which are too far from each node", file=sys.stderr)
-    return Snapped(
-        [fields for fields, is_far in zip(trips.fields, far) if not is_far],
-        {side: nodes[~far] for side, (nodes, _) in found.items()},
-        {side: distances[~far] for side, (_, distances) in found.items()},
-    )
+    nodes, metres = ([values[~far] for values in both] for both in zip(*found.values()))
+    return Snapped(list(itertools.compress(trips.fields, ~far)), nodes, metres)
 
 
-def too_far_error(trips: Trips, trip: int, found: dict[Side, Any], nearest: NodeLookup, within: float) -> ToolError:
+def too_far_error(
+    trips: Trips, trip: int, found: dict[Side, tuple[Ints, Floats]], index: NodeIndex, within: float
+) -> ToolError:
     """What to report of a trip with a place that is too far."""
-    side = next(side for side, (_, distances) in found.items() if distances[trip] > within)
+    side, away = next((side, metres[trip]) for side, (_, metres) in found.items() if metres[trip] > within)
     beginning = "" if "" in trips.ends else f"{side}_"
     lon, lat = trips.ends[beginning][trip]
-    message = f"{beginning}lon {lon}, {beginning}lat {lat} is {found[side][1][trip]:,.0f} m from the nearest node"
-    if abs(lon) <= 90 and nearest.nodes_at([(lat, lon)])[1][0] <= within:
-        message += f": {SWAPPED}"
-    else:
-        message += f", and --max-distance is {within:g} m"
+    is_swapped = abs(lon) <= 90 and nodes_at(index, [(lat, lon)])[1][0] <= within
+    doubt = f": {SWAPPED}" if is_swapped else f", and --max-distance is {within:g} m"
+    message = f"{beginning}lon {lon}, {beginning}lat {lat} is {away:,.0f} m from the nearest node{doubt}"
     return ToolError(message, trips.path, trips.rows[trip])
 
 
 class Matrix(Collection[tuple[int, int]]):
     """The pairs from each place to each, in order, without room for all of them at once."""
 
-    def __init__(self, snapped: Snapped, nearest: NodeLookup) -> None:
-        self.starts, self.ends = snapped.nodes["from"], snapped.nodes["to"]
-        self.begins = nearest.begins_of(self.ends)
+    def __init__(self, starts: Ints, ends: Ints, begins: Ints) -> None:
+        self.starts, self.ends, self.begins = starts, ends, begins
 
     def __len__(self) -> int:
         return len(self.starts) ** 2
@@ -220,19 +210,23 @@ class Matrix(Collection[tuple[int, int]]):
             yield from zip(itertools.repeat(start), end_nodes(start, self.ends, self.begins).tolist())
 
 
-def pairs_of(snapped: Snapped, nearest: NodeLookup, is_matrix: bool) -> Collection[tuple[int, int]]:
+def end_nodes(starts: "Ints | int", ends: Ints, begins: Ints) -> Ints:
+    """The nodes at the ends of routes, where one that ends at the junction where it begins stays there."""
+    return numpy.where(begins == starts, starts, ends)
+
+
+def pairs_of(snapped: Snapped, index: NodeIndex, is_matrix: bool) -> Collection[tuple[int, int]]:
     """The pairs of nodes, in order."""
+    starts, ends = snapped.nodes
+    begins = begins_of(index, ends)
     if is_matrix:
-        return Matrix(snapped, nearest)
-    starts, ends = snapped.nodes["from"], snapped.nodes["to"]
-    return list(zip(starts.tolist(), end_nodes(starts, ends, nearest.begins_of(ends)).tolist()))
+        return Matrix(starts, ends, begins)
+    return list(zip(starts.tolist(), end_nodes(starts, ends, begins).tolist()))
 
 
 def snapped_columns(trips: Trips, is_matrix: bool, has_keys: bool) -> list[str]:
     """The names of the columns of --snapped, which are all different."""
-    users = trips.columns
-    if is_matrix:
-        users = [beginning + column for beginning in PREFIXES for column in trips.columns]
+    users = [beginning + column for beginning in (PREFIXES if is_matrix else NO_PREFIX) for column in trips.columns]
     columns = users + [beginning + column for beginning in PREFIXES for column in ("node", "metres")]
     columns += [f"{beginning}{KEY}" for beginning in PREFIXES] if has_keys else []
     for name in users:
@@ -245,36 +239,25 @@ def snapped_rows(
     snapped: Snapped, pairs: Iterable[tuple[int, int]], is_matrix: bool, keys: Sequence[str]
 ) -> Iterator[list[Any]]:
     """The rows of --snapped, one for each pair; `keys` are those of all nodes, none where they have none."""
-    def told(start: int, end: int) -> list[str]:
-        return [escape_formula(keys[node - 1]) for node in (start, end)] if keys else []
-
-    fields, ways = snapped.fields, [[f"{metres:.1f}" for metres in snapped.metres[side].tolist()] for side in SIDES]
-    if is_matrix:
-        rows = itertools.product(range(len(fields)), repeat=2)
-        for (source, target), (start, end) in zip(rows, pairs):
-            both = [*safe_fields(fields[source]), *safe_fields(fields[target])]
-            yield [*both, start, ways[0][source], end, ways[1][target], *told(start, end)]
-    else:
-        for own, (start, end), there, back in zip(fields, pairs, *ways):
-            yield [*safe_fields(own), start, there, end, back, *told(start, end)]
-
-
-def safe_fields(fields: list[Any]) -> list[Any]:
-    """A user's fields as they are safe in CSV."""
-    return [escape_formula(field) if isinstance(field, str) else field for field in fields]
+    fields, rows = snapped.fields, range(len(snapped.fields))
+    from_metres, to_metres = ([f"{metres:.1f}" for metres in some.tolist()] for some in snapped.metres)
+    for (source, target), (start, end) in zip(itertools.product(rows, repeat=2) if is_matrix else zip(rows, rows), pairs):
+        own = [*fields[source], *fields[target]] if is_matrix else fields[source]
+        of_nodes = [keys[node - 1] for node in (start, end)] if keys else []
+        yield [*own, start, from_metres[source], end, to_metres[target], *of_nodes]
 
 
 def write_snapped(path: str, columns: list[str], rows: Iterable[list[Any]]) -> None:
+    """Writes the table of --snapped, whose texts no program takes for formulas."""
     with atomic_write(path) as file:
-        table_writer = csv.writer(file, lineterminator="\n")
-        table_writer.writerow(safe_fields(columns))
-        table_writer.writerows(rows)
+        csv.writer(file, lineterminator="\n").writerows(
+            [escape_formula(field) if isinstance(field, str) else field for field in row]
+            for row in itertools.chain([columns], rows)
+        )
 
 
 def write_requests(options: argparse.Namespace) -> None:
     """Writes a line for `routecli serve` for each trip, with its places on roads."""
-    from .on_roads import request_lines
-
     trips = read_trips(options.trips, PREFIXES)
     rows = zip(trips.rows, trips.ends["from_"], trips.ends["to_"])
     with atomic_write(options.output) as file:
@@ -287,20 +270,17 @@ def main() -> None:
     if options.on_roads:
         write_requests(options)
         return
-    nearest = NodeLookup(options.network)
-    if is_coordinates(options.trips):
-        trips = places_of_coordinates(options.trips)
-    else:
-        trips = read_trips(options.trips, NO_PREFIX if options.matrix else PREFIXES)
-    keys = nearest.nodes.keys() if options.snapped else ()
+    index = load_node_index(options.network)
+    trips = read_places(options.trips) if options.matrix else read_trips(options.trips, PREFIXES)
+    keys = index.keys() if options.snapped else ()
     columns = snapped_columns(trips, options.matrix, len(keys) > 0) if options.snapped else []
-    snapped = snap(trips, nearest, options.max_distance, options.skip_far)
-    pairs = pairs_of(snapped, nearest, options.matrix)
+    snapped = snap(trips, index, options.max_distance, options.skip_far)
+    pairs = pairs_of(snapped, index, options.matrix)
     if len(pairs) > MAX_LINES:
         raise ToolError(f"has {len(snapped.fields)} places, which make more than {MAX_LINES} pairs", options.trips)
     if options.snapped:
         write_snapped(options.snapped, columns, snapped_rows(snapped, pairs, options.matrix, keys))
     with atomic_write(options.output) as file:
-        write_pairs(file, pairs, [nearest.nodes.origin(options.network).comment])
+        write_pairs(file, pairs, [index.origin(options.network).comment])
     if options.matrix:
         warn("--matrix goes with the next version: table makes tables of lengths")

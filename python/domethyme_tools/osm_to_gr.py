@@ -346,7 +346,7 @@ def parse_args() -> argparse.Namespace:
         metavar="TEXT",
         help="the attribution that maps of the network show; empty for none (%(default)s)",
     )
-    options = parser.parse_args(current_arguments(parser, RENAMED))
+    options = parser.parse_args(current_arguments(RENAMED))
     if not os.path.basename(options.out) or os.path.isdir(options.out):
         out = options.out
         fault = f"{out} is a folder" if out else "it is empty"

@@ -62,7 +62,7 @@ def parse_args() -> argparse.Namespace:
     parser.add_argument("--program", metavar="FILE", help="routecli, where it isn't on PATH, in ROUTECLI or built here")
     parser.add_argument("--restart", action="store_true", help="drop what an earlier call has left for OUT")
     add_hierarchy(parser, "--network", "the network of the pairs")
-    return parser.parse_args(current_arguments(parser, RENAMED))
+    return parser.parse_args(current_arguments(RENAMED))
 
 
 def positive_int(text: str) -> int:

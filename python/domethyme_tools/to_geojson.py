@@ -42,31 +42,32 @@ import contextlib
 import csv
 import itertools
 import json
-import typing
 from collections.abc import Iterable, Iterator
-from typing import IO, Any, Union
+from typing import IO, Any, NamedTuple
 
 import numpy
 
 from domethyme.atomic_files import atomic_write
-from domethyme.csv_tables import Table, escape_formula, excerpt, open_table, parse_float
+from domethyme.csv_tables import escape_formula, excerpt, open_table, parse_float
 from domethyme.dimacs import read_answers
 from domethyme.network.from_tables import load_network_or_dimacs
 from domethyme.network.geo import Point, to_geojson_geometry, to_multilinestring
-from domethyme.network.net_file import TEXTS, UNITS
+from domethyme.network.net_file import TEXTS, UNITS, MappedNetwork
 from domethyme.network.tables import paths_of, read_attribution
 from domethyme.protocol import NO_PATH, RouteReply
 
 from .cli import ToolError, add_hierarchy, argument_parser, current_arguments, need_hierarchy, refuse_overwriting
 from .draw.geometry import join_lines
+from .on_roads import routes_on_roads
 
-NO_TRIP: tuple[int | None, dict[str, str] | None] = None, None
 PAIR, KEYS = ("from_node", "to_node"), ("from_key", "to_key")
 FIGURES = ("length", "arcs", "seconds", "metres")
 STEPS = "steps"
 LINE = "WKT"
 NAME = TEXTS.index("name")
 FORMS = ("collection", "lines", "csv")
+# A row of TRIPS: its number, and its fields by their columns.
+Trip = tuple[int | None, dict[str, str]]
 
 
 def parse_args() -> argparse.Namespace:
@@ -81,7 +82,7 @@ def parse_args() -> argparse.Namespace:
     parser.add_argument("--no-steps", action="store_true", help="leave out the steps")
     parser.add_argument("--on-roads", action="store_true", help="ANSWERS are replies to lines of nearest --on-roads")
     add_hierarchy(parser)
-    options = parser.parse_args(current_arguments(parser, {"--as": "--format"}))
+    options = parser.parse_args(current_arguments({"--as": "--format"}))
     inputs = [options.answers, options.trips, options.hierarchy, *paths_of(options.network)]
     refuse_overwriting(parser, [options.output], inputs)
     if options.on_roads and (options.trips is None or options.format == "csv"):
@@ -89,87 +90,21 @@ def parse_args() -> argparse.Namespace:
     return options
 
 
-class ArcFigures(typing.NamedTuple):
-    """What is said of an arc."""
-
-    seconds: float | None
-    metres: float
-    name: str
-
-
-class RoutedAnswer(typing.NamedTuple):
-    """An answer on the road: the user's fields, the arcs, the places along them, None where there is no route, and the keys of its
-    ends where nodes have keys."""
+class Route(NamedTuple):
+    """A route: the user's fields, its own properties but the steps, and its steps and line, None where there is no route."""
 
     fields: dict[str, str]
-    answer: RouteReply
-    arcs: list[ArcFigures]
+    properties: dict[str, Any]
+    steps: list[dict[str, Any]] | None
     line: list[Point] | None
-    keys: dict[str, str | None]
-
-
-class RouteArcs:
-    """The arcs that routes take, and where they lie."""
-
-    def __init__(self, network: str) -> None:
-        self.arrays = load_network_or_dimacs(network)
-        self.nodes = len(self.arrays.node_osm)
-
-    def arcs_along(self, answer: RouteReply, path: str, row: int) -> list[int]:
-        """The arcs of an answer's route, whose weights sum to its length."""
-        for node in answer.nodes or (answer.source, answer.target):
-            if not 1 <= node <= self.nodes:
-                raise ToolError(f"has node {node}, and the network has {self.nodes} nodes", path, row)
-        nodes = numpy.array(answer.nodes, dtype=numpy.int64)
-        arcs: list[int] = self.arrays.lightest(nodes[:-1], nodes[1:]).tolist() if len(nodes) > 1 else []
-        if -1 in arcs:
-            start, end = answer.nodes[arcs.index(-1) :][:2]
-            raise ToolError(f"leads from node {start} to node {end}, where the network has no arc", path, row)
-        weight = int(self.arrays.arc_weight[arcs].sum()) if arcs else 0
-        if answer.length not in (NO_PATH, weight):
-            fault = f"has the length {answer.length}, and its arcs' weights sum to {weight}"
-            raise ToolError(f"{fault}: is it of another network?", path, row)
-        return arcs
-
-    def arc_figures(self, arcs: list[int]) -> list[ArcFigures]:
-        """What is said of arcs."""
-        if not arcs:
-            return []
-        metres = self.arrays.arc_metres[arcs].tolist()
-        seconds = self.arrays.arc_seconds[arcs].tolist() if self.arrays.has_seconds else [None] * len(arcs)
-        names = [self.arrays.texts[text] for text in self.arrays.arc_texts[arcs, NAME].tolist()]
-        return list(map(ArcFigures, seconds, metres, names))
-
-    def keys_of(self, answer: RouteReply) -> dict[str, str | None]:
-        """The keys of both ends, by the names of their properties; none where nodes have none."""
-        ends = answer.source, answer.target
-        return {name: self.arrays.key(node) for name, node in zip(KEYS, ends)} if self.arrays.has_keys else {}
-
-    def line_along(self, node: int, arcs: list[int]) -> list[Point]:
-        """The places along arcs that follow one another from a node, two or more."""
-        begin = self.arrays.node_lon[node - 1] / UNITS, self.arrays.node_lat[node - 1] / UNITS
-        line = join_lines([[begin], *map(self.arrays.line, arcs)])
-        return line if len(line) > 1 else line * 2
-
-
-class NoTrips:
-    """Stands where there is no table of trips: each answer has a trip without fields."""
-
-    path = ""
-    columns: tuple[str, ...] = ()
-
-    def __iter__(self) -> Iterator[tuple[int | None, dict[str, str]]]:
-        return itertools.repeat((None, {}))
-
-
-Trips = Union[Table, NoTrips]
 
 
 @contextlib.contextmanager
-def trips_at(path: str | None) -> Iterator[Trips]:
-    """The table of trips. None of its columns may have the name of a property of ours, but those of the pair."""
+def open_trips(path: str | None) -> Iterator[tuple[list[str], Iterator[Trip]]]:
+    """The columns and rows of the table of trips; without one each answer has a trip without fields. No column may have the
+    name of a property of ours, but those of the pair."""
     if path is None:
-        yield NoTrips()
+        yield [], itertools.repeat((None, {}))
         return
     with open_table(path, ()) as trips:
         for name in trips.columns:
@@ -177,83 +112,125 @@ def trips_at(path: str | None) -> Iterator[Trips]:
                 raise ToolError(f"column {name} has the name of a property of the routes: rename it", path, 1)
             if trips.columns.count(name) > 1:
                 raise ToolError(f"has two columns {name}", path, 1)
-        yield trips
+        yield trips.columns, iter(trips)
+
+
+# Routes between nodes
 
 
 def routes_of(
-    answers: Iterable[tuple[int, RouteReply]], answers_path: str, trips: Trips, roads: RouteArcs
-) -> Iterator[RoutedAnswer]:
+    options: argparse.Namespace, network: MappedNetwork, answers: Iterable[tuple[int, RouteReply]], trips: Iterator[Trip]
+) -> Iterator[Route]:
     """The routes of the answers, which come with their row numbers, in order."""
-    rows = iter(trips)
     for row, answer in answers:
-        trip_row, trip = next(rows, NO_TRIP)
+        trip = next(trips, None)
         if trip is None:
-            raise ToolError(f"is an answer more than {trips.path} has rows", answers_path, row)
-        arcs = roads.arcs_along(answer, answers_path, row)
-        line = None if answer.length == NO_PATH else roads.line_along(answer.source, arcs)
-        keys = roads.keys_of(answer)
-        yield RoutedAnswer(user_fields(trip, answer, keys, trips, trip_row), answer, roads.arc_figures(arcs), line, keys)
-    if trips.columns:
-        for more, _ in rows:
-            raise ToolError("is a row more than there are answers", trips.path, more)
+            raise ToolError(f"is an answer more than {options.trips} has rows", options.answers, row)
+        arcs = arcs_along(network, answer, options.answers, row)
+        ends: dict[str, Any] = dict(zip(PAIR, answer))
+        if network.has_keys:
+            ends |= {name: network.key(node) for name, node in zip(KEYS, answer)}
+        yield make_route(network, answer, arcs, ends, user_fields(trip, ends, options.trips))
+    if options.trips is not None and (more := next(trips, None)) is not None:
+        raise ToolError("is a row more than there are answers", options.trips, more[0])
 
 
-def user_fields(
-    trip: dict[str, str], answer: RouteReply, keys: dict[str, str | None], trips: Trips, row: int | None
-) -> dict[str, str]:
+def arcs_along(network: MappedNetwork, answer: RouteReply, path: str, row: int) -> list[int]:
+    """The arcs of an answer's route, whose weights sum to its length."""
+    count = len(network.node_osm)
+    for node in answer.nodes or (answer.source, answer.target):
+        if not 1 <= node <= count:
+            raise ToolError(f"has node {node}, and the network has {count} nodes", path, row)
+    nodes = numpy.array(answer.nodes, dtype=numpy.int64)
+    arcs: list[int] = network.lightest(nodes[:-1], nodes[1:]).tolist() if len(nodes) > 1 else []
+    if -1 in arcs:
+        start, end = answer.nodes[arcs.index(-1) :][:2]
+        raise ToolError(f"leads from node {start} to node {end}, where the network has no arc", path, row)
+    weight = int(network.arc_weight[arcs].sum()) if arcs else 0
+    if answer.length not in (NO_PATH, weight):
+        fault = f"has the length {answer.length}, and its arcs' weights sum to {weight}"
+        raise ToolError(f"{fault}: is it of another network?", path, row)
+    return arcs
+
+
+def user_fields(trip: Trip, ends: dict[str, Any], path: str) -> dict[str, str]:
     """The fields of a trip but those of the pair and its keys, which have to be the answer's."""
-    ours = dict(zip(PAIR, answer)) | keys
-    for name, value in ours.items():
-        if trip.get(name, str(value)) != str(value):
-            raise ToolError(f"has {name} {excerpt(trip[name])} where the answer has {value}", trips.path, row)
-    return {name: text for name, text in trip.items() if name not in ours}
+    row, fields = trip
+    for name, value in ends.items():
+        if fields.get(name, str(value)) != str(value):
+            raise ToolError(f"has {name} {excerpt(fields[name])} where the answer has {value}", path, row)
+    return {name: text for name, text in fields.items() if name not in ends}
 
 
-def route_properties(route: RoutedAnswer) -> dict[str, Any]:
-    """The pair and the figures of a route, by their names."""
-    figures: list[float | None] = [None] * len(FIGURES)
-    if route.line is not None:
-        figures = [route.answer.length, len(route.arcs), *time_and_way(route.arcs)]
-    return dict(zip(PAIR, route.answer)) | route.keys | dict(zip(FIGURES, figures))
+def make_route(
+    network: MappedNetwork, answer: RouteReply, arcs: list[int], ends: dict[str, Any], fields: dict[str, str]
+) -> Route:
+    """The route along arcs, which follow one another from the answer's source."""
+    if answer.length == NO_PATH:
+        return Route(fields, ends | dict.fromkeys(FIGURES), None, None)
+    metres, seconds, names = figures_of(network, arcs) if arcs else ([], [], [])
+    figures = answer.length, len(arcs), total_seconds(seconds), total_metres(metres)
+    steps, end = [], 0
+    for name, street in itertools.groupby(names):
+        begin, end = end, end + len(list(street))
+        part = slice(begin, end)
+        steps.append({"name": name, "metres": total_metres(metres[part]), "seconds": total_seconds(seconds[part])})
+    here = network.node_lon[answer.source - 1] / UNITS, network.node_lat[answer.source - 1] / UNITS
+    line = join_lines([[here], *map(network.line, arcs)])
+    return Route(fields, ends | dict(zip(FIGURES, figures)), steps, line if len(line) > 1 else line * 2)
 
 
-def time_and_way(arcs: list[ArcFigures]) -> tuple[float | None, float]:
-    """Seconds to the thousandth, None where the network has none, and metres to the hundredth, as the table of arcs has them."""
-    seconds = [arc.seconds for arc in arcs if arc.seconds is not None]
-    return round(sum(seconds), 3) if len(seconds) == len(arcs) else None, round(sum(arc.metres for arc in arcs), 2)
+def figures_of(network: MappedNetwork, arcs: list[int]) -> tuple[list[float], list[float | None], list[str]]:
+    """The metres, the seconds, None where the network has none, and the names of arcs, one or more."""
+    seconds = network.arc_seconds[arcs].tolist() if network.has_seconds else [None] * len(arcs)
+    names = [network.texts[text] for text in network.arc_texts[arcs, NAME].tolist()]
+    return network.arc_metres[arcs].tolist(), seconds, names
 
 
-def route_steps(route: RoutedAnswer) -> list[dict[str, Any]] | None:
-    """The streets along a route, or None where there is no route."""
-    if route.line is None:
-        return None
-    streets = itertools.groupby(route.arcs, key=lambda arc: arc.name)
-    return [step_of(name, list(arcs)) for name, arcs in streets]
+def total_seconds(seconds: list[float | None]) -> float | None:
+    """Their sum to the thousandth, as the table of arcs has them; None where one is None."""
+    known = [each for each in seconds if each is not None]
+    return round(sum(known), 3) if len(known) == len(seconds) else None
 
 
-def step_of(name: str, arcs: list[ArcFigures]) -> dict[str, Any]:
-    """The step along arcs of one street."""
-    seconds, metres = time_and_way(arcs)
-    return {"name": name, "metres": metres, "seconds": seconds}
+def total_metres(metres: list[float]) -> float:
+    """Their sum to the hundredth, as the table of arcs has them."""
+    return round(sum(metres), 2)
 
 
-def feature_of(route: RoutedAnswer, with_steps: bool) -> str:
-    """The text of a route's feature, on one line."""
-    properties = route.fields | route_properties(route)
+# Routes between places on roads
+
+
+def routes_between_places(options: argparse.Namespace) -> Iterator[Route]:
+    """The routes between the places of TRIPS on roads."""
+    with open_trips(options.trips) as (_, trips):
+        rows = list(trips)
+    ends = []
+    for row, fields in rows:
+        lons_and_lats = [parse_float(fields.get(name, ""), name, options.trips, row, -most, most)
+                         for name, most in (("from_lon", 180), ("from_lat", 90), ("to_lon", 180), ("to_lat", 90))]
+        ends.append((row, (lons_and_lats[0], lons_and_lats[1]), (lons_and_lats[2], lons_and_lats[3])))
+    routes = routes_on_roads(options.network, options.answers, options.trips, ends)
+    for (_, fields), route in zip(rows, routes, strict=True):
+        yield Route(fields, dict(zip(FIGURES, route)), route.steps, route.line)
+
+
+# The files
+
+
+def feature_of(route: Route, with_steps: bool) -> str:
+    """The text of a route's feature, on one line; it has no geometry where there is no route."""
+    properties = route.fields | route.properties
     if with_steps:
-        properties[STEPS] = route_steps(route)
-    return feature_text(properties, route.line)
-
-
-def feature_text(properties: dict[str, Any], line: list[Point] | None) -> str:
-    """A feature on one line; without a geometry if there is no line."""
-    geometry = None if line is None else to_geojson_geometry(line)
+        properties[STEPS] = route.steps
+    geometry = None if route.line is None else to_geojson_geometry(route.line)
     feature = {"type": "Feature", "properties": properties, "geometry": geometry}
     return json.dumps(feature, ensure_ascii=False, separators=(",", ":"))
 
 
-def write_features(file: IO[str], options: argparse.Namespace, features: Iterable[str]) -> None:
-    """Writes features, one a line, or as a FeatureCollection, whose member `attribution` is what the data's licence requires."""
+def write_features(file: IO[str], options: argparse.Namespace, routes: Iterable[Route]) -> None:
+    """Writes features, one a line, or as a FeatureCollection, whose `attribution` is what the data's licence requires."""
+    features = (feature_of(route, not options.no_steps) for route in routes)
     if options.format != "collection":
         file.writelines(f"{feature}\n" for feature in features)
         return
@@ -265,33 +242,14 @@ def write_features(file: IO[str], options: argparse.Namespace, features: Iterabl
     file.write("\n]}\n")
 
 
-def write_table(file: IO[str], routes: Iterable[RoutedAnswer], columns: Iterable[str], has_keys: bool) -> None:
+def write_table(file: IO[str], routes: Iterable[Route], columns: Iterable[str], has_keys: bool) -> None:
     """Writes the routes as CSV, the user's columns first."""
     rows, ours = csv.writer(file, lineterminator="\n"), (*PAIR, *(KEYS if has_keys else ()))
     rows.writerow([*(escape_formula(name) for name in columns if name not in ours), *ours, *FIGURES, LINE])
     for route in routes:
+        values = [*route.fields.values(), *route.properties.values()]
         line = None if route.line is None else to_multilinestring(route.line)
-        figures = (escape_formula(value) if isinstance(value, str) else value for value in route_properties(route).values())
-        rows.writerow([*map(escape_formula, route.fields.values()), *figures, line])
-
-
-def features_on_roads(options: argparse.Namespace) -> Iterator[str]:
-    """The features of routes between places on roads."""
-    from .on_roads import routes_on_roads
-
-    with trips_at(options.trips) as trips:
-        rows = list(trips)
-        ends = []
-        for row, fields in rows:
-            lon_lat = [parse_float(fields.get(f"{side}_{axis}", ""), f"{side}_{axis}", options.trips, row, -most, most)
-                       for side in ("from", "to") for axis, most in (("lon", 180), ("lat", 90))]
-            ends.append((row or 0, (lon_lat[0], lon_lat[1]), (lon_lat[2], lon_lat[3])))
-        routes = routes_on_roads(options.network, options.answers, options.trips, ends)
-        for (_, fields), route in zip(rows, routes, strict=True):
-            properties: dict[str, Any] = {**fields, **{name: getattr(route, name) for name in FIGURES}}
-            if not options.no_steps:
-                properties[STEPS] = route.steps
-            yield feature_text(properties, None if route.line is None else [(lon, lat) for lon, lat in route.line])
+        rows.writerow([*(escape_formula(value) if isinstance(value, str) else value for value in values), line])
 
 
 def main() -> None:
@@ -299,17 +257,16 @@ def main() -> None:
     need_hierarchy(options)
     if options.on_roads:
         with atomic_write(options.output) as file:
-            write_features(file, options, features_on_roads(options))
+            write_features(file, options, routes_between_places(options))
         return
-    roads = RouteArcs(options.network)
+    network = load_network_or_dimacs(options.network)
     answers = enumerate(read_answers(options.answers), 1)
     first = list(itertools.islice(answers, 1))
     if not first:
         raise ToolError("has no answer", options.answers)
-    with trips_at(options.trips) as trips, atomic_write(options.output) as file:
-        routes = routes_of(itertools.chain(first, answers), options.answers, trips, roads)
-        features = (feature_of(route, not options.no_steps) for route in routes)
+    with open_trips(options.trips) as (columns, trips), atomic_write(options.output) as file:
+        routes = routes_of(options, network, itertools.chain(first, answers), trips)
         if options.format == "csv":
-            write_table(file, routes, trips.columns, roads.arrays.has_keys)
+            write_table(file, routes, columns, network.has_keys)
         else:
-            write_features(file, options, features)
+            write_features(file, options, routes)

@@ -51,7 +51,7 @@ def parse_args() -> argparse.Namespace:
     parser.add_argument("--full-network", action="store_true", help="the whole network, and not only around the routes")
     parser.add_argument("--tiles", metavar="URL", help="a background for the page, such as https://../{z}/{x}/{y}.png")
     parser.add_argument("--attribution", metavar="TEXT", help="shown beside the network's own, such as that of the tiles")
-    options = parser.parse_args(current_arguments(parser, {"--whole": "--full-network"}))
+    options = parser.parse_args(current_arguments({"--whole": "--full-network"}))
     if not options.output.endswith((PICTURE, PAGE)):
         parser.error(f"OUT ends neither in {PICTURE} nor in {PAGE}")
     if options.output.endswith(PAGE) and options.width is not None:
