@@ -25,8 +25,8 @@ from domethyme.atomic_files import atomic_write
 from domethyme.network.isochrones import COLOR, Shape
 from domethyme.network.tables import paths_of
 
-from .cli import ToolError, argument_parser, display_name, refuse_overwriting
-from .nearest import NO_PREFIX, distance, read_trips
+from .cli import ToolError, add_compare_all, argument_parser, refuse_overwriting
+from .nearest import NO_PREFIX, add_max_distance, distance, read_trips
 
 SHAPES: tuple[Shape, ...] = ("polygons", "lines", "roads")
 
@@ -49,9 +49,8 @@ def parse_args() -> argparse.Namespace:
     parser.add_argument("--denoise", metavar="SHARE", type=share, default=0.0,
                         help="drop parts smaller than this share, to 1, of the largest")
     parser.add_argument("--colors", metavar="LIST", type=colours, default=[], help="six hexadecimal digits for each number")
-    parser.add_argument("--max-distance", metavar="METRES", type=distance, default=1000.0,
-                        help="refuse a place that is further from each road (default: 1000)")
-    parser.add_argument("--compare-all", action="store_true", help="compare all links, also of more than ten million")
+    add_max_distance(parser, "road")
+    add_compare_all(parser)
     options = parser.parse_args()
     if options.colors and len(options.colors) != len(options.minutes or options.metres or (5, 10, 15)):
         parser.error("--colors has to have a colour for each number")
@@ -86,7 +85,7 @@ def main() -> None:
     trips = read_trips(options.places, NO_PREFIX)
     places = trips.ends[""]
     if not places:
-        raise ToolError("has no place", display_name(options.places))
+        raise ToolError("has no place", options.places)
     with Hierarchy(options.hierarchy, network=options.network, compare_all=options.compare_all) as hierarchy:
         try:
             found = hierarchy.within(
@@ -95,7 +94,7 @@ def main() -> None:
             )
         except NoSuchNode as error:
             message, row = str(error).partition(" has ")[2], trips.rows[error.key] if isinstance(error.key, int) else None
-            raise ToolError(f"has {message}", display_name(options.places), row) from error
+            raise ToolError(f"has {message}", options.places, row) from error
         except ValueError as error:
             raise ToolError(str(error), options.network) from error
     features = ",\n".join(json.dumps(feature, separators=(",", ":"), ensure_ascii=False) for feature in found.pop("features"))

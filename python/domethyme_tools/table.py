@@ -26,20 +26,19 @@ from collections.abc import Iterator
 
 import numpy
 import tqdm
-from numpy.typing import NDArray
 
 from domethyme import Hierarchy
 from domethyme.atomic_files import atomic_write
 from domethyme.csv_tables import escape_formula, need_columns
 from domethyme.limits import MAX_CELLS
 from domethyme.network.leg_tables import NodeTable, weight_rows
-from domethyme.network.tables import Side, is_coordinates, paths_of
+from domethyme.network.node_index import NodeIndex, load_node_index
+from domethyme.network.tables import Side, paths_of
 
-from .cli import ToolError, argument_parser, refuse_overwriting
-from .nearest import NO_PREFIX, NodeLookup, Trips, distance, places_of_coordinates, read_trips, too_far_error
+from .cli import ToolError, add_compare_all, argument_parser, refuse_overwriting
+from .nearest import Ints, Trips, add_max_distance, begins_of, nodes_at, read_places, too_far_error
 from .on_roads import open_road_index, snap_places
 
-Ints = NDArray[numpy.int64]
 # Lengths between nodes that are asked for together, 8 bytes each.
 CELLS = 1 << 20
 
@@ -56,15 +55,9 @@ def parse_args() -> argparse.Namespace:
     parser.add_argument("targets", metavar="TARGETS", help="the table of the places where they end")
     parser.add_argument("-o", dest="output", metavar="TABLE", default="-", help="by default standard output, as CSV")
     parser.add_argument("--name", metavar="COLUMN", help="the column with the names of places (default: their numbers)")
-    parser.add_argument(
-        "--max-distance",
-        metavar="METRES",
-        type=distance,
-        default=1000.0,
-        help="refuse a place that is further from each node, or road (default: 1000)",
-    )
+    add_max_distance(parser, "node, or road")
     parser.add_argument("--on-roads", action="store_true", help="take places on roads, and not at nodes")
-    parser.add_argument("--compare-all", action="store_true", help="compare all links, also of more than ten million")
+    add_compare_all(parser)
     options = parser.parse_args()
     if options.sources == options.targets == "-":
         parser.error("SOURCES and TARGETS can't both be standard input")
@@ -73,9 +66,9 @@ def parse_args() -> argparse.Namespace:
     return options
 
 
-def read_places(path: str, name: str | None) -> tuple[Trips, list[str]]:
+def read_named_places(path: str, name: str | None) -> tuple[Trips, list[str]]:
     """The places of a table, and their names."""
-    places = places_of_coordinates(path) if is_coordinates(path) else read_trips(path, NO_PREFIX)
+    places = read_places(path)
     if name is None:
         return places, [str(number) for number in range(1, len(places.rows) + 1)]
     need_columns(path, places.columns, [name])
@@ -85,9 +78,9 @@ def read_places(path: str, name: str | None) -> tuple[Trips, list[str]]:
 
 def rows_by_nodes(ask: NodeTable, network: str, sources: Trips, targets: Trips, within: float) -> Iterator[Ints]:
     """The rows of the table between the nodes nearest to places, some at a time."""
-    nearest = NodeLookup(network)
-    starts, ends = nodes_near(nearest, sources, "from", within), nodes_near(nearest, targets, "to", within)
-    begins = nearest.begins_of(ends)
+    index = load_node_index(network)
+    starts, ends = nodes_near(index, sources, "from", within), nodes_near(index, targets, "to", within)
+    begins = begins_of(index, ends)
 
     def rows(some: Ints) -> Ints:
         found = ask(some - 1, ends - 1)
@@ -98,13 +91,12 @@ def rows_by_nodes(ask: NodeTable, network: str, sources: Trips, targets: Trips, 
     return (rows(starts[begin : begin + at_a_time]) for begin in range(0, len(starts), at_a_time))
 
 
-def nodes_near(nearest: NodeLookup, places: Trips, side: Side, within: float) -> Ints:
+def nodes_near(index: NodeIndex, places: Trips, side: Side, within: float) -> Ints:
     """The node nearest to each place, from 1. Raises ToolError for one that is too far."""
-    found = nearest.nodes_at(places.ends[""], side)
-    is_far = found[1] > within
+    nodes, metres = nodes_at(index, places.ends[""], side)
+    is_far = metres > within
     if is_far.any():
-        raise too_far_error(places, int(is_far.argmax()), {side: found}, nearest, within)
-    nodes: Ints = found[0]
+        raise too_far_error(places, int(is_far.argmax()), {side: (nodes, metres)}, index, within)
     return nodes
 
 
@@ -118,12 +110,11 @@ def rows_on_roads(ask: NodeTable, network: str, sources: Trips, targets: Trips, 
 
 
 def write_csv(path: str, rows: Iterator[Ints], sources: list[str], targets: list[str]) -> None:
-    names = map(escape_formula, sources)
     with atomic_write(path) as file:
         writer = csv.writer(file, lineterminator="\n")
         writer.writerow(["from", *map(escape_formula, targets)])
-        for row in (row for some in rows for row in some.tolist()):
-            writer.writerow([next(names), *("" if length < 0 else length for length in row)])
+        for row, name in zip((row for some in rows for row in some.tolist()), sources):
+            writer.writerow([escape_formula(name), *("" if length < 0 else length for length in row)])
 
 
 def write_npy(path: str, rows: Iterator[Ints], sources: list[str], targets: list[str]) -> None:
@@ -145,12 +136,12 @@ def shown(rows: Iterator[Ints], cells: int) -> Iterator[Ints]:
 def main() -> None:
     options = parse_args()
     (sources, source_names), (targets, target_names) = (
-        read_places(path, options.name) for path in (options.sources, options.targets)
+        read_named_places(path, options.name) for path in (options.sources, options.targets)
     )
     cells = len(source_names) * len(target_names)
     if cells > MAX_CELLS:
-        message = f"has {len(source_names)} places, which with {len(target_names)} targets make more than {MAX_CELLS} lengths"
-        raise ToolError(message, options.sources)
+        many = f"has {len(source_names)} places, which with {len(target_names)} targets make more than {MAX_CELLS} lengths"
+        raise ToolError(many, options.sources)
     with Hierarchy(options.hierarchy, network=options.network, compare_all=options.compare_all) as hierarchy:
         make_rows = rows_on_roads if options.on_roads else rows_by_nodes
         rows = make_rows(hierarchy.matrix, options.network, sources, targets, options.max_distance)
