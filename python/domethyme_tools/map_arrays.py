@@ -27,6 +27,7 @@ import numpy as np
 from numpy.typing import NDArray
 from tqdm import tqdm
 
+from domethyme.atomic_files import unlink_missing_ok
 from domethyme.program import StrPath
 
 from . import turn_restrictions
@@ -43,6 +44,8 @@ TEXTS = ("name", "ref", "destination")
 ROLES = ("from", "via", "to")
 GZIP = b"\x1f\x8b"
 DISK_IS_FULL = os.strerror(errno.ENOSPC)
+# The place of a node that the map lacks
+UNDEFINED = (1 << 31) - 1
 
 
 # The program
@@ -52,8 +55,8 @@ def ensure_built() -> str:
     """The path of the program. Where it is missing it is built, and a ToolError says why that can't be done."""
     if str(SOURCE).startswith(PACKAGES) and os.path.exists(PACKAGED):
         return PACKAGED
-    folder, name = build_folder(), f"map_arrays-{hashlib.sha256(SOURCE.read_bytes()).hexdigest()[:16]}"
-    path = folder / name
+    folder = build_folder()
+    path = folder / f"map_arrays-{hashlib.sha256(SOURCE.read_bytes()).hexdigest()[:16]}"
     if not path.exists():
         with open(folder / "lock", "w", encoding="utf-8") as lock:
             fcntl.flock(lock, fcntl.LOCK_EX)
@@ -73,25 +76,23 @@ def build_folder() -> pathlib.Path:
     raise ToolError("can't be written, and the converter has to be built there", cache)
 
 
-def build(path: StrPath) -> None:
+def build(path: pathlib.Path) -> None:
     """Builds the program at the path."""
     compiler = shutil.which("g++")
     if compiler is None:
         raise ToolError(f"the converter has to be built, and g++ is missing: {TO_INSTALL}")
-    beside = f"{os.fspath(path)}.{os.getpid()}"
+    beside = f"{path}.{os.getpid()}"
+    command = [compiler, *OPTIONS, "-o", beside, str(SOURCE), *LIBRARIES]
     try:
         with progress("building the converter, once"):
-            ended = subprocess.run(
-                [compiler, *OPTIONS, "-o", beside, str(SOURCE), *LIBRARIES],
-                stdin=subprocess.DEVNULL, capture_output=True, encoding="utf-8", errors="replace",
-            )
+            ended = subprocess.run(command, stdin=subprocess.DEVNULL, capture_output=True)
         if ended.returncode != 0:
-            wrong = next((line for line in ended.stderr.splitlines() if "error" in line), "g++ failed")
+            lines = ended.stderr.decode("utf-8", "replace").splitlines()
+            wrong = next((line for line in lines if "error" in line), "g++ failed")
             raise ToolError(f"the converter can't be built: {wrong}: {TO_INSTALL}")
         os.replace(beside, path)
     finally:
-        with contextlib.suppress(FileNotFoundError):
-            os.unlink(beside)
+        unlink_missing_ok(beside)
 
 
 def progress(what: str) -> Any:
@@ -108,37 +109,31 @@ class Folder:
     def array(self, name: str, kind: str, width: int = 1) -> NDArray[Any]:
         """An array of a kind, of shape (n,), or (n, width) for a greater width."""
         path = os.path.join(self.path, name)
-        if os.path.getsize(path) == 0:
-            found: NDArray[Any] = np.empty(0, kind)
-        else:
-            found = np.memmap(path, kind, "r")
+        found: NDArray[Any] = np.memmap(path, kind, "r") if os.path.getsize(path) else np.empty(0, kind)
         return found if width == 1 else found.reshape(-1, width)
 
     def write(self, name: str, values: NDArray[Any]) -> None:
         with open(os.path.join(self.path, name), "wb") as file:
             file.write(np.ascontiguousarray(values).data)
 
-    def fields(self, name: str) -> list[str]:
-        """The texts of a file, behind each of which is a zero. Raises UnicodeDecodeError."""
-        whole = pathlib.Path(self.path, name).read_bytes().decode()
-        return whole.split("\0")[:-1]
+    def texts(self, name: str, of: StrPath) -> list[str]:
+        """The texts of a file, behind each of which is a zero. Raises a ToolError of the map `of` where they aren't UTF-8."""
+        try:
+            return pathlib.Path(self.path, name).read_bytes().decode().split("\0")[:-1]
+        except UnicodeDecodeError as error:
+            raise ToolError(str(error), of) from error
 
-    def tags(self, name: str) -> list[Tags]:
+    def tags(self, name: str, of: StrPath) -> list[Tags]:
         """The combinations of tags of a file: of each its keys and values, and then an empty text."""
         found: list[Tags] = []
-        fields = iter(self.fields(name))
-        for key in fields:
+        texts = iter(self.texts(name, of))
+        for key in texts:
             tags = {}
             while key:
-                tags[key] = next(fields)
-                key = next(fields)
+                tags[key] = next(texts)
+                key = next(texts)
             found.append(tags)
         return found
-
-    def drop(self, *names: str) -> None:
-        """Removes arrays that aren't needed any more."""
-        for name in names:
-            os.unlink(os.path.join(self.path, name))
 
     def read_map(self, command: str, path: StrPath, words: Sequence[str]) -> None:
         """Runs a command over a map, with a bar of its bytes. What libosmium finds wrong is a ToolError of the map."""
@@ -159,19 +154,19 @@ class Folder:
         with subprocess.Popen(command, stdin=subprocess.DEVNULL, stdout=out, stderr=subprocess.PIPE) as process:
             try:
                 yield process
-                stderr = process.stderr.read().decode("utf-8", "replace") if process.stderr else ""
+                stderr = process.stderr.read().decode("utf-8", "replace").strip() if process.stderr else ""
                 status = process.wait()
             except BaseException:
                 process.kill()
                 raise
         if status == 1:
-            raise ToolError(f"{stderr.strip()}{gzip_hint(path)}", path)
+            raise ToolError(f"{stderr}{gzip_hint(path)}", path)
         if status == 3:
             raise MemoryError
-        if stderr.strip().endswith(DISK_IS_FULL):
+        if stderr.endswith(DISK_IS_FULL):
             raise OSError(errno.ENOSPC, DISK_IS_FULL)
         if status != 0:
-            raise ToolError(stderr.strip() or f"the converter's {words[0]} ended with status {status}")
+            raise ToolError(stderr or f"the converter's {words[0]} ended with status {status}")
 
 
 def gzip_hint(path: StrPath) -> str:
@@ -180,13 +175,21 @@ def gzip_hint(path: StrPath) -> str:
     return ""
 
 
+@contextlib.contextmanager
+def folder_beside(path: str) -> Iterator[Folder]:
+    """A Folder of arrays beside the files that begin with this path, which is removed after the block."""
+    head, name = os.path.split(path)
+    with tempfile.TemporaryDirectory(prefix=f"{name}.", suffix=".arrays", dir=head or ".") as folder:
+        yield Folder(folder)
+
+
 # The ways
 
 
 class WayArrays(NamedTuple):
     """The ways with the first key, in the map's order: their ids, labels, and counts of `nodes`. A label is a row of `labels`:
-    the number of its tags, and of each of TEXTS the number of its text, from 1, or 0. And the tags and members of the relations
-    of turn restrictions."""
+    the number of its tags, and of each of TEXTS the number of its text, from 1, or 0. And the tags and members of the
+    relations of turn restrictions."""
 
     osm: NDArray[np.int64]
     label: NDArray[np.uint32]
@@ -200,29 +203,21 @@ class WayArrays(NamedTuple):
 def read_ways(folder: Folder, path: StrPath, keys: Sequence[str], conditional: Sequence[str]) -> WayArrays:
     """The ways of a map that have the first of the keys. Tags are those with one of the keys, or whose key begins with one of
     `conditional` and ends with `:conditional`."""
-    words = ["s::conditional"]
-    for letter, some in (("k", keys), ("p", conditional), ("t", TEXTS)):
-        words += [f"{letter}:{key}" for key in some]
-    folder.read_map("ways", path, words)
-    try:
-        tags, texts = folder.tags("way_tags"), ["", *folder.fields("texts")]
-        relations = list(relations_of(folder))
-    except UnicodeDecodeError as error:
-        raise ToolError(str(error), path) from error
-    labels = folder.array("labels", "u4", 1 + len(TEXTS))
-    osm, label, nodes = folder.array("way_osm", "i8"), folder.array("way_label", "u4"), folder.array("way_count", "u4")
-    return WayArrays(osm, label, nodes, labels, tags, texts, relations)
-
-
-def relations_of(folder: Folder) -> Iterator[tuple[Tags, list[turn_restrictions.Member]]]:
-    """The tags and members of each relation of a turn restriction."""
-    tags = folder.tags("relation_tags")
-    members = (
-        turn_restrictions.Member(chr(kind), osm, ROLES[role]) for kind, role,
-        osm in folder.array("member", "i8", 3).tolist()
+    words = [f"{letter}:{key}" for letter, some in (("k", keys), ("p", conditional), ("t", TEXTS)) for key in some]
+    folder.read_map("ways", path, ["s::conditional", *words])
+    return WayArrays(
+        folder.array("way_osm", "i8"), folder.array("way_label", "u4"), folder.array("way_count", "u4"),
+        folder.array("labels", "u4", 1 + len(TEXTS)), folder.tags("way_tags", path), ["", *folder.texts("texts", path)],
+        list(relations_of(folder, path)),
     )
+
+
+def relations_of(folder: Folder, path: StrPath) -> Iterator[tuple[Tags, list[turn_restrictions.Member]]]:
+    """The tags and members of each relation of a turn restriction."""
+    tags, rows = folder.tags("relation_tags", path), iter(folder.array("member", "i8", 3).tolist())
     for number, count in zip(folder.array("relation_of", "u4").tolist(), folder.array("relation_count", "u4").tolist()):
-        yield tags[number], list(itertools.islice(members, count))
+        members = itertools.islice(rows, count)
+        yield tags[number], [turn_restrictions.Member(chr(kind), osm, ROLES[role]) for kind, role, osm in members]
 
 
 # The places
@@ -240,22 +235,15 @@ class NodeArrays(NamedTuple):
     barrier_tags: list[Tags]
 
 
-UNDEFINED = (1 << 31) - 1
-
-
 def read_places(folder: Folder, path: StrPath, taken: NDArray[np.bool_], keys: Sequence[str]) -> NodeArrays:
     """The nodes of the ways that are taken, and the tags of those that have the first of the keys."""
     folder.write("way_taken", taken.astype(np.uint8))
     folder.read_map("places", path, [f"k:{key}" for key in keys])
-    folder.drop("way_node")
-    try:
-        tags = folder.tags("barrier_tags")
-    except UnicodeDecodeError as error:
-        raise ToolError(str(error), path) from error
-    place = folder.array("node_place", "i4", 2).reshape(-1, 2)
-    uses = folder.array("node_uses", "u1")
+    os.unlink(os.path.join(folder.path, "way_node"))
+    place = folder.array("node_place", "i4", 2)
     return NodeArrays(
-        folder.array("node_osm", "i8"), place, place[:, 0] != UNDEFINED, uses > 1, folder.array("barrier", "u4", 2), tags
+        folder.array("node_osm", "i8"), place, place[:, 0] != UNDEFINED, folder.array("node_uses", "u1") > 1,
+        folder.array("barrier", "u4", 2), folder.tags("barrier_tags", path),
     )
 
 
@@ -280,8 +268,8 @@ def cut_runs(
     folder: Folder, counts: NDArray[np.uint32], is_junction: NDArray[np.bool_], is_barrier: NDArray[np.bool_],
     longest: float
 ) -> Runs:
-    """The runs of roads, which have these counts of nodes, cut to parts of at most `longest` metres, as few as can be. A run that
-    comes back to its node, if that is no barrier, is cut at least once."""
+    """The runs of roads, which have these counts of nodes, cut to parts of at most `longest` metres, as few as can be. A run
+    that comes back to its node, if that is no barrier, is cut at least once."""
     folder.write("road_count", counts)
     folder.write("node_stop", is_junction + is_barrier.astype(np.uint8) * np.uint8(2))
     folder.run("pieces", repr(float(longest)))
@@ -290,11 +278,3 @@ def cut_runs(
         folder.array("run_metres", "f8"), folder.array("points", "i4", 2), folder.array("piece_begin", "u8"),
         folder.array("piece_end", "u8"),
     )
-
-
-@contextlib.contextmanager
-def folder_beside(path: str) -> Iterator[Folder]:
-    """A Folder of arrays beside the files that begin with this path, which is removed after the block."""
-    head, name = os.path.split(path)
-    with tempfile.TemporaryDirectory(prefix=f"{name}.", suffix=".arrays", dir=head or ".") as folder:
-        yield Folder(folder)

@@ -40,12 +40,10 @@ and nothing is written. 2: the arguments were refused.
 import argparse
 import collections
 import contextlib
-import io
-import itertools
 import os
 import sys
-from collections.abc import Callable, Iterator, Sequence
-from typing import IO, Any, NamedTuple, cast
+from collections.abc import Callable, Iterable
+from typing import IO, Any, NamedTuple
 
 import numpy as np
 from numpy.typing import NDArray
@@ -55,37 +53,19 @@ from domethyme.belonging import older_hierarchy
 from domethyme.csv_tables import open_input
 from domethyme.limits import MAX_LINES, MAX_NODES
 from domethyme.network import net_file
-from domethyme.network.geo import format_linestring
 from domethyme.network.groups import offsets
-from domethyme.network.tables import ENDS, OSM_ATTRIBUTION, Arc, Files, Nodes, write_arcs, write_nodes
+from domethyme.network.tables import ATTRIBUTION_COMMENT, OSM_ATTRIBUTION, Files
 from domethyme.program import StrPath
 
 from . import turn_restrictions
 from .cli import ToolError, argument_parser, current_arguments, refuse_overwriting
 from .map_arrays import Folder, NodeArrays, WayArrays, cut_runs, folder_beside, progress, read_places, read_ways
-from .old_tables import tables_there
 from .road_network import (
-    WEIGHTS,
-    RoadNetwork,
-    RoadTable,
-    RowsOf,
-    build_network,
-    keep_largest,
-    metres_of_roads,
-    split_junctions,
-    to_arrays,
+    WEIGHTS, RoadNetwork, RoadTable, RowsOf, build_network, keep_largest, metres_of_roads, split_junctions, to_arrays
 )
+from .table_files import bytes_of, tables_there, write_tables
 from .vehicle_profile import (
-    Profile,
-    Tags,
-    barrier_keys,
-    blocks_way,
-    conditional_keys,
-    judge,
-    read_profile,
-    structure_of,
-    unsupported_tags,
-    way_keys,
+    Profile, barrier_keys, blocks_way, conditional_keys, judge, read_profile, structure_of, unsupported_tags, way_keys
 )
 
 Report = turn_restrictions.Report
@@ -95,15 +75,14 @@ MAX_METRES = 1_000_000
 # Options by their old words.
 RENAMED = {"--islands": "--keep-islands", "--free-turns": "--ignore-turn-restrictions"}
 MAX_VALUES = 10
-ROWS_AT_ONCE = 1 << 16
 
 
 # The map: its roads, and then the places of their nodes
 
 
 class Map(NamedTuple):
-    """The roads that the vehicle may take, in the map's order, their counts of nodes, these nodes and which are barriers, and the
-    turn restrictions. `rows_of` gives the rows of texts of roads by their numbers, as Rows."""
+    """The roads that the vehicle may take, in the map's order, their counts of nodes, these nodes and which are barriers, and
+    the turn restrictions. `rows_of` gives the rows of texts of roads by their numbers."""
 
     roads: RoadTable
     counts: NDArray[np.uint32]
@@ -131,14 +110,14 @@ def read_map(path: StrPath, profile: Profile, folder: Folder, report: Report) ->
     is_barrier[places.barriers[:, 0][parts[places.barriers[:, 1]]]] = True
     report["nodes that the map lacks"] = len(places.osm) - int(places.is_there.sum())
     report["barriers that part roads"] = int(is_barrier.sum())
-    return Map(roads, ways.nodes[taken], places, is_barrier, restrictions, TextRows(ways))
+    return Map(roads, ways.nodes[taken], places, is_barrier, restrictions, text_rows(ways))
 
 
 def judge_tags(
     ways: WayArrays, profile: Profile, report: Report
 ) -> tuple[NDArray[np.bool_], NDArray[np.float64], dict[str, Report]]:
-    """For each combination of tags whether such ways are taken, and their km/h in both directions, NaN for none, of shape (2,
-    combinations); and the values that weren't understood, by what they are of. The rules are asked once for each combination."""
+    """For each combination of tags whether such ways are taken, and their km/h in both directions, NaN for none, of shape
+    (2, combinations); and the values that weren't understood, by what they are of. The rules are asked once for each."""
     counts = np.bincount(ways.labels[:, 0][ways.label], minlength=len(ways.tags)).tolist()
     is_taken, speeds = np.zeros(len(ways.tags), np.bool_), np.full((2, len(ways.tags)), np.nan)
     unknown: dict[str, Report] = {"maxspeeds": collections.Counter(), "limits": collections.Counter()}
@@ -149,9 +128,9 @@ def judge_tags(
             continue
         is_taken[number] = True
         speeds[:, number] = [np.nan if speed is None else speed for speed in (found.forward, found.backward)]
-        for what, value in zip(unknown, (found.unknown_speed, found.unknown_limit)):
+        for values, value in zip(unknown.values(), (found.unknown_speed, found.unknown_limit)):
             if value is not None:
-                unknown[what][value] += count
+                values[value] += count
         for what, is_so in unsupported_tags(tags, profile):
             report[what] += is_so * count
     return is_taken, speeds, unknown
@@ -168,29 +147,26 @@ def read_restrictions(ways: WayArrays, profile: Profile, report: Report) -> list
     return restrictions
 
 
-class TextRows:
-    """The rows of texts of labels of ways: a list of texts, and for each label the numbers of its texts, in the order of
+def text_rows(ways: WayArrays) -> RowsOf:
+    """A function that gives a list of texts, and for each of some labels of ways the numbers of its texts, in the order of
     binary.TEXTS."""
+    all_labels, all_tags, texts = ways.labels, ways.tags, [" ".join(text.split()) for text in ways.texts]
+    is_set = np.array([bool(text) for text in ways.texts], np.bool_)
 
-    def __init__(self, ways: WayArrays) -> None:
-        self._labels, self._tags = ways.labels, ways.tags
-        self._texts = [" ".join(text.split()) for text in ways.texts]
-        self._is_set = np.array([bool(text) for text in ways.texts], np.bool_)
+    def numbers(known: dict[str, int], row: Iterable[str]) -> list[int]:
+        return [known.setdefault(text, len(known)) for text in row]
 
-    def __call__(self, labels: NDArray[np.int64]) -> tuple[list[str], NDArray[np.int32]]:
+    def rows_of(labels: NDArray[np.int64]) -> tuple[list[str], NDArray[np.int32]]:
         known: dict[str, int] = {}
-        of_text = np.array([known.setdefault(text, len(known)) for text in self._texts], np.int32)
-        of_tags = np.array([
-            [known.setdefault(text, len(known)) for text in self._texts_of(tags)] for tags in self._tags
-        ], np.int32).reshape(-1, 3)
-        tags, name, ref, destination = self._labels[labels].T
+        of_text = np.array(numbers(known, texts), np.int32)
+        words = ((tags["highway"], " ".join(tags.get("junction", "").split()), structure_of(tags)) for tags in all_tags)
+        of_tags = np.array([numbers(known, row) for row in words], np.int32).reshape(-1, 3)
+        tags, name, ref, destination = all_labels[labels].T
         highway, junction, structure = of_tags[tags].T
-        shown = of_text[np.where(self._is_set[name], name, ref)]
+        shown = of_text[np.where(is_set[name], name, ref)]
         return list(known), np.column_stack((highway, shown, of_text[ref], junction, of_text[destination], structure))
 
-    @staticmethod
-    def _texts_of(tags: Tags) -> tuple[str, str, str]:
-        return tags["highway"], " ".join(tags.get("junction", "").split()), structure_of(tags)
+    return rows_of
 
 
 def most_common(counted: Report) -> str:
@@ -227,9 +203,8 @@ def check_limits(nodes: int, arcs: int, path: StrPath) -> None:
     """Raises a ToolError where a graph can't have as many nodes or arcs."""
     for count, most, what in ((nodes, MAX_NODES, "nodes"), (arcs, MAX_LINES, "arcs")):
         if count > most:
-            raise ToolError(
-                f"makes a network of {count} {what}, and there may be {most}: take a part of it, or longer arcs", path
-            )
+            remedy = "take a part of it, or longer arcs"
+            raise ToolError(f"makes a network of {count} {what}, and there may be {most}: {remedy}", path)
 
 
 def turn_rules(
@@ -242,64 +217,8 @@ def turn_rules(
     firsts, lasts = (read.places.osm[nodes[place]].tolist() for place in (begin[chosen], begin[chosen + 1] - 1))
     ends = dict(zip(read.roads.osm[chosen].tolist(), zip(firsts, lasts)))
     by_osm = turn_restrictions.applicable_rules(read.restrictions, ends.get, report)
-    at = (
-        (node_at(int(place)), rule) for place, rule in zip(np.searchsorted(read.places.osm, list(by_osm)), by_osm.values())
-    )
-    return {node: rule for node, rule in at if node >= 0}
-
-
-# The files
-
-
-def write_network(
-    files: Sequence[IO[Any]], tables: Sequence[IO[Any]], arrays: net_file.Arrays, folder: Folder, attribution: str
-) -> None:
-    """Writes the graph, the network in arrays, and the tables that are asked for."""
-    graph, both = files
-    write_graph(graph, arrays, folder, attribution)
-    if tables:
-        nodes, rows = tables
-        write_nodes(nodes, nodes_in(arrays))
-        write_arcs(rows, arcs_in(arrays))
-        for file in tables:
-            file.flush()
-        arrays = arrays._replace(sizes=np.array([os.fstat(file.fileno()).st_size for file in tables], np.int64))
-    net_file.write(cast(io.TextIOWrapper, both).buffer, arrays)
-
-
-def nodes_in(arrays: net_file.Arrays) -> Nodes:
-    """The nodes, as those of the table."""
-    osm = [None if number == net_file.NO_OSM else number for number in arrays.node_osm.tolist()]
-    lon, lat = ((places / net_file.UNITS).tolist() for places in (arrays.node_lon, arrays.node_lat))
-    return Nodes(osm, lon, lat, [ENDS[number] for number in arrays.node_ends.tolist()])
-
-
-def arcs_in(arrays: net_file.Arrays) -> Iterator[Arc]:
-    """The arcs, as those of the table."""
-    whole, text_begin, edge_begin = arrays.text_bytes.tobytes(), arrays.text_begin.tolist(), arrays.edge_begin.tolist()
-    texts = [whole[begin:end].decode() for begin, end in itertools.pairwise(text_begin)]
-    texts_of_rows = [[texts[number] for number in row] for row in arrays.row_texts[:, : len(net_file.TEXTS)].tolist()]
-    columns: tuple[NDArray[Any], ...] = (
-        arrays.arc_from, arrays.arc_to, arrays.arc_weight, arrays.arc_seconds, arrays.arc_metres, arrays.arc_osm,
-        arrays.arc_row, arrays.arc_edge, arrays.arc_along,
-    )
-    for low in range(0, len(arrays.arc_from), ROWS_AT_ONCE):
-        parts: list[list[Any]] = [column[low : low + ROWS_AT_ONCE].tolist() for column in columns]
-        for start, end, weight, seconds, metres, osm, row, edge, along in zip(*parts):
-            highway, name, *others = texts_of_rows[row]
-            line = (arrays.points[edge_begin[edge] : edge_begin[edge + 1]] / net_file.UNITS).tolist()
-            yield Arc(
-                start,
-                end,
-                weight,
-                seconds,
-                metres,
-                osm,
-                highway,
-                name,
-                format_linestring(line if along else line[::-1]),
-                *others
-            )
+    places = np.searchsorted(read.places.osm, list(by_osm)).tolist()
+    return {node: rules for place, rules in zip(places, by_osm.values()) if (node := node_at(place)) >= 0}
 
 
 def write_graph(file: IO[Any], arrays: net_file.Arrays, folder: Folder, attribution: str) -> None:
@@ -307,7 +226,7 @@ def write_graph(file: IO[Any], arrays: net_file.Arrays, folder: Folder, attribut
     for name in ("arc_from", "arc_to", "arc_weight"):
         folder.write(name, getattr(arrays, name))
     if attribution:
-        file.write(f"c attribution: {attribution}\n")
+        file.write(f"{ATTRIBUTION_COMMENT}{attribution}\n")
     file.flush()
     folder.run("graph", len(arrays.node_osm), out=file)
 
@@ -329,45 +248,39 @@ def parse_args() -> argparse.Namespace:
     )
     parser.add_argument("map", metavar="MAP", help="a .osm, .osm.bz2 or .osm.pbf file")
     parser.add_argument("out", metavar="OUT", help="the beginning of the names of the files")
-    parser.add_argument(
-        "--profile",
-        default="car",
-        metavar="NAME|FILE.json",
-        help="the rules of the vehicle: car, lorry, bicycle, foot, or a file (car)",
-    )
+    parser.add_argument("--profile", default="car", metavar="NAME|FILE.json",
+                        help="the rules of the vehicle: car, lorry, bicycle, foot, or a file (car)")
     parser.add_argument("--weight", choices=sorted(WEIGHTS), default="time", help="what a weight counts (time)")
     parser.add_argument("--longest-arc", type=longest_arc, default=250, metavar="METRES", help="from 1 to 1000000 (250)")
     parser.add_argument("--tables", action="store_true", help="write tables in CSV too")
     parser.add_argument("--ignore-turn-restrictions", action="store_true", help="don't look at turn restrictions")
     parser.add_argument("--keep-islands", action="store_true", help="keep all nodes, whether they reach the others or not")
-    parser.add_argument(
-        "--attribution",
-        default=OSM_ATTRIBUTION,
-        metavar="TEXT",
-        help="the attribution that maps of the network show; empty for none (%(default)s)",
-    )
+    parser.add_argument("--attribution", default=OSM_ATTRIBUTION, metavar="TEXT",
+                        help="the attribution that maps of the network show; empty for none (%(default)s)")
     options = parser.parse_args(current_arguments(RENAMED))
-    if not os.path.basename(options.out) or os.path.isdir(options.out):
-        out = options.out
+    out = options.out
+    if not os.path.basename(out) or os.path.isdir(out):
         fault = f"{out} is a folder" if out else "it is empty"
         parser.error(f"OUT is the beginning of the names of files, as {os.path.join(out, 'map')}, and {fault}")
-    names = Files(options.out)
-    outputs = [names.graph, names.binary, *([names.nodes, names.arcs, *names.forms] if options.tables else [])]
-    refuse_overwriting(parser, outputs, [options.map, options.profile])
+    refuse_overwriting(parser, outputs_of(options), [options.map, options.profile])
     return options
+
+
+def outputs_of(options: argparse.Namespace) -> list[str]:
+    """The paths of the files that are written."""
+    names = Files(options.out)
+    return [names.graph, names.binary, *([names.nodes, names.arcs, *names.forms] if options.tables else [])]
 
 
 def main() -> None:
     options = parse_args()
     profile = read_profile(options.profile)
-    names = Files(options.out)
-    for_tables = [names.nodes, names.arcs, *names.forms]
-    old_tables = tables_there(names, options.tables)
+    old_tables = tables_there(Files(options.out), options.tables)
     report: Report = collections.Counter()
     with open_input(options.map):
         if not os.path.isfile(options.map):
             raise ToolError("is no regular file; a map is read twice", options.map)
-    with atomic_write_all(names.graph, names.binary, *(for_tables if options.tables else ())) as files:
+    with atomic_write_all(*outputs_of(options)) as (graph, binary, *tables):
         with folder_beside(options.out) as folder:
             network, rows_of = convert(options, profile, folder, report)
             attribution = " ".join(options.attribution.split())
@@ -376,9 +289,10 @@ def main() -> None:
                 kilometres = metres_of_roads(network) / 1000
             del network, rows_of
             with progress("files"):
-                write_network(files[:2], files[2:4], arrays, folder, attribution)
-        for file, text in zip(files[4:], names.forms.values()):
-            print(text, file=file)
+                write_graph(graph, arrays, folder, attribution)
+                if tables:
+                    arrays = arrays._replace(sizes=write_tables(tables, arrays))
+                net_file.write(bytes_of(binary), arrays)
     if not options.tables and old_tables:
         for path in old_tables:
             os.unlink(path)

@@ -34,25 +34,20 @@ Exit status: 0; 1 for bad input or a failed write, with one line on standard err
 that are refused.
 """
 import argparse
-import io
 import os
-import typing
-from typing import IO, Any
+from typing import IO
 
 import numpy
 
 from domethyme.atomic_files import atomic_write_all
 from domethyme.belonging import older_hierarchy
 from domethyme.network import from_tables, net_file
-from domethyme.network.reading import arcs_from_net, nodes_from_net
 from domethyme.network.tables import (
-    ARC_COLUMNS, ATTRIBUTION_COMMENT, NODE_COLUMNS, Files, has_columns, read_attribution, write_arcs, write_nodes
+    ARC_COLUMNS, ATTRIBUTION_COMMENT, NODE_COLUMNS, Files, has_columns, read_attribution
 )
 
 from .cli import ToolError, argument_parser, refuse_overwriting, warn
-from .old_tables import tables_there
-
-ROWS = 1 << 16
+from .table_files import ROWS_AT_ONCE, bytes_of, tables_there, write_tables
 
 
 def parse_args() -> argparse.Namespace:
@@ -62,9 +57,8 @@ def parse_args() -> argparse.Namespace:
     parser.add_argument("nodes", metavar="NODES", help="the table of nodes, or a .co file")
     parser.add_argument("arcs", metavar="ARCS", help="the table of arcs, or a .gr file")
     parser.add_argument("out", metavar="OUT", help="the beginning of the names of the files")
-    parser.add_argument(
-        "--weight", choices=("time", "length"), default="time", help="what a weight is without the column (time)"
-    )
+    parser.add_argument("--weight", choices=("time", "length"), default="time",
+                        help="what a weight is without the column (time)")
     parser.add_argument("--tables", action="store_true", help="write OUT.nodes.csv and OUT.arcs.csv too")
     parser.add_argument("--attribution", metavar="TEXT", help="the attribution that maps show (that in OUT.gr)")
     options = parser.parse_args()
@@ -85,32 +79,22 @@ def write_graph(file: IO[bytes], arrays: net_file.Arrays, attribution: str) -> N
     if attribution:
         file.write(f"{ATTRIBUTION_COMMENT}{attribution}\n".encode())
     file.write(b"p sp %d %d\n" % (len(arrays.node_osm), len(arrays.arc_from)))
-    for low in range(0, len(arrays.arc_from), ROWS):
-        part = slice(low, low + ROWS)
+    for low in range(0, len(arrays.arc_from), ROWS_AT_ONCE):
+        part = slice(low, low + ROWS_AT_ONCE)
         rows = numpy.column_stack((arrays.arc_from[part], arrays.arc_to[part], arrays.arc_weight[part]))
         file.write((b"a %d %d %d\n" * len(rows)) % tuple(rows.ravel().tolist()))
 
 
-def sizes_of(paths: Files, options: argparse.Namespace) -> tuple[int, int]:
-    """The sizes of NODES and ARCS where they are beside OUT.net, so that tools see when they are edited; 0 for others. Tables of
-    another network that the tools have written there are refused, since they would be read in place of OUT.net."""
+def sizes_of(paths: Files, options: argparse.Namespace) -> list[int]:
+    """The sizes of NODES and ARCS where they are beside OUT.net, so that tools see when they are edited; 0 for others. Tables
+    of another network that the tools have written there are refused, since they would be read in place of OUT.net."""
     sizes = []
     for table, given, columns in ((paths.nodes, options.nodes, NODE_COLUMNS), (paths.arcs, options.arcs, ARC_COLUMNS)):
         is_given = os.path.exists(table) and os.path.exists(given) and os.path.samefile(table, given)
         if not is_given and has_columns(table, columns):
             raise ToolError(f"is there, and isn't {given}: remove it, or give --tables to write it again", table)
         sizes.append(os.stat(table).st_size if is_given else 0)
-    return sizes[0], sizes[1]
-
-
-def write_tables(files: list[IO[Any]], arrays: net_file.Arrays) -> tuple[int, int]:
-    """Writes both tables; returns their sizes."""
-    network = net_file.map_tempfile(arrays, "the network")
-    write_nodes(files[0], nodes_from_net(network))
-    write_arcs(files[1], arcs_from_net(network))
-    for file in files:
-        file.flush()
-    return os.fstat(files[0].fileno()).st_size, os.fstat(files[1].fileno()).st_size
+    return sizes
 
 
 def read_arrays(options: argparse.Namespace, attribution: str) -> net_file.Arrays:
@@ -129,24 +113,17 @@ def main() -> None:
     attribution = read_attribution(options.out) if options.attribution is None else " ".join(options.attribution.split())
     if options.tables:
         tables_there(paths, True)
-    sizes = (0, 0) if options.tables else sizes_of(paths, options)
+    sizes = numpy.array([0, 0] if options.tables else sizes_of(paths, options))
     arrays = read_arrays(options, attribution)
-    with atomic_write_all(*outputs_of(options)) as files:
-        if options.tables:
-            sizes = write_tables(files[1:3], arrays)
-            for file, text in zip(files[3:-1], paths.forms_of(len(arrays.node_texts) > 0).values(), strict=True):
-                print(text, file=file)
-        write_graph(buffer_of(files[0]), arrays, attribution)
+    with atomic_write_all(*outputs_of(options)) as (graph, *tables, network):
+        if tables:
+            sizes = write_tables(tables, arrays)
+        write_graph(bytes_of(graph), arrays, attribution)
         try:
-            net_file.write(buffer_of(files[-1]), arrays._replace(sizes=numpy.array(sizes)))
+            net_file.write(bytes_of(network), arrays._replace(sizes=sizes))
         except ValueError as error:
             raise ToolError(str(error), options.arcs) from error
     kilometres = arrays.arc_metres[numpy.unique(arrays.arc_edge, return_index=True)[1]].sum() / 1000
     warn(f"{options.out}: {len(arrays.node_osm)} nodes, {len(arrays.arc_from)} arcs, {kilometres:.1f} km of road")
     if (older := older_hierarchy(options.out)) is not None:
         warn(older)
-
-
-def buffer_of(file: IO[str]) -> IO[bytes]:
-    """The bytes of a file that was opened as text."""
-    return typing.cast(io.TextIOWrapper, file).buffer

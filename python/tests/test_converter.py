@@ -15,7 +15,7 @@ from domethyme.dimacs import read_graph
 from domethyme.network import net_file, parallel
 from domethyme.network.reading import read_nodes
 from domethyme.network.tables import read_arcs
-from domethyme_tools import map_arrays, osm_to_gr, road_network
+from domethyme_tools import map_arrays, osm_to_gr, road_network, table_files
 from domethyme_tools.cli import ToolError
 from domethyme_tools.vehicle_profile import read_profile
 
@@ -168,9 +168,9 @@ class ArraysTests(ToolCase):
                 self.write("map.osm", drawn_map(seed))
                 arrays = self.arrays()
                 builder = net_file.Builder("said")
-                for node in zip(*osm_to_gr.nodes_in(arrays)[:4]):
+                for node in zip(*table_files.nodes_in(arrays)[:4]):
                     builder.add_node(*node)
-                for arc in osm_to_gr.arcs_in(arrays):
+                for arc in table_files.arcs_in(arrays):
                     builder.add_arc(arc)
                 wanted = builder.build()
                 for name in net_file.Arrays._fields:

@@ -1,0 +1,103 @@
+"""The tables of a network in CSV, as the tools write them where --tables is given, and the files for GDAL beside them.
+
+    tables_there(names, are_written)  those that are there before: the tools' own may be replaced, a user's own never
+    write_tables(files, arrays)       writes all of them
+    bytes_of(file)                    the bytes of a file that was opened as text
+"""
+import io
+import itertools
+import os
+from collections.abc import Iterator, Sequence
+from typing import IO, Any, cast
+
+import numpy as np
+from numpy.typing import NDArray
+
+from domethyme.errors import NetworkError
+from domethyme.network import net_file
+from domethyme.network.geo import format_linestring
+from domethyme.network.tables import (
+    ALL_ARC_COLUMNS, ALL_NODE_COLUMNS, ENDS, Arc, Files, Nodes, is_written_by_tools, write_arcs, write_nodes
+)
+
+from .cli import ToolError
+
+ROWS_AT_ONCE = 1 << 16
+
+
+def tables_there(names: Files, are_written: bool) -> list[str]:
+    """The tables of a network that the tools have written, and the files for GDAL beside them.
+
+    Raises a ToolError where tables are to be written in the place of a user's own, and where one of the tools was edited since,
+    as far as its size shows: it would be read in place of the new network, and may not be lost.
+    """
+    kinds = {names.nodes: ALL_NODE_COLUMNS, names.arcs: ALL_ARC_COLUMNS}
+    found = [path for path, columns in kinds.items() if is_written_by_tools(path, columns)]
+    for path in kinds:
+        if are_written and os.path.isfile(path) and path not in found:
+            raise ToolError("is there, and no tool has written it: move it, or choose another OUT", path)
+    if found and os.path.exists(names.binary) and not is_current(names.path):
+        raise ToolError(f"has changed since {names.binary} was made of it: move it, or choose another OUT", found[0])
+    texts = [{f"{text}\n" for text in both} for both in zip(names.forms.values(), names.forms_of(has_keys=True).values())]
+    forms = [path for path, known in zip(names.forms, texts) if os.path.isfile(path) and text_at(path) in known]
+    return [*found, *forms] if found else []
+
+
+def is_current(prefix: str) -> bool:
+    """Whether a network's tables are as its file was written with them; a file that is damaged doesn't say otherwise."""
+    try:
+        return net_file.is_current(prefix)
+    except NetworkError:
+        return True
+
+
+def text_at(path: str) -> str:
+    with open(path, encoding="utf-8", errors="replace") as file:
+        return file.read(1 << 12)
+
+
+def write_tables(files: Sequence[IO[str]], arrays: net_file.Arrays) -> NDArray[np.int64]:
+    """Writes the tables of nodes and arcs, and the files for GDAL, into files in the order of Files; returns the sizes of both
+    tables."""
+    write_nodes(files[0], nodes_in(arrays))
+    write_arcs(files[1], arcs_in(arrays))
+    for file, text in zip(files[2:], Files("").forms_of(len(arrays.node_texts) > 0).values(), strict=True):
+        print(text, file=file)
+    for file in files[:2]:
+        file.flush()
+    return np.array([os.fstat(file.fileno()).st_size for file in files[:2]], np.int64)
+
+
+def nodes_in(arrays: net_file.Arrays) -> Nodes:
+    """The nodes, as those of the table."""
+    osm = [None if number == net_file.NO_OSM else number for number in arrays.node_osm.tolist()]
+    lon, lat = ((places / net_file.UNITS).tolist() for places in (arrays.node_lon, arrays.node_lat))
+    texts = texts_in(arrays)
+    keys = [texts[number] for number in arrays.node_texts.tolist()]
+    return Nodes(osm, lon, lat, [ENDS[number] for number in arrays.node_ends.tolist()], keys)
+
+
+def arcs_in(arrays: net_file.Arrays) -> Iterator[Arc]:
+    """The arcs, as those of the table."""
+    texts, edge_begin = texts_in(arrays), arrays.edge_begin.tolist()
+    texts_of_rows = [[texts[number] for number in row] for row in arrays.row_texts[:, : len(net_file.TEXTS)].tolist()]
+    columns: tuple[NDArray[Any], ...] = (
+        arrays.arc_from, arrays.arc_to, arrays.arc_weight, arrays.arc_seconds, arrays.arc_metres, arrays.arc_osm,
+        arrays.arc_row, arrays.arc_edge, arrays.arc_along,
+    )
+    for low in range(0, len(arrays.arc_from), ROWS_AT_ONCE):
+        for *figures, row, edge, along in zip(*(column[low : low + ROWS_AT_ONCE].tolist() for column in columns)):
+            highway, name, *others = texts_of_rows[row]
+            line = (arrays.points[edge_begin[edge] : edge_begin[edge + 1]] / net_file.UNITS).tolist()
+            yield Arc(*figures, highway, name, format_linestring(line if along else line[::-1]), *others)
+
+
+def texts_in(arrays: net_file.Arrays) -> list[str]:
+    """The list of texts."""
+    whole = arrays.text_bytes.tobytes()
+    return [whole[begin:end].decode() for begin, end in itertools.pairwise(arrays.text_begin.tolist())]
+
+
+def bytes_of(file: IO[str]) -> IO[bytes]:
+    """The bytes of a file that was opened as text."""
+    return cast(io.TextIOWrapper, file).buffer
