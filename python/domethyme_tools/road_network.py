@@ -1,7 +1,7 @@
 """The nodes and arcs of a network in arrays, made of the runs of roads (map_arrays.py).
 
     build_network(runs, ..)    a RoadNetwork: nodes in the order in which runs come to them, arcs forward before backward
-    split_junctions(network, ..)  splits the junctions where there are turn restrictions, or penalties of turns (turn_restrictions.py)
+    split_junctions(network, ..)  splits the junctions where there are turn restrictions, or penalties (turn_restrictions.py)
     keep_largest(network, ..)  drops all but the largest set of nodes that can all reach one another
     to_arrays(network, ..)     the network as domethyme.network.net_file has it
 """
@@ -25,10 +25,11 @@ from .map_arrays import NodeArrays, Runs
 Ints = NDArray[np.int64]
 Floats = NDArray[np.float64]
 Report = turn_restrictions.Report
-Unit = Callable[[Floats, Floats], Floats]
 RowsOf = Callable[[Ints], tuple[list[str], NDArray[np.int32]]]
 # Degrees by which a turn may be off the line of the road, and off the way back
 STRAIGHT, BACK = 45, 15
+# What a weight counts, and how much of it a hundredth of a second is, where turns have penalties.
+WEIGHTS = {"length": 0, "time": 10}
 
 
 class RoadTable(NamedTuple):
@@ -85,6 +86,10 @@ class RoadNetwork(NamedTuple):
         names = ("start", "end", "piece", "is_back", "is_split", "penalty")
         return self._replace(**{name: getattr(self, name)[chosen] for name in names})
 
+    def is_first(self) -> NDArray[np.bool_]:
+        """Whether an arc is the first of its piece of road; each one that turns have taken apart is."""
+        return differs(self.piece) | self.is_split
+
 
 def first_index(values: NDArray[Any], size: int) -> NDArray[Any]:
     """For each value from 0 up to `size` the first place where it comes, -1 where it doesn't come."""
@@ -134,34 +139,30 @@ def build_network(
     is_cut = np.ones(len(run), np.bool_)
     is_cut[piece_begin[1:] - 1] = False
     place[end[is_cut]] = runs.points[runs.end[is_cut].astype(np.int64) - 1]
-    ends_of = np.zeros(len(osm), np.uint8)
-    found = RoadNetwork(
-        osm, place, ends_of, *arcs_along(start, end, run, runs, roads), piece_run=run, runs=runs, roads=roads
-    )
+    arcs = arcs_along(start, end, run, runs, roads)
+    is_split, penalty = np.zeros(len(arcs[0]), np.bool_), np.zeros(len(arcs[0]), np.int32)
+    found = RoadNetwork(osm, place, np.zeros(len(osm), np.uint8), *arcs, is_split, penalty, run, runs, roads)
     return found, lambda number: -1 if first[number] < 0 or is_barrier[number] else int(of_end[first[number]])
 
 
 def arcs_along(
     start: NDArray[np.int32], end: NDArray[np.int32], run: NDArray[np.int32], runs: Runs, roads: RoadTable
-) -> tuple[
-    NDArray[np.int32], NDArray[np.int32], NDArray[np.int32], NDArray[np.bool_], NDArray[np.bool_], NDArray[np.int32]
-]:
-    """The arcs along pieces with these ends and runs, in the columns of RoadNetwork from `start` to `penalty`."""
+) -> tuple[NDArray[np.int32], NDArray[np.int32], NDArray[np.int32], NDArray[np.bool_]]:
+    """The arcs along pieces with these ends and runs, in the columns of RoadNetwork from `start` to `is_back`."""
     forward, backward = (~np.isnan(speed) for speed in (roads.forward, roads.backward))
     count = (forward.astype(np.int8) + backward)[runs.road][run]
     piece = np.repeat(np.arange(len(run), dtype=np.int32), count)
-    is_back = np.zeros(len(piece), np.bool_)
-    is_back[1:] = piece[1:] == piece[:-1]
-    ends = np.empty(len(piece), np.int32), np.empty(len(piece), np.int32)
+    is_back = ~differs(piece)
+    starts, ends = np.empty(len(piece), np.int32), np.empty(len(piece), np.int32)
 
     def orient(part: slice) -> None:
         pieces, back = piece[part], is_back[part]
         back |= ~forward[runs.road[run[pieces]]]
         here, there = start[pieces], end[pieces]
-        ends[0][part], ends[1][part] = np.where(back, there, here), np.where(back, here, there)
+        starts[part], ends[part] = np.where(back, there, here), np.where(back, here, there)
 
     map_slices(orient, len(piece))
-    return *ends, piece, is_back, np.zeros(len(piece), np.bool_), np.zeros(len(piece), np.int32)
+    return starts, ends, piece, is_back
 
 
 # Turn restrictions
@@ -172,15 +173,13 @@ def split_junctions(
 ) -> RoadNetwork:
     """The network with the junctions split where a turn is forbidden, by the rules of nodes, or has a penalty, in hundredths of a
     second by the words left, right and back."""
-    count = len(network.node_osm)
-    nodes = np.arange(count) if any(penalties.values()) else np.fromiter(rules, np.int64, len(rules))
+    count, has_penalties = len(network.node_osm), any(penalties.values())
+    nodes = np.arange(count) if has_penalties else np.fromiter(rules, np.int64, len(rules))
     pairs = turn_restrictions.pairs_at(nodes, network.start, network.end, count)
-    cost = penalties_of(network, pairs, penalties)
+    cost = penalties_of(network, pairs, penalties) if has_penalties else np.zeros(len(pairs.turn_into), np.int32)
     forbid(network, pairs, rules, cost)
     found = turn_restrictions.split_nodes(nodes, pairs, cost, network.start, network.end, count)
-    report["junctions split by turn restrictions" if not any(penalties.values()) else "nodes split by turns"] = len(
-        found.begin
-    )
+    report["nodes split by turns" if has_penalties else "junctions split by turn restrictions"] = len(found.begin)
     ends = network.node_ends.copy()
     ends[found.begin] = ENDS.index(turn_restrictions.START)
     is_apart = np.zeros(len(network.piece_run), np.bool_)
@@ -194,10 +193,8 @@ def split_junctions(
 
 
 def forbid(
-    network: RoadNetwork,
-    pairs: turn_restrictions.TurnPairs,
-    rules: dict[int, turn_restrictions.Rules],
-    cost: NDArray[np.int32],
+    network: RoadNetwork, pairs: turn_restrictions.TurnPairs, rules: dict[int, turn_restrictions.Rules],
+    cost: NDArray[np.int32]
 ) -> None:
     """Sets the cost of the turns that the rules of their nodes don't allow to FORBIDDEN."""
     into, out = pairs.into[pairs.turn_into], pairs.out[pairs.turn_out]
@@ -214,33 +211,27 @@ def forbid(
 def penalties_of(network: RoadNetwork, pairs: turn_restrictions.TurnPairs, penalties: dict[str, int]) -> NDArray[np.int32]:
     """The penalty of each turn, by its angle: straight on is within STRAIGHT degrees of the line of the road; back is the piece
     of road by which one came, or within BACK degrees of it."""
-    found = np.zeros(len(pairs.turn_into), np.int32)
-    if not any(penalties.values()):
-        return found
     into, out = pairs.into[pairs.turn_into], pairs.out[pairs.turn_out]
-    before, after = headings(network, into, is_end=True), headings(network, out, is_end=False)
-    angle = np.degrees(np.arctan2(
-        before[:, 0] * after[:, 1] - before[:, 1] * after[:, 0], before[:, 0] * after[:, 0] + before[:, 1] * after[:, 1]
-    ))
+    (east, north), (east_after, north_after) = headings(network, into, is_end=True), headings(network, out, is_end=False)
+    angle = np.degrees(np.arctan2(east * north_after - north * east_after, east * east_after + north * north_after))
     is_back = (network.piece[into] == network.piece[out]) & (network.is_back[into] != network.is_back[out])
+    found = np.zeros(len(into), np.int32)
     found[angle > STRAIGHT] = penalties.get("left", 0)
     found[angle < -STRAIGHT] = penalties.get("right", 0)
     found[is_back | (np.abs(angle) > 180 - BACK)] = penalties.get("back", 0)
     return found
 
 
-def headings(network: RoadNetwork, arcs: Ints, is_end: bool) -> Floats:
+def headings(network: RoadNetwork, arcs: Ints, is_end: bool) -> tuple[Floats, Floats]:
     """Where each arc leads to in its last step, or in its first: east and north, of any length."""
-    piece = network.piece[arcs]
-    at_tail = network.is_back[arcs] ^ is_end
+    piece, is_back = network.piece[arcs], network.is_back[arcs]
     begin, end = network.runs.begin[piece].astype(np.int64), network.runs.end[piece].astype(np.int64)
-    first = np.where(at_tail, end - 2, begin)
+    first = np.where(is_back ^ is_end, end - 2, begin)
     here, there = (network.runs.points[place].astype(np.float64) for place in (first, first + 1))
     half = 180 * net_file.UNITS
-    east = (there[:, 0] - here[:, 0] + half) % (2 * half) - half
-    steps = np.column_stack((east * np.cos(np.radians(here[:, 1] / net_file.UNITS)), there[:, 1] - here[:, 1]))
-    found: Floats = np.where(network.is_back[arcs][:, None], -steps, steps)
-    return found
+    east = ((there[:, 0] - here[:, 0] + half) % (2 * half) - half) * np.cos(np.radians(here[:, 1] / net_file.UNITS))
+    sign = np.where(is_back, -1.0, 1.0)
+    return sign * east, sign * (there[:, 1] - here[:, 1])
 
 
 # Islands
@@ -257,41 +248,23 @@ def keep_largest(network: RoadNetwork, report: Report) -> RoadNetwork:
     from_kept[end[kept[start]]] = True
     to_kept[start[kept[end]]] = True
     ends = network.node_ends
-    kept |= (ends == ENDS.index(turn_restrictions.END)) & from_kept | (
-        ends == ENDS.index(turn_restrictions.START)
-    ) & to_kept
+    only_end, only_start = ENDS.index(turn_restrictions.END), ENDS.index(turn_restrictions.START)
+    kept |= (ends == only_end) & from_kept | (ends == only_start) & to_kept
     number = (np.cumsum(kept) - 1).astype(np.int32)
     found = network.with_arcs(kept[start] & kept[end])
     report["nodes outside the largest strongly connected component"] = count - int(kept.sum())
-    report["pieces of road outside it"] = count_pieces(network) - count_pieces(found)
+    report["pieces of road outside it"] = int(network.is_first().sum()) - int(found.is_first().sum())
     return found._replace(
         node_osm=network.node_osm[kept], node_place=network.node_place[kept], node_ends=ends[kept],
         start=number[found.start], end=number[found.end],
     )
 
 
-def count_pieces(network: RoadNetwork) -> int:
-    """How many pieces of road there are; each arc of one that turn restrictions have taken apart counts."""
-    return int(is_first(network).sum())
-
-
-def is_first(network: RoadNetwork) -> NDArray[np.bool_]:
-    """Whether an arc is the first of its piece, or is split."""
-    found = np.ones(len(network.piece), np.bool_)
-    found[1:] = (network.piece[1:] != network.piece[:-1]) | network.is_split[1:]
-    return found
-
-
 def metres_of_roads(network: RoadNetwork) -> float:
     """The metres of the road that the pieces are of; what turn restrictions have taken apart counts once."""
-    whole, apart = network.piece[is_first(network) & ~network.is_split], np.unique(network.piece[network.is_split])
+    whole, apart = network.piece[network.is_first() & ~network.is_split], np.unique(network.piece[network.is_split])
     metres = (network.runs.metres[network.piece_run[pieces]] for pieces in (whole, apart))
-    return sum(map(sequential_sum, metres))
-
-
-def sequential_sum(values: Floats) -> float:
-    """The sum of the values, one after the other."""
-    return float(np.cumsum(values)[-1]) if len(values) else 0.0
+    return sum(float(np.cumsum(each)[-1]) for each in metres if len(each))
 
 
 # As it is written
@@ -307,19 +280,6 @@ def rounded_exactly(values: Floats, digits: int) -> Floats:
     return found
 
 
-def milliseconds(metres: Floats, speed: Floats) -> Floats:
-    return metres * 3600 / speed
-
-
-def centimetres(metres: Floats, _speed: Floats) -> Floats:
-    return metres * 100
-
-
-WEIGHTS: dict[str, Unit] = {"time": milliseconds, "length": centimetres}
-# How much of it a hundredth of a second is, where turns have penalties
-UNITS_PER_PENALTY = {"time": 10, "length": 0}
-
-
 def to_arrays(network: RoadNetwork, kind: str, rows_of: RowsOf, attribution: str, report: Report) -> net_file.Arrays:
     """The network in arrays; `rows_of` gives texts, and the rows of their numbers that roads name, in the order of
     binary.TEXTS."""
@@ -328,9 +288,9 @@ def to_arrays(network: RoadNetwork, kind: str, rows_of: RowsOf, attribution: str
     texts, row_texts, arc_row = texts_of(row, rows_of, attribution)
     del row
     encoded = [text.encode("utf-8", "replace") for text in texts]
+    lon, lat = (np.ascontiguousarray(degrees) for degrees in network.node_place.T)
     return net_file.Arrays(
-        np.array([net_file.VERSION]), np.zeros(2, np.int64), network.node_osm,
-        np.ascontiguousarray(network.node_place[:, 0]), np.ascontiguousarray(network.node_place[:, 1]), network.node_ends,
+        np.array([net_file.VERSION]), np.zeros(2, np.int64), network.node_osm, lon, lat, network.node_ends,
         network.start + np.int32(1), network.end + np.int32(1), weight, seconds, metres, osm, arc_row,
         edge, along, row_texts, edge_begin, points,
         offsets(np.array([len(text) for text in encoded], np.int64)), np.frombuffer(b"".join(encoded), np.uint8),
@@ -345,10 +305,11 @@ def arc_columns(network: RoadNetwork, kind: str, report: Report) -> tuple[Ints, 
 
     def fill(part: slice) -> int:
         chunk = network.with_arcs(part)
-        road, lengths, speed = chunk.road(), chunk.metres(), chunk.speed()
-        weights = np.rint(WEIGHTS[kind](lengths, speed)).astype(np.int64)
-        weight[part] = np.maximum(weights, 1) + chunk.penalty * np.int64(UNITS_PER_PENALTY[kind])
-        seconds[part] = rounded_exactly(milliseconds(lengths, speed) / 1000 + chunk.penalty / 100, 3)
+        road, lengths = chunk.road(), chunk.metres()
+        milliseconds = lengths * 3600 / chunk.speed()
+        weights = np.rint(milliseconds if kind == "time" else lengths * 100).astype(np.int64)
+        weight[part] = np.maximum(weights, 1) + chunk.penalty * np.int64(WEIGHTS[kind])
+        seconds[part] = rounded_exactly(milliseconds / 1000 + chunk.penalty / 100, 3)
         metres[part], osm[part], row[part] = rounded_exactly(lengths, 2), network.roads.osm[road], network.roads.row[road]
         return int((weights == 0).sum())
 
@@ -359,8 +320,7 @@ def arc_columns(network: RoadNetwork, kind: str, report: Report) -> tuple[Ints, 
 def texts_of(
     row_of_arc: NDArray[np.uint32], rows_of: RowsOf, attribution: str
 ) -> tuple[list[str], NDArray[np.int32], NDArray[np.int32]]:
-    """The list of texts, in the order in which arcs have them, and rows of texts and the row of each arc, as binary.Arrays has
-    them."""
+    """The list of texts, in the order in which arcs have them, and rows of texts and the row of each arc, as Arrays has them."""
     first = first_index(row_of_arc, int(row_of_arc.max(initial=0)) + 1)
     used = order_of_first_use(first)
     texts, rows = rows_of(used)
@@ -394,7 +354,7 @@ def edges_from_pieces(network: RoadNetwork) -> tuple[NDArray[np.int32], NDArray[
     known: dict[tuple[int, bytes], int] = {}
     for row in candidate_duplicates(keys):
         line = pieces.line(row) if is_along[row] else pieces.line(row)[::-1]
-        first = known.setdefault((pieces.way(row), line.tobytes()), row)
+        first = known.setdefault((int(pieces.ways(row)), line.tobytes()), row)
         if first != row:
             is_edge[row], first_of[row] = False, first
     del keys, known
@@ -412,25 +372,21 @@ class Pieces:
 
     def line(self, row: int) -> NDArray[np.int32]:
         """The points of a piece."""
-        piece = self._pieces[row]
-        return np.array(self._runs.points[int(self._runs.begin[piece]) : int(self._runs.end[piece])])
+        begin, end = self._bounds(row)
+        return np.array(self._runs.points[begin:end])
 
-    def way(self, row: int) -> int:
-        """The id of a piece's way."""
-        return int(self._ways(slice(row, row + 1))[0])
+    def ways(self, rows: "slice | int") -> Any:
+        """The ids of the ways of pieces."""
+        return self._network.roads.osm[self._runs.road[self._network.piece_run[self._pieces[rows]]]]
 
-    def _ways(self, part: slice) -> Ints:
-        found: Ints = self._network.roads.osm[self._runs.road[self._network.piece_run[self._pieces[part]]]]
-        return found
-
-    def _bounds(self, part: slice) -> tuple[Ints, Ints]:
+    def _bounds(self, rows: "slice | int") -> tuple[Any, Any]:
         """Where the points of pieces begin and end."""
-        pieces = self._pieces[part]
+        pieces = self._pieces[rows]
         return self._runs.begin[pieces].astype(np.int64), self._runs.end[pieces].astype(np.int64)
 
     def classify(self) -> tuple[NDArray[np.bool_], NDArray[np.bool_], NDArray[np.uint64]]:
-        """Whether each piece leads to the greater of its ends, whether both are one place, and a mix of 64 bits that pieces of one way
-        have in common that lie on one line."""
+        """Whether each piece leads to the greater of its ends, whether both are one place, and a mix of 64 bits that pieces of
+        one way have in common that lie on one line."""
         count = len(self._pieces)
         is_along, is_ring, keys = np.empty(count, np.bool_), np.empty(count, np.bool_), np.empty(count, np.uint64)
 
@@ -438,7 +394,7 @@ class Pieces:
             begin, end = self._bounds(part)
             head, tail = place_keys(self._runs.points[begin]), place_keys(self._runs.points[end - 1])
             is_along[part], is_ring[part] = head < tail, head == tail
-            keys[part] = hash_rows(self._ways(part), np.minimum(head, tail), np.maximum(head, tail), end - begin)
+            keys[part] = hash_rows(self.ways(part), np.minimum(head, tail), np.maximum(head, tail), end - begin)
 
         map_slices(look, count)
         return is_along, is_ring, keys

@@ -26,6 +26,7 @@ import numpy as np
 from numpy.typing import NDArray
 
 from domethyme.network.groups import Ints, expand, first_of_equal, offsets
+from domethyme.network.parallel import differs_from_previous as differs
 from domethyme.network.tables import ENDS
 
 Report = collections.Counter[str]
@@ -58,9 +59,8 @@ def restrictions_of(
     """The restrictions of a relation for a vehicle with these access tags, the most general first; or none, and why, in the
     words of the report, None where it isn't a turn restriction or is for other vehicles. `keys` are those that have them, the
     most general first; without them `restriction` and those of the access tags."""
-    if tags.get("type") != "restriction":
-        return [], None
-    if set(access) & {word.strip() for word in tags.get("except", "").split(";")}:
+    excepted = {word.strip() for word in tags.get("except", "").split(";")}
+    if tags.get("type") != "restriction" or excepted & set(access):
         return [], None
     if keys is None:
         keys = ["restriction", *(f"restriction:{vehicle}" for vehicle in access)]
@@ -70,12 +70,12 @@ def restrictions_of(
         return [], NOT_LOOKED_AT + "at times only" if is_conditional else None
     if not value.startswith(("no_", "only_")):
         return [], NOT_LOOKED_AT + "of another kind"
-    by_role = {role: [member for member in members if member.role == role] for role in ("from", "via", "to")}
-    if [member.kind for member in by_role["via"]] != ["n"]:
+    vias = [member for member in members if member.role == "via"]
+    if [member.kind for member in vias] != ["n"]:
         return [], NOT_LOOKED_AT + "not by one node"
-    starts, ends = ([member.osm for member in by_role[role] if member.kind == "w"] for role in ("from", "to"))
-    via = by_role["via"][0].osm
-    return [Restriction(start, via, end, value.startswith("only_")) for start in starts for end in ends], None
+    starts, ends = ([osm for kind, osm, role in members if (kind, role) == ("w", wanted)] for wanted in ("from", "to"))
+    only = value.startswith("only_")
+    return [Restriction(start, vias[0].osm, end, only) for start in starts for end in ends], None
 
 
 class Rules:
@@ -157,8 +157,8 @@ class Split(NamedTuple):
 
 
 class Copies(NamedTuple):
-    """The new nodes of junctions that are split. For each place of Pairs.into whether a node is made for it and its like, and the
-    number of that node; the node to which its arc leads where a route goes on, and where it ends. For each node that may be
+    """The new nodes of junctions that are split. For each place of TurnPairs.into whether a node is made for it and its like, and
+    the number of that node; the node to which its arc leads where a route goes on, and where it ends. For each node that may be
     split whether it is. For each new node the one that it is beside, and its number in ENDS."""
 
     is_made: NDArray[np.bool_]
@@ -173,43 +173,27 @@ class Copies(NamedTuple):
 def split_nodes(
     nodes: Ints, pairs: TurnPairs, cost: NDArray[np.int32], start: NDArray[np.int32], end: NDArray[np.int32], count: int
 ) -> Split:
-    """Splits those of the nodes where a turn is FORBIDDEN or has a penalty, by the cost of each turn. New nodes follow the others:
-    of each node that is split the one where routes end, and one for each set of arcs that differ in what they may go on into, or
-    at which penalty, in the order of the first of them."""
+    """Splits those of the nodes where a turn is FORBIDDEN or has a penalty, by the cost of each turn. New nodes follow the
+    others: of each node that is split the one where routes end, and one for each set of arcs that differ in what they may go on
+    into, or at which penalty, in the order of the first of them."""
     copies = make_copies(nodes, pairs, cost, count)
-    # each arc that leads to a split node ends twice, and each that leads from one starts once for each node made that may take it
-    ends_of, first_end, last_end = np.ones(len(start), np.int8), end.copy(), end.copy()
-    there = np.repeat(copies.is_split, np.diff(pairs.into_begin))
-    arcs = pairs.into[there]
-    ends_of[arcs], first_end[arcs], last_end[arcs] = 2, copies.goes_to[there], copies.ends_at[there]
+    # an arc starts where it did, and then at each node made that may take it
     leaves = np.flatnonzero(copies.is_made[pairs.turn_into] & (cost != FORBIDDEN))
+    leaves = leaves[np.argsort(pairs.out[pairs.turn_out[leaves]], kind="stable")]
     arc_out = pairs.out[pairs.turn_out[leaves]]
-    leaves, arc_out = (values[np.lexsort((pairs.turn_into[leaves], arc_out))] for values in (leaves, arc_out))
-    starts_of = np.ones(len(start), np.int32)
-    starts_of += np.bincount(arc_out, minlength=len(start)).astype(np.int32)
-    total = starts_of * ends_of
-    arc, is_several = np.repeat(np.arange(len(start)), total), np.repeat(total > 1, total)
-    found = start[arc], first_end[arc], np.zeros(len(arc), np.int32)
-    # each start of those with several, with each end
-    several = np.flatnonzero(total > 1)
-    starts_of, ends_of = starts_of[several], ends_of[several]
-    start_begin = offsets(starts_of)
-    starts, penalties = np.repeat(start[several], starts_of), np.zeros(int(start_begin[-1]), np.int32)
-    is_more = np.ones(len(starts), np.bool_)
-    is_more[start_begin[:-1]] = False
-    starts[is_more], penalties[is_more] = copies.made[pairs.turn_into[leaves]], cost[leaves]
-    owner, start_row, end_number = product(starts_of, ends_of)
-    found[0][is_several], found[2][is_several] = starts[start_row], penalties[start_row]
-    found[1][is_several] = np.where(end_number == 0, first_end[several[owner]], last_end[several[owner]])
-    touched = np.concatenate((arcs, pairs.out[np.repeat(copies.is_split, np.diff(pairs.out_begin))]))
-    return Split(arc, *found, copies.beside, copies.ends, nodes[copies.is_split], touched)
-
-
-def product(starts_of: NDArray[np.int32], ends_of: NDArray[np.int8]) -> tuple[Ints, Ints, Ints]:
-    """Each start of an arc with each of its ends, by how many each arc has: the arc, the row of the start, and the number of the
-    end, where the rows of starts follow one another arc by arc."""
-    owner, number = expand(starts_of * ends_of)
-    return owner, offsets(starts_of)[owner] + number // ends_of[owner], number % ends_of[owner]
+    arc = np.insert(np.arange(len(start)), arc_out + 1, arc_out)
+    starts = np.insert(start, arc_out + 1, copies.made[pairs.turn_into[leaves]])
+    penalties = np.insert(np.zeros(len(start), np.int32), arc_out + 1, cost[leaves])
+    # each of these ends twice where it leads to a split node: where a route goes on, and where it ends
+    is_there = np.repeat(copies.is_split, np.diff(pairs.into_begin))
+    into = pairs.into[is_there]
+    times, first_end, last_end = np.ones(len(start), np.int8), end.copy(), end.copy()
+    times[into], first_end[into], last_end[into] = 2, copies.goes_to[is_there], copies.ends_at[is_there]
+    row = np.repeat(np.arange(len(arc)), times[arc])
+    arc = arc[row]
+    ends = np.where(differs(row), first_end[arc], last_end[arc])
+    touched = np.concatenate((into, pairs.out[np.repeat(copies.is_split, np.diff(pairs.out_begin))]))
+    return Split(arc, starts[row], ends, penalties[row], copies.beside, copies.ends, nodes[copies.is_split], touched)
 
 
 def make_copies(nodes: Ints, pairs: TurnPairs, cost: NDArray[np.int32], count: int) -> Copies:
