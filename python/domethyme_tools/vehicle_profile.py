@@ -29,9 +29,8 @@ COUNTRY, ZONE = re.compile("[A-Z]{2}:(.+)"), re.compile("[A-Z]{2}:zone:?([0-9]+)
 SPEED = re.compile(r"([0-9]+(?:\.[0-9]+)?) *(km/h|kmh|kph|mph|knots)?")
 UNITS = {None: 1, "km/h": 1, "kmh": 1, "kph": 1, "mph": 1.609344, "knots": 1.852}
 # metres and tonnes
-LENGTH, WEIGHT = re.compile(r"([0-9]+(?:\.[0-9]+)?) *(m|cm|ft)?"), re.compile(
-    r"([0-9]+(?:\.[0-9]+)?) *(t|kg|st|lt|lbs|cwt)?"
-)
+LENGTH = re.compile(r"([0-9]+(?:\.[0-9]+)?) *(m|cm|ft)?")
+WEIGHT = re.compile(r"([0-9]+(?:\.[0-9]+)?) *(t|kg|st|lt|lbs|cwt)?")
 FEET = re.compile(r"([0-9]+)' *(?:([0-9]+(?:\.[0-9]+)?)\")?")
 MEASURES = {None: 1, "m": 1, "cm": 0.01, "ft": 0.3048, "t": 1, "kg": 0.001, "st": 0.90718474, "lt": 1.0160469088,
             "lbs": 0.00045359237, "cwt": 0.05080234544}
@@ -82,9 +81,8 @@ def read_profile(word: str) -> Profile:
     path = pathlib.Path(word) if word.endswith(".json") else PROFILES / f"{word}.json"
     if not word.endswith(".json") and not os.path.exists(path):
         known = ", ".join(sorted(each.stem for each in PROFILES.glob("*.json")))
-        raise ToolError(
-            f"there is no profile {word}: there is {known}; for another vehicle copy its file and name the copy"
-        )
+        remedy = f"there is {known}; for another vehicle copy its file and name the copy"
+        raise ToolError(f"there is no profile {word}: {remedy}")
     with open_input(path) as stream:
         try:
             members = json.load(stream)
@@ -101,34 +99,34 @@ def validate_profile(members: Any, path: StrPath) -> Profile:
         raise ToolError("is no object with the members of a profile", path)
     members.pop("about", None)
     for name in Profile._fields:
-        if name in members:
-            if wrong := member_error(name, members[name]):
-                raise ToolError(f"{name} isn't {wrong}", path)
-        elif name not in Profile._field_defaults:
+        if name not in members and name not in Profile._field_defaults:
             raise ToolError(f"has no member {name}", path)
-    for name in members:
-        if name not in Profile._fields:
-            raise ToolError(f"has the unknown member {name}", path)
+        if name in members and (wrong := member_error(name, members[name])):
+            raise ToolError(f"{name} isn't {wrong}", path)
+    if unknown := [name for name in members if name not in Profile._fields]:
+        raise ToolError(f"has the unknown member {unknown[0]}", path)
     return Profile(**members)
 
 
 def member_error(name: str, value: Any) -> str:
     """What a member isn't and has to be, or the empty text."""
     if name == "turns":
-        kinds = isinstance(value, dict) and all(kind in TURNS and type(value[kind]) is int for kind in value)
-        fits = kinds and all(0 <= penalty <= MAX_PENALTY for penalty in value.values())
+        fits = isinstance(value, dict) and all(
+            kind in TURNS and type(penalty) is int and 0 <= penalty <= MAX_PENALTY for kind, penalty in value.items()
+        )
         return "" if fits else f"hundredths of a second from 0 to {MAX_PENALTY} by the words {', '.join(TURNS)}"
     if name == "fastest":
         return speed_error({"fastest": value}) and f"a speed from {SLOWEST} to {FASTEST}"
-    if name in ("both_ways", "closed_by"):
-        return "" if is_words(value) and all(word.count("=") == 1 for word in value) else "a list of words KEY=VALUE"
     if name in ("speeds", "maxspeed_words", "surfaces"):
         wrong = speed_error(value)
-        return f"speeds from {SLOWEST} to {FASTEST} by names{wrong}" if wrong else ""
+        return wrong and f"speeds from {SLOWEST} to {FASTEST} by names{wrong}"
     if name == "measures":
         wrong = speed_error(value, 0)
-        return f"measures in metres or tonnes by names{wrong}" if wrong else ""
-    return "" if is_words(value) else "a list of words"
+        return wrong and f"measures in metres or tonnes by names{wrong}"
+    are_words = isinstance(value, list) and all(isinstance(word, str) for word in value)
+    if name in ("both_ways", "closed_by"):
+        return "" if are_words and all(word.count("=") == 1 for word in value) else "a list of words KEY=VALUE"
+    return "" if are_words else "a list of words"
 
 
 def speed_error(value: Any, least: float = SLOWEST) -> str:
@@ -139,10 +137,6 @@ def speed_error(value: Any, least: float = SLOWEST) -> str:
         if type(speed) not in (int, float) or not least <= speed <= FASTEST:
             return f": {name} is {json.dumps(speed)}"
     return ""
-
-
-def is_words(value: Any) -> bool:
-    return isinstance(value, list) and all(isinstance(word, str) for word in value)
 
 
 # The rules
@@ -175,15 +169,15 @@ def judge(tags: Tags, profile: Profile) -> Judgement:
     reason = rejection_reason(tags, profile)
     if reason is not None:
         return Judgement(reason)
-    forward, backward = directions(tags, profile)
-    forward_speed, forward_known = speed_of(tags, "forward", profile)
-    backward_speed, backward_known = speed_of(tags, "backward", profile)
+    may_forward, may_backward = directions(tags, profile)
+    forward, forward_known = speed_of(tags, "forward", profile)
+    backward, backward_known = speed_of(tags, "backward", profile)
     unknown = None
-    if (forward and not forward_known) or (backward and not backward_known):
+    if may_forward and not forward_known or may_backward and not backward_known:
         unknown = " and ".join(sorted({tags[key] for key in speed_keys(profile) if key in tags}))
-    limits = [tags[key] for key in profile.measures if key in tags and limit_of(key, tags[key]) is None]
-    speeds = forward_speed if forward else None, backward_speed if backward else None
-    return Judgement(None, *speeds, unknown, " and ".join(sorted(set(limits))) or None)
+    limits = {tags[key] for key in profile.measures if key in tags and limit_of(key, tags[key]) is None}
+    speeds = forward if may_forward else None, backward if may_backward else None
+    return Judgement(None, *speeds, unknown, " and ".join(sorted(limits)) or None)
 
 
 def is_open(tags: Tags, profile: Profile) -> bool:
@@ -196,7 +190,7 @@ def is_open(tags: Tags, profile: Profile) -> bool:
 
 def allows(tags: Tags, profile: Profile) -> bool:
     """Whether the most particular access tag of all, the vehicle's own, is set and lets it in."""
-    return profile.access[-1:] != [] and profile.access[-1] in tags and is_open(tags, profile)
+    return any(key in tags for key in profile.access[-1:]) and is_open(tags, profile)
 
 
 def has_one(tags: Tags, words: list[str]) -> bool:
@@ -249,11 +243,11 @@ def rejection_reason(tags: Tags, profile: Profile) -> str | None:
 
 def directions(tags: Tags, profile: Profile) -> tuple[bool, bool]:
     """Whether a way may be taken forward, and whether backward."""
+    if has_one(tags, profile.both_ways):
+        return True, True
     one_way = tags["highway"] in profile.oneway_highways or tags.get("junction") in profile.oneway_junctions
     value = oneway_of(tags, profile)
     only = ONEWAY.get(value) if value is not None else "forward" if one_way else None
-    if has_one(tags, profile.both_ways):
-        only = None
     return only != "backward", only != "forward"
 
 
@@ -268,15 +262,13 @@ def speed_of(tags: Tags, direction: str, profile: Profile) -> tuple[float, bool]
     text = next((tags[key] for key in keys if key in tags), None)
     limit = None if text is None else maxspeed_of(text, profile)
     speed = profile.speeds[tags["highway"]] if limit is None else limit
-    return (
-        min(speed, profile.fastest, profile.surfaces.get(tags.get("surface", ""), FASTEST)),
-        text is None or limit is not None,
-    )
+    of_surface = profile.surfaces.get(tags.get("surface", ""), FASTEST)
+    return min(speed, profile.fastest, of_surface), text is None or limit is not None
 
 
 def maxspeed_of(text: str, profile: Profile) -> float | None:
-    """The km/h that a value of maxspeed means, or None where it isn't understood. For a country's kind of road, as RO:urban, it
-    is that of the country where the profile has it, else that of all countries, *:urban; a zone has its own number."""
+    """The km/h that a value of maxspeed means, or None where it isn't understood. For a country's kind of road, as RO:urban,
+    it is that of the country where the profile has it, else that of all countries, *:urban; a zone has its own number."""
     words, place = profile.maxspeed_words, COUNTRY.fullmatch(text)
     for word in (text, f"*:{place[1]}") if place else (text,):
         if word in words:
