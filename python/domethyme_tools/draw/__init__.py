@@ -28,7 +28,7 @@ from domethyme.atomic_files import atomic_write
 from domethyme.network.tables import paths_of, read_attribution
 
 from ..cli import argument_parser, current_arguments, display_name, refuse_overwriting, warn
-from .geometry import Box, View
+from .geometry import View
 from .page import page_of
 from .picture import picture_of
 from .roads import make_scene
@@ -47,7 +47,8 @@ def parse_args() -> argparse.Namespace:
     parser.add_argument("routes", metavar="ROUTES", help="the routes, as GeoJSON")
     parser.add_argument("output", metavar="OUT.svg|OUT.html", help="the picture or page")
     parser.add_argument("--label", metavar="COLUMN", help="the property that names a route (default: numbers)")
-    parser.add_argument("--width", metavar="PIXELS", type=pixels, help="of the picture (default: 1000, or less if it is high)")
+    parser.add_argument("--width", metavar="PIXELS", type=pixels,
+                        help="of the picture (default: 1000, or less if it is high)")
     parser.add_argument("--full-network", action="store_true", help="the whole network, and not only around the routes")
     parser.add_argument("--tiles", metavar="URL", help="a background for the page, such as https://../{z}/{x}/{y}.png")
     parser.add_argument("--attribution", metavar="TEXT", help="shown beside the network's own, such as that of the tiles")
@@ -72,11 +73,6 @@ def pixels(text: str) -> int:
     return value
 
 
-def width_of(box: Box) -> int:
-    """The width of a picture whose longer side has 1000 pixels."""
-    return round(1000 * min(1, box.width / box.height))
-
-
 def main() -> None:
     options = parse_args()
     routes, said = read_routes(options.routes, options.label)
@@ -87,7 +83,9 @@ def main() -> None:
     of_all = [read_attribution(options.network), *said, options.attribution]
     attribution = ", ".join(dict.fromkeys(filter(None, of_all)))
     if is_picture:
-        text = picture_of(routes, roads, View(box, options.width or width_of(box)), attribution)
+        # by default the longer side has 1000 pixels
+        width = options.width or round(1000 * min(1, box.width / box.height))
+        text = picture_of(routes, roads, View(box, width), attribution)
     else:
         text = page_of(routes, roads, attribution, options.tiles)
     with atomic_write(options.output) as file:

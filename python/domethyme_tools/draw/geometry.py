@@ -31,7 +31,6 @@ MILLIONTHS = 1_000_000
 TENTHS = 10
 
 Value = TypeVar("Value")
-Edges = collections.Counter[tuple[Point, Point]]
 
 
 def to_mercator(places: Iterable[Point]) -> list[Point]:
@@ -51,12 +50,12 @@ def from_mercator(point: Point) -> Point:
 
 
 def unwrapped(line: Iterable[Point], near: float = 0.0) -> list[Point]:
-    """A line whose longitudes go on beyond 180 degrees where it crosses the 180th meridian, without one that is the place before
-    again; it begins within 180 degrees of the longitude `near`."""
+    """A line whose longitudes go on beyond 180 degrees where it crosses the 180th meridian, without one that is the place
+    before again; it begins within 180 degrees of the longitude `near`."""
     found: list[Point] = []
     for lon, lat in line:
-        before = found[-1][0] if found else near
-        found.append((lon + 360 * round((before - lon) / 360), lat))
+        near = lon + 360 * round((near - lon) / 360)
+        found.append((near, lat))
     return without_repeats(found)
 
 
@@ -73,22 +72,17 @@ def without_repeats(values: Iterable[Value]) -> list[Value]:
 def overlap_pieces(lines: Sequence[Line], most: int) -> list[list[Piece]]:
     """For each line its pieces in order, (depth, places): along a piece go `depth` of the later lines, or `most` where
     there are more, in either direction."""
-    later: Edges = collections.Counter()
+    later: collections.Counter[tuple[Point, Point]] = collections.Counter()
     found: list[list[Piece]] = []
     for line in reversed(lines):
-        found.append(pieces_of(line, later, most))
-        later.update({undirected(edge) for edge in itertools.pairwise(line)})
+        edges = [(min(edge), max(edge)) for edge in itertools.pairwise(line)]
+        pieces, end = [], 0
+        for depth, same in itertools.groupby(min(later[edge], most) for edge in edges):
+            begin, end = end, end + len(list(same))
+            pieces.append((depth, list(line[begin : end + 1])))
+        found.append(pieces)
+        later.update(set(edges))
     return found[::-1]
-
-
-def pieces_of(line: Line, later: Edges, most: int) -> list[Piece]:
-    """The pieces of a line, where `later` counts the lines along each of its undirected edges."""
-    pieces: list[Piece] = []
-    by_depth = itertools.groupby(itertools.pairwise(line), key=lambda edge: min(later[undirected(edge)], most))
-    for depth, edges in by_depth:
-        starts, ends = zip(*edges)
-        pieces.append((depth, [starts[0], *ends]))
-    return pieces
 
 
 def arrows(pixels: Line, every: float) -> list[tuple[Point, Point]]:
@@ -107,19 +101,15 @@ def arrows(pixels: Line, every: float) -> list[tuple[Point, Point]]:
 def point_at_fraction(places: Line, share: float) -> Point:
     """The place at which a share of the line's way, from 0 to 1, is behind. For lines that are short beside the earth."""
     narrow = math.cos(math.radians(places[0][1]))
-    steps = itertools.pairwise(places)
+    steps = list(itertools.pairwise(places))
     lengths = [math.hypot((end[0] - start[0]) * narrow, end[1] - start[1]) for start, end in steps]
     left = share * sum(lengths)
-    for (start, end), length in zip(itertools.pairwise(places), lengths):
+    for (start, end), length in zip(steps, lengths):
         if left <= length > 0:
             part = left / length
             return start[0] + (end[0] - start[0]) * part, start[1] + (end[1] - start[1]) * part
         left -= length
     return places[-1]
-
-
-def undirected(edge: tuple[Point, Point]) -> tuple[Point, Point]:
-    return min(edge), max(edge)
 
 
 class Box(NamedTuple):
@@ -168,9 +158,7 @@ class View:
     """A picture, `width` pixels wide, of a box of the plane whose width is above 0."""
 
     def __init__(self, box: Box, width: float) -> None:
-        self.box = box
-        self.width = width
-        self.scale = width / box.width
+        self.box, self.width, self.scale = box, width, width / box.width
         self.height = round(box.height * self.scale)
 
     def pixels(self, points: Iterable[Point]) -> list[Point]:
@@ -180,35 +168,27 @@ class View:
     @property
     def metres_of_a_pixel(self) -> float:
         """The length of a pixel on the ground, in the middle of the picture."""
-        north = 0.5 - (self.box.top + self.box.bottom) / 2
+        north = 0.5 - self.box.middle[1]
         return 2 * math.pi * EARTH_RADIUS / math.cosh(2 * math.pi * north) / self.scale
 
 
 def path_of(pixels: Iterable[Point]) -> str:
     """A line as the text of an SVG path, in steps from pixel to pixel; steps of less than a tenth are left out."""
-    rounded = without_repeats([(round(x * TENTHS), round(y * TENTHS)) for x, y in pixels])
-    (x, y), *steps = rounded
-    text = [f"M{tenths(x)} {tenths(y)}l"]
-    if not steps:
-        return text[0] + "0 0"
-    for before, after in zip(rounded, steps):
-        text.append(f"{tenths(after[0] - before[0])} {tenths(after[1] - before[1])} ")
-    return "".join(text).rstrip()
-
-
-def tenths(number: int) -> str:
-    """The decimal number of a count of tenths, without a zero behind the point."""
-    return f"{number / TENTHS:g}"
+    begin, *steps = from_before(without_repeats((round(x * TENTHS), round(y * TENTHS)) for x, y in pixels))
+    texts = [f"{x / TENTHS:g} {y / TENTHS:g}" for x, y in (begin, *(steps or [(0, 0)]))]
+    return f"M{texts[0]}l{' '.join(texts[1:])}"
 
 
 def delta_encode(places: Iterable[Point]) -> list[int]:
     """A line as a flat list of whole millionths of a degree: the first place, and each other as its difference from the
     one before, longitude first."""
     whole = [(round(lon * MILLIONTHS), round(lat * MILLIONTHS)) for lon, lat in places]
-    numbers = [*whole[0]]
-    for before, after in zip(whole, whole[1:]):
-        numbers += (after[0] - before[0], after[1] - before[1])
-    return numbers
+    return list(itertools.chain.from_iterable(from_before(whole)))
+
+
+def from_before(points: Sequence[tuple[int, int]]) -> list[tuple[int, int]]:
+    """The first point, and the differences of the others from those before them."""
+    return [points[0], *((x - last_x, y - last_y) for (last_x, last_y), (x, y) in itertools.pairwise(points))]
 
 
 def scale_bar_metres(metres: float) -> float:

@@ -11,7 +11,7 @@ from typing import Any
 from ..cli import ToolError
 from .geometry import box_of, delta_encode
 from .picture import FAINT, INK, MAX_WITH_ARROWS, PAPER, escaped
-from .roads import DASHES, ROAD_STYLES, Lines, all_places
+from .roads import RoadLines, all_places
 from .routes import COLOURS, DrawnRoute
 
 LEAFLET = pathlib.Path("/usr/share/javascript/leaflet")
@@ -22,7 +22,7 @@ POLICY = "-- policy --"
 LIGHT_COLOURS = ["#3aa0e0", "#f08a3c", "#2bc297", "#e38abb", "#dfae3a", "#7cc4ec", "#c08ad6", "#9dbf4e"]
 
 
-def page_of(routes: list[DrawnRoute], roads: Lines, attribution: str, tiles: str | None) -> str:
+def page_of(routes: list[DrawnRoute], roads: list[RoadLines], attribution: str, tiles: str | None) -> str:
     """The text of the HTML file."""
     page = string.Template(file_here("page.html")).substitute(
         policy=POLICY,
@@ -34,10 +34,7 @@ def page_of(routes: list[DrawnRoute], roads: Lines, attribution: str, tiles: str
             f".colour-{number} {{ --light: {light}; --dark: {dark}; }}"
             for number, (light, dark) in enumerate(zip(COLOURS, LIGHT_COLOURS))
         ),
-        script=file_here("page.js").rstrip("\n"),
-        paper=PAPER,
-        ink=INK,
-        faint=FAINT,
+        script=file_here("page.js").rstrip("\n"), paper=PAPER, ink=INK, faint=FAINT,
     )
     images = "data: file: http: https:" if tiles else "data:"
     scripts, styles = (digests_of(page, tag) for tag in ("script", "style"))
@@ -45,7 +42,8 @@ def page_of(routes: list[DrawnRoute], roads: Lines, attribution: str, tiles: str
 
 
 def digests_of(page: str, tag: str) -> str:
-    """The texts of a page between these tags, as its policy names those that may run: by their digests, so that no other does."""
+    """The texts of a page between these tags, as its policy names those that may run: by their digests, so that no other
+    does."""
     texts = re.findall(rf"<{tag}>(.*?)</{tag}>", page, re.S)
     digests = (hashlib.sha256(text.encode()).digest() for text in texts)
     return " ".join(f"'sha256-{base64.b64encode(digest).decode()}'" for digest in digests)
@@ -78,7 +76,7 @@ def package_text(path: pathlib.Path) -> str:
         raise ToolError("isn't there: pages need Debian's package libjs-leaflet", path) from error
 
 
-def data_of(routes: list[DrawnRoute], roads: Lines, attribution: str, tiles: str | None) -> str:
+def data_of(routes: list[DrawnRoute], roads: list[RoadLines], attribution: str, tiles: str | None) -> str:
     """What the page's script draws, as JSON that may be a part of HTML."""
     places = list(itertools.chain.from_iterable(route.places for route in routes)) or all_places(roads)
     west, south, east, north = box_of(places)
@@ -89,17 +87,10 @@ def data_of(routes: list[DrawnRoute], roads: Lines, attribution: str, tiles: str
         "mostWithArrows": MAX_WITH_ARROWS,
         "roads": [
             {
-                "width": kind.width,
-                "colour": kind.colour,
-                "dark": of_dark.colour,
-                "lines": [delta_encode(line) for line in lines],
-                "dashes": dashes,
+                "width": style.width, "colour": style.colour, "dark": style.dark,
+                "lines": [delta_encode(line) for line in lines], "dashes": dashes,
             }
-            for kind, of_dark, lines, dashes in zip(
-                (*ROAD_STYLES, *ROAD_STYLES), (*ROAD_STYLES[::-1], *ROAD_STYLES[::-1]), roads,
-                (None,) * len(ROAD_STYLES) + (DASHES,) * len(ROAD_STYLES)
-            )
-            if lines or dashes is None
+            for style, dashes, lines in roads if lines or dashes is None
         ],
         "routes": [route_data(route) for route in routes],
     }

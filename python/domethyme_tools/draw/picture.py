@@ -3,14 +3,15 @@ import html
 import itertools
 import math
 import re
-import typing
 from collections.abc import Iterator, Sequence
-from typing import Union
+from typing import NamedTuple
+
+import numpy
 
 from domethyme.network.geo import Point
 
-from .geometry import Box, View, arrows, path_of, scale_bar_metres, to_mercator
-from .roads import DASHES, ROAD_STYLES, Lines
+from .geometry import View, arrows, path_of, scale_bar_metres, to_mercator
+from .roads import RoadLines
 from .routes import NARROWEST, DrawnRoute
 
 PAPER, INK, FAINT = "#fbfaf8", "#33302b", "#7a756c"
@@ -20,33 +21,35 @@ LONGEST_LABEL, SHORTEST_LABEL, MAX_ROWS = 48, 12, 40
 SECOND_LINE, ROUND_ENDS, CLOSE = 18, 8, 10
 MAX_OF_WIDTH, AREA_OPACITY = 0.4, 0.33
 BETWEEN_ARROWS, FROM_ENDS, MAX_WITH_ARROWS = 130, 16, 20
+# How much wider than a route its white edge is, which parts it from the roads.
+CASING = 2.5
 HALO = f' paint-order="stroke" stroke="{PAPER}" stroke-width="3" stroke-linejoin="round"'
 
 
-def picture_of(routes: list[DrawnRoute], roads: Lines, view: View, attribution: str) -> str:
+def picture_of(routes: list[DrawnRoute], roads: list[RoadLines], view: View, attribution: str) -> str:
     """The text of the SVG file."""
     legend = legend_for(routes, roads, view)
     height = view.height + (legend.height + MARGIN if legend and legend.is_below(view) else 0)
-    return "\n".join(
-        [
-            f'<svg xmlns="http://www.w3.org/2000/svg" width="{view.width}" height="{height}" '
-            f'viewBox="0 0 {view.width} {height}" font-family="Helvetica, Arial, sans-serif" font-size="14">',
-            f'<clipPath id="frame"><rect width="{view.width}" height="{view.height}"/></clipPath>',
-            f'<rect width="{view.width}" height="{height}" fill="{PAPER}"/>',
-            '<g clip-path="url(#frame)" fill="none" stroke-linecap="round" stroke-linejoin="round">',
-            *(draw_area(route, view) for route in routes if route.rings),
-            *draw_roads(roads, view),
-            *(draw_casing(route, view) for route in routes if not route.rings),
-            *(draw_route(route, view) for route in routes if not route.rings),
-            *(draw_arrows(route, view) for route in routes if route.line and len(routes) <= MAX_WITH_ARROWS),
-            *(draw_ends(route, view) for route in routes if route.line),
-            "</g>",
-            *(draw_legend(legend) if legend else ()),
-            *draw_scale(view),
-            *draw_attribution(attribution, view),
-            "</svg>\n",
-        ]
-    )
+    lines = [route for route in routes if not route.rings]
+    parts = [
+        f'<svg xmlns="http://www.w3.org/2000/svg" width="{view.width}" height="{height}" '
+        f'viewBox="0 0 {view.width} {height}" font-family="Helvetica, Arial, sans-serif" font-size="14">',
+        f'<clipPath id="frame"><rect width="{view.width}" height="{view.height}"/></clipPath>',
+        f'<rect width="{view.width}" height="{height}" fill="{PAPER}"/>',
+        '<g clip-path="url(#frame)" fill="none" stroke-linecap="round" stroke-linejoin="round">',
+        *(draw_area(route, view) for route in routes if route.rings),
+        *draw_roads(roads, view),
+        *(draw_pieces(route, view, "#fff", CASING) for route in lines),
+        *(draw_route(route, view) for route in lines),
+        *(draw_arrows(route.line, route.colour, view) for route in lines if route.line and len(routes) <= MAX_WITH_ARROWS),
+        *(draw_ends(route.line, route.colour, view) for route in lines if route.line),
+        "</g>",
+        *(draw_legend(legend) if legend else ()),
+        *draw_scale(view),
+        *draw_attribution(attribution, view),
+        "</svg>\n",
+    ]
+    return "\n".join(parts)
 
 
 def escaped(text: str) -> str:
@@ -58,21 +61,14 @@ def path_through(line: Sequence[Point], view: View) -> str:
     return path_of(view.pixels(to_mercator(line)))
 
 
-def draw_roads(roads: Lines, view: View) -> Iterator[str]:
+def draw_roads(roads: list[RoadLines], view: View) -> Iterator[str]:
     """A path for each kind of roads; tunnels, which are dashed, lie below the others."""
     thinner = max(0.5, min(1, view.width / 600))
-    layers = list(
-        zip(
-            (*ROAD_STYLES, *ROAD_STYLES),
-            roads,
-            ("",) * len(ROAD_STYLES) + (f' stroke-dasharray="{DASHES}"',) * len(ROAD_STYLES),
-        )
-    )
-    for kind, lines, dashes in layers[len(ROAD_STYLES) :] + layers[: len(ROAD_STYLES)]:
+    for style, dashes, lines in sorted(roads, key=lambda of_kind: of_kind.dashes is None):
         if lines:
             data = "".join(path_through(line, view) for line in lines)
-            caps = ' stroke-linecap="butt"' if dashes else ""
-            yield f'<path stroke="{kind.colour}" stroke-width="{kind.width * thinner:g}"{dashes}{caps} d="{data}"/>'
+            look = f' stroke-dasharray="{dashes}" stroke-linecap="butt"' if dashes else ""
+            yield f'<path stroke="{style.colour}" stroke-width="{style.width * thinner:g}"{look} d="{data}"/>'
 
 
 def draw_area(area: DrawnRoute, view: View) -> str:
@@ -84,13 +80,8 @@ def draw_area(area: DrawnRoute, view: View) -> str:
 
 def tint(colour: str) -> str:
     """A colour as it is on paper with AREA_OPACITY."""
-    pairs = [(int(colour[at : at + 2], 16), int(PAPER[at : at + 2], 16)) for at in (1, 3, 5)]
-    return "#" + "".join(f"{round(own * AREA_OPACITY + under * (1 - AREA_OPACITY)):02x}" for own, under in pairs)
-
-
-def draw_casing(route: DrawnRoute, view: View) -> str:
-    """The white edge of a route, which parts it from the roads."""
-    return draw_pieces(route, view, "#fff", 2.5)
+    pairs = zip(bytes.fromhex(colour[1:]), bytes.fromhex(PAPER[1:]))
+    return "#" + bytes(round(own * AREA_OPACITY + under * (1 - AREA_OPACITY)) for own, under in pairs).hex()
 
 
 def draw_route(route: DrawnRoute, view: View) -> str:
@@ -105,14 +96,13 @@ def draw_pieces(route: DrawnRoute, view: View, colour: str, more: float) -> str:
     return "".join(f'<path stroke="{colour}" stroke-width="{width:g}" d="{data}"/>' for width, data in paths)
 
 
-def draw_arrows(route: DrawnRoute, view: View) -> str:
+def draw_arrows(line: list[Point], colour: str, view: View) -> str:
     """Arrows along a route, in its colour with a white edge."""
-    assert route.line is not None
-    line = view.pixels(to_mercator(route.line))
-    ends = line[0], line[-1]
-    far = [each for each in arrows(line, BETWEEN_ARROWS) if min(math.dist(each[0], end) for end in ends) >= FROM_ENDS]
+    pixels = view.pixels(to_mercator(line))
+    ends = pixels[0], pixels[-1]
+    far = [each for each in arrows(pixels, BETWEEN_ARROWS) if min(math.dist(each[0], end) for end in ends) >= FROM_ENDS]
     data = "".join(arrow(*place, *towards) for place, towards in far)
-    return f'<path fill="{route.colour}" stroke="#fff" d="{data}"/>' if data else ""
+    return f'<path fill="{colour}" stroke="#fff" d="{data}"/>' if data else ""
 
 
 def arrow(x: float, y: float, east: float, south: float) -> str:
@@ -122,11 +112,10 @@ def arrow(x: float, y: float, east: float, south: float) -> str:
     return "M" + "L".join(f"{right:.1f} {down:.1f}" for right, down in points) + "Z"
 
 
-def draw_ends(route: DrawnRoute, view: View) -> str:
+def draw_ends(line: list[Point], colour: str, view: View) -> str:
     """A ring where a route begins, and a dot where it ends."""
-    assert route.line is not None
-    (ring_x, ring_y), (dot_x, dot_y) = view.pixels(to_mercator([route.line[0], route.line[-1]]))
-    return ring(ring_x, ring_y, route.colour) + dot(dot_x, dot_y, route.colour)
+    begin, end = view.pixels(to_mercator([line[0], line[-1]]))
+    return ring(*begin, colour) + dot(*end, colour)
 
 
 def ring(x: float, y: float, colour: str) -> str:
@@ -137,11 +126,17 @@ def dot(x: float, y: float, colour: str) -> str:
     return f'<circle cx="{x:.1f}" cy="{y:.1f}" r="7" fill="{colour}" stroke="#fff" stroke-width="2"/>'
 
 
-Row = tuple[Union[str, None], str, str, bool]
+class Row(NamedTuple):
+    """A row of a legend; one without a colour is text alone."""
+
+    colour: str | None
+    label: str
+    figures: str
+    is_area: bool
 
 
-class Legend(typing.NamedTuple):
-    """The legend of a picture: its rows as (colour, label, figures, whether it is an area), whether figures are below labels, and where it is."""
+class Legend(NamedTuple):
+    """The legend of a picture: its rows, whether figures are below labels, and where it is."""
 
     rows: list[Row]
     is_tall: bool
@@ -162,16 +157,14 @@ class Legend(typing.NamedTuple):
         return self.top >= view.height
 
 
-def legend_for(routes: list[DrawnRoute], roads: Lines, view: View) -> Legend | None:
+def legend_for(routes: list[DrawnRoute], roads: list[RoadLines], view: View) -> Legend | None:
     """The legend: in the corner where it hides the least of the roads, or below the map where it would hide a part of a
     route in each, or would be wider than two fifths of the picture. None without routes."""
     if not routes:
         return None
-    most = max(1, int(view.height * 0.6 / ROW))
-    rows = legend_rows(routes, most, LONGEST_LABEL)
+    rows = legend_rows(routes, max(1, int(view.height * 0.6 / ROW)), LONGEST_LABEL)
     width = width_of(rows)
-    height = ROW * len(rows) + MARGIN
-    hidden, left, top = corner_for(width, height, routes, roads, view)
+    hidden, left, top = corner_for(width, ROW * len(rows) + MARGIN, routes, roads, view)
     if not hidden and width <= view.width * MAX_OF_WIDTH:
         return Legend(rows, False, left, top, width)
     return legend_below(routes, view)
@@ -186,12 +179,12 @@ def legend_below(routes: list[DrawnRoute], view: View) -> Legend:
     is_tall = beside < SHORTEST_LABEL
     letters = int((room - SWATCH - 2 * MARGIN) / BOLD_LETTER) if is_tall else beside
     rows = legend_rows(routes, MAX_ROWS, min(letters, LONGEST_LABEL))
-    return Legend(rows, is_tall, MARGIN, view.height, min(room, width_of(rows)) if not is_tall else room)
+    return Legend(rows, is_tall, MARGIN, view.height, room if is_tall else min(room, width_of(rows)))
 
 
 def width_of(rows: list[Row]) -> float:
     """How wide a legend is with labels and figures side by side."""
-    letters = max(len(row[1]) for row in rows) * BOLD_LETTER + max(len(row[2]) for row in rows) * LETTER
+    letters = max(len(row.label) for row in rows) * BOLD_LETTER + max(len(row.figures) for row in rows) * LETTER
     return SWATCH + letters + 3 * MARGIN
 
 
@@ -224,14 +217,14 @@ def draw_row(row: Row, middle: float, legend: Legend) -> Iterator[str]:
 
 
 def legend_rows(routes: list[DrawnRoute], most: int, letters: int) -> list[Row]:
-    """Colour, label and figures of each row; the last counts the routes that there is no room for."""
+    """The rows, with labels of so many letters; the last counts the routes that there is no room for."""
     shown = routes if len(routes) <= most else routes[: most - 1]
-    rows: list[Row] = [
-        (route.colour if route.places else None, shortened(route.label, letters), route.figures, bool(route.rings))
+    rows = [
+        Row(route.colour if route.places else None, shortened(route.label, letters), route.figures, bool(route.rings))
         for route in shown
     ]
     if len(shown) < len(routes):
-        rows.append((None, f"and {len(routes) - len(shown)} more", "", False))
+        rows.append(Row(None, f"and {len(routes) - len(shown)} more", "", False))
     return rows
 
 
@@ -239,19 +232,21 @@ def shortened(label: str, letters: int) -> str:
     return label if len(label) <= letters else label[: max(1, letters - 1)] + "…"
 
 
-def corner_for(width: float, height: float, routes: list[DrawnRoute], roads: Lines, view: View) -> tuple[int, float, float]:
+def corner_for(
+    width: float, height: float, routes: list[DrawnRoute], roads: list[RoadLines], view: View
+) -> tuple[int, float, float]:
     """Where the upper left corner of a box of that size lies best, the fewest points of routes, and then of roads, being
     hidden there: how many of routes, and the corner."""
     right, bottom = view.width - width - MARGIN, view.height - height - MARGIN - FOOT
     corners = [(MARGIN, MARGIN), (right, MARGIN), (right, bottom), (MARGIN, bottom)]
-    lines = [route.line for route in routes if route.line], itertools.chain.from_iterable(roads)
-    of_routes, of_roads = ([view.pixels(to_mercator(line)) for line in some] for some in lines)
-    of_routes = [densify(line) for line in of_routes]
+    of_routes = (densify(view.pixels(to_mercator(route.line))) for route in routes if route.line)
+    of_roads = (view.pixels(to_mercator(line)) for of_kind in roads for line in of_kind.lines)
+    points = [numpy.array([*itertools.chain.from_iterable(some)]).reshape(-1, 2) for some in (of_routes, of_roads)]
 
     def hidden(corner: Point) -> list[int]:
-        left, top = corner
-        box = Box(left, top, left + width, top + height).grown(ROUND_ENDS)
-        return [sum(is_inside(box, point) for line in some for point in line) for some in (of_routes, of_roads)]
+        low = corner[0] - ROUND_ENDS, corner[1] - ROUND_ENDS
+        high = corner[0] + width + ROUND_ENDS, corner[1] + height + ROUND_ENDS
+        return [int(((low <= some) & (some <= high)).all(axis=1).sum()) for some in points]
 
     best = min(corners, key=hidden)
     return hidden(best)[0], *best
@@ -264,10 +259,6 @@ def densify(line: Sequence[Point]) -> list[Point]:
         steps = max(1, math.ceil(math.hypot(next_x - x, next_y - y) / CLOSE))
         points += [(x + (next_x - x) * step / steps, y + (next_y - y) * step / steps) for step in range(1, steps + 1)]
     return points
-
-
-def is_inside(box: Box, point: Point) -> bool:
-    return box.left <= point[0] <= box.right and box.top <= point[1] <= box.bottom
 
 
 def draw_scale(view: View) -> Iterator[str]:

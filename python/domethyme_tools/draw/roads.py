@@ -1,8 +1,8 @@
 """The roads that are drawn around routes, by their kinds."""
 import itertools
 import math
-import typing
 from collections.abc import Iterator
+from typing import NamedTuple
 
 import numpy
 
@@ -16,22 +16,30 @@ from .geometry import Box, box_of, from_mercator, to_mercator, unwrapped
 from .routes import DrawnRoute
 
 
-class RoadStyle(typing.NamedTuple):
-    """How roads of some kinds are drawn, the least important first."""
+class RoadStyle(NamedTuple):
+    """How roads of some kinds are drawn, the least important first; `dark` is their colour where the page is dark."""
 
     highways: tuple[str, ...]
     width: float
     colour: str
+    dark: str
+
+
+class RoadLines(NamedTuple):
+    """The lines of the roads of a style, or of their tunnels, which are dashed."""
+
+    style: RoadStyle
+    dashes: str | None
+    lines: list[list[Point]]
 
 
 ROAD_STYLES = [
-    RoadStyle((), 1.2, "#918d86"),
-    RoadStyle(("tertiary",), 1.8, "#8b877f"),
-    RoadStyle(("secondary",), 2.4, "#847f77"),
-    RoadStyle(("primary",), 3, "#7c776e"),
-    RoadStyle(("motorway", "trunk"), 3.6, "#726d64"),
+    RoadStyle((), 1.2, "#918d86", "#726d64"),
+    RoadStyle(("tertiary",), 1.8, "#8b877f", "#7c776e"),
+    RoadStyle(("secondary",), 2.4, "#847f77", "#847f77"),
+    RoadStyle(("primary",), 3, "#7c776e", "#8b877f"),
+    RoadStyle(("motorway", "trunk"), 3.6, "#726d64", "#918d86"),
 ]
-Lines = list[list[list[Point]]]
 TUNNEL = "tunnel"
 DASHES = "5 4"
 # Edges that are read together, and the share of the world from which on a box has all of them.
@@ -41,30 +49,29 @@ BESIDE, AREA_BESIDE = 0.001, 0.1
 
 
 def road_style(highway: str) -> int:
-    """The number in KINDS of a kind of highway; a slip road is as the road that it leads to."""
+    """The number in ROAD_STYLES of a kind of highway; a slip road is as the road that it leads to."""
     plain = highway.removesuffix("_link")
     return next((number for number, kind in enumerate(ROAD_STYLES) if plain in kind.highways), 0)
 
 
-def read_roads(arrays: MappedNetwork, box: Box | None) -> Lines:
-    """For each of KINDS the lines of its roads, and then for each those of its tunnels; a road of two directions comes
-    once, and with a box only those that meet it."""
-    roads: list[list[list[Point]]] = [[] for _ in (*ROAD_STYLES, *ROAD_STYLES)]
+def read_roads(arrays: MappedNetwork, box: Box | None) -> list[RoadLines]:
+    """For each style the lines of its roads, and then for each those of its tunnels; a road of two directions comes once, and
+    with a box only those that meet it."""
+    roads = [RoadLines(style, dashes, []) for dashes in (None, DASHES) for style in ROAD_STYLES]
     seen = set()
     near = (arrays.about["west"] + arrays.about["east"]) / 2 / UNITS if box is None else from_mercator(box.middle)[0]
     for edge, highway, structure in edges_in(arrays, box):
         line = unwrapped(arrays.edge_line(edge), near)
         if tuple(line) not in seen and (box is None or box_of(to_mercator(line)).meets(box)):
             seen.add(tuple(line))
-            roads[road_style(highway) + len(ROAD_STYLES) * (structure == TUNNEL)].append(
-                line if len(line) > 1 else line * 2
-            )
+            of_kind = roads[road_style(highway) + len(ROAD_STYLES) * (structure == TUNNEL)]
+            of_kind.lines.append(line if len(line) > 1 else line * 2)
     return roads
 
 
 def edges_in(arrays: MappedNetwork, box: Box | None) -> Iterator[tuple[int, str, str]]:
     """The edges in a box, and others, or all, in their order, with the classes and structures of their roads."""
-    for edges in ([*each] for each in parts_of(arrays, box)):
+    for edges in parts_of(arrays, box):
         arcs = arrays.edge_arcs[numpy.minimum(arrays.edge_first[edges], len(arrays.edge_arcs) - 1)]
         texts = zip(*(arrays.arc_texts[arcs, TEXTS.index(name)].tolist() for name in ("highway", "structure")))
         for edge, (highway, structure) in zip(edges, texts):
@@ -73,27 +80,18 @@ def edges_in(arrays: MappedNetwork, box: Box | None) -> Iterator[tuple[int, str,
 
 def parts_of(arrays: MappedNetwork, box: Box | None) -> Iterator[list[int]]:
     """The numbers of these edges, PART at a time."""
-    count = len(arrays.edge_begin) - 1
-    if box is None or box.width >= WIDE:
-        yield from (list(range(low, min(count, low + PART))) for low in range(0, count, PART))
-        return
-    middle = from_mercator(box.middle)
-    corners = [from_mercator((x, y)) for x in (box.left, box.right) for y in (box.top, box.bottom)]
-    reach = max(metres_between(*middle, *corner) for corner in corners)
-    found = numpy.unique(
-        numpy.concatenate([[], *arrays.edge_grid.candidates((wrapped_lon(middle[0]), middle[1]), reach)])
-    ).astype(int)
-    yield from (found[low : low + PART].tolist() for low in range(0, len(found), PART))
+    found = range(len(arrays.edge_begin) - 1)
+    if box is not None and box.width < WIDE:
+        lon, lat = from_mercator(box.middle)
+        corners = [from_mercator((x, y)) for x in (box.left, box.right) for y in (box.top, box.bottom)]
+        reach = max(metres_between(lon, lat, *corner) for corner in corners)
+        near = numpy.concatenate([[], *arrays.edge_grid.candidates((wrapped_lon(lon), lat), reach)])
+        found = numpy.unique(near).astype(int).tolist()
+    return (list(found[low : low + PART]) for low in range(0, len(found), PART))
 
 
 def wrapped_lon(lon: float) -> float:
     return (lon + 180) % 360 - 180
-
-
-def box_around(routes: list[DrawnRoute]) -> Box | None:
-    """The box around the routes and areas with room on each side, or None where there is none."""
-    places = list(itertools.chain.from_iterable(route.places for route in routes))
-    return padded_box(places) if places else None
 
 
 def padded_box(places: list[Point]) -> Box:
@@ -103,18 +101,21 @@ def padded_box(places: list[Point]) -> Box:
     return box.grown(max(box.width, box.height) / 10 + 200 * metre)
 
 
-def all_places(roads: Lines) -> list[Point]:
+def all_places(roads: list[RoadLines]) -> list[Point]:
     """The places of all roads, which aren't none."""
-    return list(itertools.chain.from_iterable(itertools.chain.from_iterable(roads)))
+    return [place for of_kind in roads for line in of_kind.lines for place in line]
 
 
-def make_scene(network: str, routes: list[DrawnRoute], is_whole: bool, is_picture: bool, path: str) -> tuple[Box, Lines]:
-    """The box to show and its roads. Raises a ToolError where the routes, which come from the file at the path, are another network's."""
+def make_scene(
+    network: str, routes: list[DrawnRoute], is_whole: bool, is_picture: bool, path: str
+) -> tuple[Box, list[RoadLines]]:
+    """The box to show and its roads. Raises a ToolError where the routes, which come from the file at the path, are another
+    network's."""
     arrays = load_network_or_dimacs(network)
     need_inside(arrays, routes, network, path)
-    around = None if is_whole else box_around(routes)
-    if around is not None:
-        box = shape_for(is_picture, around)
+    places = [] if is_whole else list(itertools.chain.from_iterable(route.places for route in routes))
+    if places:
+        box = shape_for(is_picture, padded_box(places))
         return box, read_roads(arrays, box)
     roads = read_roads(arrays, None)
     places = all_places(roads)

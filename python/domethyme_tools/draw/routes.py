@@ -2,9 +2,8 @@
 import itertools
 import json
 import re
-import typing
 from collections.abc import Iterator
-from typing import Any
+from typing import Any, NamedTuple
 
 from domethyme.csv_tables import open_input
 from domethyme.network.geo import Point
@@ -20,21 +19,21 @@ NO_NAME = "unnamed road"
 # The units of contours by their metrics, and a colour that an area may bring.
 CONTOURS = {"time": "min", "distance": "m"}
 COLOUR = re.compile("#[0-9A-Fa-f]{6}")
-BLANKS = re.compile(r"\s*")
+NOT_BLANK = re.compile(r"\S")
 
 
-class DrawnRoute(typing.NamedTuple):
+class DrawnRoute(NamedTuple):
     """A route as it is shown: its streets with their ways, its places, or None where there is no route, the names of its
     streets with a place in the middle of each, and the pieces of its line with their widths. An area has rings in place of a
     line."""
 
     label: str
     figures: str
-    steps: list[tuple[str, str]]
-    line: list[Point] | None
-    names: list[tuple[str, Point]]
     colour: str
-    pieces: list[tuple[float, list[Point]]]
+    steps: list[tuple[str, str]] = []
+    line: list[Point] | None = None
+    names: list[tuple[str, Point]] = []
+    pieces: list[tuple[float, list[Point]]] = []
     rings: list[list[Point]] = []
 
     @property
@@ -55,19 +54,16 @@ def read_routes(path: str, label: str | None) -> tuple[list[DrawnRoute], list[st
     said: list[str] = []
     coloured = enumerate(zip(features_in(text, path, said), itertools.cycle(COLOURS)), 1)
     routes = [make_route(feature, FeatureRef(path, number), label, colour) for number, (feature, colour) in coloured]
-    return with_pieces(unwrap_all(routes)), said
-
-
-def unwrap_all(routes: list[DrawnRoute]) -> list[DrawnRoute]:
-    """The routes with longitudes beyond 180 degrees where they cross that meridian, all on one side of the first one's begin."""
     near = next((route.places[0][0] for route in routes if route.places), 0.0)
-    found = []
-    for route in routes:
-        names = [(name, unwrapped([place], near)[0]) for name, place in route.names]
-        line = route.line and unwrapped(route.line, near)
-        rings = [unwrapped(ring, near) for ring in route.rings]
-        found.append(route._replace(line=line * 2 if line and len(line) < 2 else line, names=names, rings=rings))
-    return found
+    return with_pieces([unwrap_route(route, near) for route in routes]), said
+
+
+def unwrap_route(route: DrawnRoute, near: float) -> DrawnRoute:
+    """The route with longitudes beyond 180 degrees where it crosses that meridian; it begins on the side of the longitude."""
+    names = [(name, unwrapped([place], near)[0]) for name, place in route.names]
+    line = route.line and unwrapped(route.line, near)
+    rings = [unwrapped(ring, near) for ring in route.rings]
+    return route._replace(line=line * 2 if line and len(line) < 2 else line, names=names, rings=rings)
 
 
 def with_pieces(routes: list[DrawnRoute]) -> list[DrawnRoute]:
@@ -80,37 +76,26 @@ def with_pieces(routes: list[DrawnRoute]) -> list[DrawnRoute]:
 
 
 def features_in(text: str, path: str, said: list[str]) -> Iterator[Any]:
-    """The features of a text that has collections and features, one after the other. The attributions of collections go to `said`."""
+    """The features of a text that has collections and features, one after the other. The attributions of collections go to
+    `said`."""
     decoder, place = json.JSONDecoder(), 0
-    while (start := end_of_blanks(text, place)) < len(text):
-        row = text.count("\n", 0, start) + 1
+    while (found := NOT_BLANK.search(text, place)) is not None:
+        row = text.count("\n", 0, found.start()) + 1
         try:
-            document, place = decoder.raw_decode(text, start)
+            document, place = decoder.raw_decode(text, found.start())
         except json.JSONDecodeError as error:
             raise ToolError(f"isn't GeoJSON: {error.msg}", path, error.lineno) from error
         except (RecursionError, ValueError) as error:
             raise ToolError(f"isn't GeoJSON: {error}", path, row) from error
-        yield from features_of(document, path, row)
+        kind, features = (document.get(name) if isinstance(document, dict) else None for name in ("type", "features"))
+        if kind != "Feature" and (kind != "FeatureCollection" or not isinstance(features, list)):
+            raise ToolError("is neither a feature nor a collection of features", path, row)
+        yield from [document] if kind == "Feature" else features
         if isinstance(document.get("attribution"), str):
             said.append(" ".join(document["attribution"].split()))
 
 
-def end_of_blanks(text: str, place: int) -> int:
-    found = BLANKS.match(text, place)
-    return place if found is None else found.end()
-
-
-def features_of(document: Any, path: str, row: int) -> Any:
-    """The features of a collection, or a feature alone."""
-    kind = document.get("type") if isinstance(document, dict) else None
-    if kind == "Feature":
-        return [document]
-    if kind != "FeatureCollection" or not isinstance(document.get("features"), list):
-        raise ToolError("is neither a feature nor a collection of features", path, row)
-    return document["features"]
-
-
-class FeatureRef(typing.NamedTuple):
+class FeatureRef(NamedTuple):
     """Where a feature is: the file, and its number there."""
 
     path: str
@@ -125,39 +110,37 @@ class FeatureRef(typing.NamedTuple):
 def make_route(feature: Any, place: FeatureRef, label: str | None, colour: str) -> DrawnRoute:
     """A feature as a route, still without pieces."""
     place.require(isinstance(feature, dict) and isinstance(feature.get("properties"), dict), "has no properties")
-    properties = feature["properties"]
+    properties, geometry = feature["properties"], feature.get("geometry")
     place.require(label is None or label in properties, f"has no property {label}")
-    if is_area(feature.get("geometry")):
-        return make_area(feature, place, label, colour)
-    name = f"route {place.number}" if label is None else str(properties[label])
-    line = read_line(feature.get("geometry"), place)
+    name = None if label is None else str(properties[label])
+    if isinstance(geometry, dict) and geometry.get("type") in ("Polygon", "MultiPolygon"):
+        return make_area(properties, geometry, place, name, colour)
+    name, line = f"route {place.number}" if name is None else name, read_line(geometry, place)
     if line is None:
-        return DrawnRoute(name, NO_PATH, [], None, [], colour, [])
+        return DrawnRoute(name, NO_PATH, colour)
     metres = read_number(properties, "metres", place)
     seconds = 0.0 if properties.get("seconds", 0.0) is None else read_number(properties, "seconds", place)
     figures = kilometres(metres) if metres and not seconds else f"{kilometres(metres)}, {minutes(seconds)}"
     steps, line = read_steps(properties, place), unwrapped(line, line[0][0])
     line = line if len(line) > 1 else line * 2
     shown = [(street or NO_NAME, way_of(way)) for street, way in steps]
-    return DrawnRoute(name, figures, shown, line, names_along(line, steps), colour, [])
+    return DrawnRoute(name, figures, colour, shown, line, names_along(line, steps))
 
 
-def is_area(geometry: Any) -> bool:
-    return isinstance(geometry, dict) and geometry.get("type") in ("Polygon", "MultiPolygon")
-
-
-def make_area(feature: Any, place: FeatureRef, label: str | None, colour: str) -> DrawnRoute:
+def make_area(
+    properties: dict[str, Any], geometry: dict[str, Any], place: FeatureRef, name: str | None, colour: str
+) -> DrawnRoute:
     """A feature with polygons, by its own colour where it has one, and called by its contour."""
-    properties, geometry = feature["properties"], feature["geometry"]
     whole = geometry.get("coordinates")
     polygons: Any = [whole] if geometry["type"] == "Polygon" else whole
     place.require(isinstance(polygons, list) and polygons and all(map(is_polygon, polygons)), "has no polygon of places")
     contour, unit = properties.get("contour"), CONTOURS.get(str(properties.get("metric")), "")
-    name = f"{contour:g} {unit}".strip() if is_number(contour) else f"area {place.number}"
+    if name is None:
+        name = f"{contour:g} {unit}".strip() if is_number(contour) else f"area {place.number}"
     fill = properties.get("fill")
     own = fill if isinstance(fill, str) and COLOUR.fullmatch(fill) else colour
     rings = [[(lon, lat) for lon, lat, *_ in ring] for polygon in polygons for ring in polygon]
-    return DrawnRoute(name if label is None else str(properties[label]), "", [], None, [], own, [], rings)
+    return DrawnRoute(name, "", own, rings=rings)
 
 
 def is_polygon(value: Any) -> bool:
@@ -170,8 +153,8 @@ def read_line(geometry: Any, place: FeatureRef) -> list[Point] | None:
     if geometry is None:
         return None
     kind, whole = (geometry.get("type"), geometry.get("coordinates")) if isinstance(geometry, dict) else (None, None)
-    parts: list[Any] = [whole] if kind == "LineString" else whole if kind == "MultiLineString" and isinstance(whole, list) else []
-    place.require(parts and all(map(is_line, parts)), "has no line of places")
+    parts: Any = {"LineString": [whole], "MultiLineString": whole}.get(str(kind))
+    place.require(isinstance(parts, list) and parts and all(map(is_line, parts)), "has no line of places")
     return [(lon, lat) for part in parts for lon, lat, *_ in part]
 
 
