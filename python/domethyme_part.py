@@ -77,11 +77,9 @@ def file_mismatch(task: Task) -> str | None:
     return None
 
 
-def missing_part(path: str, size: int) -> str | None:
-    """Why no file of this number of bytes comes to the path, as one line, or None."""
-    if wait_until(lambda: has_size(path, size)):
-        return None
-    return f"{path} isn't there with its {size} bytes"
+def has_come(path: str, size: int) -> bool:
+    """Whether there is a file of this number of bytes at the path, now or soon."""
+    return wait_until(lambda: has_size(path, size))
 
 
 def wait_until(is_so: Callable[[], bool]) -> bool:
@@ -116,7 +114,9 @@ def answer(task: Task, text: str, size: int, answers: str) -> Result:
     and but for the first leaves what is at `answers`. A program that is killed is begun again, ATTEMPTS times in all.
     """
     try:
-        trouble = file_mismatch(task) or missing_part(text, size)
+        trouble = file_mismatch(task)
+        if trouble is None and not has_come(text, size):
+            trouble = f"{text} isn't there with its {size} bytes"
         if trouble is not None:
             return 1, trouble, 0
         for _ in range(ATTEMPTS):
@@ -126,7 +126,10 @@ def answer(task: Task, text: str, size: int, answers: str) -> Result:
                     return finish(task, draft, answers)
             if status > 0 or stopping.is_set():
                 break
-        return refusal(task["program"], status, stderr)
+        if 3 <= status <= 8:
+            return status, stderr, 0
+        how = f"was ended by signal {-status}" if status < 0 else f"ended with status {status}: {' '.join(stderr.split())}"
+        return 1, f"{task['program']} {how}", 0
     except OSError as error:
         return 1, f"{error.filename}: {error.strerror}" if error.filename else str(error), 0
 
@@ -168,15 +171,6 @@ def finish(task: Task, draft: str, answers: str) -> Result:
     count = os.stat(draft).st_size
     os.replace(draft, answers)
     return 0, None, count
-
-
-def refusal(program: str, status: int, stderr: str) -> Result:
-    """What `answer` gives for a program that ended with a status other than 0."""
-    if status < 0:
-        return 1, f"{program} was ended by signal {-status}", 0
-    if 3 <= status <= 8:
-        return status, stderr, 0
-    return 1, f"{program} ended with status {status}: {' '.join(stderr.split())}", 0
 
 
 # The programs that run in this process

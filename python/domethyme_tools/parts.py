@@ -1,4 +1,4 @@
-"""The parts of a query file: how it is cut, what is kept of a run between two calls, and how the answers are joined.
+"""The parts of a query file: how it is cut, and what is kept of a run between two calls.
 
 Beside OUT is the folder OUT.parts while a run isn't done:
 
@@ -26,10 +26,9 @@ import re
 import shutil
 import socket
 import stat
-import typing
 import uuid
-from collections.abc import Callable, Iterable, Iterator
-from typing import IO, Any
+from collections.abc import Iterable, Iterator
+from typing import IO, NamedTuple
 
 from domethyme.atomic_files import atomic_write, unlink_missing_ok
 from domethyme.belonging import Origin
@@ -38,7 +37,6 @@ from domethyme.limits import MAX_LINES
 
 from .cli import ToolError
 
-BLOCK = 1 << 20
 PROBLEM_WORDS = [b"p", b"aux", b"sp", b"p2p"]
 BLANKS = re.compile(b"[ \t]+")
 NAMES = re.compile(r"plan\.json(\..+\.new)?|whole\.pairs|\d{6,}\.(pairs|answers|new)|(drafts|gone)-[0-9a-f]{32}")
@@ -47,7 +45,7 @@ NAMES = re.compile(r"plan\.json(\..+\.new)?|whole\.pairs|\d{6,}\.(pairs|answers|
 # The query file
 
 
-class Survey(typing.NamedTuple):
+class Survey(NamedTuple):
     """What a look at a query file finds: its digest, and how many pairs it has; None where it is refused for certain,
     since its lines are of other kinds, in another order or of another number than it announces. The program then reports
     the fault. What the lines of pairs hold is left to the program in any case. `origin` is the network that it names."""
@@ -59,40 +57,24 @@ class Survey(typing.NamedTuple):
 
 def spool(path: str, to: str) -> Survey:
     """Copies the query file (`-` is standard input) to the new file `to`, and gives its Survey."""
-    digest, kinds = hashlib.sha256(), LineCounter()
+    digest, pairs, is_sound = hashlib.sha256(), 0, True
+    announced: int | None = None
+    origin: Origin | None = None
     with open_input(path) as text, open(to, "xb") as copy:
         for line in text:
             digest.update(line)
             copy.write(line)
-            kinds.take(line)
-    return Survey(digest.hexdigest(), kinds.pairs(), kinds.origin)
-
-
-class LineCounter:
-    """Counts the lines of a query file by their kinds."""
-
-    def __init__(self) -> None:
-        self.announced: int | None = None
-        self.found, self.is_sound = 0, True
-        self.origin: Origin | None = None
-
-    def take(self, line: bytes) -> None:
-        """Counts the next line."""
-        if is_pair(line):
-            self.found += 1
-            self.is_sound = self.is_sound and self.announced is not None
-            return
-        fields = fields_of(line)
-        if fields[:2] == [b"c", b"network"]:
-            self.origin = self.origin or Origin.of(line)
-        elif fields and not fields[0].startswith(b"c"):
-            is_first = self.announced is None
-            self.announced = number_announced(fields)
-            self.is_sound = self.is_sound and is_first and self.announced is not None
-
-    def pairs(self) -> int | None:
-        """The number of pairs where all lines are in order, and else None."""
-        return self.found if self.is_sound and self.found == self.announced else None
+            if is_pair(line):
+                pairs += 1
+                is_sound = is_sound and announced is not None
+                continue
+            fields = fields_of(line)
+            if fields[:2] == [b"c", b"network"]:
+                origin = origin or Origin.of(line)
+            elif fields and not fields[0].startswith(b"c"):
+                is_first, announced = announced is None, number_announced(fields)
+                is_sound = is_sound and is_first and announced is not None
+    return Survey(digest.hexdigest(), pairs if is_sound and pairs == announced else None, origin)
 
 
 def is_pair(line: bytes) -> bool:
@@ -110,8 +92,7 @@ def number_announced(fields: list[bytes]) -> int | None:
 
 def fields_of(line: bytes) -> list[bytes]:
     """The fields of a line by docs/REFERENCE.md: one carriage return at its end is dropped, spaces and tabs part them."""
-    line = line.removesuffix(b"\n").removesuffix(b"\r")
-    return [field for field in BLANKS.split(line) if field]
+    return [field for field in BLANKS.split(line.removesuffix(b"\n").removesuffix(b"\r")) if field]
 
 
 def iter_parts(lines: Iterable[bytes], size: int) -> Iterator[tuple[int, bytes]]:
@@ -128,7 +109,7 @@ def iter_parts(lines: Iterable[bytes], size: int) -> Iterator[tuple[int, bytes]]
 # What is kept between two calls
 
 
-class Plan(typing.NamedTuple):
+class Plan(NamedTuple):
     """Of what the parts are: digests, pairs in a part, and for each part its number of pairs and the bytes of its text."""
 
     hierarchy: str
@@ -160,12 +141,10 @@ class Folder:
     def answers(self, part: int) -> str:
         return self.at(f"{part:06}.answers")
 
-    def is_answered(self, part: int) -> bool:
-        return os.path.exists(self.answers(part))
-
-    def clear(self) -> None:
-        """Removes what a run has made but the lock; drafts first, so that nothing comes out of them any more."""
-        names = [name for name in os.listdir(self.path) if NAMES.fullmatch(name)]
+    def clear(self, beginnings: tuple[str, ...] = ("",)) -> None:
+        """Removes what a run has made with these beginnings, but the lock; drafts first, so that nothing comes out of them any
+        more."""
+        names = [name for name in os.listdir(self.path) if NAMES.fullmatch(name) and name.startswith(beginnings)]
         for name in sorted(names, key=lambda name: (not name.startswith("drafts-"), name != "plan.json")):
             self.remove(name)
 
@@ -183,14 +162,8 @@ class Folder:
         """Removes the drafts of older runs, and all if there is no plan or it starts over; makes a folder of drafts."""
         if anew or not os.path.exists(self.plan_file):
             self.clear()
-        for name in os.listdir(self.path):
-            if NAMES.fullmatch(name) and name.startswith(("drafts-", "gone-")):
-                self.remove(name)
+        self.clear(("drafts-", "gone-"))
         os.mkdir(self.drafts)
-
-    def delete_plan(self) -> None:
-        """Drops the plan, and with it all that `end` then finds here."""
-        unlink_missing_ok(self.plan_file)
 
     def end(self) -> None:
         """Removes this run's drafts, and the whole folder where there is no plan: without one nothing is worth keeping."""
@@ -226,19 +199,6 @@ class Folder:
             json.dump(plan._asdict(), file)
         return plan
 
-    def join(self, plan: Plan, file: IO[Any], progress: Callable[[int], object]) -> None:
-        """Writes the answers of all parts, in order; `progress` is called with each number of bytes."""
-        for number, (pairs, _) in enumerate(plan.parts):
-            lines = 0
-            with open(self.answers(number), "rb") as answers:
-                while block := answers.read(BLOCK):
-                    file.write(block)
-                    lines += block.count(b"\n")
-                    progress(len(block))
-            if lines != pairs:
-                problem = f"has {lines} lines for {pairs} pairs: remove it and give the same call again"
-                raise ToolError(problem, self.answers(number))
-
 
 @contextlib.contextmanager
 def open_folder(out: str, anew: bool) -> Iterator[Folder]:
@@ -273,7 +233,8 @@ def lock_folder(folder: Folder, out: str) -> Iterator[None]:
 
 
 def check_ownership(path: str) -> None:
-    """A ToolError where another user may have put something into the folder, or it has a link: files would be written elsewhere."""
+    """A ToolError where another user may have put something into the folder, or it has a link: files would be written
+    elsewhere."""
     found = os.lstat(path)
     if not stat.S_ISDIR(found.st_mode) or found.st_uid != os.geteuid() or found.st_mode & stat.S_IWOTH:
         raise ToolError("isn't a folder that you alone may write to: remove it, or give another OUT", path)

@@ -30,7 +30,7 @@ from typing import Any, NoReturn
 import tqdm
 
 import domethyme_part
-from domethyme.atomic_files import add_paths_to_errors, atomic_write
+from domethyme.atomic_files import add_paths_to_errors, atomic_write, unlink_missing_ok
 from domethyme.hierarchy_file import open_hierarchy_file, read_header
 from domethyme.network.tables import paths_of
 from domethyme.program import find_program
@@ -41,6 +41,7 @@ from .cli import (
 )
 
 BAD_INPUT = (3, 4, 5)
+BLOCK = 1 << 20
 LOOK_AGAIN_SECONDS = 2
 SILENT_SECONDS = 3
 # Options by their old words.
@@ -56,9 +57,8 @@ def parse_args() -> argparse.Namespace:
     workers.add_argument("--jobs", type=positive_int, metavar="N", help="programs at a time here (one for each processor)")
     workers.add_argument("--dask", metavar="SCHEDULER", help="the address of a Dask scheduler, or its scheduler file")
     workers.add_argument("--split-only", action="store_true", help="only cut; once all parts are answered, only join them")
-    parser.add_argument(
-        "--pairs-per-part", type=positive_int, default=10_000, metavar="PAIRS", help="pairs in a part (10000)"
-    )
+    parser.add_argument("--pairs-per-part", type=positive_int, default=10_000, metavar="PAIRS",
+                        help="pairs in a part (10000)")
     parser.add_argument("--program", metavar="FILE", help="routecli, where it isn't on PATH, in ROUTECLI or built here")
     parser.add_argument("--restart", action="store_true", help="drop what an earlier call has left for OUT")
     add_hierarchy(parser, "--network", "the network of the pairs")
@@ -77,13 +77,14 @@ def main() -> None:
     check_out(options)
     if options.network is not None:
         need_hierarchy(options)
+    folder = parts.Folder(options.out)
     try:
         # (a write to OUT itself names OUT)
-        with add_paths_to_errors(parts.Folder(options.out).path):
+        with add_paths_to_errors(folder.path):
             run_all(options)
     except KeyboardInterrupt:
-        if os.path.exists(parts.Folder(options.out).plan_file):
-            warn(f"what is done is kept in {parts.Folder(options.out).path}; the same call resumes with it")
+        if os.path.exists(folder.plan_file):
+            warn(f"what is done is kept in {folder.path}; the same call resumes with it")
         raise
 
 
@@ -98,7 +99,7 @@ def run_all(options: argparse.Namespace) -> None:
             if options.split_only and is_new:
                 print(f"{len(plan.parts)} parts in {folder.path}")
                 return
-            missing = [number for number in range(len(plan.parts)) if not folder.is_answered(number)]
+            missing = [number for number in range(len(plan.parts)) if not os.path.exists(folder.answers(number))]
             if options.split_only and missing:
                 problem = f"{len(missing)} of {len(plan.parts)} parts have no answers yet, the first is"
                 raise ToolError(f"{problem} {folder.text(missing[0])}")
@@ -111,7 +112,7 @@ def check_out(options: argparse.Namespace) -> None:
     out = options.out
     if out == "-" or not os.path.basename(out) or os.path.exists(out) and not os.path.isfile(out):
         raise ToolError(f"OUT has to be a file, and {out!r} is none", status=2)
-    for path in (options.hierarchy, options.pairs, *(() if options.network is None else paths_of(options.network))):
+    for path in (options.hierarchy, options.pairs, *(paths_of(options.network) if options.network is not None else ())):
         if os.path.exists(out) and os.path.exists(path) and os.path.samefile(out, path):
             raise ToolError(f"OUT and {path} are one file", status=2)
     if os.path.exists(out) and not os.access(out, os.W_OK):
@@ -170,22 +171,15 @@ def answer_parts(
             under_way[workers.begin(task, *words)] = number
         for done in workers.wait_any(list(under_way)):
             number = under_way.pop(done)
-            failure = failure_of(workers.result(done), folder.answers(number))
-            if failure is not None:
-                failed[number] = failure
+            status, line, size = workers.result(done)
+            answers = folder.answers(number)
+            if status == 0 and not domethyme_part.has_come(answers, size):
+                status, line = 1, f"{answers} isn't seen here with the {size} bytes that a worker wrote"
+            if status != 0:
+                failed[number] = status, line or ""
             else:
                 bar.update(plan.parts[number][0])
     return min(failed.items(), key=lambda part: (part[1][0] not in BAD_INPUT, part[0]))[1] if failed else None
-
-
-def failure_of(result: domethyme_part.Result, answers: str) -> tuple[int, str] | None:
-    """Status and line of a part that failed, by what domethyme_part.answer gave; None where its answers stand here."""
-    status, line, size = result
-    if status != 0:
-        return status, line or ""
-    if not domethyme_part.wait_until(lambda: domethyme_part.has_size(answers, size)):
-        return 1, f"{answers} isn't seen here with the {size} bytes that a worker wrote"
-    return None
 
 
 def refusal_of_whole(workers: Any, task: domethyme_part.Task, text: str) -> tuple[int, str]:
@@ -204,18 +198,28 @@ def exit_with(folder: parts.Folder, status: int, line: str) -> NoReturn:
     if status == 1:
         raise ToolError(line)
     if status in BAD_INPUT:
-        folder.delete_plan()
+        unlink_missing_ok(folder.plan_file)
     print(line, file=sys.stderr)
     sys.exit(status)
 
 
 def join(folder: parts.Folder, plan: parts.Plan, out: str) -> None:
-    """Writes OUT of the answers of all parts, and has the folder of parts go."""
-    size = sum(os.stat(folder.answers(number)).st_size for number in range(len(plan.parts)))
+    """Writes OUT of the answers of all parts, in order, and has the folder of parts go."""
+    paths = [folder.answers(number) for number in range(len(plan.parts))]
+    size = sum(map(os.path.getsize, paths))
     with atomic_write(out, "wb") as file:
         with tqdm.tqdm(total=size, unit="B", unit_scale=True, desc="joining", disable=None) as bar:
-            folder.join(plan, file, bar.update)
-    folder.delete_plan()
+            for path, (pairs, _) in zip(paths, plan.parts):
+                lines = 0
+                with open(path, "rb") as answers:
+                    while block := answers.read(BLOCK):
+                        file.write(block)
+                        lines += block.count(b"\n")
+                        bar.update(len(block))
+                if lines != pairs:
+                    problem = f"has {lines} lines for {pairs} pairs: remove it and give the same call again"
+                    raise ToolError(problem, path)
+    unlink_missing_ok(folder.plan_file)
 
 
 # Workers
@@ -225,14 +229,22 @@ def workers_of(options: argparse.Namespace, task: domethyme_part.Task) -> Any:
     """The workers that the arguments name, in a with-block."""
     if options.dask is not None:
         return cluster(options.dask, task)
-    return threads(1 if options.split_only else options.jobs or len(os.sched_getaffinity(0)))
+    return Threads(1 if options.split_only else options.jobs or len(os.sched_getaffinity(0)))
 
 
 class Threads:
-    """Workers of this process, each of which waits for one program at a time."""
+    """Workers of this process, each of which waits for one program at a time; the programs end with the with-block."""
 
-    def __init__(self, pool: concurrent.futures.Executor, jobs: int) -> None:
-        self.pool, self.jobs = pool, jobs
+    def __init__(self, jobs: int) -> None:
+        self.pool, self.jobs = concurrent.futures.ThreadPoolExecutor(jobs), jobs
+
+    def __enter__(self) -> "Threads":
+        return self
+
+    def __exit__(self, kind: object, *_: object) -> None:
+        if kind is not None:
+            domethyme_part.stop_all()
+        self.pool.shutdown(cancel_futures=True)
 
     def capacity(self) -> int:
         """How many parts may be under way at a time."""
@@ -248,19 +260,6 @@ class Threads:
 
     def result(self, run: "concurrent.futures.Future[domethyme_part.Result]") -> domethyme_part.Result:
         return run.result()
-
-
-@contextlib.contextmanager
-def threads(jobs: int) -> Iterator[Threads]:
-    """So many Threads, whose programs end with the block."""
-    pool = concurrent.futures.ThreadPoolExecutor(jobs)
-    try:
-        yield Threads(pool, jobs)
-    except BaseException:
-        domethyme_part.stop_all()
-        raise
-    finally:
-        pool.shutdown(cancel_futures=True)
 
 
 class Cluster:
@@ -289,14 +288,14 @@ class Cluster:
 
     def result(self, run: Any) -> domethyme_part.Result:
         """As of Threads; a ToolError where the scheduler went away, which cancels all runs."""
-        try:
-            with scheduler_errors(self.scheduler):
+        with scheduler_errors(self.scheduler):
+            try:
                 result: domethyme_part.Result = run.result()
                 return result
-        except ToolError:
-            raise
-        except Exception as error:
-            return 1, f"Dask: {type(error).__name__}: {error}", 0
+            except (concurrent.futures.CancelledError, OSError):
+                raise
+            except Exception as error:
+                return 1, f"Dask: {type(error).__name__}: {error}", 0
 
 
 @contextlib.contextmanager
