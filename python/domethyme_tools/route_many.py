@@ -19,13 +19,12 @@ import concurrent.futures
 import contextlib
 import logging
 import os
-import queue
 import re
 import sys
 import threading
 import uuid
-from collections.abc import Iterator
-from typing import Any, NoReturn
+from collections.abc import Callable, Iterator
+from typing import Any, NamedTuple, NoReturn
 
 import tqdm
 
@@ -44,6 +43,7 @@ BAD_INPUT = (3, 4, 5)
 BLOCK = 1 << 20
 LOOK_AGAIN_SECONDS = 2
 SILENT_SECONDS = 3
+SCHEDULER_IS_GONE = (concurrent.futures.CancelledError, OSError)
 # Options by their old words.
 RENAMED = {"--anew": "--restart", "--part": "--pairs-per-part", "--cut": "--split-only"}
 
@@ -94,8 +94,9 @@ def run_all(options: argparse.Namespace) -> None:
     hierarchy = os.path.join(os.getcwd(), options.hierarchy)
     with parts.open_folder(options.out, options.restart) as folder:
         task = domethyme_part.task(program, hierarchy, folder.drafts, display_name(options.pairs))
-        with workers_of(options, task) as workers:
-            plan, is_new = make_plan(options, task, folder, workers)
+        jobs = 1 if options.split_only else options.jobs or len(os.sched_getaffinity(0))
+        with threads(task, jobs) if options.dask is None else cluster(task, options.dask) as workers:
+            plan, is_new = make_plan(options, folder, workers)
             if options.split_only and is_new:
                 print(f"{len(plan.parts)} parts in {folder.path}")
                 return
@@ -103,7 +104,7 @@ def run_all(options: argparse.Namespace) -> None:
             if options.split_only and missing:
                 problem = f"{len(missing)} of {len(plan.parts)} parts have no answers yet, the first is"
                 raise ToolError(f"{problem} {folder.text(missing[0])}")
-            answer_all(workers, task, folder, plan, missing)
+            answer_all(workers, folder, plan, missing)
         join(folder, plan, options.out)
 
 
@@ -122,56 +123,55 @@ def check_out(options: argparse.Namespace) -> None:
 # The parts
 
 
-def make_plan(
-    options: argparse.Namespace, task: domethyme_part.Task, folder: parts.Folder, workers: Any
-) -> tuple[parts.Plan, bool]:
+def make_plan(options: argparse.Namespace, folder: parts.Folder, workers: "Workers") -> tuple[parts.Plan, bool]:
     """The plan of the parts, and whether it is new: where an earlier call has kept none, the pairs are cut."""
     spooled = os.path.join(folder.drafts, "whole.pairs")
     survey = parts.spool(options.pairs, spooled)
     if survey.origin is not None:
         with open_hierarchy_file(options.hierarchy) as file:
             survey.origin.need(options.hierarchy, read_header(file.fileno(), options.hierarchy)[0], options.pairs)
-    digests = task["digests"]
-    plan = parts.Plan(digests[task["hierarchy"]], digests[task["program"]], survey.sha256, options.pairs_per_part, [])
+    hierarchy, program = (workers.task["digests"][workers.task[name]] for name in ("hierarchy", "program"))
+    plan = parts.Plan(hierarchy, program, survey.sha256, options.pairs_per_part, [])
     kept = folder.load_plan()
     if kept is not None:
         if (word := kept.difference(plan)) is not None:
             raise ToolError(f"is of a call with another {word}: --restart drops it", folder.path)
         return kept, False
     if survey.pairs is None:
-        exit_with(folder, *refusal_of_whole(workers, task, spooled))
+        exit_with(folder, *refusal_of_whole(workers, spooled))
     return folder.cut(plan, spooled), True
 
 
-def answer_all(workers: Any, task: domethyme_part.Task, folder: parts.Folder, plan: parts.Plan, missing: list[int]) -> None:
+def answer_all(workers: "Workers", folder: parts.Folder, plan: parts.Plan, missing: list[int]) -> None:
     """Has the missing parts answered; where one fails, ends this program as one process of routecli would."""
     pairs = sum(pairs for pairs, _ in plan.parts)
     done = pairs - sum(plan.parts[number][0] for number in missing)
     with tqdm.tqdm(total=pairs, initial=done, unit="pair", unit_scale=True, disable=None) as bar:
-        failed = answer_parts(workers, task, folder, plan, missing, bar)
+        failed = answer_parts(workers, folder, plan, missing, bar)
     if failed is not None and failed[0] in BAD_INPUT:
-        failed = refusal_of_whole(workers, task, folder.whole)
+        failed = refusal_of_whole(workers, folder.whole)
     if failed is not None:
         exit_with(folder, *failed)
 
 
 def answer_parts(
-    workers: Any, task: domethyme_part.Task, folder: parts.Folder, plan: parts.Plan, missing: list[int], bar: Any
+    workers: "Workers", folder: parts.Folder, plan: parts.Plan, missing: list[int], bar: Any
 ) -> tuple[int, str] | None:
     """Has these parts answered. Gives None, or status and line of the first part that failed, bad input before all else: no
     part begins after one has failed, and those that are under way are waited for."""
     waiting = collections.deque(missing)
-    under_way: dict[Any, int] = {}
+    under_way: dict[Run, int] = {}
     failed: dict[int, tuple[int, str]] = {}
     while under_way or waiting and not failed:
         room = 0 if failed else workers.capacity() - len(under_way)
         for _ in range(min(room, len(waiting))):
             number = waiting.popleft()
-            words = (folder.text(number), plan.parts[number][1], folder.answers(number))
-            under_way[workers.begin(task, *words)] = number
-        for done in workers.wait_any(list(under_way)):
-            number = under_way.pop(done)
-            status, line, size = workers.result(done)
+            run = workers.begin(folder.text(number), plan.parts[number][1], folder.answers(number))
+            under_way[run] = number
+        # (workers may come meanwhile)
+        for run in concurrent.futures.wait(under_way, LOOK_AGAIN_SECONDS, concurrent.futures.FIRST_COMPLETED).done:
+            number = under_way.pop(run)
+            status, line, size = workers.result(run)
             answers = folder.answers(number)
             if status == 0 and not domethyme_part.has_come(answers, size):
                 status, line = 1, f"{answers} isn't seen here with the {size} bytes that a worker wrote"
@@ -182,15 +182,12 @@ def answer_parts(
     return min(failed.items(), key=lambda part: (part[1][0] not in BAD_INPUT, part[0]))[1] if failed else None
 
 
-def refusal_of_whole(workers: Any, task: domethyme_part.Task, text: str) -> tuple[int, str]:
+def refusal_of_whole(workers: "Workers", text: str) -> tuple[int, str]:
     """Status and line of one process for the whole of a text that is known to be refused: its lines count from the text's
     first one, and of several faults it reports the first. It reads all pairs before it answers any."""
-    refused = os.path.join(task["drafts"], "refused")
-    begun = workers.begin(task, text, os.stat(text).st_size, refused)
-    while not workers.wait_any([begun]):
-        pass
-    status, line, _ = workers.result(begun)
-    return (status, line) if status != 0 else (1, "routecli refuses a part of the pairs, and takes them as a whole")
+    refused = os.path.join(workers.task["drafts"], "refused")
+    status, line, _ = workers.result(workers.begin(text, os.stat(text).st_size, refused))
+    return (status, line or "") if status != 0 else (1, "routecli refuses a part of the pairs, and takes them as a whole")
 
 
 def exit_with(folder: parts.Folder, status: int, line: str) -> NoReturn:
@@ -224,86 +221,58 @@ def join(folder: parts.Folder, plan: parts.Plan, out: str) -> None:
 
 # Workers
 
-
-def workers_of(options: argparse.Namespace, task: domethyme_part.Task) -> Any:
-    """The workers that the arguments name, in a with-block."""
-    if options.dask is not None:
-        return cluster(options.dask, task)
-    return Threads(1 if options.split_only else options.jobs or len(os.sched_getaffinity(0)))
+Run = concurrent.futures.Future[domethyme_part.Result]
 
 
-class Threads:
-    """Workers of this process, each of which waits for one program at a time; the programs end with the with-block."""
+class Workers(NamedTuple):
+    """Where the parts of a task are answered: a pool, the function that it is given, how many may be under way at a time, and
+    what gives the result of a run."""
 
-    def __init__(self, jobs: int) -> None:
-        self.pool, self.jobs = concurrent.futures.ThreadPoolExecutor(jobs), jobs
+    task: domethyme_part.Task
+    pool: concurrent.futures.Executor
+    answer: Callable[..., domethyme_part.Result]
+    capacity: Callable[[], int]
+    result: Callable[[Run], domethyme_part.Result]
 
-    def __enter__(self) -> "Threads":
-        return self
-
-    def __exit__(self, kind: object, *_: object) -> None:
-        if kind is not None:
-            domethyme_part.stop_all()
-        self.pool.shutdown(cancel_futures=True)
-
-    def capacity(self) -> int:
-        """How many parts may be under way at a time."""
-        return self.jobs
-
-    def begin(self, *words: Any) -> Any:
-        """Has a worker do domethyme_part.answer with these words: the run, of which `result` gives what it gave."""
-        return self.pool.submit(domethyme_part.answer, *words)
-
-    def wait_any(self, runs: Any) -> set[Any]:
-        """The set of the runs that are done; waits until there is one, but maybe not as long."""
-        return concurrent.futures.wait(runs, return_when=concurrent.futures.FIRST_COMPLETED).done
-
-    def result(self, run: "concurrent.futures.Future[domethyme_part.Result]") -> domethyme_part.Result:
-        return run.result()
+    def begin(self, text: str, size: int, answers: str) -> Run:
+        """Has a worker do domethyme_part.answer with these words."""
+        return self.pool.submit(self.answer, self.task, text, size, answers)
 
 
-class Cluster:
-    """Workers of a Dask scheduler, as Threads are those of this process. A part whose worker died goes to another one; where
-    none is left, it waits for one that comes."""
+@contextlib.contextmanager
+def threads(task: domethyme_part.Task, jobs: int) -> Iterator[Workers]:
+    """Workers of this process, each of which waits for one program at a time; the programs end with the block."""
+    pool = concurrent.futures.ThreadPoolExecutor(jobs)
+    try:
+        yield Workers(task, pool, domethyme_part.answer, lambda: jobs, lambda run: run.result())
+    except BaseException:
+        domethyme_part.stop_all()
+        raise
+    finally:
+        pool.shutdown(cancel_futures=True)
 
-    def __init__(self, client: Any, scheduler: str) -> None:
-        self.client, self.scheduler = client, scheduler
-        self.done: queue.SimpleQueue[Any] = queue.SimpleQueue()
 
-    def capacity(self) -> int:
-        with scheduler_errors(self.scheduler):
-            workers = self.client.scheduler_info()["workers"].values()
+@contextlib.contextmanager
+def cluster(task: domethyme_part.Task, scheduler: str) -> Iterator[Workers]:
+    """Workers of a Dask scheduler, which have been looked at. A part whose worker died goes to another one; where none is left, it
+    waits for one that comes."""
+    def capacity() -> int:
+        with scheduler_errors(scheduler):
+            workers = client.scheduler_info()["workers"].values()
         return max(1, 2 * sum(int(worker["nthreads"]) for worker in workers))
 
-    def begin(self, *words: Any) -> Any:
-        run = self.client.submit(domethyme_part.answer_on_worker, *words, pure=False)
-        run.add_done_callback(self.done.put)
-        return run
-
-    def wait_any(self, _runs: Any) -> set[Any]:
-        try:
-            return {self.done.get(timeout=LOOK_AGAIN_SECONDS)}
-        except queue.Empty:
-            return set()
-
-    def result(self, run: Any) -> domethyme_part.Result:
-        """As of Threads; a ToolError where the scheduler went away, which cancels all runs."""
-        with scheduler_errors(self.scheduler):
+    def result(run: Run) -> domethyme_part.Result:
+        with scheduler_errors(scheduler):
             try:
-                result: domethyme_part.Result = run.result()
-                return result
-            except (concurrent.futures.CancelledError, OSError):
+                return run.result()
+            except SCHEDULER_IS_GONE:
                 raise
             except Exception as error:
                 return 1, f"Dask: {type(error).__name__}: {error}", 0
 
-
-@contextlib.contextmanager
-def cluster(scheduler: str, task: domethyme_part.Task) -> Iterator[Cluster]:
-    """The Cluster of the scheduler, whose workers have been looked at."""
     with connect(scheduler) as client, upload_module(client, scheduler):
         check_workers(client, scheduler, task)
-        yield Cluster(client, scheduler)
+        yield Workers(task, client.get_executor(pure=False), domethyme_part.answer_on_worker, capacity, result)
 
 
 def connect(scheduler: str) -> Any:
@@ -358,5 +327,5 @@ def scheduler_errors(scheduler: str) -> Iterator[None]:
     """A ToolError where the scheduler goes away while the block runs."""
     try:
         yield
-    except (concurrent.futures.CancelledError, OSError) as error:
+    except SCHEDULER_IS_GONE as error:
         raise ToolError("the scheduler went away; the same call resumes with the parts that are done", scheduler) from error
