@@ -35,13 +35,11 @@ Value = TypeVar("Value")
 
 def to_mercator(places: Iterable[Point]) -> list[Point]:
     """The points of places on the plane. Latitudes beyond 85.05 degrees are taken as 85.05, as web maps do."""
-    return [(0.5 + lon / 360, 0.5 - height_of(lat)) for lon, lat in places]
-
-
-def height_of(latitude: float) -> float:
-    """How far north of the equator a latitude lies on the plane, in the width of the world."""
-    phi = math.radians(max(-GREATEST_LATITUDE, min(GREATEST_LATITUDE, latitude)))
-    return math.asinh(math.tan(phi)) / (2 * math.pi)
+    points = []
+    for lon, lat in places:
+        phi = math.radians(max(-GREATEST_LATITUDE, min(GREATEST_LATITUDE, lat)))
+        points.append((0.5 + lon / 360, 0.5 - math.asinh(math.tan(phi)) / (2 * math.pi)))
+    return points
 
 
 def from_mercator(point: Point) -> Point:

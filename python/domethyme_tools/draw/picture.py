@@ -42,7 +42,7 @@ def picture_of(routes: list[DrawnRoute], roads: list[RoadLines], view: View, att
         *(draw_pieces(route, view, "#fff", CASING) for route in lines),
         *(draw_route(route, view) for route in lines),
         *(draw_arrows(route.line, route.colour, view) for route in lines if route.line and len(routes) <= MAX_WITH_ARROWS),
-        *(draw_ends(route.line, route.colour, view) for route in lines if route.line),
+        *(draw_ends(*in_picture([route.line[0], route.line[-1]], view), route.colour) for route in lines if route.line),
         "</g>",
         *(draw_legend(legend) if legend else ()),
         *draw_scale(view),
@@ -57,8 +57,9 @@ def escaped(text: str) -> str:
     return html.escape(re.sub(r"[^\t\n\r\x20-\ud7ff\ue000-\ufffd\U00010000-\U0010ffff]", "\ufffd", text))
 
 
-def path_through(line: Sequence[Point], view: View) -> str:
-    return path_of(view.pixels(to_mercator(line)))
+def in_picture(places: Sequence[Point], view: View) -> list[Point]:
+    """Where places lie in the picture."""
+    return view.pixels(to_mercator(places))
 
 
 def draw_roads(roads: list[RoadLines], view: View) -> Iterator[str]:
@@ -66,14 +67,14 @@ def draw_roads(roads: list[RoadLines], view: View) -> Iterator[str]:
     thinner = max(0.5, min(1, view.width / 600))
     for style, dashes, lines in sorted(roads, key=lambda of_kind: of_kind.dashes is None):
         if lines:
-            data = "".join(path_through(line, view) for line in lines)
+            data = "".join(path_of(in_picture(line, view)) for line in lines)
             look = f' stroke-dasharray="{dashes}" stroke-linecap="butt"' if dashes else ""
             yield f'<path stroke="{style.colour}" stroke-width="{style.width * thinner:g}"{look} d="{data}"/>'
 
 
 def draw_area(area: DrawnRoute, view: View) -> str:
     """An area below the roads, in its colour, over those before it."""
-    data = "".join(path_through(ring, view) + "Z" for ring in area.rings)
+    data = "".join(path_of(in_picture(ring, view)) + "Z" for ring in area.rings)
     look = f'fill="{tint(area.colour)}" fill-rule="evenodd" stroke="{area.colour}"'
     return f'<g><title>{escaped(area.label)}</title><path {look} d="{data}"/></g>'
 
@@ -92,13 +93,13 @@ def draw_route(route: DrawnRoute, view: View) -> str:
 
 def draw_pieces(route: DrawnRoute, view: View, colour: str, more: float) -> str:
     """The pieces of a route, so much wider than they are."""
-    paths = [(width + more, path_through(line, view)) for width, line in route.pieces]
+    paths = [(width + more, path_of(in_picture(line, view))) for width, line in route.pieces]
     return "".join(f'<path stroke="{colour}" stroke-width="{width:g}" d="{data}"/>' for width, data in paths)
 
 
 def draw_arrows(line: list[Point], colour: str, view: View) -> str:
     """Arrows along a route, in its colour with a white edge."""
-    pixels = view.pixels(to_mercator(line))
+    pixels = in_picture(line, view)
     ends = pixels[0], pixels[-1]
     far = [each for each in arrows(pixels, BETWEEN_ARROWS) if min(math.dist(each[0], end) for end in ends) >= FROM_ENDS]
     data = "".join(arrow(*place, *towards) for place, towards in far)
@@ -112,18 +113,11 @@ def arrow(x: float, y: float, east: float, south: float) -> str:
     return "M" + "L".join(f"{right:.1f} {down:.1f}" for right, down in points) + "Z"
 
 
-def draw_ends(line: list[Point], colour: str, view: View) -> str:
+def draw_ends(begin: Point, end: Point, colour: str) -> str:
     """A ring where a route begins, and a dot where it ends."""
-    begin, end = view.pixels(to_mercator([line[0], line[-1]]))
-    return ring(*begin, colour) + dot(*end, colour)
-
-
-def ring(x: float, y: float, colour: str) -> str:
-    return f'<circle cx="{x:.1f}" cy="{y:.1f}" r="6" fill="#fff" stroke="{colour}" stroke-width="3"/>'
-
-
-def dot(x: float, y: float, colour: str) -> str:
-    return f'<circle cx="{x:.1f}" cy="{y:.1f}" r="7" fill="{colour}" stroke="#fff" stroke-width="2"/>'
+    ring = f'cx="{begin[0]:.1f}" cy="{begin[1]:.1f}" r="6" fill="#fff" stroke="{colour}" stroke-width="3"'
+    dot = f'cx="{end[0]:.1f}" cy="{end[1]:.1f}" r="7" fill="{colour}" stroke="#fff" stroke-width="2"'
+    return f"<circle {ring}/><circle {dot}/>"
 
 
 class Row(NamedTuple):
@@ -206,7 +200,7 @@ def draw_row(row: Row, middle: float, legend: Legend) -> Iterator[str]:
     elif colour:
         left, right = MARGIN + 4, MARGIN + SWATCH - 18
         yield f'<path stroke="{colour}" stroke-width="{NARROWEST}" d="M{left} {middle:g}H{right}"/>'
-        yield ring(left, middle, colour) + dot(right, middle, colour)
+        yield draw_ends((left, middle), (right, middle), colour)
     yield f'<text x="{MARGIN + SWATCH}" y="{middle + 5:g}" font-weight="bold">{escaped(label)}</text>'
     if legend.is_tall:
         has_room = SWATCH + 2 * MARGIN + len(figures) * LETTER <= legend.width
@@ -218,18 +212,13 @@ def draw_row(row: Row, middle: float, legend: Legend) -> Iterator[str]:
 
 def legend_rows(routes: list[DrawnRoute], most: int, letters: int) -> list[Row]:
     """The rows, with labels of so many letters; the last counts the routes that there is no room for."""
-    shown = routes if len(routes) <= most else routes[: most - 1]
-    rows = [
-        Row(route.colour if route.places else None, shortened(route.label, letters), route.figures, bool(route.rings))
-        for route in shown
-    ]
-    if len(shown) < len(routes):
-        rows.append(Row(None, f"and {len(routes) - len(shown)} more", "", False))
+    rows = []
+    for route in routes if len(routes) <= most else routes[: most - 1]:
+        label = route.label if len(route.label) <= letters else route.label[: max(1, letters - 1)] + "…"
+        rows.append(Row(route.colour if route.places else None, label, route.figures, bool(route.rings)))
+    if len(rows) < len(routes):
+        rows.append(Row(None, f"and {len(routes) - len(rows)} more", "", False))
     return rows
-
-
-def shortened(label: str, letters: int) -> str:
-    return label if len(label) <= letters else label[: max(1, letters - 1)] + "…"
 
 
 def corner_for(
@@ -239,8 +228,8 @@ def corner_for(
     hidden there: how many of routes, and the corner."""
     right, bottom = view.width - width - MARGIN, view.height - height - MARGIN - FOOT
     corners = [(MARGIN, MARGIN), (right, MARGIN), (right, bottom), (MARGIN, bottom)]
-    of_routes = (densify(view.pixels(to_mercator(route.line))) for route in routes if route.line)
-    of_roads = (view.pixels(to_mercator(line)) for of_kind in roads for line in of_kind.lines)
+    of_routes = (densify(in_picture(route.line, view)) for route in routes if route.line)
+    of_roads = (in_picture(line, view) for of_kind in roads for line in of_kind.lines)
     points = [numpy.array([*itertools.chain.from_iterable(some)]).reshape(-1, 2) for some in (of_routes, of_roads)]
 
     def hidden(corner: Point) -> list[int]:

@@ -1,7 +1,7 @@
 """The roads that are drawn around routes, by their kinds."""
 import itertools
 import math
-from collections.abc import Iterator
+from collections.abc import Iterator, Sequence
 from typing import NamedTuple
 
 import numpy
@@ -40,18 +40,13 @@ ROAD_STYLES = [
     RoadStyle(("primary",), 3, "#7c776e", "#8b877f"),
     RoadStyle(("motorway", "trunk"), 3.6, "#726d64", "#918d86"),
 ]
+STYLE_OF = {highway: number for number, style in enumerate(ROAD_STYLES) for highway in style.highways}
 TUNNEL = "tunnel"
 DASHES = "5 4"
 # Edges that are read together, and the share of the world from which on a box has all of them.
 PART, WIDE = 1 << 14, 0.25
 # The degrees within which a route lies beside the roads, on which it begins and ends, and those within which an area does.
 BESIDE, AREA_BESIDE = 0.001, 0.1
-
-
-def road_style(highway: str) -> int:
-    """The number in ROAD_STYLES of a kind of highway; a slip road is as the road that it leads to."""
-    plain = highway.removesuffix("_link")
-    return next((number for number, kind in enumerate(ROAD_STYLES) if plain in kind.highways), 0)
 
 
 def read_roads(arrays: MappedNetwork, box: Box | None) -> list[RoadLines]:
@@ -64,30 +59,27 @@ def read_roads(arrays: MappedNetwork, box: Box | None) -> list[RoadLines]:
         line = unwrapped(arrays.edge_line(edge), near)
         if tuple(line) not in seen and (box is None or box_of(to_mercator(line)).meets(box)):
             seen.add(tuple(line))
-            of_kind = roads[road_style(highway) + len(ROAD_STYLES) * (structure == TUNNEL)]
-            of_kind.lines.append(line if len(line) > 1 else line * 2)
+            # (a slip road is as the road that it leads to)
+            style = STYLE_OF.get(highway.removesuffix("_link"), 0) + len(ROAD_STYLES) * (structure == TUNNEL)
+            roads[style].lines.append(line if len(line) > 1 else line * 2)
     return roads
 
 
 def edges_in(arrays: MappedNetwork, box: Box | None) -> Iterator[tuple[int, str, str]]:
     """The edges in a box, and others, or all, in their order, with the classes and structures of their roads."""
-    for edges in parts_of(arrays, box):
-        arcs = arrays.edge_arcs[numpy.minimum(arrays.edge_first[edges], len(arrays.edge_arcs) - 1)]
-        texts = zip(*(arrays.arc_texts[arcs, TEXTS.index(name)].tolist() for name in ("highway", "structure")))
-        for edge, (highway, structure) in zip(edges, texts):
-            yield edge, arrays.texts[highway], arrays.texts[structure]
-
-
-def parts_of(arrays: MappedNetwork, box: Box | None) -> Iterator[list[int]]:
-    """The numbers of these edges, PART at a time."""
-    found = range(len(arrays.edge_begin) - 1)
+    found: Sequence[int] = range(len(arrays.edge_begin) - 1)
     if box is not None and box.width < WIDE:
         lon, lat = from_mercator(box.middle)
         corners = [from_mercator((x, y)) for x in (box.left, box.right) for y in (box.top, box.bottom)]
         reach = max(metres_between(lon, lat, *corner) for corner in corners)
         near = numpy.concatenate([[], *arrays.edge_grid.candidates((wrapped_lon(lon), lat), reach)])
         found = numpy.unique(near).astype(int).tolist()
-    return (list(found[low : low + PART]) for low in range(0, len(found), PART))
+    for low in range(0, len(found), PART):
+        edges = list(found[low : low + PART])
+        arcs = arrays.edge_arcs[numpy.minimum(arrays.edge_first[edges], len(arrays.edge_arcs) - 1)]
+        texts = zip(*(arrays.arc_texts[arcs, TEXTS.index(name)].tolist() for name in ("highway", "structure")))
+        for edge, (highway, structure) in zip(edges, texts):
+            yield edge, arrays.texts[highway], arrays.texts[structure]
 
 
 def wrapped_lon(lon: float) -> float:
