@@ -14,18 +14,17 @@ from scipy.sparse import coo_matrix
 from scipy.sparse.csgraph import connected_components
 
 from domethyme.network import net_file
-from domethyme.network.groups import offsets
+from domethyme.network.groups import Ints, offsets
 from domethyme.network.indexes import unique_text_rows
 from domethyme.network.parallel import differs_from_previous as differs, map_slices, parallel_sort
 from domethyme.network.tables import ENDS
 
 from . import turn_restrictions
 from .map_arrays import NodeArrays, Runs
+from .turn_restrictions import Bools, Int32s, Report, Turns
 
-Ints = NDArray[np.int64]
 Floats = NDArray[np.float64]
-Report = turn_restrictions.Report
-RowsOf = Callable[[Ints], tuple[list[str], NDArray[np.int32]]]
+RowsOf = Callable[[Ints], tuple[list[str], Int32s]]
 # Degrees by which a turn may be off the line of the road, and off the way back
 STRAIGHT, BACK = 45, 15
 # What a weight counts, and how much of it a hundredth of a second is, where turns have penalties.
@@ -54,15 +53,15 @@ class RoadNetwork(NamedTuple):
     """
 
     node_osm: Ints
-    node_place: NDArray[np.int32]
+    node_place: Int32s
     node_ends: NDArray[np.uint8]
-    start: NDArray[np.int32]
-    end: NDArray[np.int32]
-    piece: NDArray[np.int32]
-    is_back: NDArray[np.bool_]
-    is_split: NDArray[np.bool_]
-    penalty: NDArray[np.int32]
-    piece_run: NDArray[np.int32]
+    start: Int32s
+    end: Int32s
+    piece: Int32s
+    is_back: Bools
+    is_split: Bools
+    penalty: Int32s
+    piece_run: Int32s
     runs: Runs
     roads: RoadTable
 
@@ -86,7 +85,7 @@ class RoadNetwork(NamedTuple):
         names = ("start", "end", "piece", "is_back", "is_split", "penalty")
         return self._replace(**{name: getattr(self, name)[chosen] for name in names})
 
-    def is_first(self) -> NDArray[np.bool_]:
+    def is_first(self) -> Bools:
         """Whether an arc is the first of its piece of road; each one that turns have taken apart is."""
         return differs(self.piece) | self.is_split
 
@@ -102,7 +101,7 @@ def first_index(values: NDArray[Any], size: int) -> NDArray[Any]:
 
 
 def build_network(
-    runs: Runs, roads: RoadTable, places: NodeArrays, is_barrier: NDArray[np.bool_]
+    runs: Runs, roads: RoadTable, places: NodeArrays, is_barrier: Bools
 ) -> tuple[RoadNetwork, Callable[[int], int]]:
     """The network of the runs, and a function to the node for a node of the map, -1 where there is none or it is a barrier."""
     ends = runs.ends.reshape(-1)
@@ -146,8 +145,8 @@ def build_network(
 
 
 def arcs_along(
-    start: NDArray[np.int32], end: NDArray[np.int32], run: NDArray[np.int32], runs: Runs, roads: RoadTable
-) -> tuple[NDArray[np.int32], NDArray[np.int32], NDArray[np.int32], NDArray[np.bool_]]:
+    start: Int32s, end: Int32s, run: Int32s, runs: Runs, roads: RoadTable
+) -> tuple[Int32s, Int32s, Int32s, Bools]:
     """The arcs along pieces with these ends and runs, in the columns of RoadNetwork from `start` to `is_back`."""
     forward, backward = (~np.isnan(speed) for speed in (roads.forward, roads.backward))
     count = (forward.astype(np.int8) + backward)[runs.road][run]
@@ -175,10 +174,10 @@ def split_junctions(
     second by the words left, right and back."""
     count, has_penalties = len(network.node_osm), any(penalties.values())
     nodes = np.arange(count) if has_penalties else np.fromiter(rules, np.int64, len(rules))
-    pairs = turn_restrictions.pairs_at(nodes, network.start, network.end, count)
-    cost = penalties_of(network, pairs, penalties) if has_penalties else np.zeros(len(pairs.turn_into), np.int32)
-    forbid(network, pairs, rules, cost)
-    found = turn_restrictions.split_nodes(nodes, pairs, cost, network.start, network.end, count)
+    turns = turn_restrictions.turns_at(nodes, network.start, network.end, count)
+    cost = penalties_of(network, turns, penalties) if has_penalties else np.zeros(len(turns.turn), np.int32)
+    forbid(network, turns, rules, cost)
+    found = turn_restrictions.split_nodes(nodes, turns, cost, network.start, network.end, count)
     report["nodes split by turns" if has_penalties else "junctions split by turn restrictions"] = len(found.begin)
     ends = network.node_ends.copy()
     ends[found.begin] = ENDS.index(turn_restrictions.START)
@@ -192,12 +191,9 @@ def split_junctions(
     )
 
 
-def forbid(
-    network: RoadNetwork, pairs: turn_restrictions.TurnPairs, rules: dict[int, turn_restrictions.Rules],
-    cost: NDArray[np.int32]
-) -> None:
+def forbid(network: RoadNetwork, turns: Turns, rules: dict[int, turn_restrictions.Rules], cost: Int32s) -> None:
     """Sets the cost of the turns that the rules of their nodes don't allow to FORBIDDEN."""
-    into, out = pairs.into[pairs.turn_into], pairs.out[pairs.turn_out]
+    into, out = turns.into[turns.turn], turns.out
     has_rules = np.zeros(len(network.node_osm), np.bool_)
     has_rules[list(rules)] = True
     there = np.flatnonzero(has_rules[network.start[out]])
@@ -208,10 +204,10 @@ def forbid(
     cost[there[~allowed]] = turn_restrictions.FORBIDDEN
 
 
-def penalties_of(network: RoadNetwork, pairs: turn_restrictions.TurnPairs, penalties: dict[str, int]) -> NDArray[np.int32]:
+def penalties_of(network: RoadNetwork, turns: Turns, penalties: dict[str, int]) -> Int32s:
     """The penalty of each turn, by its angle: straight on is within STRAIGHT degrees of the line of the road; back is the piece
     of road by which one came, or within BACK degrees of it."""
-    into, out = pairs.into[pairs.turn_into], pairs.out[pairs.turn_out]
+    into, out = turns.into[turns.turn], turns.out
     (east, north), (east_after, north_after) = headings(network, into, is_end=True), headings(network, out, is_end=False)
     angle = np.degrees(np.arctan2(east * north_after - north * east_after, east * east_after + north * north_after))
     is_back = (network.piece[into] == network.piece[out]) & (network.is_back[into] != network.is_back[out])
@@ -317,9 +313,7 @@ def arc_columns(network: RoadNetwork, kind: str, report: Report) -> tuple[Ints, 
     return weight, seconds, metres, osm, row
 
 
-def texts_of(
-    row_of_arc: NDArray[np.uint32], rows_of: RowsOf, attribution: str
-) -> tuple[list[str], NDArray[np.int32], NDArray[np.int32]]:
+def texts_of(row_of_arc: NDArray[np.uint32], rows_of: RowsOf, attribution: str) -> tuple[list[str], Int32s, Int32s]:
     """The list of texts, in the order in which arcs have them, and rows of texts and the row of each arc, as Arrays has them."""
     first = first_index(row_of_arc, int(row_of_arc.max(initial=0)) + 1)
     used = order_of_first_use(first)
@@ -338,7 +332,7 @@ def order_of_first_use(first: NDArray[Any]) -> Ints:
     return used[np.argsort(first[used])]
 
 
-def edges_from_pieces(network: RoadNetwork) -> tuple[NDArray[np.int32], NDArray[np.bool_], Ints, NDArray[np.int32]]:
+def edges_from_pieces(network: RoadNetwork) -> tuple[Int32s, Bools, Ints, Int32s]:
     """The edge of each arc and whether it leads along it, and the edges' points, as binary.Arrays has them."""
     used = np.zeros(len(network.piece_run), np.bool_)
     used[network.piece] = True
@@ -367,10 +361,10 @@ def edges_from_pieces(network: RoadNetwork) -> tuple[NDArray[np.int32], NDArray[
 class Pieces:
     """The pieces of a network with these numbers, which rise; they are counted by rows from 0."""
 
-    def __init__(self, network: RoadNetwork, pieces: NDArray[np.int32]) -> None:
+    def __init__(self, network: RoadNetwork, pieces: Int32s) -> None:
         self._network, self._runs, self._pieces = network, network.runs, pieces
 
-    def line(self, row: int) -> NDArray[np.int32]:
+    def line(self, row: int) -> Int32s:
         """The points of a piece."""
         begin, end = self._bounds(row)
         return np.array(self._runs.points[begin:end])
@@ -384,7 +378,7 @@ class Pieces:
         pieces = self._pieces[rows]
         return self._runs.begin[pieces].astype(np.int64), self._runs.end[pieces].astype(np.int64)
 
-    def classify(self) -> tuple[NDArray[np.bool_], NDArray[np.bool_], NDArray[np.uint64]]:
+    def classify(self) -> tuple[Bools, Bools, NDArray[np.uint64]]:
         """Whether each piece leads to the greater of its ends, whether both are one place, and a mix of 64 bits that pieces of
         one way have in common that lie on one line."""
         count = len(self._pieces)
@@ -399,9 +393,7 @@ class Pieces:
         map_slices(look, count)
         return is_along, is_ring, keys
 
-    def of_arcs(
-        self, number: NDArray[np.int32], is_along: NDArray[np.bool_], is_same: NDArray[np.bool_]
-    ) -> tuple[NDArray[np.int32], NDArray[np.bool_]]:
+    def of_arcs(self, number: Int32s, is_along: Bools, is_same: Bools) -> tuple[Int32s, Bools]:
         """The number of the piece of each arc, and whether it leads along it."""
         network, row = self._network, np.zeros(len(self._network.piece_run), np.int32)
         row[self._pieces] = np.arange(len(self._pieces), dtype=np.int32)
@@ -414,7 +406,7 @@ class Pieces:
         map_slices(fill, len(edge))
         return edge, along
 
-    def points(self, chosen: NDArray[np.bool_], is_along: NDArray[np.bool_]) -> tuple[Ints, NDArray[np.int32]]:
+    def points(self, chosen: Bools, is_along: Bools) -> tuple[Ints, Int32s]:
         """The lines of chosen pieces one after the other, each along or against its points; and where they begin."""
         begin, end = (bounds[chosen] for bounds in self._bounds(slice(None)))
         line_begin = offsets(end - begin)
@@ -432,7 +424,7 @@ class Pieces:
         return line_begin, found
 
 
-def place_keys(places: NDArray[np.int32]) -> Ints:
+def place_keys(places: Int32s) -> Ints:
     """Numbers in the order of places, by longitude and then latitude."""
     return (places[:, 0].astype(np.int64) << 32) + places[:, 1]
 

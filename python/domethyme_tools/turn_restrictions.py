@@ -15,8 +15,8 @@ A turn that has a penalty is kept by the same nodes: arcs that lead from them we
     Restriction(start, via, end, only)            from way `start` by the node `via` into way `end`
     restrictions_of(tags, members, access, keys)  those of a relation, or why it has none
     applicable_rules(restrictions, roads)         those whose ways end at their node, by node
-    pairs_at(nodes, ..)                           the turns at nodes
-    split_nodes(nodes, pairs, cost, ..)           the arcs with split junctions
+    turns_at(nodes, ..)                           the turns at nodes
+    split_nodes(nodes, turns, cost, ..)           the arcs with split junctions
 """
 import collections
 from collections.abc import Callable, Iterable, Sequence
@@ -29,6 +29,8 @@ from domethyme.network.groups import Ints, expand, first_of_equal, offsets
 from domethyme.network.parallel import differs_from_previous as differs
 from domethyme.network.tables import ENDS
 
+Int32s = NDArray[np.int32]
+Bools = NDArray[np.bool_]
 Report = collections.Counter[str]
 NOT_LOOKED_AT = "turn restrictions not looked at: "
 START, PASSED, END = "from", "no", "to"
@@ -109,37 +111,35 @@ def applicable_rules(
     return rules
 
 
-class TurnPairs(NamedTuple):
-    """The turns at some nodes, by arcs that lead to a node and those that lead from it.
+class Turns(NamedTuple):
+    """The turns at some nodes.
 
-    into, out              the arcs that lead to the nodes, and from them, node by node and in the order of arcs
-    into_begin, out_begin  where those of each node begin, and at last where they end
-    turn_into, turn_out    for each turn the places of its arcs in `into` and `out`, by `into`
+    into  the arcs that lead to the nodes, node by node and in the order of arcs
+    node  the place among the nodes of the one that each of them leads to
+    turn  for each turn the place in `into` of the arc that it comes from; they rise
+    out   for each turn the arc that it leads into
     """
 
     into: Ints
+    node: Int32s
+    turn: Ints
     out: Ints
-    into_begin: Ints
-    out_begin: Ints
-    turn_into: Ints
-    turn_out: Ints
 
 
-def pairs_at(nodes: Ints, start: NDArray[np.int32], end: NDArray[np.int32], count: int) -> TurnPairs:
+def turns_at(nodes: Ints, start: Int32s, end: Int32s, count: int) -> Turns:
     """The turns at these nodes, of a graph with `count` nodes and arcs with these ends."""
     rank = np.full(count, -1, np.int32)
     rank[nodes] = np.arange(len(nodes), dtype=np.int32)
-    (into, into_begin), (out, out_begin) = arcs_at(rank[end], len(nodes)), arcs_at(rank[start], len(nodes))
-    node = rank[end[into]]  # the place in `nodes` of the node that each arc leads to
-    turn_into, position = expand(np.diff(out_begin)[node])  # each of them with all that lead out of there
-    turn_out = out_begin[node][turn_into] + position
-    return TurnPairs(into, out, into_begin, out_begin, turn_into, turn_out)
 
+    def arcs_at(ends: Int32s) -> Ints:
+        arcs = np.flatnonzero(rank[ends] >= 0)
+        return arcs[np.argsort(rank[ends[arcs]], kind="stable")]
 
-def arcs_at(rank: NDArray[np.int32], count: int) -> tuple[Ints, Ints]:
-    """The arcs that have a rank from 0, by it, and where those of each rank begin."""
-    arcs = np.flatnonzero(rank >= 0)
-    return arcs[np.argsort(rank[arcs], kind="stable")], offsets(np.bincount(rank[arcs], minlength=count))
+    into, leaving = arcs_at(end), arcs_at(start)
+    node = rank[end[into]]
+    counts = np.bincount(rank[start[leaving]], minlength=len(nodes))
+    turn, position = expand(counts[node])
+    return Turns(into, node, turn, leaving[offsets(counts)[node][turn] + position])
 
 
 class Split(NamedTuple):
@@ -147,9 +147,9 @@ class Split(NamedTuple):
     that it is beside and its number in ENDS; the nodes where routes only begin now; and the arcs that were at such nodes."""
 
     arc: Ints
-    start: NDArray[np.int32]
-    end: NDArray[np.int32]
-    penalty: NDArray[np.int32]
+    start: Int32s
+    end: Int32s
+    penalty: Int32s
     beside: Ints
     ends: NDArray[np.uint8]
     begin: Ints
@@ -157,74 +157,71 @@ class Split(NamedTuple):
 
 
 class Copies(NamedTuple):
-    """The new nodes of junctions that are split. For each place of TurnPairs.into whether a node is made for it and its like, and
+    """The new nodes of junctions that are split. For each place of Turns.into whether a node is made for it and its like, and
     the number of that node; the node to which its arc leads where a route goes on, and where it ends. For each node that may be
     split whether it is. For each new node the one that it is beside, and its number in ENDS."""
 
-    is_made: NDArray[np.bool_]
+    is_made: Bools
     made: Ints
     goes_to: Ints
     ends_at: Ints
-    is_split: NDArray[np.bool_]
+    is_split: Bools
     beside: Ints
     ends: NDArray[np.uint8]
 
 
-def split_nodes(
-    nodes: Ints, pairs: TurnPairs, cost: NDArray[np.int32], start: NDArray[np.int32], end: NDArray[np.int32], count: int
-) -> Split:
+def split_nodes(nodes: Ints, turns: Turns, cost: Int32s, start: Int32s, end: Int32s, count: int) -> Split:
     """Splits those of the nodes where a turn is FORBIDDEN or has a penalty, by the cost of each turn. New nodes follow the
     others: of each node that is split the one where routes end, and one for each set of arcs that differ in what they may go on
     into, or at which penalty, in the order of the first of them."""
-    copies = make_copies(nodes, pairs, cost, count)
+    copies = make_copies(nodes, turns, cost, count)
     # an arc starts where it did, and then at each node made that may take it
-    leaves = np.flatnonzero(copies.is_made[pairs.turn_into] & (cost != FORBIDDEN))
-    leaves = leaves[np.argsort(pairs.out[pairs.turn_out[leaves]], kind="stable")]
-    arc_out = pairs.out[pairs.turn_out[leaves]]
-    arc = np.insert(np.arange(len(start)), arc_out + 1, arc_out)
-    starts = np.insert(start, arc_out + 1, copies.made[pairs.turn_into[leaves]])
-    penalties = np.insert(np.zeros(len(start), np.int32), arc_out + 1, cost[leaves])
+    leaves = np.flatnonzero(copies.is_made[turns.turn] & (cost != FORBIDDEN))
+    leaves = leaves[np.argsort(turns.out[leaves], kind="stable")]
+    out = turns.out[leaves]
+    arc = np.insert(np.arange(len(start)), out + 1, out)
+    starts = np.insert(start, out + 1, copies.made[turns.turn[leaves]])
+    penalties = np.insert(np.zeros(len(start), np.int32), out + 1, cost[leaves])
     # each of these ends twice where it leads to a split node: where a route goes on, and where it ends
-    is_there = np.repeat(copies.is_split, np.diff(pairs.into_begin))
-    into = pairs.into[is_there]
+    is_there = copies.is_split[turns.node]
+    into = turns.into[is_there]
     times, first_end, last_end = np.ones(len(start), np.int8), end.copy(), end.copy()
     times[into], first_end[into], last_end[into] = 2, copies.goes_to[is_there], copies.ends_at[is_there]
     row = np.repeat(np.arange(len(arc)), times[arc])
     arc = arc[row]
     ends = np.where(differs(row), first_end[arc], last_end[arc])
-    touched = np.concatenate((into, pairs.out[np.repeat(copies.is_split, np.diff(pairs.out_begin))]))
+    touched = np.concatenate((into, turns.out[is_there[turns.turn]]))
     return Split(arc, starts[row], ends, penalties[row], copies.beside, copies.ends, nodes[copies.is_split], touched)
 
 
-def make_copies(nodes: Ints, pairs: TurnPairs, cost: NDArray[np.int32], count: int) -> Copies:
+def make_copies(nodes: Ints, turns: Turns, cost: Int32s, count: int) -> Copies:
     """The new nodes. Arcs of one class may go on into the same arcs at the same costs; those that may go on anywhere for nothing
     lead to the node itself."""
-    node = np.repeat(np.arange(len(nodes)), np.diff(pairs.into_begin))
-    is_free = np.ones(len(pairs.into), np.bool_)
-    is_free[pairs.turn_into[cost != 0]] = False
+    node = turns.node
+    is_free = np.ones(len(node), np.bool_)
+    is_free[turns.turn[cost != 0]] = False
     is_split = np.zeros(len(nodes), np.bool_)
     is_split[node[~is_free]] = True
-    first = first_equivalent(pairs, cost, node)
+    first = first_equivalent(turns, cost)
     is_made = ~is_free & (first == np.arange(len(first)))
     made_at = np.bincount(node[is_made], minlength=len(nodes))
     begin = count + offsets(np.where(is_split, 1 + made_at, 0))
-    made = np.zeros(len(pairs.into), np.int64)
-    made[is_made] = begin[:-1][node[is_made]] + 1 + expand(made_at)[1]
+    made = np.zeros(len(node), np.int64)
+    made[is_made] = begin[node[is_made]] + 1 + expand(made_at)[1]
     ends = np.full(int(begin[-1]) - count, ENDS.index(PASSED), np.uint8)
     ends[begin[:-1][is_split] - count] = ENDS.index(END)
     beside = np.repeat(nodes[is_split], 1 + made_at[is_split])
-    return Copies(is_made, made, np.where(is_free, nodes[node], made[first]), begin[:-1][node], is_split, beside, ends)
+    return Copies(is_made, made, np.where(is_free, nodes[node], made[first]), begin[node], is_split, beside, ends)
 
 
-def first_equivalent(pairs: TurnPairs, cost: NDArray[np.int32], node: Ints) -> Ints:
+def first_equivalent(turns: Turns, cost: Int32s) -> Ints:
     """For each arc that leads to a node the first of those that lead there and have the same costs, by a mix of 64 bits."""
-    key = np.zeros(len(pairs.into), np.uint64)
-    place = (pairs.turn_out - pairs.out_begin[node[pairs.turn_into]]).astype(np.uint64)
-    begin = offsets(np.bincount(pairs.turn_into, minlength=len(key)))
-    has_turns = np.diff(begin) > 0
-    codes = splitmix64(place * np.uint64(1 << 32) + (cost + 2).astype(np.uint64))
-    key[has_turns] = np.add.reduceat(codes, begin[:-1][has_turns]) if len(codes) else 0
-    return first_of_equal(key, node)
+    key = np.zeros(len(turns.into), np.uint64)
+    codes = splitmix64((turns.out.astype(np.uint64) << np.uint64(32)) + (cost + 2).astype(np.uint64))
+    first = np.flatnonzero(differs(turns.turn))
+    if len(first):
+        key[turns.turn[first]] = np.add.reduceat(codes, first)
+    return first_of_equal(key, turns.node)
 
 
 def splitmix64(values: NDArray[np.uint64]) -> NDArray[np.uint64]:
