@@ -26,27 +26,18 @@ KEYRING = "/usr/share/keyrings/debian-archive-keyring.gpg"
 SOURCES = f"deb-src [signed-by={KEYRING}] http://deb.debian.org/debian bookworm main\n"
 
 
-def is_extract(data: bytes) -> bool:
-    return hashlib.sha256(data).hexdigest() == SHA256
-
-
 def fetch(folder: pathlib.Path) -> bytes:
     """The bytes of the extract, by way of an empty folder."""
     sources = folder / "sources.list"
     sources.write_text(SOURCES, encoding="ascii")
-    settings = {
-        "Dir::Etc::SourceList": sources,
-        "Dir::Etc::SourceParts": "/dev/null",
-        "Dir::State": folder / "state",
-        "Dir::Cache": folder / "cache",
-        "APT::Sandbox::User": "",
-        "Acquire::http::Timeout": 20,
-        "Acquire::Retries": 1,
-        "APT::Update::Error-Mode": "any",
-    }
+    settings = [
+        f"Dir::Etc::SourceList={sources}", "Dir::Etc::SourceParts=/dev/null", f"Dir::State={folder / 'state'}",
+        f"Dir::Cache={folder / 'cache'}", "APT::Sandbox::User=", "Acquire::http::Timeout=20", "Acquire::Retries=1",
+        "APT::Update::Error-Mode=any",
+    ]
     for lists in ("state/lists/partial", "cache/archives/partial"):
         (folder / lists).mkdir(parents=True)
-    options = [word for name, value in settings.items() for word in ("-o", f"{name}={value}")]
+    options = [word for setting in settings for word in ("-o", setting)]
     apt_get(folder, *options, "update")
     apt_get(folder, *options, "source", "--download-only", "--tar-only", PACKAGE)
     return extract_member(folder)
@@ -77,19 +68,20 @@ def extract_member(folder: pathlib.Path) -> bytes:
 
 def parse_args() -> argparse.Namespace:
     parser = argument_parser(__doc__, "%(prog)s out")
-    parser.add_argument("folder", metavar="FOLDER", nargs="?", default=".", help="where the extract goes, which is made if it isn't there (.)")
+    parser.add_argument("folder", metavar="FOLDER", nargs="?", default=".",
+                        help="where the extract goes, which is made if it isn't there (.)")
     return parser.parse_args()
 
 
 def main() -> None:
     target = pathlib.Path(parse_args().folder) / NAME
     target.parent.mkdir(parents=True, exist_ok=True)
-    if target.is_file() and is_extract(target.read_bytes()):
+    if target.is_file() and hashlib.sha256(target.read_bytes()).hexdigest() == SHA256:
         warn(f"{target} is there already")
         return
     with atomic_write(target, "wb") as file, tempfile.TemporaryDirectory(prefix="fetch-extract-") as folder:
         data = fetch(pathlib.Path(folder))
-        if not is_extract(data):
+        if hashlib.sha256(data).hexdigest() != SHA256:
             raise ToolError(f"{NAME} can't be had: Debian's source package has another file of that name")
         file.write(data)
     warn(f"{target}: {len(data)} bytes")

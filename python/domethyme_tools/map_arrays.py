@@ -30,8 +30,8 @@ from tqdm import tqdm
 from domethyme.atomic_files import unlink_missing_ok
 from domethyme.program import StrPath
 
-from . import turn_restrictions
 from .cli import ToolError
+from .turn_restrictions import Bools, Int32s, Member
 from .vehicle_profile import Tags
 
 SOURCE = pathlib.Path(__file__).resolve().parent / "converter" / "map_arrays.cpp"
@@ -197,7 +197,7 @@ class WayArrays(NamedTuple):
     labels: NDArray[np.uint32]
     tags: list[Tags]
     texts: list[str]
-    relations: list[tuple[Tags, list[turn_restrictions.Member]]]
+    relations: list[tuple[Tags, list[Member]]]
 
 
 def read_ways(folder: Folder, path: StrPath, keys: Sequence[str], conditional: Sequence[str]) -> WayArrays:
@@ -212,12 +212,12 @@ def read_ways(folder: Folder, path: StrPath, keys: Sequence[str], conditional: S
     )
 
 
-def relations_of(folder: Folder, path: StrPath) -> Iterator[tuple[Tags, list[turn_restrictions.Member]]]:
+def relations_of(folder: Folder, path: StrPath) -> Iterator[tuple[Tags, list[Member]]]:
     """The tags and members of each relation of a turn restriction."""
     tags, rows = folder.tags("relation_tags", path), iter(folder.array("member", "i8", 3).tolist())
     for number, count in zip(folder.array("relation_of", "u4").tolist(), folder.array("relation_count", "u4").tolist()):
         members = itertools.islice(rows, count)
-        yield tags[number], [turn_restrictions.Member(chr(kind), osm, ROLES[role]) for kind, role, osm in members]
+        yield tags[number], [Member(chr(kind), osm, ROLES[role]) for kind, role, osm in members]
 
 
 # The places
@@ -228,14 +228,14 @@ class NodeArrays(NamedTuple):
     whether they are barriers, by tags."""
 
     osm: NDArray[np.int64]
-    place: NDArray[np.int32]
-    is_there: NDArray[np.bool_]
-    is_junction: NDArray[np.bool_]
+    place: Int32s
+    is_there: Bools
+    is_junction: Bools
     barriers: NDArray[np.uint32]
     barrier_tags: list[Tags]
 
 
-def read_places(folder: Folder, path: StrPath, taken: NDArray[np.bool_], keys: Sequence[str]) -> NodeArrays:
+def read_places(folder: Folder, path: StrPath, taken: Bools, keys: Sequence[str]) -> NodeArrays:
     """The nodes of the ways that are taken, and the tags of those that have the first of the keys."""
     folder.write("way_taken", taken.astype(np.uint8))
     folder.read_map("places", path, [f"k:{key}" for key in keys])
@@ -259,14 +259,13 @@ class Runs(NamedTuple):
     ends: NDArray[np.uint32]
     parts: NDArray[np.uint32]
     metres: NDArray[np.float64]
-    points: NDArray[np.int32]
+    points: Int32s
     begin: NDArray[np.uint64]
     end: NDArray[np.uint64]
 
 
 def cut_runs(
-    folder: Folder, counts: NDArray[np.uint32], is_junction: NDArray[np.bool_], is_barrier: NDArray[np.bool_],
-    longest: float
+    folder: Folder, counts: NDArray[np.uint32], is_junction: Bools, is_barrier: Bools, longest: float
 ) -> Runs:
     """The runs of roads, which have these counts of nodes, cut to parts of at most `longest` metres, as few as can be. A run
     that comes back to its node, if that is no barrier, is cut at least once."""

@@ -61,14 +61,14 @@ from . import turn_restrictions
 from .cli import ToolError, argument_parser, current_arguments, refuse_overwriting
 from .map_arrays import Folder, NodeArrays, WayArrays, cut_runs, folder_beside, progress, read_places, read_ways
 from .road_network import (
-    WEIGHTS, RoadNetwork, RoadTable, RowsOf, build_network, keep_largest, metres_of_roads, split_junctions, to_arrays
+    WEIGHTS, Floats, RoadNetwork, RoadTable, RowsOf, build_network, keep_largest, metres_of_roads, split_junctions,
+    to_arrays,
 )
 from .table_files import bytes_of, tables_there, write_tables
+from .turn_restrictions import Bools, Int32s, Report, Restriction, Rules
 from .vehicle_profile import (
-    Profile, barrier_keys, blocks_way, conditional_keys, judge, read_profile, structure_of, unsupported_tags, way_keys
+    Profile, blocks_way, conditional_keys, judge, read_profile, structure_of, unsupported_tags, way_keys
 )
-
-Report = turn_restrictions.Report
 
 # metres: the most of --longest-arc
 MAX_METRES = 1_000_000
@@ -87,8 +87,8 @@ class Map(NamedTuple):
     roads: RoadTable
     counts: NDArray[np.uint32]
     places: NodeArrays
-    is_barrier: NDArray[np.bool_]
-    restrictions: list[turn_restrictions.Restriction]
+    is_barrier: Bools
+    restrictions: list[Restriction]
     rows_of: RowsOf
 
 
@@ -104,7 +104,7 @@ def read_map(path: StrPath, profile: Profile, folder: Folder, report: Report) ->
     label = ways.label[taken]
     forward, backward = speeds[:, ways.labels[:, 0][label]]
     roads = RoadTable(ways.osm[taken], forward, backward, label)
-    places = read_places(folder, path, taken, barrier_keys(profile))
+    places = read_places(folder, path, taken, ["barrier", *profile.access])
     is_barrier = np.zeros(len(places.osm), np.bool_)
     parts = np.array([blocks_way(tags, profile) for tags in places.barrier_tags], np.bool_)
     is_barrier[places.barriers[:, 0][parts[places.barriers[:, 1]]]] = True
@@ -113,9 +113,7 @@ def read_map(path: StrPath, profile: Profile, folder: Folder, report: Report) ->
     return Map(roads, ways.nodes[taken], places, is_barrier, restrictions, text_rows(ways))
 
 
-def judge_tags(
-    ways: WayArrays, profile: Profile, report: Report
-) -> tuple[NDArray[np.bool_], NDArray[np.float64], dict[str, Report]]:
+def judge_tags(ways: WayArrays, profile: Profile, report: Report) -> tuple[Bools, Floats, dict[str, Report]]:
     """For each combination of tags whether such ways are taken, and their km/h in both directions, NaN for none, of shape
     (2, combinations); and the values that weren't understood, by what they are of. The rules are asked once for each."""
     counts = np.bincount(ways.labels[:, 0][ways.label], minlength=len(ways.tags)).tolist()
@@ -136,7 +134,7 @@ def judge_tags(
     return is_taken, speeds, unknown
 
 
-def read_restrictions(ways: WayArrays, profile: Profile, report: Report) -> list[turn_restrictions.Restriction]:
+def read_restrictions(ways: WayArrays, profile: Profile, report: Report) -> list[Restriction]:
     """The turn restrictions of the map for the vehicle."""
     restrictions = []
     for tags, members in ways.relations:
@@ -156,7 +154,7 @@ def text_rows(ways: WayArrays) -> RowsOf:
     def numbers(known: dict[str, int], row: Iterable[str]) -> list[int]:
         return [known.setdefault(text, len(known)) for text in row]
 
-    def rows_of(labels: NDArray[np.int64]) -> tuple[list[str], NDArray[np.int32]]:
+    def rows_of(labels: NDArray[np.int64]) -> tuple[list[str], Int32s]:
         known: dict[str, int] = {}
         of_text = np.array(numbers(known, texts), np.int32)
         words = ((tags["highway"], " ".join(tags.get("junction", "").split()), structure_of(tags)) for tags in all_tags)
@@ -207,9 +205,7 @@ def check_limits(nodes: int, arcs: int, path: StrPath) -> None:
             raise ToolError(f"makes a network of {count} {what}, and there may be {most}: {remedy}", path)
 
 
-def turn_rules(
-    read: Map, folder: Folder, node_at: Callable[[int], int], report: Report
-) -> dict[int, turn_restrictions.Rules]:
+def turn_rules(read: Map, folder: Folder, node_at: Callable[[int], int], report: Report) -> dict[int, Rules]:
     """What is forbidden at nodes of the network."""
     named = {way for restriction in read.restrictions for way in (restriction.start, restriction.end)}
     nodes, begin = folder.array("road_node", "u4"), offsets(read.counts)

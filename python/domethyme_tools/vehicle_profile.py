@@ -159,11 +159,6 @@ def conditional_keys(profile: Profile) -> tuple[str, ...]:
     return *profile.access, *profile.oneway[:1], *profile.maxspeed[:1]
 
 
-def barrier_keys(profile: Profile) -> list[str]:
-    """The keys of a node that the rules look at; the first is the one that a barrier has."""
-    return ["barrier", *profile.access]
-
-
 def judge(tags: Tags, profile: Profile) -> Judgement:
     """What the rules say of a way with these tags, one of which is `highway`."""
     reason = rejection_reason(tags, profile)
