@@ -65,7 +65,7 @@ from .road_network import (
     to_arrays,
 )
 from .table_files import bytes_of, tables_there, write_tables
-from .turn_restrictions import Bools, Int32s, Report, Restriction, Rules
+from .turn_restrictions import Bools, Int32s, Report, Restriction, Rules, mask
 from .vehicle_profile import (
     Profile, blocks_way, conditional_keys, judge, read_profile, structure_of, unsupported_tags, way_keys
 )
@@ -105,9 +105,8 @@ def read_map(path: StrPath, profile: Profile, folder: Folder, report: Report) ->
     forward, backward = speeds[:, ways.labels[:, 0][label]]
     roads = RoadTable(ways.osm[taken], forward, backward, label)
     places = read_places(folder, path, taken, ["barrier", *profile.access])
-    is_barrier = np.zeros(len(places.osm), np.bool_)
     parts = np.array([blocks_way(tags, profile) for tags in places.barrier_tags], np.bool_)
-    is_barrier[places.barriers[:, 0][parts[places.barriers[:, 1]]]] = True
+    is_barrier = mask(len(places.osm), places.barriers[:, 0][parts[places.barriers[:, 1]]])
     report["nodes that the map lacks"] = len(places.osm) - int(places.is_there.sum())
     report["barriers that part roads"] = int(is_barrier.sum())
     return Map(roads, ways.nodes[taken], places, is_barrier, restrictions, text_rows(ways))

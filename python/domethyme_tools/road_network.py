@@ -21,7 +21,7 @@ from domethyme.network.tables import ENDS
 
 from . import turn_restrictions
 from .map_arrays import NodeArrays, Runs
-from .turn_restrictions import Bools, Int32s, Report, Turns
+from .turn_restrictions import Bools, Int32s, Report, Turns, mask
 
 Floats = NDArray[np.float64]
 RowsOf = Callable[[Ints], tuple[list[str], Int32s]]
@@ -70,16 +70,6 @@ class RoadNetwork(NamedTuple):
         found: NDArray[np.uint32] = self.runs.road[self.piece_run[self.piece]]
         return found
 
-    def metres(self) -> Floats:
-        """The metres of each arc."""
-        found: Floats = self.runs.metres[self.piece_run[self.piece]]
-        return found
-
-    def speed(self) -> Floats:
-        """The km/h of each arc."""
-        road = self.road()
-        return np.where(self.is_back, self.roads.backward[road], self.roads.forward[road])
-
     def with_arcs(self, chosen: "NDArray[Any] | slice") -> "RoadNetwork":
         """The network with these of its arcs, by numbers, a mask or a slice."""
         names = ("start", "end", "piece", "is_back", "is_split", "penalty")
@@ -107,9 +97,7 @@ def build_network(
     ends = runs.ends.reshape(-1)
     first = first_index(ends, len(places.osm))
     apart = np.flatnonzero(is_barrier[ends])
-    is_new = np.zeros(len(ends), np.bool_)
-    is_new[first[first >= 0]] = True
-    is_new[apart] = True
+    is_new = mask(len(ends), first[first >= 0], apart)
     new = is_new.reshape(-1, 2)
     cuts = runs.parts.astype(np.int32) - np.int32(1)
     begin = offsets(new[:, 0].astype(np.int8) + new[:, 1] + cuts).astype(np.int32)
@@ -135,8 +123,7 @@ def build_network(
     osm = np.full(int(begin[-1]), net_file.NO_OSM, np.int64)
     place = np.empty((len(osm), 2), np.int32)
     osm[of_end[is_new]], place[of_end[is_new]] = places.osm[ends[is_new]], places.place[ends[is_new]]
-    is_cut = np.ones(len(run), np.bool_)
-    is_cut[piece_begin[1:] - 1] = False
+    is_cut = ~mask(len(run), piece_begin[1:] - 1)
     place[end[is_cut]] = runs.points[runs.end[is_cut].astype(np.int64) - 1]
     arcs = arcs_along(start, end, run, runs, roads)
     is_split, penalty = np.zeros(len(arcs[0]), np.bool_), np.zeros(len(arcs[0]), np.int32)
@@ -181,8 +168,7 @@ def split_junctions(
     report["nodes split by turns" if has_penalties else "junctions split by turn restrictions"] = len(found.begin)
     ends = network.node_ends.copy()
     ends[found.begin] = ENDS.index(turn_restrictions.START)
-    is_apart = np.zeros(len(network.piece_run), np.bool_)
-    is_apart[network.piece[found.touched]] = True
+    is_apart = mask(len(network.piece_run), network.piece[found.touched])
     return network.with_arcs(found.arc)._replace(
         node_osm=np.concatenate((network.node_osm, network.node_osm[found.beside])),
         node_place=np.concatenate((network.node_place, network.node_place[found.beside])),
@@ -194,9 +180,7 @@ def split_junctions(
 def forbid(network: RoadNetwork, turns: Turns, rules: dict[int, turn_restrictions.Rules], cost: Int32s) -> None:
     """Sets the cost of the turns that the rules of their nodes don't allow to FORBIDDEN."""
     into, out = turns.into[turns.turn], turns.out
-    has_rules = np.zeros(len(network.node_osm), np.bool_)
-    has_rules[list(rules)] = True
-    there = np.flatnonzero(has_rules[network.start[out]])
+    there = np.flatnonzero(mask(len(network.node_osm), list(rules))[network.start[out]])
     road = network.road()
     ways = (network.roads.osm[road[arcs[there]]].tolist() for arcs in (into, out))
     turn = zip(network.start[out[there]].tolist(), *ways)
@@ -240,10 +224,7 @@ def keep_largest(network: RoadNetwork, report: Report) -> RoadNetwork:
     _, labels = connected_components(arcs, directed=True, connection="strong")
     kept = labels == np.bincount(labels).argmax()
     # a route may begin or end at a node that it can't pass
-    from_kept, to_kept = np.zeros(count, np.bool_), np.zeros(count, np.bool_)
-    from_kept[end[kept[start]]] = True
-    to_kept[start[kept[end]]] = True
-    ends = network.node_ends
+    from_kept, to_kept, ends = mask(count, end[kept[start]]), mask(count, start[kept[end]]), network.node_ends
     only_end, only_start = ENDS.index(turn_restrictions.END), ENDS.index(turn_restrictions.START)
     kept |= (ends == only_end) & from_kept | (ends == only_start) & to_kept
     number = (np.cumsum(kept) - 1).astype(np.int32)
@@ -301,8 +282,8 @@ def arc_columns(network: RoadNetwork, kind: str, report: Report) -> tuple[Ints, 
 
     def fill(part: slice) -> int:
         chunk = network.with_arcs(part)
-        road, lengths = chunk.road(), chunk.metres()
-        milliseconds = lengths * 3600 / chunk.speed()
+        road, lengths = chunk.road(), network.runs.metres[network.piece_run[chunk.piece]]
+        milliseconds = lengths * 3600 / np.where(chunk.is_back, network.roads.backward[road], network.roads.forward[road])
         weights = np.rint(milliseconds if kind == "time" else lengths * 100).astype(np.int64)
         weight[part] = np.maximum(weights, 1) + chunk.penalty * np.int64(WEIGHTS[kind])
         seconds[part] = rounded_exactly(milliseconds / 1000 + chunk.penalty / 100, 3)
@@ -334,23 +315,20 @@ def order_of_first_use(first: NDArray[Any]) -> Ints:
 
 def edges_from_pieces(network: RoadNetwork) -> tuple[Int32s, Bools, Ints, Int32s]:
     """The edge of each arc and whether it leads along it, and the edges' points, as binary.Arrays has them."""
-    used = np.zeros(len(network.piece_run), np.bool_)
-    used[network.piece] = True
-    pieces = Pieces(network, np.flatnonzero(used).astype(np.int32))
-    del used
+    pieces = Pieces(network, np.flatnonzero(mask(len(network.piece_run), network.piece)).astype(np.int32))
     is_along, is_ring, keys = pieces.classify()
     is_same = np.zeros(len(keys), np.bool_)
     for row in np.flatnonzero(is_ring).tolist():
         line = pieces.line(row).tolist()
         is_along[row], is_same[row] = line <= line[::-1], line == line[::-1]
-    is_edge = np.ones(len(keys), np.bool_)
     first_of: dict[int, int] = {}
     known: dict[tuple[int, bytes], int] = {}
     for row in candidate_duplicates(keys):
         line = pieces.line(row) if is_along[row] else pieces.line(row)[::-1]
         first = known.setdefault((int(pieces.ways(row)), line.tobytes()), row)
         if first != row:
-            is_edge[row], first_of[row] = False, first
+            first_of[row] = first
+    is_edge = ~mask(len(keys), list(first_of))
     del keys, known
     number = np.cumsum(is_edge, dtype=np.int32) - np.int32(1)
     number[list(first_of)] = number[list(first_of.values())]

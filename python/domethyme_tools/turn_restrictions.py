@@ -20,7 +20,7 @@ A turn that has a penalty is kept by the same nodes: arcs that lead from them we
 """
 import collections
 from collections.abc import Callable, Iterable, Sequence
-from typing import NamedTuple
+from typing import Any, NamedTuple
 
 import numpy as np
 from numpy.typing import NDArray
@@ -36,6 +36,14 @@ NOT_LOOKED_AT = "turn restrictions not looked at: "
 START, PASSED, END = "from", "no", "to"
 # The cost of a turn that may not be taken
 FORBIDDEN = -1
+
+
+def mask(count: int, *rows: Any) -> Bools:
+    """Which of so many rows are among these."""
+    found = np.zeros(count, np.bool_)
+    for some in rows:
+        found[some] = True
+    return found
 
 
 class Restriction(NamedTuple):
@@ -198,10 +206,8 @@ def make_copies(nodes: Ints, turns: Turns, cost: Int32s, count: int) -> Copies:
     """The new nodes. Arcs of one class may go on into the same arcs at the same costs; those that may go on anywhere for nothing
     lead to the node itself."""
     node = turns.node
-    is_free = np.ones(len(node), np.bool_)
-    is_free[turns.turn[cost != 0]] = False
-    is_split = np.zeros(len(nodes), np.bool_)
-    is_split[node[~is_free]] = True
+    is_free = ~mask(len(node), turns.turn[cost != 0])
+    is_split = mask(len(nodes), node[~is_free])
     first = first_equivalent(turns, cost)
     is_made = ~is_free & (first == np.arange(len(first)))
     made_at = np.bincount(node[is_made], minlength=len(nodes))
