@@ -53,8 +53,7 @@ from .on_roads import request_lines
 Ints = NDArray[numpy.int64]
 Floats = NDArray[numpy.float64]
 SIDES: tuple[Side, Side] = ("from", "to")
-PREFIXES = ("from_", "to_")
-NO_PREFIX = ("",)
+PREFIXES, NO_PREFIXES = ("from_", "to_"), ("", "")
 SWAPPED = "are longitude and latitude swapped?"
 
 
@@ -102,23 +101,26 @@ def distance(text: str) -> float:
 
 
 class Trips(NamedTuple):
-    """A table of trips or places. `ends` has the degrees of its places, by the beginnings of their columns' names."""
+    """A table of trips, or of places, which are both ends of trips. `ends` has the degrees of the places where trips begin, and
+    of those where they end; `prefixes` are before the names of their columns."""
 
     path: str
     columns: list[str]
     rows: list[int | None]
     fields: list[list[Any]]
-    ends: dict[str, list[Point]]
+    prefixes: tuple[str, str]
+    ends: list[list[Point]]
 
 
-def read_trips(path: str, beginnings: Sequence[str]) -> Trips:
+def read_trips(path: str, prefixes: tuple[str, str]) -> Trips:
     """The trips of a CSV file."""
-    with open_table(path, [beginning + axis for beginning in beginnings for axis in ("lon", "lat")]) as records:
-        trips = Trips(path, records.columns, [], [], {beginning: [] for beginning in beginnings})
+    places: dict[str, list[Point]] = {prefix: [] for prefix in prefixes}
+    with open_table(path, [prefix + axis for prefix in places for axis in ("lon", "lat")]) as records:
+        trips = Trips(path, records.columns, [], [], prefixes, [places[prefix] for prefix in prefixes])
         for row, fields in records:
-            for beginning in beginnings:
-                lon = parse_degrees(fields, f"{beginning}lon", 180, path, row)
-                trips.ends[beginning].append((lon, parse_degrees(fields, f"{beginning}lat", 90, path, row)))
+            for prefix, ends in places.items():
+                lon = parse_degrees(fields, f"{prefix}lon", 180, path, row)
+                ends.append((lon, parse_degrees(fields, f"{prefix}lat", 90, path, row)))
             trips.rows.append(row)
             trips.fields.append(list(fields.values()))
     return trips
@@ -136,10 +138,11 @@ def parse_degrees(fields: dict[str, str], column: str, most: float, path: str, r
 def read_places(path: str) -> Trips:
     """The places of a CSV file, or of a .co file as a table with the columns place, lon and lat."""
     if not is_coordinates(path):
-        return read_trips(path, NO_PREFIX)
+        return read_trips(path, NO_PREFIXES)
     nodes = read_nodes(path)
-    fields: list[list[Any]] = [[place, *each] for place, each in enumerate(zip(nodes.lon, nodes.lat), 1)]
-    return Trips(path, ["place", "lon", "lat"], [None] * len(fields), fields, {"": list(zip(nodes.lon, nodes.lat))})
+    places = list(zip(nodes.lon, nodes.lat))
+    fields: list[list[Any]] = [[place, *each] for place, each in enumerate(places, 1)]
+    return Trips(path, ["place", "lon", "lat"], [None] * len(places), fields, NO_PREFIXES, [places, places])
 
 
 def nodes_at(index: NodeIndex, places: list[Point], side: Side = "from") -> tuple[Ints, Floats]:
@@ -170,26 +173,23 @@ class Snapped(NamedTuple):
 
 def snap(trips: Trips, index: NodeIndex, within: float, skip_far: bool) -> Snapped:
     """Snaps each trip. One with a place that is too far is left out, or refused."""
-    found = {side: nodes_at(index, trips.ends[f"{side}_" if f"{side}_" in trips.ends else ""], side) for side in SIDES}
-    far = numpy.logical_or.reduce([metres > within for _, metres in found.values()])
+    nodes, metres = zip(*(nodes_at(index, places, side) for places, side in zip(trips.ends, SIDES)))
+    far = (metres[0] > within) | (metres[1] > within)
     if far.any():
         if not skip_far:
-            raise too_far_error(trips, int(far.argmax()), found, index, within)
+            raise too_far_error(trips, metres, index, within)
         print(f"nearest: left out {far.sum()} of {len(far)} rows, which are too far from each node", file=sys.stderr)
-    nodes, metres = ([values[~far] for values in both] for both in zip(*found.values()))
-    return Snapped(list(itertools.compress(trips.fields, ~far)), nodes, metres)
+    fields = list(itertools.compress(trips.fields, ~far))
+    return Snapped(fields, [each[~far] for each in nodes], [each[~far] for each in metres])
 
 
-def too_far_error(
-    trips: Trips, trip: int, found: dict[Side, tuple[Ints, Floats]], index: NodeIndex, within: float
-) -> ToolError:
-    """What to report of a trip with a place that is too far."""
-    side, away = next((side, metres[trip]) for side, (_, metres) in found.items() if metres[trip] > within)
-    beginning = "" if "" in trips.ends else f"{side}_"
-    lon, lat = trips.ends[beginning][trip]
+def too_far_error(trips: Trips, metres: Sequence[Floats], index: NodeIndex, within: float) -> ToolError:
+    """What to report of the first trip with a place that is too far, by the metres of its ends."""
+    trip, end = min((int((each > within).argmax()), end) for end, each in enumerate(metres) if (each > within).any())
+    prefix, (lon, lat) = trips.prefixes[end], trips.ends[end][trip]
     is_swapped = abs(lon) <= 90 and nodes_at(index, [(lat, lon)])[1][0] <= within
     doubt = f": {SWAPPED}" if is_swapped else f", and --max-distance is {within:g} m"
-    message = f"{beginning}lon {lon}, {beginning}lat {lat} is {away:,.0f} m from the nearest node{doubt}"
+    message = f"{prefix}lon {lon}, {prefix}lat {lat} is {metres[end][trip]:,.0f} m from the nearest node{doubt}"
     return ToolError(message, trips.path, trips.rows[trip])
 
 
@@ -226,9 +226,9 @@ def pairs_of(snapped: Snapped, index: NodeIndex, is_matrix: bool) -> Collection[
 
 def snapped_columns(trips: Trips, is_matrix: bool, has_keys: bool) -> list[str]:
     """The names of the columns of --snapped, which are all different."""
-    users = [beginning + column for beginning in (PREFIXES if is_matrix else NO_PREFIX) for column in trips.columns]
-    columns = users + [beginning + column for beginning in PREFIXES for column in ("node", "metres")]
-    columns += [f"{beginning}{KEY}" for beginning in PREFIXES] if has_keys else []
+    users = [prefix + column for prefix in (PREFIXES if is_matrix else [""]) for column in trips.columns]
+    columns = users + [prefix + column for prefix in PREFIXES for column in ("node", "metres")]
+    columns += [prefix + KEY for prefix in PREFIXES] if has_keys else []
     for name in users:
         if columns.count(name) > 1:
             raise ToolError(f"--snapped would have two columns {name}: rename one", trips.path, 1)
@@ -259,7 +259,7 @@ def write_snapped(path: str, columns: list[str], rows: Iterable[list[Any]]) -> N
 def write_requests(options: argparse.Namespace) -> None:
     """Writes a line for `routecli serve` for each trip, with its places on roads."""
     trips = read_trips(options.trips, PREFIXES)
-    rows = zip(trips.rows, trips.ends["from_"], trips.ends["to_"])
+    rows = zip(trips.rows, *trips.ends)
     with atomic_write(options.output) as file:
         file.writelines(f"{line}\n" for line in request_lines(options.network, rows, options.max_distance, trips.path))
 

@@ -26,7 +26,7 @@ from domethyme.network.isochrones import COLOR, Shape
 from domethyme.network.tables import paths_of
 
 from .cli import ToolError, add_compare_all, argument_parser, refuse_overwriting
-from .nearest import NO_PREFIX, add_max_distance, distance, read_trips
+from .nearest import NO_PREFIXES, add_max_distance, distance, read_trips
 
 SHAPES: tuple[Shape, ...] = ("polygons", "lines", "roads")
 
@@ -82,8 +82,8 @@ def colours(text: str) -> list[str]:
 
 def main() -> None:
     options = parse_args()
-    trips = read_trips(options.places, NO_PREFIX)
-    places = trips.ends[""]
+    trips = read_trips(options.places, NO_PREFIXES)
+    places = trips.ends[0]
     if not places:
         raise ToolError("has no place", options.places)
     with Hierarchy(options.hierarchy, network=options.network, compare_all=options.compare_all) as hierarchy:

@@ -93,10 +93,9 @@ def rows_by_nodes(ask: NodeTable, network: str, sources: Trips, targets: Trips, 
 
 def nodes_near(index: NodeIndex, places: Trips, side: Side, within: float) -> Ints:
     """The node nearest to each place, from 1. Raises ToolError for one that is too far."""
-    nodes, metres = nodes_at(index, places.ends[""], side)
-    is_far = metres > within
-    if is_far.any():
-        raise too_far_error(places, int(is_far.argmax()), {side: (nodes, metres)}, index, within)
+    nodes, metres = nodes_at(index, places.ends[0], side)
+    if (metres > within).any():
+        raise too_far_error(places, [metres], index, within)
     return nodes
 
 
@@ -104,7 +103,7 @@ def rows_on_roads(ask: NodeTable, network: str, sources: Trips, targets: Trips, 
     """The rows of the table between the nearest points of roads, some at a time."""
     roads = open_road_index(network)
     starts, ends = (
-        snap_places(roads, places.ends[""], within, places.path, places.rows) for places in (sources, targets)
+        snap_places(roads, places.ends[0], within, places.path, places.rows) for places in (sources, targets)
     )
     return weight_rows(ask, roads, starts, ends, CELLS)
 
