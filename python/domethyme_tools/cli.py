@@ -87,8 +87,8 @@ def argument_parser(doc: str | None, *examples: str) -> argparse.ArgumentParser:
 
 
 def current_arguments(renamed: Mapping[str, str]) -> list[str]:
-    """The arguments of this call, with options by an old word as they are called now: a line says so for each. The old words
-    go with the next version."""
+    """The arguments of this call, with options by an old word as they are called now: a line says so for each. The old
+    words go with the next version."""
     arguments = sys.argv[1:]
     for place, word in enumerate(arguments[: arguments.index("--")] if "--" in arguments else arguments):
         option, equals, value = word.partition("=")

@@ -117,7 +117,7 @@ class Folder:
             file.write(np.ascontiguousarray(values).data)
 
     def texts(self, name: str, of: StrPath) -> list[str]:
-        """The texts of a file, behind each of which is a zero. Raises a ToolError of the map `of` where they aren't UTF-8."""
+        """The texts of a file, each with a zero behind it. Raises a ToolError of the map `of` where they aren't UTF-8."""
         try:
             return pathlib.Path(self.path, name).read_bytes().decode().split("\0")[:-1]
         except UnicodeDecodeError as error:
@@ -149,7 +149,7 @@ class Folder:
 
     @contextlib.contextmanager
     def running(self, words: list[str], path: StrPath, out: "IO[Any] | int") -> "Iterator[subprocess.Popen[bytes]]":
-        """A command that runs in the block, and has to end well after it; it is killed where the block ends by an exception."""
+        """A command that runs in the block, and has to end well after it; an exception in the block kills it."""
         command = [self.program, *words]
         with subprocess.Popen(command, stdin=subprocess.DEVNULL, stdout=out, stderr=subprocess.PIPE) as process:
             try:
@@ -187,9 +187,9 @@ def folder_beside(path: str) -> Iterator[Folder]:
 
 
 class WayArrays(NamedTuple):
-    """The ways with the first key, in the map's order: their ids, labels, and counts of `nodes`. A label is a row of `labels`:
-    the number of its tags, and of each of TEXTS the number of its text, from 1, or 0. And the tags and members of the
-    relations of turn restrictions."""
+    """The ways with the first key, in the map's order: their ids, labels, and counts of `nodes`. A label is a row of
+    `labels`: the number of its tags, and of each of TEXTS the number of its text, from 1, or 0. And the tags and members of
+    the relations of turn restrictions."""
 
     osm: NDArray[np.int64]
     label: NDArray[np.uint32]
@@ -201,8 +201,8 @@ class WayArrays(NamedTuple):
 
 
 def read_ways(folder: Folder, path: StrPath, keys: Sequence[str], conditional: Sequence[str]) -> WayArrays:
-    """The ways of a map that have the first of the keys. Tags are those with one of the keys, or whose key begins with one of
-    `conditional` and ends with `:conditional`."""
+    """The ways of a map that have the first of the keys. Tags are those with one of the keys, or whose key begins with one
+    of `conditional` and ends with `:conditional`."""
     words = [f"{letter}:{key}" for letter, some in (("k", keys), ("p", conditional), ("t", TEXTS)) for key in some]
     folder.read_map("ways", path, ["s::conditional", *words])
     return WayArrays(
@@ -224,8 +224,8 @@ def relations_of(folder: Folder, path: StrPath) -> Iterator[tuple[Tags, list[Mem
 
 
 class NodeArrays(NamedTuple):
-    """The nodes of the roads by their ids, in order: their ids, whether the map has them, whether a road passes once more, and
-    whether they are barriers, by tags."""
+    """The nodes of the roads by their ids, in order: their ids, whether the map has them, whether a road passes once more,
+    and whether they are barriers, by tags."""
 
     osm: NDArray[np.int64]
     place: Int32s
@@ -251,9 +251,9 @@ def read_places(folder: Folder, path: StrPath, taken: Bools, keys: Sequence[str]
 
 
 class Runs(NamedTuple):
-    """Runs of nodes of a road, from stop to stop, in order: their roads, the nodes at their ends, into how many parts they are
-    cut, and the metres of a part. Points of the map and of cuts, in units of a degree; the parts of all runs are in order the
-    points from `begin` up to `end`, the last of one being the first of the next."""
+    """Runs of nodes of a road, from stop to stop, in order: their roads, the nodes at their ends, into how many parts they
+    are cut, and the metres of a part. Points of the map and of cuts, in units of a degree; the parts of all runs are in
+    order the points from `begin` up to `end`, the last of one being the first of the next."""
 
     road: NDArray[np.uint32]
     ends: NDArray[np.uint32]
@@ -267,8 +267,8 @@ class Runs(NamedTuple):
 def cut_runs(
     folder: Folder, counts: NDArray[np.uint32], is_junction: Bools, is_barrier: Bools, longest: float
 ) -> Runs:
-    """The runs of roads, which have these counts of nodes, cut to parts of at most `longest` metres, as few as can be. A run
-    that comes back to its node, if that is no barrier, is cut at least once."""
+    """The runs of roads, which have these counts of nodes, cut to parts of at most `longest` metres, as few as can be. A
+    run that comes back to its node, if that is no barrier, is cut at least once."""
     folder.write("road_count", counts)
     folder.write("node_stop", is_junction + is_barrier.astype(np.uint8) * np.uint8(2))
     folder.run("pieces", repr(float(longest)))

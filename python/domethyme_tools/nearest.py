@@ -101,8 +101,8 @@ def distance(text: str) -> float:
 
 
 class Trips(NamedTuple):
-    """A table of trips, or of places, which are both ends of trips. `ends` has the degrees of the places where trips begin, and
-    of those where they end; `prefixes` are before the names of their columns."""
+    """A table of trips, or of places, which are both ends of trips. `ends` has the degrees of the places where trips begin,
+    and of those where they end; `prefixes` are before the names of their columns."""
 
     path: str
     columns: list[str]

@@ -30,8 +30,8 @@ SNAP_BATCH = 16
 
 
 class RoadRoute(NamedTuple):
-    """A trip's length in the graph's weights, how many arcs it has a part of, seconds, metres, the streets with their metres
-    and seconds, and the line; all None where there is no route."""
+    """A trip's length in the graph's weights, how many arcs it has a part of, seconds, metres, the streets with their
+    metres and seconds, and the line; all None where there is no route."""
 
     length: int | None = None
     arcs: int | None = None

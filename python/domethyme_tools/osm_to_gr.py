@@ -81,8 +81,8 @@ MAX_VALUES = 10
 
 
 class Map(NamedTuple):
-    """The roads that the vehicle may take, in the map's order, their counts of nodes, these nodes and which are barriers, and
-    the turn restrictions. `rows_of` gives the rows of texts of roads by their numbers."""
+    """The roads that the vehicle may take, in the map's order, their counts of nodes, these nodes and which are barriers,
+    and the turn restrictions. `rows_of` gives the rows of texts of roads by their numbers."""
 
     roads: RoadTable
     counts: NDArray[np.uint32]

@@ -142,8 +142,8 @@ class Folder:
         return self.at(f"{part:06}.answers")
 
     def clear(self, beginnings: tuple[str, ...] = ("",)) -> None:
-        """Removes what a run has made with these beginnings, but the lock; drafts first, so that nothing comes out of them any
-        more."""
+        """Removes what a run has made with these beginnings, but the lock; drafts first, so that nothing comes out of them
+        any more."""
         names = [name for name in os.listdir(self.path) if NAMES.fullmatch(name) and name.startswith(beginnings)]
         for name in sorted(names, key=lambda name: (not name.startswith("drafts-"), name != "plan.json")):
             self.remove(name)

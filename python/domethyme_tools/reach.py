@@ -97,7 +97,8 @@ def main() -> None:
             raise ToolError(f"has {message}", options.places, row) from error
         except ValueError as error:
             raise ToolError(str(error), options.network) from error
-    features = ",\n".join(json.dumps(feature, separators=(",", ":"), ensure_ascii=False) for feature in found.pop("features"))
-    members = "".join(f",{json.dumps(name)}:{json.dumps(value, ensure_ascii=False)}" for name, value in list(found.items())[1:])
+    features = [json.dumps(feature, separators=(",", ":"), ensure_ascii=False) for feature in found["features"]]
+    others = {name: value for name, value in found.items() if name not in ("type", "features")}
+    members = "".join(f",{json.dumps(name)}:{json.dumps(value, ensure_ascii=False)}" for name, value in others.items())
     with atomic_write(options.output) as file:
-        file.write(f'{{"type":"FeatureCollection","features":[\n{features}\n]{members}}}\n')
+        file.write('{"type":"FeatureCollection","features":[\n' + ",\n".join(features) + f"\n]{members}}}\n")

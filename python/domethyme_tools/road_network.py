@@ -32,8 +32,8 @@ WEIGHTS = {"length": 0, "time": 10}
 
 
 class RoadTable(NamedTuple):
-    """The roads of the vehicle, in the map's order: the ids of their ways, km/h in each direction, NaN where they may not be
-    taken, and numbers of rows of texts."""
+    """The roads of the vehicle, in the map's order: the ids of their ways, km/h in each direction, NaN where they may not
+    be taken, and numbers of rows of texts."""
 
     osm: Ints
     forward: Floats
@@ -93,7 +93,7 @@ def first_index(values: NDArray[Any], size: int) -> NDArray[Any]:
 def build_network(
     runs: Runs, roads: RoadTable, places: NodeArrays, is_barrier: Bools
 ) -> tuple[RoadNetwork, Callable[[int], int]]:
-    """The network of the runs, and a function to the node for a node of the map, -1 where there is none or it is a barrier."""
+    """The network of the runs, and a function to the node for a node of the map, -1 for a barrier and where there is none."""
     ends = runs.ends.reshape(-1)
     first = first_index(ends, len(places.osm))
     apart = np.flatnonzero(is_barrier[ends])
@@ -157,8 +157,8 @@ def arcs_along(
 def split_junctions(
     network: RoadNetwork, rules: dict[int, turn_restrictions.Rules], penalties: dict[str, int], report: Report
 ) -> RoadNetwork:
-    """The network with the junctions split where a turn is forbidden, by the rules of nodes, or has a penalty, in hundredths of a
-    second by the words left, right and back."""
+    """The network with the junctions split where a turn is forbidden, by the rules of nodes, or has a penalty, in
+    hundredths of a second by the words left, right and back."""
     count, has_penalties = len(network.node_osm), any(penalties.values())
     nodes = np.arange(count) if has_penalties else np.fromiter(rules, np.int64, len(rules))
     turns = turn_restrictions.turns_at(nodes, network.start, network.end, count)
@@ -189,8 +189,8 @@ def forbid(network: RoadNetwork, turns: Turns, rules: dict[int, turn_restriction
 
 
 def penalties_of(network: RoadNetwork, turns: Turns, penalties: dict[str, int]) -> Int32s:
-    """The penalty of each turn, by its angle: straight on is within STRAIGHT degrees of the line of the road; back is the piece
-    of road by which one came, or within BACK degrees of it."""
+    """The penalty of each turn, by its angle: straight on is within STRAIGHT degrees of the line of the road; back is the
+    piece of road by which one came, or within BACK degrees of it."""
     into, out = turns.into[turns.turn], turns.out
     (east, north), (east_after, north_after) = headings(network, into, is_end=True), headings(network, out, is_end=False)
     angle = np.degrees(np.arctan2(east * north_after - north * east_after, east * east_after + north * north_after))
@@ -295,7 +295,7 @@ def arc_columns(network: RoadNetwork, kind: str, report: Report) -> tuple[Ints, 
 
 
 def texts_of(row_of_arc: NDArray[np.uint32], rows_of: RowsOf, attribution: str) -> tuple[list[str], Int32s, Int32s]:
-    """The list of texts, in the order in which arcs have them, and rows of texts and the row of each arc, as Arrays has them."""
+    """The list of texts, in the order in which arcs have them, and rows of texts and the row of each arc, as in Arrays."""
     first = first_index(row_of_arc, int(row_of_arc.max(initial=0)) + 1)
     used = order_of_first_use(first)
     texts, rows = rows_of(used)
@@ -357,8 +357,8 @@ class Pieces:
         return self._runs.begin[pieces].astype(np.int64), self._runs.end[pieces].astype(np.int64)
 
     def classify(self) -> tuple[Bools, Bools, NDArray[np.uint64]]:
-        """Whether each piece leads to the greater of its ends, whether both are one place, and a mix of 64 bits that pieces of
-        one way have in common that lie on one line."""
+        """Whether each piece leads to the greater of its ends, whether both are one place, and a mix of 64 bits that pieces
+        of one way have in common that lie on one line."""
         count = len(self._pieces)
         is_along, is_ring, keys = np.empty(count, np.bool_), np.empty(count, np.bool_), np.empty(count, np.uint64)
 

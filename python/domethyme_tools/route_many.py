@@ -225,8 +225,8 @@ Run = concurrent.futures.Future[domethyme_part.Result]
 
 
 class Workers(NamedTuple):
-    """Where the parts of a task are answered: a pool, the function that it is given, how many may be under way at a time, and
-    what gives the result of a run."""
+    """Where the parts of a task are answered: a pool, the function that it is given, how many may be under way at a time,
+    and what gives the result of a run."""
 
     task: domethyme_part.Task
     pool: concurrent.futures.Executor
@@ -254,8 +254,8 @@ def threads(task: domethyme_part.Task, jobs: int) -> Iterator[Workers]:
 
 @contextlib.contextmanager
 def cluster(task: domethyme_part.Task, scheduler: str) -> Iterator[Workers]:
-    """Workers of a Dask scheduler, which have been looked at. A part whose worker died goes to another one; where none is left, it
-    waits for one that comes."""
+    """Workers of a Dask scheduler, which have been looked at. A part whose worker died goes to another one; where none is
+    left, it waits for one that comes."""
     def capacity() -> int:
         with scheduler_errors(scheduler):
             workers = client.scheduler_info()["workers"].values()
@@ -309,8 +309,8 @@ def upload_module(client: Any, scheduler: str) -> Iterator[None]:
 
 
 def check_workers(client: Any, scheduler: str, task: domethyme_part.Task) -> None:
-    """A ToolError with the name of a worker that can't take part, and why; where there is no worker, it waits for one. One that
-    can't be asked is on its way out, and one that comes later is looked at before its first part."""
+    """A ToolError with the name of a worker that can't take part, and why; where there is no worker, it waits for one. One
+    that can't be asked is on its way out, and one that comes later is looked at before its first part."""
     with scheduler_errors(scheduler):
         if not client.scheduler_info()["workers"]:
             print("route_many: there is no worker yet: waiting for one", file=sys.stderr)

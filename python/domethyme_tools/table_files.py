@@ -28,9 +28,8 @@ ROWS_AT_ONCE = 1 << 16
 def tables_there(names: Files, are_written: bool) -> list[str]:
     """The tables of a network that the tools have written, and the files for GDAL beside them.
 
-    Raises a ToolError where tables are to be written in the place of a user's own, and where one of the tools was edited since,
-    as far as its size shows: it would be read in place of the new network, and may not be lost.
-    """
+    Raises a ToolError where tables are to be written in the place of a user's own, and where one of the tools was edited
+    since, as far as its size shows: it would be read in place of the new network, and may not be lost."""
     kinds = {names.nodes: ALL_NODE_COLUMNS, names.arcs: ALL_ARC_COLUMNS}
     found = [path for path, columns in kinds.items() if is_written_by_tools(path, columns)]
     for path in kinds:
@@ -57,8 +56,8 @@ def text_at(path: str) -> str:
 
 
 def write_tables(files: Sequence[IO[str]], arrays: net_file.Arrays) -> NDArray[np.int64]:
-    """Writes the tables of nodes and arcs, and the files for GDAL, into files in the order of Files; returns the sizes of both
-    tables."""
+    """Writes the tables of nodes and arcs, and the files for GDAL, into files in the order of Files; returns the sizes of
+    both tables."""
     write_nodes(files[0], nodes_in(arrays))
     write_arcs(files[1], arcs_in(arrays))
     for file, text in zip(files[2:], Files("").forms_of(len(arrays.node_texts) > 0).values(), strict=True):

@@ -91,7 +91,7 @@ def parse_args() -> argparse.Namespace:
 
 
 class Route(NamedTuple):
-    """A route: the user's fields, its own properties but the steps, and its steps and line, None where there is no route."""
+    """A route: the user's fields, its own properties but the steps, and its steps and line, which may be None."""
 
     fields: dict[str, str]
     properties: dict[str, Any]

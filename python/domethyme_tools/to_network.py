@@ -86,8 +86,8 @@ def write_graph(file: IO[bytes], arrays: net_file.Arrays, attribution: str) -> N
 
 
 def sizes_of(paths: Files, options: argparse.Namespace) -> list[int]:
-    """The sizes of NODES and ARCS where they are beside OUT.net, so that tools see when they are edited; 0 for others. Tables
-    of another network that the tools have written there are refused, since they would be read in place of OUT.net."""
+    """The sizes of NODES and ARCS where they are beside OUT.net, so that tools see when they are edited; 0 for others.
+    Tables of another network that the tools have written there are refused: they would be read in place of OUT.net."""
     sizes = []
     for table, given, columns in ((paths.nodes, options.nodes, NODE_COLUMNS), (paths.arcs, options.arcs, ARC_COLUMNS)):
         is_given = os.path.exists(table) and os.path.exists(given) and os.path.samefile(table, given)

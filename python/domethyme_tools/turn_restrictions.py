@@ -67,8 +67,8 @@ def restrictions_of(
     tags: dict[str, str], members: Sequence[Member], access: Sequence[str], keys: Sequence[str] | None = None
 ) -> tuple[list[Restriction], str | None]:
     """The restrictions of a relation for a vehicle with these access tags, the most general first; or none, and why, in the
-    words of the report, None where it isn't a turn restriction or is for other vehicles. `keys` are those that have them, the
-    most general first; without them `restriction` and those of the access tags."""
+    words of the report, None where it isn't a turn restriction or is for other vehicles. `keys` are those that have them,
+    the most general first; without them `restriction` and those of the access tags."""
     excepted = {word.strip() for word in tags.get("except", "").split(";")}
     if tags.get("type") != "restriction" or excepted & set(access):
         return [], None
@@ -151,8 +151,8 @@ def turns_at(nodes: Ints, start: Int32s, end: Int32s, count: int) -> Turns:
 
 
 class Split(NamedTuple):
-    """A graph whose junctions are split: for each arc the one that it was, its ends and its penalty; for each new node the one
-    that it is beside and its number in ENDS; the nodes where routes only begin now; and the arcs that were at such nodes."""
+    """A graph whose junctions are split: for each arc the one that it was, its ends and its penalty; for each new node the
+    one that it is beside and its number in ENDS; the nodes where routes only begin now, and the arcs that were there."""
 
     arc: Ints
     start: Int32s
@@ -165,9 +165,9 @@ class Split(NamedTuple):
 
 
 class Copies(NamedTuple):
-    """The new nodes of junctions that are split. For each place of Turns.into whether a node is made for it and its like, and
-    the number of that node; the node to which its arc leads where a route goes on, and where it ends. For each node that may be
-    split whether it is. For each new node the one that it is beside, and its number in ENDS."""
+    """The new nodes of junctions that are split. For each place of Turns.into whether a node is made for it and its like,
+    and the number of that node; the node to which its arc leads where a route goes on, and where it ends. For each node
+    that may be split whether it is. For each new node the one that it is beside, and its number in ENDS."""
 
     is_made: Bools
     made: Ints
@@ -180,8 +180,8 @@ class Copies(NamedTuple):
 
 def split_nodes(nodes: Ints, turns: Turns, cost: Int32s, start: Int32s, end: Int32s, count: int) -> Split:
     """Splits those of the nodes where a turn is FORBIDDEN or has a penalty, by the cost of each turn. New nodes follow the
-    others: of each node that is split the one where routes end, and one for each set of arcs that differ in what they may go on
-    into, or at which penalty, in the order of the first of them."""
+    others: of each node that is split the one where routes end, and one for each set of arcs that differ in what they may
+    go on into, or at which penalty, in the order of the first of them."""
     copies = make_copies(nodes, turns, cost, count)
     # an arc starts where it did, and then at each node made that may take it
     leaves = np.flatnonzero(copies.is_made[turns.turn] & (cost != FORBIDDEN))
@@ -203,8 +203,8 @@ def split_nodes(nodes: Ints, turns: Turns, cost: Int32s, start: Int32s, end: Int
 
 
 def make_copies(nodes: Ints, turns: Turns, cost: Int32s, count: int) -> Copies:
-    """The new nodes. Arcs of one class may go on into the same arcs at the same costs; those that may go on anywhere for nothing
-    lead to the node itself."""
+    """The new nodes. Arcs of one class may go on into the same arcs at the same costs; those that may go on anywhere for
+    nothing lead to the node itself."""
     node = turns.node
     is_free = ~mask(len(node), turns.turn[cost != 0])
     is_split = mask(len(nodes), node[~is_free])

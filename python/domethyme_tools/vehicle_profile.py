@@ -63,8 +63,8 @@ class Profile(typing.NamedTuple):
 
 
 class Judgement(typing.NamedTuple):
-    """What the rules say of a way: why it is left out, in the words of the report, or None; the km/h in each direction, None
-    where it may not be taken; and the values of maxspeed and of limits that weren't understood, or None."""
+    """What the rules say of a way: why it is left out, in the words of the report, or None; the km/h in each direction,
+    None where it may not be taken; and the values of maxspeed and of limits that weren't understood, or None."""
 
     refusal: str | None
     forward: float | None = None
@@ -130,7 +130,7 @@ def member_error(name: str, value: Any) -> str:
 
 
 def speed_error(value: Any, least: float = SLOWEST) -> str:
-    """What of a value isn't numbers from `least` to FASTEST by names: that it is no object, the first wrong one, or nothing."""
+    """What of a value isn't numbers from `least` to FASTEST by names: that it is no object, the first wrong one, or ""."""
     if not isinstance(value, dict):
         return ": it is no object"
     for name, speed in value.items():
@@ -262,8 +262,8 @@ def speed_of(tags: Tags, direction: str, profile: Profile) -> tuple[float, bool]
 
 
 def maxspeed_of(text: str, profile: Profile) -> float | None:
-    """The km/h that a value of maxspeed means, or None where it isn't understood. For a country's kind of road, as RO:urban,
-    it is that of the country where the profile has it, else that of all countries, *:urban; a zone has its own number."""
+    """The km/h that a value of maxspeed means, or None where it isn't understood. For a country's kind of road, as
+    RO:urban, it is the country's where the profile has it, else that of all, *:urban; a zone has its own number."""
     words, place = profile.maxspeed_words, COUNTRY.fullmatch(text)
     for word in (text, f"*:{place[1]}") if place else (text,):
         if word in words:

@@ -50,8 +50,8 @@ BESIDE, AREA_BESIDE = 0.001, 0.1
 
 
 def read_roads(arrays: MappedNetwork, box: Box | None) -> list[RoadLines]:
-    """For each style the lines of its roads, and then for each those of its tunnels; a road of two directions comes once, and
-    with a box only those that meet it."""
+    """For each style the lines of its roads, and then for each those of its tunnels; a road of two directions comes once,
+    and with a box only those that meet it."""
     roads = [RoadLines(style, dashes, []) for dashes in (None, DASHES) for style in ROAD_STYLES]
     seen = set()
     near = (arrays.about["west"] + arrays.about["east"]) / 2 / UNITS if box is None else from_mercator(box.middle)[0]

@@ -24,8 +24,8 @@ NOT_BLANK = re.compile(r"\S")
 
 class DrawnRoute(NamedTuple):
     """A route as it is shown: its streets with their ways, its places, or None where there is no route, the names of its
-    streets with a place in the middle of each, and the pieces of its line with their widths. An area has rings in place of a
-    line."""
+    streets with a place in the middle of each, and the pieces of its line with their widths. An area has rings in place of
+    a line."""
 
     label: str
     figures: str
@@ -59,7 +59,7 @@ def read_routes(path: str, label: str | None) -> tuple[list[DrawnRoute], list[st
 
 
 def unwrap_route(route: DrawnRoute, near: float) -> DrawnRoute:
-    """The route with longitudes beyond 180 degrees where it crosses that meridian; it begins on the side of the longitude."""
+    """The route with longitudes beyond 180 degrees where it crosses that meridian; it begins on the side of `near`."""
     names = [(name, unwrapped([place], near)[0]) for name, place in route.names]
     line = route.line and unwrapped(route.line, near)
     rings = [unwrapped(ring, near) for ring in route.rings]
