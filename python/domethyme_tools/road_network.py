@@ -5,7 +5,7 @@
     keep_largest(network, ..)  drops all but the largest set of nodes that can all reach one another
     to_arrays(network, ..)     the network as domethyme.network.net_file has it
 """
-from collections.abc import Callable
+from collections.abc import Callable, Sequence
 from typing import Any, NamedTuple
 
 import numpy as np
@@ -87,6 +87,18 @@ def first_index(values: NDArray[Any], size: int) -> NDArray[Any]:
     return found
 
 
+def by_slices(count: int, kinds: Sequence[Any], function: Callable[[slice], Sequence[Any]]) -> list[NDArray[Any]]:
+    """Arrays of so many rows and these kinds, whose parts the function gives, by several threads."""
+    found = [np.empty(count, kind) for kind in kinds]
+
+    def fill(part: slice) -> None:
+        for column, values in zip(found, function(part)):
+            column[part] = values
+
+    map_slices(fill, count)
+    return found
+
+
 # Nodes and arcs
 
 
@@ -103,12 +115,7 @@ def build_network(
     begin = offsets(new[:, 0].astype(np.int8) + new[:, 1] + cuts).astype(np.int32)
     of_end = np.repeat(begin[:-1], 2)
     of_end[1::2] += new[:, 0]
-    node = np.empty(len(ends), np.int32)
-
-    def number(part: slice) -> None:
-        node[part] = of_end[first[ends[part]]]
-
-    map_slices(number, len(ends))
+    node, = by_slices(len(ends), [np.int32], lambda part: [of_end[first[ends[part]]]])
     node[apart] = of_end[apart]
     # the pieces: each begins where the one before ends, but for the first of a run
     piece_begin = offsets(runs.parts)
@@ -138,16 +145,15 @@ def arcs_along(
     forward, backward = (~np.isnan(speed) for speed in (roads.forward, roads.backward))
     count = (forward.astype(np.int8) + backward)[runs.road][run]
     piece = np.repeat(np.arange(len(run), dtype=np.int32), count)
-    is_back = ~differs(piece)
-    starts, ends = np.empty(len(piece), np.int32), np.empty(len(piece), np.int32)
+    is_second = ~differs(piece)
 
-    def orient(part: slice) -> None:
-        pieces, back = piece[part], is_back[part]
-        back |= ~forward[runs.road[run[pieces]]]
+    def orient(part: slice) -> tuple[Int32s, Int32s, Bools]:
+        pieces = piece[part]
+        back = is_second[part] | ~forward[runs.road[run[pieces]]]
         here, there = start[pieces], end[pieces]
-        starts[part], ends[part] = np.where(back, there, here), np.where(back, here, there)
+        return np.where(back, there, here), np.where(back, here, there), back
 
-    map_slices(orient, len(piece))
+    starts, ends, is_back = by_slices(len(piece), [np.int32, np.int32, np.bool_], orient)
     return starts, ends, piece, is_back
 
 
@@ -274,24 +280,23 @@ def to_arrays(network: RoadNetwork, kind: str, rows_of: RowsOf, attribution: str
     )
 
 
-def arc_columns(network: RoadNetwork, kind: str, report: Report) -> tuple[Ints, Floats, Floats, Ints, NDArray[np.uint32]]:
+def arc_columns(network: RoadNetwork, kind: str, report: Report) -> list[NDArray[Any]]:
     """The weights, seconds, metres, ways and rows of texts of the arcs."""
-    count = len(network.start)
-    weight, seconds, metres, osm = np.empty(count, np.int64), np.empty(count), np.empty(count), np.empty(count, np.int64)
-    row = np.empty(count, np.uint32)
+    raised: list[int] = []
 
-    def fill(part: slice) -> int:
+    def fill(part: slice) -> tuple[Any, ...]:
         chunk = network.with_arcs(part)
-        road, lengths = chunk.road(), network.runs.metres[network.piece_run[chunk.piece]]
-        milliseconds = lengths * 3600 / np.where(chunk.is_back, network.roads.backward[road], network.roads.forward[road])
-        weights = np.rint(milliseconds if kind == "time" else lengths * 100).astype(np.int64)
-        weight[part] = np.maximum(weights, 1) + chunk.penalty * np.int64(WEIGHTS[kind])
-        seconds[part] = rounded_exactly(milliseconds / 1000 + chunk.penalty / 100, 3)
-        metres[part], osm[part], row[part] = rounded_exactly(lengths, 2), network.roads.osm[road], network.roads.row[road]
-        return int((weights == 0).sum())
+        road, metres = chunk.road(), network.runs.metres[network.piece_run[chunk.piece]]
+        milliseconds = metres * 3600 / np.where(chunk.is_back, network.roads.backward[road], network.roads.forward[road])
+        weights = np.rint(milliseconds if kind == "time" else metres * 100).astype(np.int64)
+        raised.append(int((weights == 0).sum()))
+        weights = np.maximum(weights, 1) + chunk.penalty * np.int64(WEIGHTS[kind])
+        seconds = rounded_exactly(milliseconds / 1000 + chunk.penalty / 100, 3)
+        return weights, seconds, rounded_exactly(metres, 2), network.roads.osm[road], network.roads.row[road]
 
-    report["weights raised to 1"] = sum(map_slices(fill, count))
-    return weight, seconds, metres, osm, row
+    columns = by_slices(len(network.start), [np.int64, np.float64, np.float64, np.int64, np.uint32], fill)
+    report["weights raised to 1"] = sum(raised)
+    return columns
 
 
 def texts_of(row_of_arc: NDArray[np.uint32], rows_of: RowsOf, attribution: str) -> tuple[list[str], Int32s, Int32s]:
@@ -356,33 +361,27 @@ class Pieces:
         pieces = self._pieces[rows]
         return self._runs.begin[pieces].astype(np.int64), self._runs.end[pieces].astype(np.int64)
 
-    def classify(self) -> tuple[Bools, Bools, NDArray[np.uint64]]:
+    def classify(self) -> list[NDArray[Any]]:
         """Whether each piece leads to the greater of its ends, whether both are one place, and a mix of 64 bits that pieces
         of one way have in common that lie on one line."""
-        count = len(self._pieces)
-        is_along, is_ring, keys = np.empty(count, np.bool_), np.empty(count, np.bool_), np.empty(count, np.uint64)
-
-        def look(part: slice) -> None:
+        def look(part: slice) -> tuple[Any, ...]:
             begin, end = self._bounds(part)
             head, tail = place_keys(self._runs.points[begin]), place_keys(self._runs.points[end - 1])
-            is_along[part], is_ring[part] = head < tail, head == tail
-            keys[part] = hash_rows(self.ways(part), np.minimum(head, tail), np.maximum(head, tail), end - begin)
+            key = hash_rows(self.ways(part), np.minimum(head, tail), np.maximum(head, tail), end - begin)
+            return head < tail, head == tail, key
 
-        map_slices(look, count)
-        return is_along, is_ring, keys
+        return by_slices(len(self._pieces), [np.bool_, np.bool_, np.uint64], look)
 
-    def of_arcs(self, number: Int32s, is_along: Bools, is_same: Bools) -> tuple[Int32s, Bools]:
+    def of_arcs(self, number: Int32s, is_along: Bools, is_same: Bools) -> list[NDArray[Any]]:
         """The number of the piece of each arc, and whether it leads along it."""
         network, row = self._network, np.zeros(len(self._network.piece_run), np.int32)
         row[self._pieces] = np.arange(len(self._pieces), dtype=np.int32)
-        edge, along = np.empty(len(network.piece), np.int32), np.empty(len(network.piece), np.bool_)
 
-        def fill(part: slice) -> None:
+        def fill(part: slice) -> tuple[Int32s, Bools]:
             rows = row[network.piece[part]]
-            edge[part], along[part] = number[rows], is_along[rows] ^ network.is_back[part] | is_same[rows]
+            return number[rows], is_along[rows] ^ network.is_back[part] | is_same[rows]
 
-        map_slices(fill, len(edge))
-        return edge, along
+        return by_slices(len(network.piece), [np.int32, np.bool_], fill)
 
     def points(self, chosen: Bools, is_along: Bools) -> tuple[Ints, Int32s]:
         """The lines of chosen pieces one after the other, each along or against its points; and where they begin."""
