@@ -123,7 +123,12 @@ def answer(task: Task, text: str, size: int, answers: str) -> Result:
             with draft_in(task["drafts"]) as draft:
                 status, stderr = run_program(task, text, draft)
                 if status == 0:
-                    return finish(task, draft, answers)
+                    # (they may have changed meanwhile)
+                    if (trouble := file_mismatch(task)) is not None:
+                        return 1, trouble, 0
+                    count = os.stat(draft).st_size
+                    os.replace(draft, answers)
+                    return 0, None, count
             if status > 0 or stopping.is_set():
                 break
         if 3 <= status <= 8:
@@ -161,16 +166,6 @@ def run_program(task: Task, text: str, draft: str) -> tuple[int, str]:
             stderr = child.communicate()[1].decode("utf-8", "replace")
         os.fsync(output.fileno())
     return child.returncode, "\n".join(line.rstrip() for line in stderr.replace(text, task["pairs"]).splitlines())
-
-
-def finish(task: Task, draft: str, answers: str) -> Result:
-    """Gives the draft its name, unless the files of the task have changed meanwhile; what `answer` gives then."""
-    trouble = file_mismatch(task)
-    if trouble is not None:
-        return 1, trouble, 0
-    count = os.stat(draft).st_size
-    os.replace(draft, answers)
-    return 0, None, count
 
 
 # The programs that run in this process

@@ -99,7 +99,9 @@ def read_map(path: StrPath, profile: Profile, folder: Folder, report: Report) ->
     restrictions = read_restrictions(ways, profile, report)
     for what, values in unknown.items():
         if values:
-            report[f"{what} that weren't understood ({most_common(values)})"] = values.total()
+            shown = [f"{value} {count}" for value, count in values.most_common(MAX_VALUES)]
+            shown += ["..."] * (len(values) > MAX_VALUES)
+            report[f"{what} that weren't understood ({', '.join(shown)})"] = values.total()
     taken = is_taken[ways.labels[:, 0]][ways.label]
     label = ways.label[taken]
     forward, backward = speeds[:, ways.labels[:, 0][label]]
@@ -164,12 +166,6 @@ def text_rows(ways: WayArrays) -> RowsOf:
         return list(known), np.column_stack((highway, shown, of_text[ref], junction, of_text[destination], structure))
 
     return rows_of
-
-
-def most_common(counted: Report) -> str:
-    """The values that come most often, with their counts, as a text."""
-    values = [f"{value} {count}" for value, count in counted.most_common(MAX_VALUES)]
-    return ", ".join(values + ["..."] * (len(counted) > MAX_VALUES))
 
 
 # The network

@@ -220,10 +220,10 @@ def lock_folder(folder: Folder, out: str) -> Iterator[None]:
             os.mkdir(folder.path)
         try:
             check_ownership(folder.path)
-            lock = open(folder.lock, "a+", encoding="utf-8", opener=open_nofollow)
+            file = os.open(folder.lock, os.O_RDWR | os.O_APPEND | os.O_CREAT | os.O_NOFOLLOW, 0o666)
         except FileNotFoundError:
             continue
-        with lock:
+        with open(file, "a+", encoding="utf-8") as lock:
             take_lock(lock, out)
             if is_same_file(lock, folder.lock):
                 lock.truncate(0)
@@ -241,11 +241,6 @@ def check_ownership(path: str) -> None:
     for entry in os.scandir(path):
         if entry.is_symlink():
             raise ToolError("is a link, and nothing is written by way of one: remove it", entry.path)
-
-
-def open_nofollow(path: str, flags: int) -> int:
-    """Opens a file, which may be no link."""
-    return os.open(path, flags | os.O_NOFOLLOW, 0o666)
 
 
 def take_lock(lock: IO[str], out: str) -> None:

@@ -46,6 +46,7 @@ from collections.abc import Iterable, Iterator
 from typing import IO, Any, NamedTuple
 
 import numpy
+from numpy.typing import NDArray
 
 from domethyme.atomic_files import atomic_write
 from domethyme.csv_tables import escape_formula, excerpt, open_table, parse_float
@@ -66,6 +67,7 @@ STEPS = "steps"
 LINE = "WKT"
 NAME = TEXTS.index("name")
 FORMS = ("collection", "lines", "csv")
+Ints = NDArray[numpy.int64]
 # A row of TRIPS: its number, and its fields by their columns.
 Trip = tuple[int | None, dict[str, str]]
 
@@ -135,18 +137,18 @@ def routes_of(
         raise ToolError("is a row more than there are answers", options.trips, more[0])
 
 
-def arcs_along(network: MappedNetwork, answer: RouteReply, path: str, row: int) -> list[int]:
+def arcs_along(network: MappedNetwork, answer: RouteReply, path: str, row: int) -> Ints:
     """The arcs of an answer's route, whose weights sum to its length."""
     count = len(network.node_osm)
     for node in answer.nodes or (answer.source, answer.target):
         if not 1 <= node <= count:
             raise ToolError(f"has node {node}, and the network has {count} nodes", path, row)
     nodes = numpy.array(answer.nodes, dtype=numpy.int64)
-    arcs: list[int] = network.lightest(nodes[:-1], nodes[1:]).tolist() if len(nodes) > 1 else []
+    arcs = network.lightest(nodes[:-1], nodes[1:])
     if -1 in arcs:
-        start, end = answer.nodes[arcs.index(-1) :][:2]
+        start, end = nodes[int(arcs.argmin()) :][:2].tolist()
         raise ToolError(f"leads from node {start} to node {end}, where the network has no arc", path, row)
-    weight = int(network.arc_weight[arcs].sum()) if arcs else 0
+    weight = int(network.arc_weight[arcs].sum())
     if answer.length not in (NO_PATH, weight):
         fault = f"has the length {answer.length}, and its arcs' weights sum to {weight}"
         raise ToolError(f"{fault}: is it of another network?", path, row)
@@ -163,28 +165,23 @@ def user_fields(trip: Trip, ends: dict[str, Any], path: str) -> dict[str, str]:
 
 
 def make_route(
-    network: MappedNetwork, answer: RouteReply, arcs: list[int], ends: dict[str, Any], fields: dict[str, str]
+    network: MappedNetwork, answer: RouteReply, arcs: Ints, ends: dict[str, Any], fields: dict[str, str]
 ) -> Route:
     """The route along arcs, which follow one another from the answer's source."""
     if answer.length == NO_PATH:
         return Route(fields, ends | dict.fromkeys(FIGURES), None, None)
-    metres, seconds, names = figures_of(network, arcs) if arcs else ([], [], [])
-    figures = answer.length, len(arcs), total_seconds(seconds), total_metres(metres)
+    metres = network.arc_metres[arcs].tolist()
+    seconds = network.arc_seconds[arcs].tolist() if network.has_seconds else [None] * len(arcs)
+    names = [network.texts[text] for text in network.arc_texts[arcs, NAME].tolist()]
     steps, end = [], 0
     for name, street in itertools.groupby(names):
         begin, end = end, end + len(list(street))
         part = slice(begin, end)
         steps.append({"name": name, "metres": total_metres(metres[part]), "seconds": total_seconds(seconds[part])})
     here = network.node_lon[answer.source - 1] / UNITS, network.node_lat[answer.source - 1] / UNITS
-    line = join_lines([[here], *map(network.line, arcs)])
+    line = join_lines([[here], *map(network.line, arcs.tolist())])
+    figures = answer.length, len(arcs), total_seconds(seconds), total_metres(metres)
     return Route(fields, ends | dict(zip(FIGURES, figures)), steps, line if len(line) > 1 else line * 2)
-
-
-def figures_of(network: MappedNetwork, arcs: list[int]) -> tuple[list[float], list[float | None], list[str]]:
-    """The metres, the seconds, None where the network has none, and the names of arcs, one or more."""
-    seconds = network.arc_seconds[arcs].tolist() if network.has_seconds else [None] * len(arcs)
-    names = [network.texts[text] for text in network.arc_texts[arcs, NAME].tolist()]
-    return network.arc_metres[arcs].tolist(), seconds, names
 
 
 def total_seconds(seconds: list[float | None]) -> float | None:

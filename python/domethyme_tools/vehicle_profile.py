@@ -183,20 +183,9 @@ def is_open(tags: Tags, profile: Profile) -> bool:
     return True
 
 
-def allows(tags: Tags, profile: Profile) -> bool:
-    """Whether the most particular access tag of all, the vehicle's own, is set and lets it in."""
-    return any(key in tags for key in profile.access[-1:]) and is_open(tags, profile)
-
-
 def has_one(tags: Tags, words: list[str]) -> bool:
     """Whether one of these tags KEY=VALUE is set."""
     return any(tags.get(key) == value for key, _, value in (word.partition("=") for word in words))
-
-
-def is_too_large(tags: Tags, profile: Profile) -> bool:
-    """Whether a limit of the way is below a measure of the vehicle."""
-    limits = ((limit_of(key, tags[key]), measure) for key, measure in profile.measures.items() if key in tags)
-    return any(limit is not None and limit < measure for limit, measure in limits)
 
 
 def limit_of(key: str, text: str) -> float | None:
@@ -227,9 +216,11 @@ def rejection_reason(tags: Tags, profile: Profile) -> str | None:
     if tags.get("area") == "yes":
         return "ways left out as areas"
     needs_leave = tags["highway"] in profile.only_where_allowed or has_one(tags, profile.closed_by)
-    if not is_open(tags, profile) or needs_leave and not allows(tags, profile):
+    has_own = any(key in tags for key in profile.access[-1:])
+    if not is_open(tags, profile) or needs_leave and not has_own:
         return "ways left out as closed to the vehicle"
-    if is_too_large(tags, profile):
+    limits = ((limit_of(key, tags[key]), measure) for key, measure in profile.measures.items() if key in tags)
+    if any(limit is not None and limit < measure for limit, measure in limits):
         return "ways left out as too low, narrow, short or weak for the vehicle"
     if oneway_of(tags, profile) == "reversible":
         return "ways left out as their direction changes"

@@ -16,6 +16,8 @@ from .routes import COLOURS, DrawnRoute
 
 LEAFLET = pathlib.Path("/usr/share/javascript/leaflet")
 LEAFLET_COPYRIGHT = pathlib.Path("/usr/share/doc/libjs-leaflet/copyright")
+# A link where OpenStreetMap is named, as it asks for.
+OPENSTREETMAP = '<a href="https://www.openstreetmap.org/copyright">OpenStreetMap</a>'
 # Stands in the page until its parts are known.
 POLICY = "-- policy --"
 # The colours of routes where the page is dark.
@@ -82,7 +84,7 @@ def data_of(routes: list[DrawnRoute], roads: list[RoadLines], attribution: str, 
     west, south, east, north = box_of(places)
     data = {
         "bounds": [[south, west], [north, east]],
-        "attribution": attribution_html(attribution),
+        "attribution": escaped(attribution).replace("OpenStreetMap", OPENSTREETMAP),
         "tiles": tiles,
         "mostWithArrows": MAX_WITH_ARROWS,
         "roads": [
@@ -109,9 +111,3 @@ def route_data(route: DrawnRoute) -> dict[str, Any]:
         "ends": route.line and delta_encode([route.line[0], route.line[-1]]),
         "pieces": [(width, delta_encode(line)) for width, line in route.pieces],
     }
-
-
-def attribution_html(attribution: str) -> str:
-    """The attribution as HTML, with a link where OpenStreetMap is named, as it asks for."""
-    link = '<a href="https://www.openstreetmap.org/copyright">OpenStreetMap</a>'
-    return escaped(attribution).replace("OpenStreetMap", link)

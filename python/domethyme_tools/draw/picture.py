@@ -29,7 +29,7 @@ HALO = f' paint-order="stroke" stroke="{PAPER}" stroke-width="3" stroke-linejoin
 def picture_of(routes: list[DrawnRoute], roads: list[RoadLines], view: View, attribution: str) -> str:
     """The text of the SVG file."""
     legend = legend_for(routes, roads, view)
-    height = view.height + (legend.height + MARGIN if legend and legend.is_below(view) else 0)
+    height = view.height + (legend.height + MARGIN if legend and legend.top >= view.height else 0)
     lines = [route for route in routes if not route.rings]
     parts = [
         f'<svg xmlns="http://www.w3.org/2000/svg" width="{view.width}" height="{height}" '
@@ -145,10 +145,6 @@ class Legend(NamedTuple):
     @property
     def height(self) -> int:
         return self.row_height * len(self.rows) + MARGIN
-
-    def is_below(self, view: View) -> bool:
-        """Whether it is below the map, and not in it."""
-        return self.top >= view.height
 
 
 def legend_for(routes: list[DrawnRoute], roads: list[RoadLines], view: View) -> Legend | None:
