@@ -1,16 +1,4 @@
-"""How the map tools take their arguments and end.
-
-    ToolError(message, file=None, row=None, status=1)  what is wrong, as one line; rows are lines of the file, from 1
-    run(main)                    calls main() as a tool: 0, or an error's line on standard error and its status; 130 after
-                                 an interrupt, 143 after SIGTERM; a reader of standard output that went away is status 1
-                                 without a line. Arguments that argparse refuses are status 2.
-    warn(text)                   a line on standard error, with the tool's name
-    argument_parser(doc, *examples)  an argparse parser whose `--help` begins with the docstring and ends with examples
-    require_packages()   `with require_packages(): import numpy` ends with one line and status 1 if one is missing
-    add_hierarchy(parser)        the option --hierarchy, and need_hierarchy(options) compares it with NETWORK
-    refuse_overwriting(parser, outputs, inputs)     status 2 where an output is an input
-    tool(name)                   the words that begin another tool
-"""
+"""How the map tools take their arguments and end."""
 import argparse
 import contextlib
 import os
@@ -26,11 +14,13 @@ from domethyme.errors import DomethymeError, FileError
 
 
 class ToolError(FileError):
-    """What is wrong, in one line: `FILE, row ROW: MESSAGE`. `status` is what the tool ends with."""
+    """What is wrong, in one line: `FILE, row ROW: MESSAGE`; rows are lines of the file, from 1. `status` is what the tool
+    ends with."""
 
 
 def run(main: Callable[[], None]) -> NoReturn:
-    """Calls main() and ends the process as the module's docstring says."""
+    """Calls main() as a tool and ends the process: with 0, or an error's line on standard error and its status; 130 after an
+    interrupt, 143 after SIGTERM; 1 without a line where a reader of standard output went away. argparse refuses with 2."""
     # (an exception, so that with-blocks remove what they have begun)
     signal.signal(signal.SIGTERM, lambda number, _: sys.exit(128 + number))
     status, line = 1, ""

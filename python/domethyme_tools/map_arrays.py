@@ -1,11 +1,5 @@
 """Reads a map into arrays, by a program in C++ over libosmium (converter/map_arrays.cpp), which knows no vehicle.
 
-    ensure_built()             the path of the program, which is built where it is missing
-    Folder(path)               a folder of arrays, and the program's commands over it
-    read_ways(folder, ..)      WayArrays: the ways with a key, their tags, and the turn restrictions
-    read_places(folder, ..)    NodeArrays: the nodes of those that are taken
-    cut_runs(folder, ..)       Runs: their lines from stop to stop, cut to pieces
-
 In Debian's package the program is there. Elsewhere it is built at the first use, in half a minute, by g++ and Debian's
 libosmium2-dev; tools/build_converter does that alone. It is kept by the checksum of its source, in converter/built, or if that
 can't be written in the user's cache.

@@ -1,9 +1,5 @@
 """Places on roads, by the service's rule (docs/SERVICE.md): the nearest point of a road, which is cut there in both directions.
 
-    request_lines(network, places, within, path)     a line `b S1 C1 .. : T1 D1 ..` of `routecli serve` for each trip
-    routes_on_roads(network, replies, path, places)  a RoadRoute for each trip, by the replies to those lines, in order
-    snap_places(roads, places, within, path, rows)   the nearest point of a road to each place of a table
-
 Trips are (row, (lon, lat), (lon, lat)), and places (lon, lat).
 """
 import itertools
@@ -92,13 +88,14 @@ def format_seeds(sides: dict[int, tuple[int, int]]) -> bytes:
 
 
 def request_lines(network: StrPath, trips: Iterable[Trip], within: float, path: str) -> Iterator[str]:
+    """A line `b S1 C1 .. : T1 D1 ..` of `routecli serve` for each trip."""
     roads = open_road_index(network)
     for trip in trips:
         yield format_request(*snap_trip(roads, trip, within, path), path, trip[0]).decode()
 
 
 def routes_on_roads(network: StrPath, replies: str, path: str, trips: Iterable[Trip]) -> Iterator[RoadRoute]:
-    """The routes by the replies in a file, of which the first line is `ready NODES LINKS 2`."""
+    """The routes of trips by the replies in a file, of which the first line is `ready NODES LINKS 2`, in order."""
     roads, trips_left = open_road_index(network), iter(trips)
     with open_input(replies) as stream:
         ready = parse_ready(next(stream, b""))

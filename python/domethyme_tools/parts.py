@@ -11,9 +11,6 @@ Beside OUT is the folder OUT.parts while a run isn't done:
                        was left alone still writes for an earlier run never comes among the parts of a later one.
 
 Other files in it are left alone, and with them the folder.
-
-    open_folder(out, anew)  with-block: the Folder of OUT, which no other run has meanwhile
-    spool(path, to)     the Survey of a query file, which it copies
 """
 import contextlib
 import errno

@@ -1,10 +1,4 @@
-"""The nodes and arcs of a network in arrays, made of the runs of roads (map_arrays.py).
-
-    build_network(runs, ..)    a RoadNetwork: nodes in the order in which runs come to them, arcs forward before backward
-    split_junctions(network, ..)  splits the junctions where there are turn restrictions, or penalties (turn_restrictions.py)
-    keep_largest(network, ..)  drops all but the largest set of nodes that can all reach one another
-    to_arrays(network, ..)     the network as domethyme.network.net_file has it
-"""
+"""The nodes and arcs of a network in arrays, made of the runs of roads (map_arrays.py)."""
 from collections.abc import Callable, Sequence
 from typing import Any, NamedTuple
 

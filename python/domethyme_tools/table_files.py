@@ -1,9 +1,4 @@
-"""The tables of a network in CSV, as the tools write them where --tables is given, and the files for GDAL beside them.
-
-    tables_there(names, are_written)  those that are there before: the tools' own may be replaced, a user's own never
-    write_tables(files, arrays)       writes all of them
-    bytes_of(file)                    the bytes of a file that was opened as text
-"""
+"""The tables of a network in CSV, as the tools write them where --tables is given, and the files for GDAL beside them."""
 import io
 import itertools
 import os

@@ -11,12 +11,6 @@ in the columns `ends` of NETWORK.nodes.csv: `from`, `no` and `to`; other nodes h
 plain nodes, arcs and weights, and its routes keep the restrictions.
 
 A turn that has a penalty is kept by the same nodes: arcs that lead from them weigh more by it.
-
-    Restriction(start, via, end, only)            from way `start` by the node `via` into way `end`
-    restrictions_of(tags, members, access, keys)  those of a relation, or why it has none
-    applicable_rules(restrictions, roads)         those whose ways end at their node, by node
-    turns_at(nodes, ..)                           the turns at nodes
-    split_nodes(nodes, turns, cost, ..)           the arcs with split junctions
 """
 import collections
 from collections.abc import Callable, Iterable, Sequence

@@ -1,10 +1,4 @@
-"""The rules of a vehicle: which ways it may take, in which directions, and how fast; and its profile, the file that has them.
-
-    read_profile(word)         the Profile of a file *.json, or of the folder profiles by its name
-    way_keys(profile)          the keys of a way that the rules look at
-    judge(tags, profile)      what the rules say of a way with these tags
-    blocks_way(tags, profile) whether a node with these tags is a barrier to the vehicle
-"""
+"""The rules of a vehicle: which ways it may take, in which directions, and how fast; and its profile, the file that has them."""
 import json
 import math
 import os

@@ -2,18 +2,6 @@
 
 A place is (longitude, latitude) in degrees. Its point on the plane is (x, y) by the projection of web maps, Mercator's
 on a sphere: x goes from 0 at 180 degrees west to 1 at 180 degrees east, and y from 0 in the north to 1 in the south.
-
-    to_mercator(places)     their points; from_mercator(point) is the place of one
-    unwrapped(line, near)        a line with longitudes beyond 180 degrees where it crosses that meridian
-    join_lines(lines)            lines of places, each from where the one before ends, as one line
-    overlap_pieces(lines, most)  each line in pieces, by how many of the later lines share them
-    box_of(points)               the Box around points; `.grown(margin)`, `.shaped(least, most)`, `.meets(box)`
-    View(box, width)             a picture of a box: `.height`, `.pixels(points)`, `.metres_of_a_pixel`
-    path_of(pixels)              a line as the text of an SVG path, to the tenth of a pixel
-    arrows(pixels, every)        where arrows are along a line, and which way they point
-    point_at_fraction(places, share)  the place at which a share of a line's way, from 0 to 1, is behind
-    delta_encode(places)         a line as whole numbers, for pages: millionths of a degree, each from the one before
-    scale_bar_metres(metres)     the greatest length of a scale bar that is at most that: 1, 2 or 5 and zeros
 """
 import collections
 import itertools
