@@ -163,16 +163,11 @@ def begins_of(index: NodeIndex, ends: Ints) -> Ints:
     return numpy.fromiter(begins, numpy.int64, len(different))[places] + 1
 
 
-class Snapped(NamedTuple):
-    """The trips whose places are near enough: their fields, and for each end of a route (from, to) the nodes and metres."""
-
-    fields: list[list[Any]]
-    nodes: list[Ints]
-    metres: list[Floats]
-
-
-def snap(trips: Trips, index: NodeIndex, within: float, skip_far: bool) -> Snapped:
-    """Snaps each trip. One with a place that is too far is left out, or refused."""
+def snap(
+    trips: Trips, index: NodeIndex, within: float, skip_far: bool
+) -> tuple[list[list[Any]], list[Ints], list[Floats]]:
+    """The fields of the trips whose places are near enough, and for each end (from, to) their nodes, and the metres to them.
+    A trip with a place that is too far is left out, or refused."""
     nodes, metres = zip(*(nodes_at(index, places, side) for places, side in zip(trips.ends, SIDES)))
     far = (metres[0] > within) | (metres[1] > within)
     if far.any():
@@ -180,7 +175,7 @@ def snap(trips: Trips, index: NodeIndex, within: float, skip_far: bool) -> Snapp
             raise too_far_error(trips, metres, index, within)
         print(f"nearest: left out {far.sum()} of {len(far)} rows, which are too far from each node", file=sys.stderr)
     fields = list(itertools.compress(trips.fields, ~far))
-    return Snapped(fields, [each[~far] for each in nodes], [each[~far] for each in metres])
+    return fields, [each[~far] for each in nodes], [each[~far] for each in metres]
 
 
 def too_far_error(trips: Trips, metres: Sequence[Floats], index: NodeIndex, within: float) -> ToolError:
@@ -215,9 +210,8 @@ def end_nodes(starts: "Ints | int", ends: Ints, begins: Ints) -> Ints:
     return numpy.where(begins == starts, starts, ends)
 
 
-def pairs_of(snapped: Snapped, index: NodeIndex, is_matrix: bool) -> Collection[tuple[int, int]]:
+def pairs_of(starts: Ints, ends: Ints, index: NodeIndex, is_matrix: bool) -> Collection[tuple[int, int]]:
     """The pairs of nodes, in order."""
-    starts, ends = snapped.nodes
     begins = begins_of(index, ends)
     if is_matrix:
         return Matrix(starts, ends, begins)
@@ -236,11 +230,11 @@ def snapped_columns(trips: Trips, is_matrix: bool, has_keys: bool) -> list[str]:
 
 
 def snapped_rows(
-    snapped: Snapped, pairs: Iterable[tuple[int, int]], is_matrix: bool, keys: Sequence[str]
+    fields: list[list[Any]], metres: list[Floats], pairs: Iterable[tuple[int, int]], is_matrix: bool, keys: Sequence[str]
 ) -> Iterator[list[Any]]:
     """The rows of --snapped, one for each pair; `keys` are those of all nodes, none where they have none."""
-    fields, rows = snapped.fields, range(len(snapped.fields))
-    from_metres, to_metres = ([f"{metres:.1f}" for metres in some.tolist()] for some in snapped.metres)
+    rows = range(len(fields))
+    from_metres, to_metres = ([f"{away:.1f}" for away in some.tolist()] for some in metres)
     for (source, target), (start, end) in zip(itertools.product(rows, repeat=2) if is_matrix else zip(rows, rows), pairs):
         own = [*fields[source], *fields[target]] if is_matrix else fields[source]
         of_nodes = [keys[node - 1] for node in (start, end)] if keys else []
@@ -274,12 +268,12 @@ def main() -> None:
     trips = read_places(options.trips) if options.matrix else read_trips(options.trips, PREFIXES)
     keys = index.keys() if options.snapped else ()
     columns = snapped_columns(trips, options.matrix, len(keys) > 0) if options.snapped else []
-    snapped = snap(trips, index, options.max_distance, options.skip_far)
-    pairs = pairs_of(snapped, index, options.matrix)
+    fields, nodes, metres = snap(trips, index, options.max_distance, options.skip_far)
+    pairs = pairs_of(nodes[0], nodes[1], index, options.matrix)
     if len(pairs) > MAX_LINES:
-        raise ToolError(f"has {len(snapped.fields)} places, which make more than {MAX_LINES} pairs", options.trips)
+        raise ToolError(f"has {len(fields)} places, which make more than {MAX_LINES} pairs", options.trips)
     if options.snapped:
-        write_snapped(options.snapped, columns, snapped_rows(snapped, pairs, options.matrix, keys))
+        write_snapped(options.snapped, columns, snapped_rows(fields, metres, pairs, options.matrix, keys))
     with atomic_write(options.output) as file:
         write_pairs(file, pairs, [index.origin(options.network).comment])
     if options.matrix:

@@ -164,16 +164,19 @@ def split_junctions(
     turns = turn_restrictions.turns_at(nodes, network.start, network.end, count)
     cost = penalties_of(network, turns, penalties) if has_penalties else np.zeros(len(turns.turn), np.int32)
     forbid(network, turns, rules, cost)
-    found = turn_restrictions.split_nodes(nodes, turns, cost, network.start, network.end, count)
-    report["nodes split by turns" if has_penalties else "junctions split by turn restrictions"] = len(found.begin)
+    copies = turn_restrictions.make_copies(nodes, turns, cost, count)
+    arc, start, end, penalty = turn_restrictions.copied_arcs(copies, turns, cost, network.start, network.end)
+    split, is_there = nodes[copies.is_split], copies.is_split[turns.node]
+    report["nodes split by turns" if has_penalties else "junctions split by turn restrictions"] = len(split)
     ends = network.node_ends.copy()
-    ends[found.begin] = ENDS.index(turn_restrictions.START)
-    is_apart = mask(len(network.piece_run), network.piece[found.touched])
-    return network.with_arcs(found.arc)._replace(
-        node_osm=np.concatenate((network.node_osm, network.node_osm[found.beside])),
-        node_place=np.concatenate((network.node_place, network.node_place[found.beside])),
-        node_ends=np.concatenate((ends, found.ends)),
-        start=found.start, end=found.end, penalty=found.penalty, is_split=is_apart[network.piece[found.arc]],
+    ends[split] = ENDS.index(turn_restrictions.START)
+    there = turns.into[is_there], turns.out[is_there[turns.turn]]
+    is_apart = mask(len(network.piece_run), *(network.piece[arcs] for arcs in there))
+    return network.with_arcs(arc)._replace(
+        node_osm=np.concatenate((network.node_osm, network.node_osm[copies.beside])),
+        node_place=np.concatenate((network.node_place, network.node_place[copies.beside])),
+        node_ends=np.concatenate((ends, copies.ends)),
+        start=start, end=end, penalty=penalty, is_split=is_apart[network.piece[arc]],
     )
 
 

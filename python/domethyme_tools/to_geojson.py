@@ -176,23 +176,19 @@ def make_route(
     steps, end = [], 0
     for name, street in itertools.groupby(names):
         begin, end = end, end + len(list(street))
-        part = slice(begin, end)
-        steps.append({"name": name, "metres": total_metres(metres[part]), "seconds": total_seconds(seconds[part])})
+        total = totals(seconds[begin:end], metres[begin:end])
+        steps.append({"name": name, "metres": total[1], "seconds": total[0]})
     here = network.node_lon[answer.source - 1] / UNITS, network.node_lat[answer.source - 1] / UNITS
     line = join_lines([[here], *map(network.line, arcs.tolist())])
-    figures = answer.length, len(arcs), total_seconds(seconds), total_metres(metres)
+    figures = answer.length, len(arcs), *totals(seconds, metres)
     return Route(fields, ends | dict(zip(FIGURES, figures)), steps, line if len(line) > 1 else line * 2)
 
 
-def total_seconds(seconds: list[float | None]) -> float | None:
-    """Their sum to the thousandth, as the table of arcs has them; None where one is None."""
+def totals(seconds: list[float | None], metres: list[float]) -> tuple[float | None, float]:
+    """Seconds to the thousandth, None where the network has none, and metres to the hundredth, as the table of arcs has
+    them."""
     known = [each for each in seconds if each is not None]
-    return round(sum(known), 3) if len(known) == len(seconds) else None
-
-
-def total_metres(metres: list[float]) -> float:
-    """Their sum to the hundredth, as the table of arcs has them."""
-    return round(sum(metres), 2)
+    return round(sum(known), 3) if len(known) == len(seconds) else None, round(sum(metres), 2)
 
 
 # Routes between places on roads

@@ -144,20 +144,6 @@ def turns_at(nodes: Ints, start: Int32s, end: Int32s, count: int) -> Turns:
     return Turns(into, node, turn, leaving[offsets(counts)[node][turn] + position])
 
 
-class Split(NamedTuple):
-    """A graph whose junctions are split: for each arc the one that it was, its ends and its penalty; for each new node the
-    one that it is beside and its number in ENDS; the nodes where routes only begin now, and the arcs that were there."""
-
-    arc: Ints
-    start: Int32s
-    end: Int32s
-    penalty: Int32s
-    beside: Ints
-    ends: NDArray[np.uint8]
-    begin: Ints
-    touched: Ints
-
-
 class Copies(NamedTuple):
     """The new nodes of junctions that are split. For each place of Turns.into whether a node is made for it and its like,
     and the number of that node; the node to which its arc leads where a route goes on, and where it ends. For each node
@@ -172,11 +158,31 @@ class Copies(NamedTuple):
     ends: NDArray[np.uint8]
 
 
-def split_nodes(nodes: Ints, turns: Turns, cost: Int32s, start: Int32s, end: Int32s, count: int) -> Split:
+def make_copies(nodes: Ints, turns: Turns, cost: Int32s, count: int) -> Copies:
     """Splits those of the nodes where a turn is FORBIDDEN or has a penalty, by the cost of each turn. New nodes follow the
     others: of each node that is split the one where routes end, and one for each set of arcs that differ in what they may
-    go on into, or at which penalty, in the order of the first of them."""
-    copies = make_copies(nodes, turns, cost, count)
+    go on into, or at which penalty, in the order of the first of them. Arcs that may go on anywhere for nothing lead to the
+    node itself."""
+    node = turns.node
+    is_free = ~mask(len(node), turns.turn[cost != 0])
+    is_split = mask(len(nodes), node[~is_free])
+    first = first_equivalent(turns, cost)
+    is_made = ~is_free & (first == np.arange(len(first)))
+    made_at = np.bincount(node[is_made], minlength=len(nodes))
+    begin = count + offsets(np.where(is_split, 1 + made_at, 0))
+    made = np.zeros(len(node), np.int64)
+    made[is_made] = begin[node[is_made]] + 1 + expand(made_at)[1]
+    ends = np.full(int(begin[-1]) - count, ENDS.index(PASSED), np.uint8)
+    ends[begin[:-1][is_split] - count] = ENDS.index(END)
+    beside = np.repeat(nodes[is_split], 1 + made_at[is_split])
+    return Copies(is_made, made, np.where(is_free, nodes[node], made[first]), begin[node], is_split, beside, ends)
+
+
+def copied_arcs(
+    copies: Copies, turns: Turns, cost: Int32s, start: Int32s, end: Int32s
+) -> tuple[Ints, Int32s, Int32s, Int32s]:
+    """The arcs of a graph with these copies of its nodes, in the order of those that they were: these, where they start and end,
+    and their penalties."""
     # an arc starts where it did, and then at each node made that may take it
     leaves = np.flatnonzero(copies.is_made[turns.turn] & (cost != FORBIDDEN))
     leaves = leaves[np.argsort(turns.out[leaves], kind="stable")]
@@ -191,27 +197,7 @@ def split_nodes(nodes: Ints, turns: Turns, cost: Int32s, start: Int32s, end: Int
     times[into], first_end[into], last_end[into] = 2, copies.goes_to[is_there], copies.ends_at[is_there]
     row = np.repeat(np.arange(len(arc)), times[arc])
     arc = arc[row]
-    ends = np.where(differs(row), first_end[arc], last_end[arc])
-    touched = np.concatenate((into, turns.out[is_there[turns.turn]]))
-    return Split(arc, starts[row], ends, penalties[row], copies.beside, copies.ends, nodes[copies.is_split], touched)
-
-
-def make_copies(nodes: Ints, turns: Turns, cost: Int32s, count: int) -> Copies:
-    """The new nodes. Arcs of one class may go on into the same arcs at the same costs; those that may go on anywhere for
-    nothing lead to the node itself."""
-    node = turns.node
-    is_free = ~mask(len(node), turns.turn[cost != 0])
-    is_split = mask(len(nodes), node[~is_free])
-    first = first_equivalent(turns, cost)
-    is_made = ~is_free & (first == np.arange(len(first)))
-    made_at = np.bincount(node[is_made], minlength=len(nodes))
-    begin = count + offsets(np.where(is_split, 1 + made_at, 0))
-    made = np.zeros(len(node), np.int64)
-    made[is_made] = begin[node[is_made]] + 1 + expand(made_at)[1]
-    ends = np.full(int(begin[-1]) - count, ENDS.index(PASSED), np.uint8)
-    ends[begin[:-1][is_split] - count] = ENDS.index(END)
-    beside = np.repeat(nodes[is_split], 1 + made_at[is_split])
-    return Copies(is_made, made, np.where(is_free, nodes[node], made[first]), begin[node], is_split, beside, ends)
+    return arc, starts[row], np.where(differs(row), first_end[arc], last_end[arc]), penalties[row]
 
 
 def first_equivalent(turns: Turns, cost: Int32s) -> Ints:
