@@ -2,15 +2,6 @@
 
 A worker is a thread of `route_many`, or a thread of a Dask worker on another machine, to which `route_many --dask` sends
 this file. So the module needs nothing but Python's own library, and what it takes and gives are plain values.
-
-    task(program, hierarchy, drafts, pairs)   what all parts of a run have in common, a dict:
-        program, hierarchy             the paths of both files
-        digests                        {path: sha256} of both, as the machine that began the run has them
-        drafts                         the folder of this run for files that aren't whole yet
-        pairs                          the name of the query file, for messages
-    check_machine(task)                why this machine can't take part in the run, as one line, or None
-    answer(task, text, size, answers)  answers a part: (status, line, bytes), as it says there
-    stop_all()                         ends the programs that run in this process, and lets none begin
 """
 import asyncio
 import contextlib
@@ -32,7 +23,9 @@ WAIT_SECONDS = 120
 
 
 def task(program: str, hierarchy: str, drafts: str, pairs: str) -> Task:
-    """The task of a run, with the digests of its files as they are on this machine; an OSError where one can't be read."""
+    """What all parts of a run have in common: the paths `program` and `hierarchy`; `digests`, {path: sha256} of both, as this
+    machine has them; `drafts`, the folder of this run for files that aren't whole yet; and `pairs`, the name of the query
+    file, for messages. An OSError where a file can't be read."""
     digests = {path: digest(path) for path in (program, hierarchy)}
     return {"program": program, "hierarchy": hierarchy, "digests": digests, "drafts": drafts, "pairs": pairs}
 
@@ -52,16 +45,11 @@ def digest_of(path: str, _signature: object) -> str:
 # What has to be so on a worker's machine
 
 
-def check_machine(task: Task) -> str | None:
-    """Why this machine can't take part in the run, as one line, or None."""
-    if not wait_until(lambda: os.path.isdir(task["drafts"])):
+async def check_machine(task: Task) -> str | None:
+    """Why this machine can't take part in the run, as one line, or None. The loop of a Dask worker goes on meanwhile."""
+    if not await asyncio.to_thread(wait_until, lambda: os.path.isdir(task["drafts"])):
         return f"{task['drafts']} isn't there: the folder of OUT has to be one that all machines share"
-    return file_mismatch(task)
-
-
-async def check_machine_async(task: Task) -> str | None:
-    """As `check_machine`, for a Dask worker, whose loop goes on meanwhile."""
-    return await asyncio.to_thread(check_machine, task)
+    return await asyncio.to_thread(file_mismatch, task)
 
 
 def file_mismatch(task: Task) -> str | None:
@@ -79,7 +67,12 @@ def file_mismatch(task: Task) -> str | None:
 
 def has_come(path: str, size: int) -> bool:
     """Whether there is a file of this number of bytes at the path, now or soon."""
-    return wait_until(lambda: has_size(path, size))
+    def is_there() -> bool:
+        with contextlib.suppress(FileNotFoundError):
+            return os.stat(path).st_size == size
+        return False
+
+    return wait_until(is_there)
 
 
 def wait_until(is_so: Callable[[], bool]) -> bool:
@@ -91,14 +84,6 @@ def wait_until(is_so: Callable[[], bool]) -> bool:
         time.sleep(pause)
         pause = min(2 * pause, 1)
     return True
-
-
-def has_size(path: str, size: int) -> bool:
-    """Whether there is a file of this number of bytes at the path."""
-    try:
-        return os.stat(path).st_size == size
-    except FileNotFoundError:
-        return False
 
 
 # Answers

@@ -315,7 +315,7 @@ def check_workers(client: Any, scheduler: str, task: domethyme_part.Task) -> Non
         if not client.scheduler_info()["workers"]:
             print("route_many: there is no worker yet: waiting for one", file=sys.stderr)
             client.wait_for_workers(1)
-        troubles = client.run(domethyme_part.check_machine_async, task, on_error="return")
+        troubles = client.run(domethyme_part.check_machine, task, on_error="return")
         workers = client.scheduler_info()["workers"]
     for address, trouble in sorted(troubles.items()):
         if trouble is not None and not isinstance(trouble, OSError) and address in workers:
