@@ -80,10 +80,12 @@ def arcs_in(arrays: net_file.Arrays) -> Iterator[Arc]:
         arrays.arc_row, arrays.arc_edge, arrays.arc_along,
     )
     for low in range(0, len(arrays.arc_from), ROWS_AT_ONCE):
-        for *figures, row, edge, along in zip(*(column[low : low + ROWS_AT_ONCE].tolist() for column in columns)):
+        rows = zip(*(column[low : low + ROWS_AT_ONCE].tolist() for column in columns))
+        for start, end, weight, seconds, metres, osm, row, edge, along in rows:
             highway, name, *others = texts_of_rows[row]
             line = (arrays.points[edge_begin[edge] : edge_begin[edge + 1]] / net_file.UNITS).tolist()
-            yield Arc(*figures, highway, name, format_linestring(line if along else line[::-1]), *others)
+            wkt = format_linestring(line if along else line[::-1])
+            yield Arc(start, end, weight, seconds, metres, osm, highway, name, wkt, *others)
 
 
 def texts_in(arrays: net_file.Arrays) -> list[str]:

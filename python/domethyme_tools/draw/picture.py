@@ -42,7 +42,7 @@ def picture_of(routes: list[DrawnRoute], roads: list[RoadLines], view: View, att
         *(draw_pieces(route, view, "#fff", CASING) for route in lines),
         *(draw_route(route, view) for route in lines),
         *(draw_arrows(route.line, route.colour, view) for route in lines if route.line and len(routes) <= MAX_WITH_ARROWS),
-        *(draw_ends(*in_picture([route.line[0], route.line[-1]], view), route.colour) for route in lines if route.line),
+        *(draw_ends(in_picture([route.line[0], route.line[-1]], view), route.colour) for route in lines if route.line),
         "</g>",
         *(draw_legend(legend) if legend else ()),
         *draw_scale(view),
@@ -113,8 +113,9 @@ def arrow(x: float, y: float, east: float, south: float) -> str:
     return "M" + "L".join(f"{right:.1f} {down:.1f}" for right, down in points) + "Z"
 
 
-def draw_ends(begin: Point, end: Point, colour: str) -> str:
+def draw_ends(ends: Sequence[Point], colour: str) -> str:
     """A ring where a route begins, and a dot where it ends."""
+    begin, end = ends
     ring = f'cx="{begin[0]:.1f}" cy="{begin[1]:.1f}" r="6" fill="#fff" stroke="{colour}" stroke-width="3"'
     dot = f'cx="{end[0]:.1f}" cy="{end[1]:.1f}" r="7" fill="{colour}" stroke="#fff" stroke-width="2"'
     return f"<circle {ring}/><circle {dot}/>"
@@ -196,7 +197,7 @@ def draw_row(row: Row, middle: float, legend: Legend) -> Iterator[str]:
     elif colour:
         left, right = MARGIN + 4, MARGIN + SWATCH - 18
         yield f'<path stroke="{colour}" stroke-width="{NARROWEST}" d="M{left} {middle:g}H{right}"/>'
-        yield draw_ends((left, middle), (right, middle), colour)
+        yield draw_ends([(left, middle), (right, middle)], colour)
     yield f'<text x="{MARGIN + SWATCH}" y="{middle + 5:g}" font-weight="bold">{escaped(label)}</text>'
     if legend.is_tall:
         has_room = SWATCH + 2 * MARGIN + len(figures) * LETTER <= legend.width
@@ -231,7 +232,7 @@ def corner_for(
     def hidden(corner: Point) -> list[int]:
         low = corner[0] - ROUND_ENDS, corner[1] - ROUND_ENDS
         high = corner[0] + width + ROUND_ENDS, corner[1] + height + ROUND_ENDS
-        return [int(((low <= some) & (some <= high)).all(axis=1).sum()) for some in points]
+        return [int(((some >= low) & (some <= high)).all(axis=1).sum()) for some in points]
 
     best = min(corners, key=hidden)
     return hidden(best)[0], *best

@@ -87,12 +87,13 @@ def features_in(text: str, path: str, said: list[str]) -> Iterator[Any]:
             raise ToolError(f"isn't GeoJSON: {error.msg}", path, error.lineno) from error
         except (RecursionError, ValueError) as error:
             raise ToolError(f"isn't GeoJSON: {error}", path, row) from error
-        kind, features = (document.get(name) if isinstance(document, dict) else None for name in ("type", "features"))
+        members: Any = document if isinstance(document, dict) else {}
+        kind, features = members.get("type"), members.get("features")
         if kind != "Feature" and (kind != "FeatureCollection" or not isinstance(features, list)):
             raise ToolError("is neither a feature nor a collection of features", path, row)
         yield from [document] if kind == "Feature" else features
-        if isinstance(document.get("attribution"), str):
-            said.append(" ".join(document["attribution"].split()))
+        if isinstance(members.get("attribution"), str):
+            said.append(" ".join(members["attribution"].split()))
 
 
 class FeatureRef(NamedTuple):
