@@ -177,9 +177,6 @@ def folder_beside(path: str) -> Iterator[Folder]:
         yield Folder(folder)
 
 
-# The ways
-
-
 class WayArrays(NamedTuple):
     """The ways with the first key, in the map's order: their ids, labels, and counts of `nodes`. A label is a row of
     `labels`: the number of its tags, and of each of TEXTS the number of its text, from 1, or 0. And the tags and members of
@@ -214,9 +211,6 @@ def relations_of(folder: Folder, path: StrPath) -> Iterator[tuple[Tags, list[Mem
         yield tags[number], [Member(chr(kind), osm, ROLES[role]) for kind, role, osm in members]
 
 
-# The places
-
-
 class NodeArrays(NamedTuple):
     """The nodes of the roads by their ids, in order: their ids, whether the map has them, whether a road passes once more,
     and whether they are barriers, by tags."""
@@ -239,9 +233,6 @@ def read_places(folder: Folder, path: StrPath, taken: Bools, keys: Sequence[str]
         folder.array("node_osm", "i8"), place, place[:, 0] != UNDEFINED, folder.array("node_uses", "u1") > 1,
         folder.array("barrier", "u4", 2), folder.tags("barrier_tags", path),
     )
-
-
-# The pieces
 
 
 class Runs(NamedTuple):

@@ -100,36 +100,30 @@ def build_network(
     runs: Runs, roads: RoadTable, places: NodeArrays, is_barrier: Bools
 ) -> tuple[RoadNetwork, Callable[[int], int]]:
     """The network of the runs, and a function to the node for a node of the map, -1 for a barrier and where there is none."""
-    ends = runs.ends.reshape(-1)
-    first = first_index(ends, len(places.osm))
-    apart = np.flatnonzero(is_barrier[ends])
-    is_new = mask(len(ends), first[first >= 0], apart)
-    new = is_new.reshape(-1, 2)
-    cuts = runs.parts.astype(np.int32) - np.int32(1)
-    begin = offsets(new[:, 0].astype(np.int8) + new[:, 1] + cuts).astype(np.int32)
-    of_end = np.repeat(begin[:-1], 2)
-    of_end[1::2] += new[:, 0]
-    node, = by_slices(len(ends), [np.int32], lambda part: [of_end[first[ends[part]]]])
-    node[apart] = of_end[apart]
-    # the pieces: each begins where the one before ends, but for the first of a run
-    piece_begin = offsets(runs.parts)
+    # the stops of all runs, in order: the first node of each, its last node, and its cuts; `stop` has the places of nodes
+    ends, begin = runs.ends.reshape(-1), offsets(runs.parts + np.uint32(1))
+    stop = (begin[:-1, None] + [0, 1]).reshape(-1).astype(np.int32)
+    first, is_apart = first_index(ends, len(places.osm)), is_barrier[ends]
+    is_new = mask(len(ends), first[first >= 0]) | is_apart
+    node = np.cumsum(~mask(int(begin[-1]), stop[~is_new]), dtype=np.int32) - np.int32(1)
+    count = int(node[-1]) + 1
+    known, = by_slices(len(ends), [np.int32], lambda part: [node[stop[first[ends[part]]]]])
+    node[stop] = np.where(is_apart, node[stop], known)
+    # the pieces: each ends where the next begins, but for the last of a run
     run = np.repeat(np.arange(len(runs.parts), dtype=np.int32), runs.parts)
-    position = np.arange(len(run), dtype=np.int32) - piece_begin[:-1].astype(np.int32)[run]
-    start = (begin[1:] - cuts)[run] + position - np.int32(1)
-    start[piece_begin[:-1]] = node[0::2]
-    end = np.empty(len(run), np.int32)
-    end[:-1] = start[1:]
-    end[piece_begin[1:] - 1] = node[1::2]
+    last = offsets(runs.parts)[1:] - 1
+    start = node[~mask(len(node), stop[1::2])]
+    end = np.roll(start, -1)
+    end[last] = node[stop[1::2]]
     # the nodes
-    osm = np.full(int(begin[-1]), net_file.NO_OSM, np.int64)
-    place = np.empty((len(osm), 2), np.int32)
-    osm[of_end[is_new]], place[of_end[is_new]] = places.osm[ends[is_new]], places.place[ends[is_new]]
-    is_cut = ~mask(len(run), piece_begin[1:] - 1)
+    osm, place, new = np.full(count, net_file.NO_OSM, np.int64), np.empty((count, 2), np.int32), node[stop[is_new]]
+    osm[new], place[new] = places.osm[ends[is_new]], places.place[ends[is_new]]
+    is_cut = ~mask(len(run), last)
     place[end[is_cut]] = runs.points[runs.end[is_cut].astype(np.int64) - 1]
     arcs = arcs_along(start, end, run, runs, roads)
     is_split, penalty = np.zeros(len(arcs[0]), np.bool_), np.zeros(len(arcs[0]), np.int32)
     found = RoadNetwork(osm, place, np.zeros(len(osm), np.uint8), *arcs, is_split, penalty, run, runs, roads)
-    return found, lambda number: -1 if first[number] < 0 or is_barrier[number] else int(of_end[first[number]])
+    return found, lambda number: -1 if first[number] < 0 or is_barrier[number] else int(node[stop[first[number]]])
 
 
 def arcs_along(

@@ -117,9 +117,6 @@ def open_trips(path: str | None) -> Iterator[tuple[list[str], Iterator[Trip]]]:
         yield trips.columns, iter(trips)
 
 
-# Routes between nodes
-
-
 def routes_of(
     options: argparse.Namespace, network: MappedNetwork, answers: Iterable[tuple[int, RouteReply]], trips: Iterator[Trip]
 ) -> Iterator[Route]:
@@ -191,9 +188,6 @@ def totals(seconds: list[float | None], metres: list[float]) -> tuple[float | No
     return round(sum(known), 3) if len(known) == len(seconds) else None, round(sum(metres), 2)
 
 
-# Routes between places on roads
-
-
 def routes_between_places(options: argparse.Namespace) -> Iterator[Route]:
     """The routes between the places of TRIPS on roads."""
     with open_trips(options.trips) as (_, trips):
@@ -206,9 +200,6 @@ def routes_between_places(options: argparse.Namespace) -> Iterator[Route]:
     routes = routes_on_roads(options.network, options.answers, options.trips, ends)
     for (_, fields), route in zip(rows, routes, strict=True):
         yield Route(fields, dict(zip(FIGURES, route)), route.steps, route.line)
-
-
-# The files
 
 
 def feature_of(route: Route, with_steps: bool) -> str:
