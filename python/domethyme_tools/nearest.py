@@ -253,7 +253,7 @@ def write_snapped(path: str, columns: list[str], rows: Iterable[list[Any]]) -> N
 def write_requests(options: argparse.Namespace) -> None:
     """Writes a line for `routecli serve` for each trip, with its places on roads."""
     trips = read_trips(options.trips, PREFIXES)
-    rows = zip(trips.rows, *trips.ends)
+    rows = list(zip(trips.rows, *trips.ends))
     with atomic_write(options.output) as file:
         file.writelines(f"{line}\n" for line in request_lines(options.network, rows, options.max_distance, trips.path))
 

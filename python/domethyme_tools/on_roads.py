@@ -10,7 +10,7 @@ from domethyme.csv_tables import open_input
 from domethyme.errors import DomethymeError
 from domethyme.network.geo import Point
 from domethyme.network.leg_geometry import leg_geometry, leg_totals
-from domethyme.network.legs import EMPTY_LEG, choose_leg, is_same_node
+from domethyme.network.legs import EMPTY_LEG, Leg, choose_leg, is_same_node
 from domethyme.network.snapping import RoadIndex, SnappedPoint
 from domethyme.network.tables import is_coordinates, reject_wrong_suffix
 from domethyme.program import StrPath
@@ -19,6 +19,8 @@ from domethyme.protocol import matches_request, parse_ready, parse_reply_to
 from .cli import ToolError
 
 Trip = tuple[int | None, Point, Point]
+# A row, what is before the names of the columns, and the place.
+Place = tuple[int | None, str, Point]
 # How many starts, and ends, a request has at most.
 MAX_SEEDS = 8
 # Places that are looked for together.
@@ -45,31 +47,25 @@ def open_road_index(network: StrPath) -> RoadIndex:
     return RoadIndex(str(network))
 
 
-def snap_places(
-    roads: RoadIndex, places: Sequence[Point], within: float, path: str, rows: Sequence[int | None]
-) -> list[SnappedPoint]:
-    """The points of roads that are nearest to the places of a table's rows. Raises ToolError for one that is too far."""
-    batches = (places[begin : begin + SNAP_BATCH] for begin in range(0, len(places), SNAP_BATCH))
-    found = itertools.chain.from_iterable(map(roads.nearest_batch, batches))
-    return [check_near(snapped, place, "", within, path, row) for snapped, place, row in zip(found, places, rows)]
+def snap_places(roads: RoadIndex, places: Iterable[Place], within: float, path: str) -> Iterator[SnappedPoint]:
+    """The points of roads that are nearest to places of a table. Raises ToolError for one that is too far."""
+    left = iter(places)
+    while batch := list(itertools.islice(left, SNAP_BATCH)):
+        found = roads.nearest_batch([place for _, _, place in batch])
+        for snapped, (row, prefix, (lon, lat)) in zip(found, batch):
+            if snapped.metres > within:
+                far = f"{snapped.metres:,.0f} m from the nearest road, and --max-distance is {within:g} m"
+                raise ToolError(f"{prefix}lon {lon}, {prefix}lat {lat} is {far}", path, row)
+            yield snapped
 
 
-def snap_trip(roads: RoadIndex, trip: Trip, within: float, path: str) -> tuple[SnappedPoint, SnappedPoint]:
-    """The points of roads that are nearest to a trip's places. Raises ToolError for one that is too far."""
-    row, start, end = trip
-    first, last = roads.nearest(start)[0], roads.nearest(end)[0]
-    return check_near(first, start, "from_", within, path, row), check_near(last, end, "to_", within, path, row)
-
-
-def check_near(
-    snapped: SnappedPoint, place: Point, beginning: str, within: float, path: str, row: int | None
-) -> SnappedPoint:
-    """The point, where it is near enough to its place, which is in columns whose names begin so. Raises ToolError."""
-    if snapped.metres > within:
-        where = f"{beginning}lon {place[0]}, {beginning}lat {place[1]}"
-        far = f"is {snapped.metres:,.0f} m from the nearest road, and --max-distance is {within:g} m"
-        raise ToolError(f"{where} {far}", path, row)
-    return snapped
+def snap_trips(
+    roads: RoadIndex, trips: Iterable[Trip], within: float, path: str
+) -> Iterator[tuple[SnappedPoint, SnappedPoint]]:
+    """The points of roads that are nearest to both places of each trip. Raises ToolError for one that is too far."""
+    places = ((row, prefix, place) for row, *ends in trips for prefix, place in zip(("from_", "to_"), ends))
+    points = snap_places(roads, places, within, path)
+    return zip(points, points)
 
 
 def format_request(start: SnappedPoint, end: SnappedPoint, path: str, row: int | None) -> bytes:
@@ -87,42 +83,39 @@ def format_seeds(sides: dict[int, tuple[int, int]]) -> bytes:
     return b" ".join(b"%d %d" % (node, weight) for node, (weight, _) in sorted(sides.items()))
 
 
-def request_lines(network: StrPath, trips: Iterable[Trip], within: float, path: str) -> Iterator[str]:
+def request_lines(network: StrPath, trips: Sequence[Trip], within: float, path: str) -> Iterator[str]:
     """A line `b S1 C1 .. : T1 D1 ..` of `routecli serve` for each trip."""
-    roads = open_road_index(network)
-    for trip in trips:
-        yield format_request(*snap_trip(roads, trip, within, path), path, trip[0]).decode()
+    for trip, ends in zip(trips, snap_trips(open_road_index(network), trips, within, path)):
+        yield format_request(*ends, path, trip[0]).decode()
 
 
-def routes_on_roads(network: StrPath, replies: str, path: str, trips: Iterable[Trip]) -> Iterator[RoadRoute]:
+def routes_on_roads(network: StrPath, replies: str, path: str, trips: Sequence[Trip]) -> Iterator[RoadRoute]:
     """The routes of trips by the replies in a file, of which the first line is `ready NODES LINKS 2`, in order."""
-    roads, trips_left = open_road_index(network), iter(trips)
+    roads = open_road_index(network)
+    snapped = zip(trips, snap_trips(roads, trips, float("inf"), path))
     with open_input(replies) as stream:
         ready = parse_ready(next(stream, b""))
         if ready is None or ready[0] != roads.nodes:
             raise ToolError(f"is no reply of routecli serve with {roads.nodes} nodes", replies, 1)
         for row, line in enumerate(stream, 2):
-            trip = next(trips_left, None)
-            if trip is None:
+            trip, ends = next(snapped, (None, None))
+            if trip is None or ends is None:
                 raise ToolError(f"is a reply more than {path} has rows", replies, row)
-            yield route_of(roads, trip, line.rstrip(b"\n"), path, replies, row)
-        if (more := next(trips_left, None)) is not None:
-            raise ToolError("is a row more than there are replies", path, more[0])
+            request, reply = format_request(*ends, path, trip[0]), line.rstrip(b"\n")
+            if not matches_request(request, reply):
+                raise ToolError(f"is no reply to the request of row {trip[0]}", replies, row)
+            try:
+                route = parse_reply_to(request, reply)
+                leg = EMPTY_LEG if is_same_node(*ends) else choose_leg(roads, *ends, route)
+            except (DomethymeError, ValueError) as error:
+                raise ToolError(f"{error}: is it of another network?", replies, row) from error
+            yield RoadRoute() if leg is None else route_of(roads, *ends, leg)
+        if (more := next(snapped, None)) is not None:
+            raise ToolError("is a row more than there are replies", path, more[0][0])
 
 
-def route_of(roads: RoadIndex, trip: Trip, reply: bytes, path: str, replies: str, row: int) -> RoadRoute:
-    """A trip's route by its reply, whose weights have to sum to its length."""
-    start, end = snap_trip(roads, trip, float("inf"), path)
-    request = format_request(start, end, path, trip[0])
-    if not matches_request(request, reply):
-        raise ToolError(f"is no reply to the request of row {trip[0]}", replies, row)
-    try:
-        route = parse_reply_to(request, reply)
-        leg = EMPTY_LEG if is_same_node(start, end) else choose_leg(roads, start, end, route)
-    except (DomethymeError, ValueError) as error:
-        raise ToolError(f"{error}: is it of another network?", replies, row) from error
-    if leg is None:
-        return RoadRoute()
+def route_of(roads: RoadIndex, start: SnappedPoint, end: SnappedPoint, leg: Leg) -> RoadRoute:
+    """The route along a leg."""
     geometry, figures = leg_geometry(roads, leg), leg_totals(roads, leg)
     if geometry is None:
         return RoadRoute(0, 0, 0.0, 0.0, [], [(start.lon, start.lat), (end.lon, end.lat)])

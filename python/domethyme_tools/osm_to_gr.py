@@ -284,14 +284,12 @@ def main() -> None:
                 if tables:
                     arrays = arrays._replace(sizes=write_tables(tables, arrays))
                 net_file.write(bytes_of(binary), arrays)
+    said = [f"{what}: {count}" for what, count in report.items() if count]
     if not options.tables and old_tables:
         for path in old_tables:
             os.unlink(path)
-        print(f"osm_to_gr: removed {', '.join(old_tables)}, which were of the network before", file=sys.stderr)
-    for what, count in report.items():
-        if count:
-            print(f"osm_to_gr: {what}: {count}", file=sys.stderr)
+        said.insert(0, f"removed {', '.join(old_tables)}, which were of the network before")
     size = f"{len(arrays.node_osm)} nodes, {len(arrays.arc_from)} arcs, {kilometres:.1f} km of road"
-    print(f"osm_to_gr: {options.out}: {size}", file=sys.stderr)
-    if (older := older_hierarchy(options.out)) is not None:
-        print(f"osm_to_gr: {older}", file=sys.stderr)
+    for line in (*said, f"{options.out}: {size}", older_hierarchy(options.out)):
+        if line is not None:
+            print(f"osm_to_gr: {line}", file=sys.stderr)

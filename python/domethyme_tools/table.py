@@ -103,7 +103,8 @@ def rows_on_roads(ask: NodeTable, network: str, sources: Trips, targets: Trips, 
     """The rows of the table between the nearest points of roads, some at a time."""
     roads = open_road_index(network)
     starts, ends = (
-        snap_places(roads, places.ends[0], within, places.path, places.rows) for places in (sources, targets)
+        list(snap_places(roads, ((row, "", place) for row, place in zip(table.rows, table.ends[0])), within, table.path))
+        for table in (sources, targets)
     )
     return weight_rows(ask, roads, starts, ends, CELLS)
 
