@@ -23,9 +23,9 @@ WAIT_SECONDS = 120
 
 
 def task(program: str, hierarchy: str, drafts: str, pairs: str) -> Task:
-    """What all parts of a run have in common: the paths `program` and `hierarchy`; `digests`, {path: sha256} of both, as this
-    machine has them; `drafts`, the folder of this run for files that aren't whole yet; and `pairs`, the name of the query
-    file, for messages. An OSError where a file can't be read."""
+    """What all parts of a run have in common: the paths `program` and `hierarchy`; `digests`, {path: sha256} of both, as
+    this machine has them; `drafts`, the folder of this run for files that aren't whole yet; and `pairs`, the name of the
+    query file, for messages. An OSError where a file can't be read."""
     digests = {path: digest(path) for path in (program, hierarchy)}
     return {"program": program, "hierarchy": hierarchy, "digests": digests, "drafts": drafts, "pairs": pairs}
 

@@ -166,8 +166,8 @@ def begins_of(index: NodeIndex, ends: Ints) -> Ints:
 def snap(
     trips: Trips, index: NodeIndex, within: float, skip_far: bool
 ) -> tuple[list[list[Any]], list[Ints], list[Floats]]:
-    """The fields of the trips whose places are near enough, and for each end (from, to) their nodes, and the metres to them.
-    A trip with a place that is too far is left out, or refused."""
+    """The fields of the trips whose places are near enough, and for each end (from, to) their nodes, and the metres to
+    them. A trip with a place that is too far is left out, or refused."""
     nodes, metres = zip(*(nodes_at(index, places, side) for places, side in zip(trips.ends, SIDES)))
     far = (metres[0] > within) | (metres[1] > within)
     if far.any():

@@ -99,7 +99,7 @@ def by_slices(count: int, kinds: Sequence[Any], function: Callable[[slice], Sequ
 def build_network(
     runs: Runs, roads: RoadTable, places: NodeArrays, is_barrier: Bools
 ) -> tuple[RoadNetwork, Callable[[int], int]]:
-    """The network of the runs, and a function to the node for a node of the map, -1 for a barrier and where there is none."""
+    """The network of the runs, and a function to the node for a node of the map, -1 for none and for a barrier."""
     # the stops of all runs, in order: the first node of each, its last node, and its cuts; `stop` has the places of nodes
     ends, begin = runs.ends.reshape(-1), offsets(runs.parts + np.uint32(1))
     stop = (begin[:-1, None] + [0, 1]).reshape(-1).astype(np.int32)

@@ -181,8 +181,8 @@ def make_copies(nodes: Ints, turns: Turns, cost: Int32s, count: int) -> Copies:
 def copied_arcs(
     copies: Copies, turns: Turns, cost: Int32s, start: Int32s, end: Int32s
 ) -> tuple[Ints, Int32s, Int32s, Int32s]:
-    """The arcs of a graph with these copies of its nodes, in the order of those that they were: these, where they start and end,
-    and their penalties."""
+    """The arcs of a graph with these copies of its nodes, in the order of those that they were: these, where they start and
+    end, and their penalties."""
     # an arc starts where it did, and then at each node made that may take it
     leaves = np.flatnonzero(copies.is_made[turns.turn] & (cost != FORBIDDEN))
     leaves = leaves[np.argsort(turns.out[leaves], kind="stable")]
