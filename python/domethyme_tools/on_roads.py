@@ -20,7 +20,7 @@ from .cli import ToolError
 
 Trip = tuple[int | None, Point, Point]
 # A row, what is before the names of the columns, and the place.
-Place = tuple[int | None, str, Point]
+PlaceOfRow = tuple[int | None, str, Point]
 # How many starts, and ends, a request has at most.
 MAX_SEEDS = 8
 # Places that are looked for together.
@@ -47,7 +47,7 @@ def open_road_index(network: StrPath) -> RoadIndex:
     return RoadIndex(str(network))
 
 
-def snap_places(roads: RoadIndex, places: Iterable[Place], within: float, path: str) -> Iterator[SnappedPoint]:
+def snap_places(roads: RoadIndex, places: Iterable[PlaceOfRow], within: float, path: str) -> Iterator[SnappedPoint]:
     """The points of roads that are nearest to places of a table. Raises ToolError for one that is too far."""
     left = iter(places)
     while batch := list(itertools.islice(left, SNAP_BATCH)):
