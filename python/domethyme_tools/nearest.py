@@ -210,14 +210,6 @@ def end_nodes(starts: "Ints | int", ends: Ints, begins: Ints) -> Ints:
     return numpy.where(begins == starts, starts, ends)
 
 
-def pairs_of(starts: Ints, ends: Ints, index: NodeIndex, is_matrix: bool) -> Collection[tuple[int, int]]:
-    """The pairs of nodes, in order."""
-    begins = begins_of(index, ends)
-    if is_matrix:
-        return Matrix(starts, ends, begins)
-    return list(zip(starts.tolist(), end_nodes(starts, ends, begins).tolist()))
-
-
 def snapped_columns(trips: Trips, is_matrix: bool, has_keys: bool) -> list[str]:
     """The names of the columns of --snapped, which are all different."""
     users = [prefix + column for prefix in (PREFIXES if is_matrix else [""]) for column in trips.columns]
@@ -250,26 +242,24 @@ def write_snapped(path: str, columns: list[str], rows: Iterable[list[Any]]) -> N
         )
 
 
-def write_requests(options: argparse.Namespace) -> None:
-    """Writes a line for `routecli serve` for each trip, with its places on roads."""
-    trips = read_trips(options.trips, PREFIXES)
-    rows = list(zip(trips.rows, *trips.ends))
-    with atomic_write(options.output) as file:
-        file.writelines(f"{line}\n" for line in request_lines(options.network, rows, options.max_distance, trips.path))
-
-
 def main() -> None:
     options = parse_args()
     need_hierarchy(options)
     if options.on_roads:
-        write_requests(options)
+        trips = read_trips(options.trips, PREFIXES)
+        rows = list(zip(trips.rows, *trips.ends))
+        with atomic_write(options.output) as file:
+            file.writelines(f"{line}\n" for line in request_lines(options.network, rows, options.max_distance, trips.path))
         return
     index = load_node_index(options.network)
     trips = read_places(options.trips) if options.matrix else read_trips(options.trips, PREFIXES)
     keys = index.keys() if options.snapped else ()
     columns = snapped_columns(trips, options.matrix, len(keys) > 0) if options.snapped else []
-    fields, nodes, metres = snap(trips, index, options.max_distance, options.skip_far)
-    pairs = pairs_of(nodes[0], nodes[1], index, options.matrix)
+    fields, (starts, ends), metres = snap(trips, index, options.max_distance, options.skip_far)
+    begins = begins_of(index, ends)
+    pairs: Collection[tuple[int, int]] = Matrix(starts, ends, begins)
+    if not options.matrix:
+        pairs = list(zip(starts.tolist(), end_nodes(starts, ends, begins).tolist()))
     if len(pairs) > MAX_LINES:
         raise ToolError(f"has {len(fields)} places, which make more than {MAX_LINES} pairs", options.trips)
     if options.snapped:

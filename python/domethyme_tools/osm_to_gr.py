@@ -93,10 +93,16 @@ class Map(NamedTuple):
 
 
 def read_map(path: StrPath, profile: Profile, folder: Folder, report: Report) -> Map:
-    """The roads of the map, and the nodes that they name: which are junctions, where they lie, which are barriers."""
+    """The roads of the map, and the nodes that they name: which are junctions, where they lie, which are barriers; and the
+    turn restrictions for the vehicle."""
     ways = read_ways(folder, path, way_keys(profile), conditional_keys(profile))
     is_taken, speeds, unknown = judge_tags(ways, profile, report)
-    restrictions = read_restrictions(ways, profile, report)
+    restrictions = []
+    for tags, members in ways.relations:
+        found, reason = turn_restrictions.restrictions_of(tags, members, profile.access, profile.restrictions)
+        restrictions += found
+        if reason is not None:
+            report[reason] += 1
     for what, values in unknown.items():
         if values:
             shown = [f"{value} {count}" for value, count in values.most_common(MAX_VALUES)]
@@ -133,17 +139,6 @@ def judge_tags(ways: WayArrays, profile: Profile, report: Report) -> tuple[Bools
         for what, is_so in unsupported_tags(tags, profile):
             report[what] += is_so * count
     return is_taken, speeds, unknown
-
-
-def read_restrictions(ways: WayArrays, profile: Profile, report: Report) -> list[Restriction]:
-    """The turn restrictions of the map for the vehicle."""
-    restrictions = []
-    for tags, members in ways.relations:
-        found, reason = turn_restrictions.restrictions_of(tags, members, profile.access, profile.restrictions)
-        restrictions += found
-        if reason is not None:
-            report[reason] += 1
-    return restrictions
 
 
 def text_rows(ways: WayArrays) -> RowsOf:

@@ -115,11 +115,6 @@ class Plan(NamedTuple):
     part: int
     parts: list[tuple[int, int]]
 
-    def difference(self, other: "Plan") -> str | None:
-        """In words, the first thing that the plans don't have in common; None where they are of the same parts."""
-        words = ["HIERARCHY", "program", "PAIRS", "--pairs-per-part"]
-        return next((word for word, one, two in zip(words, self, other) if one != two), None)
-
 
 class Folder:
     """The folder OUT.parts: paths, and what is done to the folder as a whole."""

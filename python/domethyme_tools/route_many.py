@@ -134,8 +134,9 @@ def make_plan(options: argparse.Namespace, folder: parts.Folder, workers: "Worke
     plan = parts.Plan(hierarchy, program, survey.sha256, options.pairs_per_part, [])
     kept = folder.load_plan()
     if kept is not None:
-        if (word := kept.difference(plan)) is not None:
-            raise ToolError(f"is of a call with another {word}: --restart drops it", folder.path)
+        for word, one, other in zip(("HIERARCHY", "program", "PAIRS", "--pairs-per-part"), kept, plan):
+            if one != other:
+                raise ToolError(f"is of a call with another {word}: --restart drops it", folder.path)
         return kept, False
     if survey.pairs is None:
         exit_with(folder, *refusal_of_whole(workers, spooled))

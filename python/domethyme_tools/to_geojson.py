@@ -120,16 +120,22 @@ def open_trips(path: str | None) -> Iterator[tuple[list[str], Iterator[Trip]]]:
 def routes_of(
     options: argparse.Namespace, network: MappedNetwork, answers: Iterable[tuple[int, RouteReply]], trips: Iterator[Trip]
 ) -> Iterator[Route]:
-    """The routes of the answers, which come with their row numbers, in order."""
+    """The routes of the answers, which come with their row numbers, in order. Fields of a trip that name the pair or its
+    keys have to be the answer's."""
     for row, answer in answers:
-        trip = next(trips, None)
-        if trip is None:
+        trip_row, fields = next(trips, (None, None))
+        if fields is None:
             raise ToolError(f"is an answer more than {options.trips} has rows", options.answers, row)
         arcs = arcs_along(network, answer, options.answers, row)
         ends: dict[str, Any] = dict(zip(PAIR, answer))
         if network.has_keys:
             ends |= {name: network.key(node) for name, node in zip(KEYS, answer)}
-        yield make_route(network, answer, arcs, ends, user_fields(trip, ends, options.trips))
+        for name, value in ends.items():
+            if fields.get(name, str(value)) != str(value):
+                problem = f"has {name} {excerpt(fields[name])} where the answer has {value}"
+                raise ToolError(problem, options.trips, trip_row)
+        others = {name: text for name, text in fields.items() if name not in ends}
+        yield make_route(network, answer, arcs, ends, others)
     if options.trips is not None and (more := next(trips, None)) is not None:
         raise ToolError("is a row more than there are answers", options.trips, more[0])
 
@@ -150,15 +156,6 @@ def arcs_along(network: MappedNetwork, answer: RouteReply, path: str, row: int) 
         fault = f"has the length {answer.length}, and its arcs' weights sum to {weight}"
         raise ToolError(f"{fault}: is it of another network?", path, row)
     return arcs
-
-
-def user_fields(trip: Trip, ends: dict[str, Any], path: str) -> dict[str, str]:
-    """The fields of a trip but those of the pair and its keys, which have to be the answer's."""
-    row, fields = trip
-    for name, value in ends.items():
-        if fields.get(name, str(value)) != str(value):
-            raise ToolError(f"has {name} {excerpt(fields[name])} where the answer has {value}", path, row)
-    return {name: text for name, text in fields.items() if name not in ends}
 
 
 def make_route(
