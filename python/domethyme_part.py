@@ -86,9 +86,6 @@ def wait_until(is_so: Callable[[], bool]) -> bool:
     return True
 
 
-# Answers
-
-
 def answer(task: Task, text: str, size: int, answers: str) -> Result:
     """Answers the part whose pairs are the file `text`, of `size` bytes, into the file `answers`. Gives
 

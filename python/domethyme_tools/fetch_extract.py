@@ -8,7 +8,6 @@ right file is there already nothing is fetched. The data is © OpenStreetMap con
 Status 0: the extract is there. 1: it can't be had, one line says why, and nothing is written. 2: the arguments
 were refused.
 """
-import argparse
 import hashlib
 import pathlib
 import subprocess
@@ -66,15 +65,11 @@ def extract_member(folder: pathlib.Path) -> bytes:
     raise ToolError(f"{NAME} can't be had: Debian's source package hasn't got it")
 
 
-def parse_args() -> argparse.Namespace:
+def main() -> None:
     parser = argument_parser(__doc__, "%(prog)s out")
     parser.add_argument("folder", metavar="FOLDER", nargs="?", default=".",
                         help="where the extract goes, which is made if it isn't there (.)")
-    return parser.parse_args()
-
-
-def main() -> None:
-    target = pathlib.Path(parse_args().folder) / NAME
+    target = pathlib.Path(parser.parse_args().folder) / NAME
     target.parent.mkdir(parents=True, exist_ok=True)
     if target.is_file() and hashlib.sha256(target.read_bytes()).hexdigest() == SHA256:
         warn(f"{target} is there already")

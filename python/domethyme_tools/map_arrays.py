@@ -42,9 +42,6 @@ DISK_IS_FULL = os.strerror(errno.ENOSPC)
 UNDEFINED = (1 << 31) - 1
 
 
-# The program
-
-
 def ensure_built() -> str:
     """The path of the program. Where it is missing it is built, and a ToolError says why that can't be done."""
     if str(SOURCE).startswith(PACKAGES) and os.path.exists(PACKAGED):

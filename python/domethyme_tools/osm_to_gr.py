@@ -217,9 +217,6 @@ def write_graph(file: IO[Any], arrays: net_file.Arrays, folder: Folder, attribut
     folder.run("graph", len(arrays.node_osm), out=file)
 
 
-# The arguments
-
-
 def longest_arc(text: str) -> float:
     """The metres of the word."""
     with contextlib.suppress(ValueError):

@@ -211,9 +211,6 @@ def headings(network: RoadNetwork, arcs: Ints, is_end: bool) -> tuple[Floats, Fl
     return sign * east, sign * (there[:, 1] - here[:, 1])
 
 
-# Islands
-
-
 def keep_largest(network: RoadNetwork, report: Report) -> RoadNetwork:
     """The network with the nodes of the largest set that can all reach one another, and the arcs between them."""
     count, start, end = len(network.node_osm), network.start, network.end
