@@ -64,6 +64,10 @@ class RoadNetwork(NamedTuple):
         found: NDArray[np.uint32] = self.runs.road[self.piece_run[self.piece]]
         return found
 
+    def ways_of(self, pieces: "slice | int") -> Any:
+        """The ids of the ways of pieces."""
+        return self.roads.osm[self.runs.road[self.piece_run[pieces]]]
+
     def with_arcs(self, chosen: "NDArray[Any] | slice") -> "RoadNetwork":
         """The network with these of its arcs, by numbers, a mask or a slice."""
         names = ("start", "end", "piece", "is_back", "is_split", "penalty")
@@ -308,85 +312,67 @@ def order_of_first_use(first: NDArray[Any]) -> Ints:
 
 def edges_from_pieces(network: RoadNetwork) -> tuple[Int32s, Bools, Ints, Int32s]:
     """The edge of each arc and whether it leads along it, and the edges' points, as binary.Arrays has them."""
-    pieces = Pieces(network, np.flatnonzero(mask(len(network.piece_run), network.piece)).astype(np.int32))
-    is_along, is_ring, keys = pieces.classify()
+    runs, is_used = network.runs, mask(len(network.piece_run), network.piece)
+    is_along, is_ring, keys = look_at_lines(network)
     is_same = np.zeros(len(keys), np.bool_)
-    for row in np.flatnonzero(is_ring).tolist():
-        line = pieces.line(row).tolist()
-        is_along[row], is_same[row] = line <= line[::-1], line == line[::-1]
+    for piece in np.flatnonzero(is_ring & is_used).tolist():
+        line = line_of(runs, piece).tolist()
+        is_along[piece], is_same[piece] = line <= line[::-1], line == line[::-1]
     first_of: dict[int, int] = {}
     known: dict[tuple[int, bytes], int] = {}
-    for row in candidate_duplicates(keys):
-        line = pieces.line(row) if is_along[row] else pieces.line(row)[::-1]
-        first = known.setdefault((int(pieces.ways(row)), line.tobytes()), row)
-        if first != row:
-            first_of[row] = first
-    is_edge = ~mask(len(keys), list(first_of))
+    for piece in (each for each in candidate_duplicates(keys) if is_used[each]):
+        points = line_of(runs, piece) if is_along[piece] else line_of(runs, piece)[::-1]
+        first = known.setdefault((int(network.ways_of(piece)), points.tobytes()), piece)
+        if first != piece:
+            first_of[piece] = first
+    is_edge = is_used & ~mask(len(keys), list(first_of))
     del keys, known
     number = np.cumsum(is_edge, dtype=np.int32) - np.int32(1)
     number[list(first_of)] = number[list(first_of.values())]
-    edge, along = pieces.of_arcs(number, is_along, is_same)
-    return edge, along, *pieces.points(is_edge, is_along)
+
+    def of_arcs(part: slice) -> tuple[Int32s, Bools]:
+        piece = network.piece[part]
+        return number[piece], is_along[piece] ^ network.is_back[part] | is_same[piece]
+
+    edge, along = by_slices(len(network.piece), [np.int32, np.bool_], of_arcs)
+    return edge, along, *lines_of(runs, is_edge, is_along)
 
 
-class Pieces:
-    """The pieces of a network with these numbers, which rise; they are counted by rows from 0."""
+def look_at_lines(network: RoadNetwork) -> list[NDArray[Any]]:
+    """Whether each piece leads to the greater of its ends, whether both are one place, and a mix of 64 bits that pieces of
+    one way have in common that lie on one line."""
+    runs = network.runs
 
-    def __init__(self, network: RoadNetwork, pieces: Int32s) -> None:
-        self._network, self._runs, self._pieces = network, network.runs, pieces
+    def look(part: slice) -> tuple[Any, ...]:
+        begin, end = runs.begin[part].astype(np.int64), runs.end[part].astype(np.int64)
+        head, tail = place_keys(runs.points[begin]), place_keys(runs.points[end - 1])
+        key = hash_rows(network.ways_of(part), np.minimum(head, tail), np.maximum(head, tail), end - begin)
+        return head < tail, head == tail, key
 
-    def line(self, row: int) -> Int32s:
-        """The points of a piece."""
-        begin, end = self._bounds(row)
-        return np.array(self._runs.points[begin:end])
+    return by_slices(len(network.piece_run), [np.bool_, np.bool_, np.uint64], look)
 
-    def ways(self, rows: "slice | int") -> Any:
-        """The ids of the ways of pieces."""
-        return self._network.roads.osm[self._runs.road[self._network.piece_run[self._pieces[rows]]]]
 
-    def _bounds(self, rows: "slice | int") -> tuple[Any, Any]:
-        """Where the points of pieces begin and end."""
-        pieces = self._pieces[rows]
-        return self._runs.begin[pieces].astype(np.int64), self._runs.end[pieces].astype(np.int64)
+def line_of(runs: Runs, piece: int) -> Int32s:
+    """The points of a piece."""
+    return np.array(runs.points[int(runs.begin[piece]) : int(runs.end[piece])])
 
-    def classify(self) -> list[NDArray[Any]]:
-        """Whether each piece leads to the greater of its ends, whether both are one place, and a mix of 64 bits that pieces
-        of one way have in common that lie on one line."""
-        def look(part: slice) -> tuple[Any, ...]:
-            begin, end = self._bounds(part)
-            head, tail = place_keys(self._runs.points[begin]), place_keys(self._runs.points[end - 1])
-            key = hash_rows(self.ways(part), np.minimum(head, tail), np.maximum(head, tail), end - begin)
-            return head < tail, head == tail, key
 
-        return by_slices(len(self._pieces), [np.bool_, np.bool_, np.uint64], look)
+def lines_of(runs: Runs, chosen: Bools, is_along: Bools) -> tuple[Ints, Int32s]:
+    """The lines of chosen pieces one after the other, each along or against its points; and where they begin."""
+    begin, end = (bounds[chosen].astype(np.int64) for bounds in (runs.begin, runs.end))
+    line_begin = offsets(end - begin)
+    found = np.empty((int(line_begin[-1]), 2), np.int32)
+    step = np.where(is_along[chosen], 1, -1).astype(np.int8)
+    first = np.where(is_along[chosen], begin, end - 1)
+    del begin, end
 
-    def of_arcs(self, number: Int32s, is_along: Bools, is_same: Bools) -> list[NDArray[Any]]:
-        """The number of the piece of each arc, and whether it leads along it."""
-        network, row = self._network, np.zeros(len(self._network.piece_run), np.int32)
-        row[self._pieces] = np.arange(len(self._pieces), dtype=np.int32)
+    def fill(part: slice) -> None:
+        low, high = int(line_begin[part.start]), int(line_begin[part.stop])
+        line = np.repeat(np.arange(part.start, part.stop), np.diff(line_begin[part.start : part.stop + 1]))
+        found[low:high] = runs.points[first[line] + step[line] * (np.arange(low, high) - line_begin[line])]
 
-        def fill(part: slice) -> tuple[Int32s, Bools]:
-            rows = row[network.piece[part]]
-            return number[rows], is_along[rows] ^ network.is_back[part] | is_same[rows]
-
-        return by_slices(len(network.piece), [np.int32, np.bool_], fill)
-
-    def points(self, chosen: Bools, is_along: Bools) -> tuple[Ints, Int32s]:
-        """The lines of chosen pieces one after the other, each along or against its points; and where they begin."""
-        begin, end = (bounds[chosen] for bounds in self._bounds(slice(None)))
-        line_begin = offsets(end - begin)
-        found = np.empty((int(line_begin[-1]), 2), np.int32)
-        step = np.where(is_along[chosen], 1, -1).astype(np.int8)
-        first = np.where(is_along[chosen], begin, end - 1)
-        del begin, end
-
-        def fill(part: slice) -> None:
-            low, high = int(line_begin[part.start]), int(line_begin[part.stop])
-            line = np.repeat(np.arange(part.start, part.stop), np.diff(line_begin[part.start : part.stop + 1]))
-            found[low:high] = self._runs.points[first[line] + step[line] * (np.arange(low, high) - line_begin[line])]
-
-        map_slices(fill, len(first))
-        return line_begin, found
+    map_slices(fill, len(first))
+    return line_begin, found
 
 
 def place_keys(places: Int32s) -> Ints:
