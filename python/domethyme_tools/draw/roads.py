@@ -86,11 +86,16 @@ def wrapped_lon(lon: float) -> float:
     return (lon + 180) % 360 - 180
 
 
-def padded_box(places: list[Point]) -> Box:
-    """The box around places, with a tenth of its greater side, and at least 200 metres, on each side."""
+def box_for(places: list[Point], is_picture: bool) -> Box:
+    """The box around places, with a tenth of its greater side, and at least 200 metres, on each side: in a shape that suits
+    a picture, or as wide as a window, with room to move the map, for a page."""
     box = box_of(to_mercator(places))
     metre = 1 / (2 * math.pi * EARTH_RADIUS * math.cos(math.radians(places[0][1])))
-    return box.grown(max(box.width, box.height) / 10 + 200 * metre)
+    box = box.grown(max(box.width, box.height) / 10 + 200 * metre)
+    if is_picture:
+        return box.shaped(0.56, 1.4)
+    wide = box.shaped(0.5, 0.7)
+    return wide.grown(wide.height / 4)
 
 
 def all_places(roads: list[RoadLines]) -> list[Point]:
@@ -107,13 +112,13 @@ def make_scene(
     need_inside(arrays, routes, network, path)
     places = [] if is_whole else list(itertools.chain.from_iterable(route.places for route in routes))
     if places:
-        box = shape_for(is_picture, padded_box(places))
+        box = box_for(places, is_picture)
         return box, read_roads(arrays, box)
     roads = read_roads(arrays, None)
     places = all_places(roads)
     if not places:
         raise ToolError("has no arcs", arcs_file(network))
-    return shape_for(is_picture, padded_box(places)), roads
+    return box_for(places, is_picture), roads
 
 
 def need_inside(arrays: MappedNetwork, routes: list[DrawnRoute], network: str, path: str) -> None:
@@ -127,11 +132,3 @@ def need_inside(arrays: MappedNetwork, routes: list[DrawnRoute], network: str, p
                 box = f"{west:.4f},{south:.4f} to {east:.4f},{north:.4f}"
                 where = f"leads by {wrapped_lon(lon):.4f},{lat:.4f}, and the roads of {network} are from {box}"
                 raise ToolError(f"feature {number} {where}: is it of another network?", path)
-
-
-def shape_for(is_picture: bool, box: Box) -> Box:
-    """The box in a shape that suits a picture, or as wide as a window, with room to move the map, for a page."""
-    if is_picture:
-        return box.shaped(0.56, 1.4)
-    wide = box.shaped(0.5, 0.7)
-    return wide.grown(wide.height / 4)

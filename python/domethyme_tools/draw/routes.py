@@ -54,25 +54,23 @@ def read_routes(path: str, label: str | None) -> tuple[list[DrawnRoute], list[st
     said: list[str] = []
     coloured = enumerate(zip(features_in(text, path, said), itertools.cycle(COLOURS)), 1)
     routes = [make_route(feature, FeatureRef(path, number), label, colour) for number, (feature, colour) in coloured]
+    return placed(routes), said
+
+
+def placed(routes: list[DrawnRoute]) -> list[DrawnRoute]:
+    """The routes with longitudes beyond 180 degrees where they cross that meridian, all on one side of the first one's
+    begin; and with their pieces, which are the wider, the more of the later routes go along them."""
     near = next((route.places[0][0] for route in routes if route.places), 0.0)
-    return with_pieces([unwrap_route(route, near) for route in routes]), said
-
-
-def unwrap_route(route: DrawnRoute, near: float) -> DrawnRoute:
-    """The route with longitudes beyond 180 degrees where it crosses that meridian; it begins on the side of `near`."""
-    names = [(name, unwrapped([place], near)[0]) for name, place in route.names]
-    line = route.line and unwrapped(route.line, near)
-    rings = [unwrapped(ring, near) for ring in route.rings]
-    return route._replace(line=line * 2 if line and len(line) < 2 else line, names=names, rings=rings)
-
-
-def with_pieces(routes: list[DrawnRoute]) -> list[DrawnRoute]:
-    """The routes with their pieces, which are the wider, the more of the later routes go along them."""
-    pieces = overlap_pieces([route.line or [] for route in routes], MAX_NESTED)
-    return [
-        route._replace(pieces=[(NARROWEST + STEP_OF_WIDTH * depth, line) for depth, line in of_route])
-        for route, of_route in zip(routes, pieces)
-    ]
+    lines = [unwrapped(route.line or [], near) for route in routes]
+    lines = [line * 2 if len(line) == 1 else line for line in lines]
+    found = []
+    for route, line, pieces in zip(routes, lines, overlap_pieces(lines, MAX_NESTED)):
+        found.append(route._replace(
+            line=line or None, pieces=[(NARROWEST + STEP_OF_WIDTH * depth, piece) for depth, piece in pieces],
+            names=[(name, unwrapped([place], near)[0]) for name, place in route.names],
+            rings=[unwrapped(ring, near) for ring in route.rings],
+        ))
+    return found
 
 
 def features_in(text: str, path: str, said: list[str]) -> Iterator[Any]:
