@@ -245,14 +245,10 @@ def parse_args() -> argparse.Namespace:
     if not os.path.basename(out) or os.path.isdir(out):
         fault = f"{out} is a folder" if out else "it is empty"
         parser.error(f"OUT is the beginning of the names of files, as {os.path.join(out, 'map')}, and {fault}")
-    refuse_overwriting(parser, outputs_of(options), [options.map, options.profile])
+    names = Files(out)
+    options.outputs = [names.graph, names.binary, *([names.nodes, names.arcs, *names.forms] if options.tables else [])]
+    refuse_overwriting(parser, options.outputs, [options.map, options.profile])
     return options
-
-
-def outputs_of(options: argparse.Namespace) -> list[str]:
-    """The paths of the files that are written."""
-    names = Files(options.out)
-    return [names.graph, names.binary, *([names.nodes, names.arcs, *names.forms] if options.tables else [])]
 
 
 def main() -> None:
@@ -263,7 +259,7 @@ def main() -> None:
     with open_input(options.map):
         if not os.path.isfile(options.map):
             raise ToolError("is no regular file; a map is read twice", options.map)
-    with atomic_write_all(*outputs_of(options)) as (graph, binary, *tables):
+    with atomic_write_all(*options.outputs) as (graph, binary, *tables):
         with folder_beside(options.out) as folder:
             network, rows_of = convert(options, profile, folder, report)
             attribution = " ".join(options.attribution.split())

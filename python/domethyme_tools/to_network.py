@@ -64,14 +64,11 @@ def parse_args() -> argparse.Namespace:
     options = parser.parse_args()
     if not os.path.basename(options.out) or os.path.isdir(options.out):
         parser.error("OUT is the beginning of the names of files, as out/firm, and no folder")
-    refuse_overwriting(parser, outputs_of(options), [options.nodes, options.arcs])
-    return options
-
-
-def outputs_of(options: argparse.Namespace) -> list[str]:
-    """The paths of the files that are written."""
     paths = Files(options.out)
-    return [paths.graph, *([paths.nodes, paths.arcs, *paths.forms] if options.tables else []), paths.binary]
+    tables = [paths.nodes, paths.arcs, *paths.forms] if options.tables else []
+    options.outputs = [paths.graph, *tables, paths.binary]
+    refuse_overwriting(parser, options.outputs, [options.nodes, options.arcs])
+    return options
 
 
 def write_graph(file: IO[bytes], arrays: net_file.Arrays, attribution: str) -> None:
@@ -115,7 +112,7 @@ def main() -> None:
         tables_there(paths, True)
     sizes = numpy.array([0, 0] if options.tables else sizes_of(paths, options))
     arrays = read_arrays(options, attribution)
-    with atomic_write_all(*outputs_of(options)) as (graph, *tables, network):
+    with atomic_write_all(*options.outputs) as (graph, *tables, network):
         if tables:
             sizes = write_tables(tables, arrays)
         write_graph(bytes_of(graph), arrays, attribution)
