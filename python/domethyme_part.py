@@ -19,7 +19,9 @@ Task = dict[str, Any]
 Result = tuple[int, Union[str, None], int]
 
 ATTEMPTS = 3
-WAIT_SECONDS = 120
+WAIT_SECONDS, LOOK_SECONDS = 120, 0.1
+# Set once the programs that run in this process have to end, and those that would begin.
+stopping = threading.Event()
 
 
 def task(program: str, hierarchy: str, drafts: str, pairs: str) -> Task:
@@ -141,43 +143,21 @@ def draft_in(folder: str) -> Iterator[str]:
 
 
 def run_program(task: Task, text: str, draft: str) -> tuple[int, str]:
-    """Runs the program, its output into a new file: the status, negative for a signal, and what it said, a line or more."""
+    """Runs the program, its output into a new file: the status, negative for a signal, and what it said, a line or more. It
+    isn't in the group of the terminal, so an interrupt comes to this process alone; it is killed once `stopping` is set."""
     command = [task["program"], "route", task["hierarchy"], text, "--explain"]
+    nothing, pipe = subprocess.DEVNULL, subprocess.PIPE
     with open(draft, "xb") as output:
-        with child_of(command, stdin=subprocess.DEVNULL, stdout=output, stderr=subprocess.PIPE) as child:
-            stderr = child.communicate()[1].decode("utf-8", "replace")
+        with subprocess.Popen(command, process_group=0, stdin=nothing, stdout=output, stderr=pipe) as child:
+            try:
+                said: bytes | None = None
+                while said is None:
+                    if stopping.is_set():
+                        child.kill()
+                    with contextlib.suppress(subprocess.TimeoutExpired):
+                        said = child.communicate(timeout=LOOK_SECONDS)[1]
+            finally:
+                child.kill()
         os.fsync(output.fileno())
-    return child.returncode, "\n".join(line.rstrip() for line in stderr.replace(text, task["pairs"]).splitlines())
-
-
-# The programs that run in this process
-
-stopping = threading.Event()
-children = set()
-children_lock = threading.Lock()
-
-
-@contextlib.contextmanager
-def child_of(words: list[str], **streams: Any) -> Iterator["subprocess.Popen[bytes]"]:
-    """A program that runs while the block does, and that `stop_all` ends. It isn't in the group of the terminal, so an
-    interrupt comes to this process alone."""
-    with children_lock:
-        child = subprocess.Popen(words, process_group=0, **streams)
-        children.add(child)
-        if stopping.is_set():
-            child.kill()
-    try:
-        yield child
-    finally:
-        with children_lock:
-            children.discard(child)
-            child.kill()
-        child.wait()
-
-
-def stop_all() -> None:
-    """Ends the programs that run in this process; those that would begin are ended too."""
-    with children_lock:
-        stopping.set()
-        for child in children:
-            child.kill()
+    lines = said.decode("utf-8", "replace").replace(text, task["pairs"]).splitlines()
+    return child.returncode, "\n".join(line.rstrip() for line in lines)

@@ -61,11 +61,11 @@ from . import turn_restrictions
 from .cli import ToolError, argument_parser, current_arguments, refuse_overwriting
 from .map_arrays import Folder, NodeArrays, WayArrays, cut_runs, folder_beside, progress, read_places, read_ways
 from .road_network import (
-    WEIGHTS, Floats, RoadNetwork, RoadTable, RowsOf, build_network, keep_largest, metres_of_roads, split_junctions,
+    WEIGHTS, Floats, RoadNetwork, RoadTable, RowsOf, Rules, build_network, keep_largest, metres_of_roads, split_junctions,
     to_arrays,
 )
 from .table_files import bytes_of, tables_there, write_tables
-from .turn_restrictions import Bools, Int32s, Report, Restriction, Rules, mask
+from .turn_restrictions import Bools, Int32s, Report, Restriction, mask
 from .vehicle_profile import (
     Profile, blocks_way, conditional_keys, judge, read_profile, structure_of, unsupported_tags, way_keys
 )
@@ -195,7 +195,7 @@ def check_limits(nodes: int, arcs: int, path: StrPath) -> None:
             raise ToolError(f"makes a network of {count} {what}, and there may be {most}: {remedy}", path)
 
 
-def turn_rules(read: Map, folder: Folder, node_at: Callable[[int], int], report: Report) -> dict[int, Rules]:
+def turn_rules(read: Map, folder: Folder, node_at: Callable[[int], int], report: Report) -> Rules:
     """What is forbidden at nodes of the network."""
     named = {way for restriction in read.restrictions for way in (restriction.start, restriction.end)}
     nodes, begin = folder.array("road_node", "u4"), offsets(read.counts)

@@ -15,9 +15,10 @@ from domethyme.network.tables import ENDS
 
 from . import turn_restrictions
 from .map_arrays import NodeArrays, Runs
-from .turn_restrictions import Bools, Int32s, Report, Turns, mask
+from .turn_restrictions import Bools, Int32s, Report, Restriction, Turns, mask
 
 Floats = NDArray[np.float64]
+Rules = dict[int, list[Restriction]]
 RowsOf = Callable[[Ints], tuple[list[str], Int32s]]
 # Degrees by which a turn may be off the line of the road, and off the way back
 STRAIGHT, BACK = 45, 15
@@ -152,9 +153,7 @@ def arcs_along(
 # Turn restrictions
 
 
-def split_junctions(
-    network: RoadNetwork, rules: dict[int, turn_restrictions.Rules], penalties: dict[str, int], report: Report
-) -> RoadNetwork:
+def split_junctions(network: RoadNetwork, rules: Rules, penalties: dict[str, int], report: Report) -> RoadNetwork:
     """The network with the junctions split where a turn is forbidden, by the rules of nodes, or has a penalty, in
     hundredths of a second by the words left, right and back."""
     count, has_penalties = len(network.node_osm), any(penalties.values())
@@ -178,15 +177,15 @@ def split_junctions(
     )
 
 
-def forbid(network: RoadNetwork, turns: Turns, rules: dict[int, turn_restrictions.Rules], cost: Int32s) -> None:
+def forbid(network: RoadNetwork, turns: Turns, rules: Rules, cost: Int32s) -> None:
     """Sets the cost of the turns that the rules of their nodes don't allow to FORBIDDEN."""
     into, out = turns.into[turns.turn], turns.out
     there = np.flatnonzero(mask(len(network.node_osm), list(rules))[network.start[out]])
     road = network.road()
     ways = (network.roads.osm[road[arcs[there]]].tolist() for arcs in (into, out))
     turn = zip(network.start[out[there]].tolist(), *ways)
-    allowed = np.fromiter((rules[node].allows(start, end) for node, start, end in turn), np.bool_, len(there))
-    cost[there[~allowed]] = turn_restrictions.FORBIDDEN
+    allowed = [turn_restrictions.allows(rules[node], start, end) for node, start, end in turn]
+    cost[there[~np.array(allowed, np.bool_)]] = turn_restrictions.FORBIDDEN
 
 
 def penalties_of(network: RoadNetwork, turns: Turns, penalties: dict[str, int]) -> Int32s:

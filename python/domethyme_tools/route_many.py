@@ -247,7 +247,7 @@ def threads(task: domethyme_part.Task, jobs: int) -> Iterator[Workers]:
     try:
         yield Workers(task, pool, domethyme_part.answer, lambda: jobs, lambda run: run.result())
     except BaseException:
-        domethyme_part.stop_all()
+        domethyme_part.stopping.set()
         raise
     finally:
         pool.shutdown(cancel_futures=True)

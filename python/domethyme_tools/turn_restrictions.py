@@ -82,34 +82,27 @@ def restrictions_of(
     return [Restriction(start, vias[0].osm, end, only) for start in starts for end in ends], None
 
 
-class Rules:
-    """What is forbidden at one node."""
-
-    def __init__(self) -> None:
-        self.forbidden: set[tuple[int, int]] = set()
-        self.only: dict[int, set[int]] = collections.defaultdict(set)
-
-    def allows(self, start: int, end: int) -> bool:
-        """Whether one may go on from a way into another one."""
-        return (start, end) not in self.forbidden and (start not in self.only or end in self.only[start])
+def allows(rules: Iterable[Restriction], start: int, end: int) -> bool:
+    """Whether restrictions of one node let one go on from a way into another one."""
+    of_start = [rule for rule in rules if rule.start == start]
+    only = {rule.end for rule in of_start if rule.only}
+    return (not only or end in only) and not any(rule.end == end for rule in of_start if not rule.only)
 
 
 def applicable_rules(
     restrictions: Iterable[Restriction], ends_of: Callable[[int], Iterable[int] | None], report: Report
-) -> dict[int, Rules]:
-    """The rules at each node, by the restrictions whose ways end at their node. `ends_of` gives the nodes at the ends of a
-    way, None for one that the vehicle doesn't take. The others are counted in the report."""
-    rules: dict[int, Rules] = {}
+) -> dict[int, list[Restriction]]:
+    """The restrictions at each node, of those whose ways end at their node. `ends_of` gives the nodes at the ends of a way,
+    None for one that the vehicle doesn't take. The others are counted in the report."""
+    rules: dict[int, list[Restriction]] = collections.defaultdict(list)
     for restriction in restrictions:
         start, end = ends_of(restriction.start), ends_of(restriction.end)
         if start is None or end is None and not restriction.only:
             report["turn restrictions without effect, of ways that are left out"] += 1
         elif restriction.via not in start or end is not None and restriction.via not in end:
             report[NOT_LOOKED_AT + "a way goes on through the node"] += 1
-        elif restriction.only:
-            rules.setdefault(restriction.via, Rules()).only[restriction.start].add(restriction.end)
         else:
-            rules.setdefault(restriction.via, Rules()).forbidden.add((restriction.start, restriction.end))
+            rules[restriction.via].append(restriction)
     return rules
 
 
