@@ -194,34 +194,26 @@ class Folder:
 
 @contextlib.contextmanager
 def open_folder(out: str, anew: bool) -> Iterator[Folder]:
-    """The Folder of OUT, locked; a ToolError where another run has it. If it starts over, nothing is left in it."""
+    """The Folder of OUT, which is made where it isn't there, and locked by a file that says who has it; a ToolError where
+    another run has it. If it starts over, nothing is left in it."""
     folder = Folder(out)
-    with lock_folder(folder, out):
+    lock: IO[str] | None = None
+    with contextlib.ExitStack() as opened:
+        while lock is None or not is_same_file(lock, folder.lock):
+            with contextlib.suppress(FileExistsError):
+                os.mkdir(folder.path)
+            with contextlib.suppress(FileNotFoundError):
+                check_ownership(folder.path)
+                file = os.open(folder.lock, os.O_RDWR | os.O_APPEND | os.O_CREAT | os.O_NOFOLLOW, 0o666)
+                lock = opened.enter_context(open(file, "a+", encoding="utf-8"))
+                take_lock(lock, out)
+        lock.truncate(0)
+        print(f"process {os.getpid()} on {socket.gethostname()}", file=lock, flush=True)
         folder.begin(anew)
         try:
             yield folder
         finally:
             folder.end()
-
-
-@contextlib.contextmanager
-def lock_folder(folder: Folder, out: str) -> Iterator[None]:
-    """Holds the folder's lock, which says who has it, and makes the folder where it isn't there."""
-    while True:
-        with contextlib.suppress(FileExistsError):
-            os.mkdir(folder.path)
-        try:
-            check_ownership(folder.path)
-            file = os.open(folder.lock, os.O_RDWR | os.O_APPEND | os.O_CREAT | os.O_NOFOLLOW, 0o666)
-        except FileNotFoundError:
-            continue
-        with open(file, "a+", encoding="utf-8") as lock:
-            take_lock(lock, out)
-            if is_same_file(lock, folder.lock):
-                lock.truncate(0)
-                print(f"process {os.getpid()} on {socket.gethostname()}", file=lock, flush=True)
-                yield
-                return
 
 
 def check_ownership(path: str) -> None:
