@@ -4,9 +4,8 @@ import math
 import os
 import pathlib
 import re
-import typing
-from collections.abc import Iterator
-from typing import Any
+from collections.abc import Iterable, Iterator
+from typing import Any, NamedTuple
 
 from domethyme.csv_tables import open_input
 from domethyme.program import StrPath
@@ -34,7 +33,7 @@ TURNS, MAX_PENALTY = ("left", "right", "back"), 360_000
 ONEWAY = {"yes": "forward", "true": "forward", "1": "forward", "-1": "backward", "reverse": "backward"}
 
 
-class Profile(typing.NamedTuple):
+class Profile(NamedTuple):
     """The rules of a vehicle; profiles/README.md says what each member means."""
 
     speeds: dict[str, float]
@@ -56,7 +55,7 @@ class Profile(typing.NamedTuple):
     turns: dict[str, int] = {}
 
 
-class Judgement(typing.NamedTuple):
+class Judgement(NamedTuple):
     """What the rules say of a way: why it is left out, in the words of the report, or None; the km/h in each direction,
     None where it may not be taken; and the values of maxspeed and of limits that weren't understood, or None."""
 
@@ -169,12 +168,15 @@ def judge(tags: Tags, profile: Profile) -> Judgement:
     return Judgement(None, *speeds, unknown, " and ".join(sorted(limits)) or None)
 
 
+def first_value(tags: Tags, keys: Iterable[str]) -> str | None:
+    """The value of the first of the keys that is set."""
+    return next((tags[key] for key in keys if key in tags), None)
+
+
 def is_open(tags: Tags, profile: Profile) -> bool:
     """Whether the most particular access tag lets the vehicle in; of several values one that isn't closed is enough."""
-    for key in reversed(profile.access):
-        if key in tags:
-            return any(value.strip() not in profile.closed for value in tags[key].split(";"))
-    return True
+    values = first_value(tags, reversed(profile.access))
+    return values is None or any(value.strip() not in profile.closed for value in values.split(";"))
 
 
 def has_one(tags: Tags, words: list[str]) -> bool:
@@ -216,7 +218,7 @@ def rejection_reason(tags: Tags, profile: Profile) -> str | None:
     limits = ((limit_of(key, tags[key]), measure) for key, measure in profile.measures.items() if key in tags)
     if any(limit is not None and limit < measure for limit, measure in limits):
         return "ways left out as too low, narrow, short or weak for the vehicle"
-    if oneway_of(tags, profile) == "reversible":
+    if first_value(tags, reversed(profile.oneway)) == "reversible":
         return "ways left out as their direction changes"
     return None
 
@@ -226,20 +228,15 @@ def directions(tags: Tags, profile: Profile) -> tuple[bool, bool]:
     if has_one(tags, profile.both_ways):
         return True, True
     one_way = tags["highway"] in profile.oneway_highways or tags.get("junction") in profile.oneway_junctions
-    value = oneway_of(tags, profile)
+    value = first_value(tags, reversed(profile.oneway))
     only = ONEWAY.get(value) if value is not None else "forward" if one_way else None
     return only != "backward", only != "forward"
-
-
-def oneway_of(tags: Tags, profile: Profile) -> str | None:
-    """The value of the most particular key of one-way streets that is set."""
-    return next((tags[key] for key in reversed(profile.oneway) if key in tags), None)
 
 
 def speed_of(tags: Tags, direction: str, profile: Profile) -> tuple[float, bool]:
     """The speed in a direction in km/h, and whether a maxspeed that is set was understood."""
     keys = (key for base in reversed(profile.maxspeed) for key in (f"{base}:{direction}", base))
-    text = next((tags[key] for key in keys if key in tags), None)
+    text = first_value(tags, keys)
     limit = None if text is None else maxspeed_of(text, profile)
     speed = profile.speeds[tags["highway"]] if limit is None else limit
     of_surface = profile.surfaces.get(tags.get("surface", ""), FASTEST)
@@ -263,8 +260,8 @@ def maxspeed_of(text: str, profile: Profile) -> float | None:
 
 def unsupported_tags(tags: Tags, profile: Profile) -> Iterator[tuple[str, bool]]:
     """What of a way's rules isn't looked at, in the words of the report, and whether it is so."""
-    access = [tags[key] for key in profile.access if key in tags]
-    yield "ways for destinations alone that are taken as open", bool(access) and "destination" in access[-1].split(";")
+    access = first_value(tags, reversed(profile.access)) or ""
+    yield "ways for destinations alone that are taken as open", "destination" in access.split(";")
     conditional = any(key.endswith(":conditional") and key.startswith(conditional_keys(profile)) for key in tags)
     yield "ways with rules for some times or conditions, which aren't looked at", conditional
 
