@@ -19,8 +19,8 @@ class ToolError(FileError):
 
 
 def run(main: Callable[[], None]) -> NoReturn:
-    """Calls main() as a tool and ends the process: with 0, or an error's line on standard error and its status; 130 after
-    an interrupt, 143 after SIGTERM; 1 without a line where a reader of standard output went away; 2 of argparse."""
+    """Calls main() as a tool and ends the process: with 0, or an error's line on standard error and its status; with 130
+    after an interrupt, 143 after SIGTERM, and 1 without a line where a reader of standard output went away."""
     # (an exception, so that with-blocks remove what they have begun)
     signal.signal(signal.SIGTERM, lambda number, _: sys.exit(128 + number))
     status, line = 1, ""

@@ -14,7 +14,7 @@ import pathlib
 import shutil
 import subprocess
 import tempfile
-from collections.abc import Iterator, Sequence
+from collections.abc import Callable, Iterator, Sequence
 from typing import IO, Any, NamedTuple
 
 import numpy as np
@@ -25,7 +25,7 @@ from domethyme.atomic_files import unlink_missing_ok
 from domethyme.program import StrPath
 
 from .cli import ToolError
-from .turn_restrictions import Bools, Int32s, Member
+from .turn_restrictions import Bools, Int32s, Member, mask
 from .vehicle_profile import Tags
 
 SOURCE = pathlib.Path(__file__).resolve().parent / "converter" / "map_arrays.cpp"
@@ -210,26 +210,27 @@ def relations_of(folder: Folder, path: StrPath) -> Iterator[tuple[Tags, list[Mem
 
 class NodeArrays(NamedTuple):
     """The nodes of the roads by their ids, in order: their ids, whether the map has them, whether a road passes once more,
-    and whether they are barriers, by tags."""
+    and whether they are barriers."""
 
     osm: NDArray[np.int64]
     place: Int32s
     is_there: Bools
     is_junction: Bools
-    barriers: NDArray[np.uint32]
-    barrier_tags: list[Tags]
+    is_barrier: Bools
 
 
-def read_places(folder: Folder, path: StrPath, taken: Bools, keys: Sequence[str]) -> NodeArrays:
-    """The nodes of the ways that are taken, and the tags of those that have the first of the keys."""
+def read_places(
+    folder: Folder, path: StrPath, taken: Bools, keys: Sequence[str], blocks: Callable[[Tags], bool]
+) -> NodeArrays:
+    """The nodes of the ways that are taken. Barriers are those that have the first of the keys, and block by their tags."""
     folder.write("way_taken", taken.astype(np.uint8))
     folder.read_map("places", path, [f"k:{key}" for key in keys])
     os.unlink(os.path.join(folder.path, "way_node"))
-    place = folder.array("node_place", "i4", 2)
-    return NodeArrays(
-        folder.array("node_osm", "i8"), place, place[:, 0] != UNDEFINED, folder.array("node_uses", "u1") > 1,
-        folder.array("barrier", "u4", 2), folder.tags("barrier_tags", path),
-    )
+    osm, place = folder.array("node_osm", "i8"), folder.array("node_place", "i4", 2)
+    node, tags = folder.array("barrier", "u4", 2).T
+    is_blocking = np.array(list(map(blocks, folder.tags("barrier_tags", path))), np.bool_)
+    is_barrier = mask(len(osm), node[is_blocking[tags]])
+    return NodeArrays(osm, place, place[:, 0] != UNDEFINED, folder.array("node_uses", "u1") > 1, is_barrier)
 
 
 class Runs(NamedTuple):
@@ -246,13 +247,11 @@ class Runs(NamedTuple):
     end: NDArray[np.uint64]
 
 
-def cut_runs(
-    folder: Folder, counts: NDArray[np.uint32], is_junction: Bools, is_barrier: Bools, longest: float
-) -> Runs:
+def cut_runs(folder: Folder, counts: NDArray[np.uint32], places: NodeArrays, longest: float) -> Runs:
     """The runs of roads, which have these counts of nodes, cut to parts of at most `longest` metres, as few as can be. A
     run that comes back to its node, if that is no barrier, is cut at least once."""
     folder.write("road_count", counts)
-    folder.write("node_stop", is_junction + is_barrier.astype(np.uint8) * np.uint8(2))
+    folder.write("node_stop", places.is_junction + places.is_barrier.astype(np.uint8) * np.uint8(2))
     folder.run("pieces", repr(float(longest)))
     return Runs(
         folder.array("run_road", "u4"), folder.array("run_ends", "u4", 2), folder.array("run_parts", "u4"),

@@ -65,7 +65,7 @@ from .road_network import (
     to_arrays,
 )
 from .table_files import bytes_of, tables_there, write_tables
-from .turn_restrictions import Bools, Int32s, Report, Restriction, mask
+from .turn_restrictions import Bools, Int32s, Report, Restriction
 from .vehicle_profile import (
     Profile, blocks_way, conditional_keys, judge, read_profile, structure_of, unsupported_tags, way_keys
 )
@@ -81,13 +81,12 @@ MAX_VALUES = 10
 
 
 class Map(NamedTuple):
-    """The roads that the vehicle may take, in the map's order, their counts of nodes, these nodes and which are barriers,
-    and the turn restrictions. `rows_of` gives the rows of texts of roads by their numbers."""
+    """The roads that the vehicle may take, in the map's order, their counts of nodes, these nodes, and the turn
+    restrictions. `rows_of` gives the rows of texts of roads by their numbers."""
 
     roads: RoadTable
     counts: NDArray[np.uint32]
     places: NodeArrays
-    is_barrier: Bools
     restrictions: list[Restriction]
     rows_of: RowsOf
 
@@ -112,12 +111,10 @@ def read_map(path: StrPath, profile: Profile, folder: Folder, report: Report) ->
     label = ways.label[taken]
     forward, backward = speeds[:, ways.labels[:, 0][label]]
     roads = RoadTable(ways.osm[taken], forward, backward, label)
-    places = read_places(folder, path, taken, ["barrier", *profile.access])
-    parts = np.array([blocks_way(tags, profile) for tags in places.barrier_tags], np.bool_)
-    is_barrier = mask(len(places.osm), places.barriers[:, 0][parts[places.barriers[:, 1]]])
+    places = read_places(folder, path, taken, ["barrier", *profile.access], lambda tags: blocks_way(tags, profile))
     report["nodes that the map lacks"] = len(places.osm) - int(places.is_there.sum())
-    report["barriers that part roads"] = int(is_barrier.sum())
-    return Map(roads, ways.nodes[taken], places, is_barrier, restrictions, text_rows(ways))
+    report["barriers that part roads"] = int(places.is_barrier.sum())
+    return Map(roads, ways.nodes[taken], places, restrictions, text_rows(ways))
 
 
 def judge_tags(ways: WayArrays, profile: Profile, report: Report) -> tuple[Bools, Floats, dict[str, Report]]:
@@ -170,12 +167,12 @@ def convert(options: argparse.Namespace, profile: Profile, folder: Folder, repor
     """The network of the map that the arguments name, and the rows of texts of its roads."""
     read = read_map(options.map, profile, folder, report)
     with progress("roads"):
-        runs = cut_runs(folder, read.counts, read.places.is_junction, read.is_barrier, options.longest_arc)
+        runs = cut_runs(folder, read.counts, read.places, options.longest_arc)
     report["ways left out with fewer than two nodes in the map"] = len(read.counts) - len(np.unique(runs.road))
     if not len(runs.road):
         raise ToolError("has no road that the profile takes", options.map)
     with progress("junctions"):
-        network, node_at = build_network(runs, read.roads, read.places, read.is_barrier)
+        network, node_at = build_network(runs, read.roads, read.places)
     if not options.ignore_turn_restrictions:
         with progress("turns"):
             network = split_junctions(network, turn_rules(read, folder, node_at, report), profile.turns, report)

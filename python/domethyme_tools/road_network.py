@@ -101,14 +101,12 @@ def by_slices(count: int, kinds: Sequence[Any], function: Callable[[slice], Sequ
 # Nodes and arcs
 
 
-def build_network(
-    runs: Runs, roads: RoadTable, places: NodeArrays, is_barrier: Bools
-) -> tuple[RoadNetwork, Callable[[int], int]]:
+def build_network(runs: Runs, roads: RoadTable, places: NodeArrays) -> tuple[RoadNetwork, Callable[[int], int]]:
     """The network of the runs, and a function to the node for a node of the map, -1 for none and for a barrier."""
     # the stops of all runs, in order: the first node of each, its last node, and its cuts; `stop` has the places of nodes
     ends, begin = runs.ends.reshape(-1), offsets(runs.parts + np.uint32(1))
     stop = (begin[:-1, None] + [0, 1]).reshape(-1).astype(np.int32)
-    first, is_apart = first_index(ends, len(places.osm)), is_barrier[ends]
+    first, is_apart = first_index(ends, len(places.osm)), places.is_barrier[ends]
     is_new = mask(len(ends), first[first >= 0]) | is_apart
     node = np.cumsum(~mask(int(begin[-1]), stop[~is_new]), dtype=np.int32) - np.int32(1)
     count = int(node[-1]) + 1
@@ -128,7 +126,8 @@ def build_network(
     arcs = arcs_along(start, end, run, runs, roads)
     is_split, penalty = np.zeros(len(arcs[0]), np.bool_), np.zeros(len(arcs[0]), np.int32)
     found = RoadNetwork(osm, place, np.zeros(len(osm), np.uint8), *arcs, is_split, penalty, run, runs, roads)
-    return found, lambda number: -1 if first[number] < 0 or is_barrier[number] else int(node[stop[first[number]]])
+    has_node = (first >= 0) & ~places.is_barrier
+    return found, lambda number: int(node[stop[first[number]]]) if has_node[number] else -1
 
 
 def arcs_along(
