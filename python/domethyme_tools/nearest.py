@@ -163,9 +163,7 @@ def begins_of(index: NodeIndex, ends: Ints) -> Ints:
     return numpy.fromiter(begins, numpy.int64, len(different))[places] + 1
 
 
-def snap(
-    trips: Trips, index: NodeIndex, within: float, skip_far: bool
-) -> tuple[list[list[Any]], list[Ints], list[Floats]]:
+def snap(trips: Trips, index: NodeIndex, within: float, skip_far: bool) -> tuple[list[list[Any]], list[Ints], list[Floats]]:
     """The fields of the trips whose places are near enough, and for each end (from, to) their nodes, and the metres to
     them. A trip with a place that is too far is left out, or refused."""
     nodes, metres = zip(*(nodes_at(index, places, side) for places, side in zip(trips.ends, SIDES)))

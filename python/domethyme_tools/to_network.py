@@ -42,9 +42,7 @@ import numpy
 from domethyme.atomic_files import atomic_write_all
 from domethyme.belonging import older_hierarchy
 from domethyme.network import from_tables, net_file
-from domethyme.network.tables import (
-    ARC_COLUMNS, ATTRIBUTION_COMMENT, NODE_COLUMNS, Files, has_columns, read_attribution
-)
+from domethyme.network.tables import ARC_COLUMNS, ATTRIBUTION_COMMENT, NODE_COLUMNS, Files, has_columns, read_attribution
 
 from .cli import ToolError, argument_parser, refuse_overwriting, warn
 from .table_files import ROWS_AT_ONCE, bytes_of, tables_there, write_tables
