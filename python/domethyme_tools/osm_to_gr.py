@@ -141,18 +141,18 @@ def judge_tags(ways: WayArrays, profile: Profile, report: Report) -> tuple[Bools
 def text_rows(ways: WayArrays) -> RowsOf:
     """A function that gives a list of texts, and for each of some labels of ways the numbers of its texts, in the order of
     binary.TEXTS."""
-    all_labels, all_tags, texts = ways.labels, ways.tags, [" ".join(text.split()) for text in ways.texts]
-    is_set = np.array([bool(text) for text in ways.texts], np.bool_)
+    labels, is_set = ways.labels, np.array([bool(text) for text in ways.texts], np.bool_)
+    known: dict[str, int] = {}
 
-    def numbers(known: dict[str, int], row: Iterable[str]) -> list[int]:
-        return [known.setdefault(text, len(known)) for text in row]
+    def numbers(texts: Iterable[str]) -> list[int]:
+        return [known.setdefault(text, len(known)) for text in texts]
 
-    def rows_of(labels: NDArray[np.int64]) -> tuple[list[str], Int32s]:
-        known: dict[str, int] = {}
-        of_text = np.array(numbers(known, texts), np.int32)
-        words = ((tags["highway"], " ".join(tags.get("junction", "").split()), structure_of(tags)) for tags in all_tags)
-        of_tags = np.array([numbers(known, row) for row in words], np.int32).reshape(-1, 3)
-        tags, name, ref, destination = all_labels[labels].T
+    of_text = np.array(numbers(" ".join(text.split()) for text in ways.texts), np.int32)
+    words = ((tags["highway"], " ".join(tags.get("junction", "").split()), structure_of(tags)) for tags in ways.tags)
+    of_tags = np.array(list(map(numbers, words)), np.int32).reshape(-1, 3)
+
+    def rows_of(used: NDArray[np.int64]) -> tuple[list[str], Int32s]:
+        tags, name, ref, destination = labels[used].T
         highway, junction, structure = of_tags[tags].T
         shown = of_text[np.where(is_set[name], name, ref)]
         return list(known), np.column_stack((highway, shown, of_text[ref], junction, of_text[destination], structure))
