@@ -222,30 +222,29 @@ def join(folder: parts.Folder, plan: parts.Plan, out: str) -> None:
 
 # Workers
 
-Run = concurrent.futures.Future[domethyme_part.Result]
+Run = concurrent.futures.Future[Any]
 
 
 class Workers(NamedTuple):
-    """Where the parts of a task are answered: a pool, the function that it is given, how many may be under way at a time,
-    and what gives the result of a run."""
+    """Where the parts of a task are answered: what has a worker do domethyme_part.answer with other words than the task,
+    how many runs may be under way at a time, and what gives the result of one that is done."""
 
     task: domethyme_part.Task
-    pool: concurrent.futures.Executor
-    answer: Callable[..., domethyme_part.Result]
+    begin: Callable[[str, int, str], Run]
     capacity: Callable[[], int]
     result: Callable[[Run], domethyme_part.Result]
-
-    def begin(self, text: str, size: int, answers: str) -> Run:
-        """Has a worker do domethyme_part.answer with these words."""
-        return self.pool.submit(self.answer, self.task, text, size, answers)
 
 
 @contextlib.contextmanager
 def threads(task: domethyme_part.Task, jobs: int) -> Iterator[Workers]:
     """Workers of this process, each of which waits for one program at a time; the programs end with the block."""
     pool = concurrent.futures.ThreadPoolExecutor(jobs)
+
+    def begin(text: str, size: int, answers: str) -> Run:
+        return pool.submit(domethyme_part.answer, task, text, size, answers)
+
     try:
-        yield Workers(task, pool, domethyme_part.answer, lambda: jobs, lambda run: run.result())
+        yield Workers(task, begin, lambda: jobs, lambda run: run.result())
     except BaseException:
         domethyme_part.stopping.set()
         raise
@@ -257,15 +256,22 @@ def threads(task: domethyme_part.Task, jobs: int) -> Iterator[Workers]:
 def cluster(task: domethyme_part.Task, scheduler: str) -> Iterator[Workers]:
     """Workers of a Dask scheduler, which have been looked at. A part whose worker died goes to another one; where none is
     left, it waits for one that comes."""
+    def begin(text: str, size: int, answers: str) -> Run:
+        done: Run = concurrent.futures.Future()
+        run = client.submit(domethyme_part.answer_on_worker, task, text, size, answers, pure=False)
+        run.add_done_callback(done.set_result)
+        return done
+
     def capacity() -> int:
         with scheduler_errors(scheduler):
             workers = client.scheduler_info()["workers"].values()
         return max(1, 2 * sum(int(worker["nthreads"]) for worker in workers))
 
-    def result(run: Run) -> domethyme_part.Result:
+    def result(done: Run) -> domethyme_part.Result:
         with scheduler_errors(scheduler):
             try:
-                return run.result()
+                found: domethyme_part.Result = done.result().result()
+                return found
             except SCHEDULER_IS_GONE:
                 raise
             except Exception as error:
@@ -273,7 +279,7 @@ def cluster(task: domethyme_part.Task, scheduler: str) -> Iterator[Workers]:
 
     with connect(scheduler) as client, upload_module(client, scheduler):
         check_workers(client, scheduler, task)
-        yield Workers(task, client.get_executor(pure=False), domethyme_part.answer_on_worker, capacity, result)
+        yield Workers(task, begin, capacity, result)
 
 
 def connect(scheduler: str) -> Any:
