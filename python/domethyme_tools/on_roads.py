@@ -75,12 +75,11 @@ def format_request(start: SnappedPoint, end: SnappedPoint, path: str, row: int |
     if max(len(start.exits), len(end.entries)) > MAX_SEEDS:
         most = f"more than {MAX_SEEDS} nodes, which one line can't ask for"
         raise ToolError(f"begins or ends at a junction with {most}", path, row)
-    return b"b %b : %b" % (format_seeds(start.exits), format_seeds(end.entries))
-
-
-def format_seeds(sides: dict[int, tuple[int, int]]) -> bytes:
-    """Exits or entries as a request has them."""
-    return b" ".join(b"%d %d" % (node, weight) for node, (weight, _) in sorted(sides.items()))
+    starts, ends = (
+        b" ".join(b"%d %d" % (node, weight) for node, (weight, _) in sorted(sides.items()))
+        for sides in (start.exits, end.entries)
+    )
+    return b"b %b : %b" % (starts, ends)
 
 
 def request_lines(network: StrPath, trips: Sequence[Trip], within: float, path: str) -> Iterator[str]:

@@ -92,16 +92,6 @@ def sizes_of(paths: Files, options: argparse.Namespace) -> list[int]:
     return sizes
 
 
-def read_arrays(options: argparse.Namespace, attribution: str) -> net_file.Arrays:
-    """The network of the tables."""
-    nodes = from_tables.read_nodes(options.nodes, warn)
-    arcs = from_tables.read_arcs(options.arcs, nodes, options.weight, warn)
-    try:
-        return from_tables.build_arrays(nodes, arcs, attribution)
-    except ValueError as error:
-        raise ToolError(str(error), options.arcs) from error
-
-
 def main() -> None:
     options = parse_args()
     paths = Files(options.out)
@@ -109,7 +99,12 @@ def main() -> None:
     if options.tables:
         tables_there(paths, True)
     sizes = numpy.array([0, 0] if options.tables else sizes_of(paths, options))
-    arrays = read_arrays(options, attribution)
+    nodes = from_tables.read_nodes(options.nodes, warn)
+    arcs = from_tables.read_arcs(options.arcs, nodes, options.weight, warn)
+    try:
+        arrays = from_tables.build_arrays(nodes, arcs, attribution)
+    except ValueError as error:
+        raise ToolError(str(error), options.arcs) from error
     with atomic_write_all(*options.outputs) as (graph, *tables, network):
         if tables:
             sizes = write_tables(tables, arrays)
