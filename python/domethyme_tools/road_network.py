@@ -39,7 +39,7 @@ class RoadTable(NamedTuple):
 class RoadNetwork(NamedTuple):
     """Nodes and arcs, which count from 0. Pieces are the parts of runs, in order.
 
-    node_osm, node_place, node_ends   as binary.Arrays has them, places of shape (nodes, 2)
+    node_osm, node_place, node_ends   as net_file.Arrays has them, places of shape (nodes, 2)
     start, end                        of arcs
     piece, is_back                    the piece of an arc, and whether it leads along it backward
     is_split                          whether turns have taken an arc's piece apart
@@ -255,7 +255,7 @@ def rounded_exactly(values: Floats, digits: int) -> Floats:
 
 def to_arrays(network: RoadNetwork, kind: str, rows_of: RowsOf, attribution: str, report: Report) -> net_file.Arrays:
     """The network in arrays; `rows_of` gives texts, and the rows of their numbers that roads name, in the order of
-    binary.TEXTS."""
+    net_file.TEXTS."""
     edge, along, edge_begin, points = edges_from_pieces(network)
     weight, seconds, metres, osm, row = arc_columns(network, kind, report)
     texts, row_texts, arc_row = texts_of(row, rows_of, attribution)
@@ -309,7 +309,7 @@ def order_of_first_use(first: NDArray[Any]) -> Ints:
 
 
 def edges_from_pieces(network: RoadNetwork) -> tuple[Int32s, Bools, Ints, Int32s]:
-    """The edge of each arc and whether it leads along it, and the edges' points, as binary.Arrays has them."""
+    """The edge of each arc and whether it leads along it, and the edges' points, as net_file.Arrays has them."""
     runs, is_used = network.runs, mask(len(network.piece_run), network.piece)
     is_along, is_ring, keys = look_at_lines(network)
     is_same = np.zeros(len(keys), np.bool_)
