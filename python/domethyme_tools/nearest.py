@@ -153,8 +153,7 @@ def nodes_at(index: NodeIndex, places: list[Point], side: Side = "from") -> tupl
 
 
 def begins_of(index: NodeIndex, ends: Ints) -> Ints:
-    """The nodes where routes begin at the junctions of nodes where they end: the same, but for junctions with turn
-    restrictions."""
+    """The nodes where routes begin at the junctions of nodes where they end: others only where turns have split them."""
     different, places = numpy.unique(ends - 1, return_inverse=True)
     begins = (
         next((each for each in index.split_nodes(node) if index.ends[each] == ENDS.index("from")), node)

@@ -139,8 +139,7 @@ def judge_tags(ways: WayArrays, profile: Profile, report: Report) -> tuple[Bools
 
 
 def text_rows(ways: WayArrays) -> RowsOf:
-    """A function that gives a list of texts, and for each of some labels of ways the numbers of its texts, in the order of
-    net_file.TEXTS."""
+    """A function that gives a list of texts, and for each of some labels of ways its texts there, by net_file.TEXTS."""
     labels, is_set = ways.labels, np.array([bool(text) for text in ways.texts], np.bool_)
     known: dict[str, int] = {}
 

@@ -134,8 +134,7 @@ class Folder:
         return self.at(f"{part:06}.answers")
 
     def clear(self, beginnings: tuple[str, ...] = ("",)) -> None:
-        """Removes what a run has made with these beginnings, but the lock; drafts first, so that nothing comes out of them
-        any more."""
+        """Removes what a run has made with these beginnings, but the lock; drafts first: files may come out of them."""
         names = [name for name in os.listdir(self.path) if NAMES.fullmatch(name) and name.startswith(beginnings)]
         for name in sorted(names, key=lambda name: (not name.startswith("drafts-"), name != "plan.json")):
             self.remove(name)
@@ -217,8 +216,7 @@ def open_folder(out: str, anew: bool) -> Iterator[Folder]:
 
 
 def check_ownership(path: str) -> None:
-    """A ToolError where another user may have put something into the folder, or it has a link: files would be written
-    elsewhere."""
+    """A ToolError where another user may have put something into the folder, or it has a link, which leads elsewhere."""
     found = os.lstat(path)
     if not stat.S_ISDIR(found.st_mode) or found.st_uid != os.geteuid() or found.st_mode & stat.S_IWOTH:
         raise ToolError("isn't a folder that you alone may write to: remove it, or give another OUT", path)

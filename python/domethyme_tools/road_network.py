@@ -254,8 +254,7 @@ def rounded_exactly(values: Floats, digits: int) -> Floats:
 
 
 def to_arrays(network: RoadNetwork, kind: str, rows_of: RowsOf, attribution: str, report: Report) -> net_file.Arrays:
-    """The network in arrays; `rows_of` gives texts, and the rows of their numbers that roads name, in the order of
-    net_file.TEXTS."""
+    """The network in arrays; `rows_of` gives texts, and the rows of their numbers that roads name, by net_file.TEXTS."""
     edge, along, edge_begin, points = edges_from_pieces(network)
     weight, seconds, metres, osm, row = arc_columns(network, kind, report)
     texts, row_texts, arc_row = texts_of(row, rows_of, attribution)

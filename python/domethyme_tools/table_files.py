@@ -51,8 +51,7 @@ def text_at(path: str) -> str:
 
 
 def write_tables(files: Sequence[IO[str]], arrays: net_file.Arrays) -> NDArray[np.int64]:
-    """Writes the tables of nodes and arcs, and the files for GDAL, into files in the order of Files; returns the sizes of
-    both tables."""
+    """Writes both tables, and the files for GDAL, into files in the order of Files; returns the sizes of both tables."""
     write_nodes(files[0], nodes_in(arrays))
     write_arcs(files[1], arcs_in(arrays))
     for file, text in zip(files[2:], Files("").forms_of(len(arrays.node_texts) > 0).values(), strict=True):

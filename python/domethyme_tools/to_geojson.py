@@ -179,8 +179,7 @@ def make_route(
 
 
 def totals(seconds: list[float | None], metres: list[float]) -> tuple[float | None, float]:
-    """Seconds to the thousandth, None where the network has none, and metres to the hundredth, as the table of arcs has
-    them."""
+    """Seconds to the thousandth, None where the network has none, and metres to the hundredth, as in the table of arcs."""
     known = [each for each in seconds if each is not None]
     return round(sum(known), 3) if len(known) == len(seconds) else None, round(sum(metres), 2)
 

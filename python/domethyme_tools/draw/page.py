@@ -44,8 +44,7 @@ def page_of(routes: list[DrawnRoute], roads: list[RoadLines], attribution: str, 
 
 
 def digests_of(page: str, tag: str) -> str:
-    """The texts of a page between these tags, as its policy names those that may run: by their digests, so that no other
-    does."""
+    """The texts of a page between these tags, as its policy names those that may run: by their digests, and no other."""
     texts = re.findall(rf"<{tag}>(.*?)</{tag}>", page, re.S)
     digests = (hashlib.sha256(text.encode()).digest() for text in texts)
     return " ".join(f"'sha256-{base64.b64encode(digest).decode()}'" for digest in digests)

@@ -106,8 +106,7 @@ def all_places(roads: list[RoadLines]) -> list[Point]:
 def make_scene(
     network: str, routes: list[DrawnRoute], is_whole: bool, is_picture: bool, path: str
 ) -> tuple[Box, list[RoadLines]]:
-    """The box to show and its roads. Raises a ToolError where the routes, which come from the file at the path, are another
-    network's."""
+    """The box to show and its roads. Raises a ToolError where the routes of the file at the path are another network's."""
     arrays = load_network_or_dimacs(network)
     need_inside(arrays, routes, network, path)
     places = [] if is_whole else list(itertools.chain.from_iterable(route.places for route in routes))

@@ -74,8 +74,7 @@ def placed(routes: list[DrawnRoute]) -> list[DrawnRoute]:
 
 
 def features_in(text: str, path: str, said: list[str]) -> Iterator[Any]:
-    """The features of a text that has collections and features, one after the other. The attributions of collections go to
-    `said`."""
+    """The features of a text of collections and features, one after the other. Attributions of collections go to `said`."""
     decoder, place = json.JSONDecoder(), 0
     while (found := NOT_BLANK.search(text, place)) is not None:
         row = text.count("\n", 0, found.start()) + 1
