@@ -244,7 +244,7 @@ def main() -> None:
     need_hierarchy(options)
     if options.on_roads:
         trips = read_trips(options.trips, PREFIXES)
-        rows = list(zip(trips.rows, *trips.ends))
+        rows = list(zip(trips.rows, trips.ends[0], trips.ends[1]))
         with atomic_write(options.output) as file:
             file.writelines(f"{line}\n" for line in request_lines(options.network, rows, options.max_distance, trips.path))
         return

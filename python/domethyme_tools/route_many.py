@@ -244,7 +244,7 @@ def threads(task: domethyme_part.Task, jobs: int) -> Iterator[Workers]:
         return pool.submit(domethyme_part.answer, task, text, size, answers)
 
     try:
-        yield Workers(task, begin, lambda: jobs, lambda run: run.result())
+        yield Workers(task, begin, lambda: jobs, concurrent.futures.Future.result)
     except BaseException:
         domethyme_part.stopping.set()
         raise

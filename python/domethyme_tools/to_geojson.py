@@ -129,7 +129,7 @@ def routes_of(
         arcs = arcs_along(network, answer, options.answers, row)
         ends: dict[str, Any] = dict(zip(PAIR, answer))
         if network.has_keys:
-            ends |= {name: network.key(node) for name, node in zip(KEYS, answer)}
+            ends |= {name: network.key(node) for name, node in zip(KEYS, answer[:2])}
         for name, value in ends.items():
             if fields.get(name, str(value)) != str(value):
                 problem = f"has {name} {excerpt(fields[name])} where the answer has {value}"
