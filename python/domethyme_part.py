@@ -19,7 +19,7 @@ Task = dict[str, Any]
 Result = tuple[int, Union[str, None], int]
 
 ATTEMPTS = 3
-WAIT_SECONDS, LOOK_SECONDS = 120, 0.1
+WAIT_SECONDS, POLL_SECONDS = 120, 0.1
 # Set once the programs that run in this process have to end, and those that would begin.
 stopping = threading.Event()
 
@@ -155,7 +155,7 @@ def run_program(task: Task, text: str, draft: str) -> tuple[int, str]:
                     if stopping.is_set():
                         child.kill()
                     with contextlib.suppress(subprocess.TimeoutExpired):
-                        said = child.communicate(timeout=LOOK_SECONDS)[1]
+                        said = child.communicate(timeout=POLL_SECONDS)[1]
             finally:
                 child.kill()
         os.fsync(output.fileno())

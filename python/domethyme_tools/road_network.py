@@ -332,7 +332,7 @@ def edges_from_pieces(network: RoadNetwork) -> tuple[Int32s, Bools, Ints, Int32s
         return number[piece], is_along[piece] ^ network.is_back[part] | is_same[piece]
 
     edge, along = by_slices(len(network.piece), [np.int32, np.bool_], of_arcs)
-    return edge, along, *lines_of(runs, is_edge, is_along)
+    return edge, along, *chosen_lines(runs, is_edge, is_along)
 
 
 def look_at_lines(network: RoadNetwork) -> list[NDArray[Any]]:
@@ -354,7 +354,7 @@ def line_of(runs: Runs, piece: int) -> Int32s:
     return np.array(runs.points[int(runs.begin[piece]) : int(runs.end[piece])])
 
 
-def lines_of(runs: Runs, chosen: Bools, is_along: Bools) -> tuple[Ints, Int32s]:
+def chosen_lines(runs: Runs, chosen: Bools, is_along: Bools) -> tuple[Ints, Int32s]:
     """The lines of chosen pieces one after the other, each along or against its points; and where they begin."""
     begin, end = (bounds[chosen].astype(np.int64) for bounds in (runs.begin, runs.end))
     line_begin = offsets(end - begin)
