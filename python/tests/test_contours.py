@@ -132,11 +132,12 @@ def test_nodes_in_one_place_that_differ(made_town):
     found = lengths(net, {430: 0})
     reach = Reach(net, found, [80_000])
     field = Field(reach, meshes_of(reach)[0])
-    nodes, points = reach.nodes_in(field.mesh.box)
-    rows, columns = field.mesh.squares(points, 1)
     of_square = {}
-    for square, level in zip(zip(rows.tolist(), columns.tolist()), reach.node_levels(nodes).tolist()):
-        of_square.setdefault(square, set()).add(level)
+    for points, levels in reach.nodes_near(field.mesh.box):
+        numbers, is_on = field.mesh.halves(points)
+        rows, columns = np.divmod(numbers, 2 * field.mesh.columns)
+        for square, level in zip(zip((rows // 2).tolist(), (columns // 2).tolist()), levels[is_on].tolist()):
+            of_square.setdefault(square, set()).add(level)
     assert sum(len(levels) > 1 for levels in of_square.values()) > 3
 
 

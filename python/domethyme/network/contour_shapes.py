@@ -9,7 +9,6 @@ from typing import Any, NamedTuple
 import numpy as np
 from shapely.affinity import translate
 from shapely.geometry import MultiLineString, MultiPolygon, Polygon, box
-from shapely.geometry.polygon import orient
 from shapely.ops import unary_union
 from shapely.prepared import prep
 
@@ -139,8 +138,7 @@ def are_nested(contours: Sequence[list[Polygon]]) -> bool:
 
 
 def split(polygons: Sequence[Polygon]) -> list[Polygon]:
-    """Polygons whose longitudes may go beyond 180, in parts none of which crosses the 180th meridian (RFC 7946, 3.1.9),
-    their outer rings counterclockwise and their holes clockwise (3.1.6)."""
+    """Polygons whose longitudes may go beyond 180, in parts none of which crosses the 180th meridian (RFC 7946, 3.1.9)."""
     found: list[Polygon] = []
     for polygon in polygons:
         west, _, east, _ = polygon.bounds
@@ -150,7 +148,18 @@ def split(polygons: Sequence[Polygon]) -> list[Polygon]:
         for turn in (-360.0, 0.0, 360.0):
             parts = parts_of(polygon.intersection(box(-180 + turn, -90, 180 + turn, 90)))
             found += [translate(part, -turn) for part in parts]
-    return [orient(rounded(each)) for each in found]
+    return found
+
+
+def closed_rings(polygon: Polygon) -> list[list[list[float]]]:
+    """The rings of a polygon with DECIMALS, the outer one first and counterclockwise, holes clockwise (RFC 7946, 3.1.6)."""
+    found: list[list[list[float]]] = []
+    for ring in (polygon.exterior, *polygon.interiors):
+        points = np.array(ring.coords).round(DECIMALS)
+        x, y = (points - points[0]).T
+        is_counterclockwise = (x[:-1] * y[1:] - x[1:] * y[:-1]).sum() > 0
+        found.append(points[:: 1 if is_counterclockwise == (not found) else -1].tolist())
+    return found
 
 
 def parts_of(shape: Any) -> list[Polygon]:

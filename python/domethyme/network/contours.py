@@ -6,7 +6,8 @@ What lies inside. A point belongs to the nearest road, if that is within the all
 reached, but at least 100 m, and at most 200 m or two steps of the grid, whichever is more. It is inside if the part of
 the road there is reached. The field is the difference of two distances in metres: to the nearest road that isn't reached,
 or the allowance if that is less, minus the distance to the nearest road that is. Both are taken from points along the
-roads, half a step apart. The contour is the line where the field is 0.
+roads, half a step apart: those that are nearest to a point of the field or to one beside it, which are found once for all
+limits. The contour is the line where the field is 0.
 
 The grid. Its step is a power of two of metres, at most 1/200 of the contour's width or height, whichever is less, but at
 least half a metre. It is greater for a contour so long and narrow that the field would have more than MAX_POINTS. A
@@ -24,13 +25,15 @@ from typing import NamedTuple
 
 import numpy as np
 from contourpy import FillType, contour_generator
+from numpy.typing import NDArray
 from scipy.ndimage import distance_transform_edt
 from shapely.geometry import Polygon, box as rectangle
 from shapely.ops import unary_union
 
 from .contour_shapes import parts_of, rounded
-from .grid import Ints, concat_ranges
-from .reach import DECIMALS, Box, Levels, Plane, Reach, Vertices
+from .grid import Ints
+from .groups import expand
+from .reach import DECIMALS, Box, Levels, Plane, Reach
 from .sphere import Floats
 
 # The allowance: the share of the extent, and its limits in metres and in steps.
@@ -84,10 +87,14 @@ class Mesh(NamedTuple):
         west, south = self.first_column * self.step, self.first_row * self.step
         return Box(west, south, west + self.columns * self.step, south + self.rows * self.step)
 
-    def squares(self, points: Floats, per_step: int) -> tuple[Ints, Ints]:
-        """The rows and columns of the squares in which points lie, of which a step has so many."""
-        found = np.floor(points * (per_step / self.step)).astype(np.int64)
-        return found[:, 1] - per_step * self.first_row, found[:, 0] - per_step * self.first_column
+    def halves(self, points: Floats) -> tuple[Ints, NDArray[np.bool_]]:
+        """The squares of half a step in which points lie, numbered row by row, of those that are on the grid; and which
+        are."""
+        columns, rows = (np.floor(axis * (2 / self.step)).astype(np.int64) for axis in points.T)
+        columns -= 2 * self.first_column
+        rows -= 2 * self.first_row
+        is_on = (0 <= rows) & (rows < 2 * self.rows) & (0 <= columns) & (columns < 2 * self.columns)
+        return (rows * (2 * self.columns) + columns)[is_on], is_on
 
 
 class Contour(NamedTuple):
@@ -185,104 +192,122 @@ def united(parts: Sequence[list[Polygon]]) -> list[Polygon]:
 
 
 class Field:
-    """The field on a grid, with its samples: arrays of a number for each point, row by row.
+    """The roads about the points of a grid, by arrays of a number for each point, row by row.
 
     earliest   the least level of the points of roads in the square of half a step around a point; NONE for none
     latest     the greatest level of these; 0 for none
     forced     the level from which on a point is inside because of the nodes in its square; NONE if there are none
+    nearest    the number of the nearest point that has points of roads in its square
+    owner      the least level of these
+    away       the metres to there
     """
 
     def __init__(self, reach: Reach, mesh: Mesh) -> None:
-        self.mesh, count = mesh, len(reach.limits)
-        shape = 2 * mesh.rows, 2 * mesh.columns
-        self.earliest, self.latest = np.full(shape, NONE, np.uint8), np.zeros(shape, np.uint8)
-        near = reach.edges_near(mesh.box)
-        # of shorter edges both ends are points enough
-        for edges in reach.chunks(near[reach.metres_of(near) > mesh.step / 2]):
-            vertices = sampled(reach.vertices(edges), mesh.step / 2)
-            is_inside = mesh.box.has(vertices.points)
-            levels = reach.shares(edges).levels(vertices.rows[is_inside], vertices.shares[is_inside])
-            self._add(vertices.points[is_inside], levels, count)
-        nodes, points = reach.nodes_in(mesh.box)
-        levels = reach.node_levels(nodes)
-        self._add(points, levels, count)
-        self._force(points, levels, count)
+        self.mesh, self._half = mesh, mesh.step / 2
+        self._shape = 2 * mesh.rows, 2 * mesh.columns
+        self.earliest, self.latest = np.full(mesh.points, NONE, np.uint8), np.zeros(mesh.points, np.uint8)
+        self._add_roads(reach)
+        self._add_nodes(reach)
+        is_free = self.earliest.reshape(self._shape) == NONE
+        rows, columns = distance_transform_edt(is_free, return_distances=False, return_indices=True)
+        self.nearest = rows * np.int32(self._shape[1]) + columns
+        self.owner = self.earliest[self.nearest]
+        rows -= np.arange(self._shape[0], dtype=np.int32)[:, None]
+        columns -= np.arange(self._shape[1], dtype=np.int32)
+        self.away = self._half * np.sqrt(rows * rows + columns * columns)
 
-    def _add(self, points: Floats, levels: Levels, count: int) -> None:
-        """Adds points of roads."""
-        widen(self.earliest, self.latest, self.mesh.squares(points, 2), levels, count)
+    def _add_roads(self, reach: Reach) -> None:
+        """Adds points of roads, half a step apart. Shorter roads have their nodes alone."""
+        for edges in reach.chunks(reach.edges_near(self.mesh.box)):
+            edges = edges[reach.metres_of(edges) > self._half]
+            vertices = reach.vertices(edges)
+            parts = np.maximum(1, np.ceil(vertices.metres / self._half)).astype(np.int64)
+            rows, number = expand(parts + 1)
+            shares = number / parts[rows]
+            numbers, is_on = self.mesh.halves(vertices.at(rows, shares))
+            widen(self.earliest, self.latest, numbers, reach.shares(edges).levels(rows[is_on], shares[is_on]))
 
-    def _force(self, points: Floats, levels: Levels, count: int) -> None:
-        """Sets the points of the squares in which nodes lie, by their levels."""
-        shape = self.mesh.rows, self.mesh.columns
-        least, greatest = np.full(shape, NONE, np.uint8), np.zeros(shape, np.uint8)
-        squares = self.mesh.squares(points, 1)
-        widen(least, greatest, squares, levels, count)
-        self.forced = least.repeat(2, axis=0).repeat(2, axis=1)
-        differ = np.flatnonzero(least[squares] != greatest[squares])
-        if len(differ):
-            self._halve(points[differ], levels[differ], squares[0][differ], squares[1][differ])
+    def _add_nodes(self, reach: Reach) -> None:
+        """Adds the nodes, and sets the points of the squares in which they lie. If nodes of a square differ, a half is set
+        by one with the least level, and the other by one with the greatest, each on the side of its node."""
+        height, width = self.mesh.rows, self.mesh.columns
+        least, greatest = np.full(height * width, NONE, np.uint8), np.zeros(height * width, np.uint8)
+        first, last = np.empty((height * width, 2)), np.empty((height * width, 2))
+        for points, levels in reach.nodes_near(self.mesh.box):
+            numbers, is_on = self.mesh.halves(points)
+            points, levels = points[is_on], levels[is_on]
+            squares = numbers // (4 * width) * width + numbers % (2 * width) // 2
+            widen(self.earliest, self.latest, numbers, levels)
+            widen(least, greatest, squares, levels)
+            for places, extreme in ((first, least), (last, greatest)):
+                is_extreme = levels == extreme[squares]
+                places[squares[is_extreme]] = points[is_extreme]
+        forced = np.empty((height, 2, width, 2), np.uint8)
+        forced[:] = least.reshape(height, 1, width, 1)
+        squares = np.flatnonzero(least < greatest)
+        east, north = (last[squares] - first[squares]).T
+        is_across = np.abs(east) >= np.abs(north)
+        is_ahead = np.where(is_across, east, north) >= 0
+        for up, right in itertools.product((0, 1), repeat=2):
+            is_last = np.where(is_across, right, up) == is_ahead
+            forced[squares // width, up, squares % width, right] = np.where(is_last, greatest[squares], least[squares])
+        self.forced = forced.reshape(self._shape)
 
-    def _halve(self, points: Floats, levels: Levels, rows: Ints, columns: Ints) -> None:
-        """Sets the points of squares whose nodes differ: one half by the node with the least level, the other by that
-        with the greatest, each on the side of its node."""
-        square = rows * self.mesh.columns + columns
-        order = np.lexsort((levels, square))
-        is_first = np.append(True, np.diff(square[order]) > 0)
-        least, greatest = order[is_first], order[np.append(is_first[1:], True)]
-        way = points[greatest] - points[least]
-        is_across = np.abs(way[:, 0]) >= np.abs(way[:, 1])
-        is_turned = np.where(is_across, way[:, 0], way[:, 1]) < 0
-        for up in (0, 1):
-            for right in (0, 1):
-                is_late = (np.where(is_across, right, up) == 1) != is_turned
-                here = 2 * rows[least] + up, 2 * columns[least] + right
-                self.forced[here] = np.where(is_late, levels[greatest], levels[least])
+    def _differences(self, points: Ints, limit: int, allowance: float) -> Floats:
+        """The field of a limit at points, by their numbers, none of which is at a side: above 0 inside."""
+        width = self._shape[1]
+        reached, missed = np.full(len(points), np.inf), np.full(len(points), allowance)
+        for up, right in itertools.product((-1, 0, 1), repeat=2):
+            near = self.nearest.ravel()[points + up * width + right]
+            rows, columns = near // width - points // width, near % width - points % width
+            away = self._half * np.sqrt(rows * rows + columns * columns)
+            np.minimum(reached, away, out=reached, where=self.earliest[near] <= limit)
+            np.minimum(missed, away, out=missed, where=self.latest[near] > limit)
+        return missed - reached
 
-    def _values(self, limit: int, allowance: float) -> Floats:
-        """The field of a limit: above 0 inside."""
-        half = self.mesh.step / 2
-        missed = self.latest > limit
-        found = np.full(missed.shape, allowance)
-        if missed.any():
-            np.minimum(found, half * distance_transform_edt(~missed), out=found)
-        reached = self.earliest <= limit
-        found -= half * distance_transform_edt(~reached) if reached.any() else 2 * allowance
-        is_forced = self.forced != NONE
-        is_inside = np.where(is_forced, self.forced <= limit, found >= 0)
+    def _values(self, limit: int, allowance: float, box: tuple[slice, slice]) -> Floats:
+        """What contours of a limit are drawn by, in a part of the grid: above 0 inside, and beside the line by the field."""
+        forced = self.forced[box]
+        is_inside = np.where(forced == NONE, (self.owner[box] <= limit) & (self.away[box] <= allowance), forced <= limit)
         # the line divides the way between two points by their values: 1 to 3 at most, and on the finest grids in the middle
-        least, most = half / 2, half * (1.5 if half >= MIN_STEP else 0.5)
-        values = np.clip(np.where(is_inside == (found >= 0), np.abs(found), 0.0), least, most)
-        return np.where(is_inside, values, -values)
+        least, most = self._half / 2, self._half * (1.5 if self._half >= MIN_STEP else 0.5)
+        values = np.where(is_inside, most, -most)
+        line = np.nonzero(borders(is_inside))
+        field = self._differences((line[0] + box[0].start) * self._shape[1] + line[1] + box[1].start, limit, allowance)
+        is_inside = np.where(forced[line] == NONE, field >= 0, forced[line] <= limit)
+        field = np.clip(np.where(is_inside == (field >= 0), np.abs(field), 0.0), least, most)
+        values[line] = np.where(is_inside, field, -field)
+        return values
 
     def polygons(self, limit: int, allowance: float) -> Iterator[list[Floats]]:
         """The polygons of a limit in the plane, each by its rings, the outer one first."""
-        values = self._values(limit, allowance)
+        is_reached = self.earliest.reshape(self._shape) <= limit
+        found = [np.flatnonzero(is_reached.any(axis=axis)) for axis in (1, 0)]
+        if not len(found[0]):
+            return
+        more = int(allowance / self._half) + 2
+        rows, columns = (slice(max(0, int(some[0]) - more), int(some[-1]) + more) for some in found)
+        values = self._values(limit, allowance, (rows, columns))
         lines = contour_generator(z=values, fill_type=FillType.OuterOffset).filled(0.0, 4 * self.mesh.step)
+        corner = 2 * self.mesh.first_column + columns.start, 2 * self.mesh.first_row + rows.start
         for points, offsets in zip(*lines):
             # (one of both is a whole number, but for last bits)
-            places = (points.round(9) + 0.5) * (self.mesh.step / 2)
-            places += (self.mesh.first_column * self.mesh.step, self.mesh.first_row * self.mesh.step)
+            places = (points.round(9) + 0.5 + corner) * self._half
             yield [places[begin:end] for begin, end in zip(offsets, offsets[1:])]
 
 
-def widen(least: Levels, greatest: Levels, squares: tuple[Ints, Ints], levels: Levels, count: int) -> None:
-    """Lowers the least and raises the greatest level of squares, by their rows and columns, to levels from 0 to a count."""
-    for level in range(count + 1):
-        here = squares[0][levels == level], squares[1][levels == level]
+def borders(is_inside: NDArray[np.bool_]) -> NDArray[np.bool_]:
+    """Which points are beside one on the other side of the line. At the sides of the array there are none."""
+    found = np.zeros_like(is_inside)
+    here = is_inside[1:-1, 1:-1]
+    beside = is_inside[2:, 1:-1], is_inside[:-2, 1:-1], is_inside[1:-1, 2:], is_inside[1:-1, :-2]
+    found[1:-1, 1:-1] = np.any([there != here for there in beside], axis=0)
+    return found
+
+
+def widen(least: Levels, greatest: Levels, squares: Ints, levels: Levels) -> None:
+    """Lowers the least and raises the greatest levels of squares, by their numbers, to levels."""
+    for level in np.flatnonzero(np.bincount(levels)).astype(np.uint8):
+        here = squares[levels == level]
         least[here] = np.minimum(least[here], level)
         greatest[here] = np.maximum(greatest[here], level)
-
-
-def sampled(vertices: Vertices, spacing: float) -> Vertices:
-    """Points along edges, at most so many metres apart: their vertices and others between."""
-    away = np.zeros_like(vertices.points)
-    away[:-1] = np.diff(vertices.points, axis=0)
-    away[vertices.is_last] = 0.0
-    more = np.append(np.diff(vertices.shares), 0.0)[: len(vertices.shares)]
-    more[vertices.is_last] = 0.0
-    counts = np.maximum(1, np.ceil(np.hypot(away[:, 0], away[:, 1]) / spacing)).astype(np.int64)
-    which, number = concat_ranges(np.zeros(len(counts), np.int64), counts)
-    part = number / counts[which]
-    points = vertices.points[which] + away[which] * part[:, None]
-    return Vertices(vertices.rows[which], points, vertices.shares[which] + more[which] * part, vertices.is_last[which])

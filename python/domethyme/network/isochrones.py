@@ -9,9 +9,7 @@ import re
 from collections.abc import Callable, Sequence
 from typing import Any, Literal, NamedTuple, get_args
 
-from shapely.geometry import Polygon
-
-from .contour_shapes import denoised, generalized, split
+from .contour_shapes import closed_rings, denoised, generalized, split
 from .contours import contours
 from .geo import Point
 from .grid import Ints
@@ -125,11 +123,6 @@ def geometries(reach: Reach, style: Style) -> list[dict[str, Any] | None]:
     if style.shape == "polygons":
         return [geometry("Polygon", parts) for parts in rings]
     return [geometry("LineString", [ring for part in parts for ring in part]) for parts in rings]
-
-
-def closed_rings(polygon: Polygon) -> list[list[list[float]]]:
-    """The rings of a polygon, the outer one first."""
-    return [as_lists(ring.coords) for ring in (polygon.exterior, *polygon.interiors)]
 
 
 def as_lists(points: Sequence[Point]) -> list[list[float]]:

@@ -7,6 +7,7 @@ road is reached from its first point, from its last point, and from the places o
 Limits are in the unit of weights and rise. A level is the number, from 0, of the first limit within which something is
 reached; what isn't reached within any has the number of limits as its level.
 """
+import itertools
 from collections.abc import Collection, Iterator, Sequence
 from typing import NamedTuple
 
@@ -16,6 +17,7 @@ from numpy.typing import NDArray
 from .from_tables import FARTHEST_END
 from .geo import EARTH_RADIUS, Point, split_at_antimeridian
 from .grid import Grid, Ints, concat_ranges
+from .groups import first_of_equal
 from .indexes import wrapped_difference
 from .net_file import UNITS, MappedNetwork
 from .sphere import Floats, great_circle_metres, unit_vectors
@@ -73,8 +75,10 @@ class Box(NamedTuple):
 
     @classmethod
     def around(cls, points: Floats) -> "Box":
-        """The smallest one with all of the points."""
-        return cls(*points.min(axis=0).tolist(), *points.max(axis=0).tolist())
+        """The smallest one with all of the points. Without any its west is infinite, and it adds nothing to others."""
+        x, y = points.T
+        least, most = ([float(axis.min(initial=np.inf)) for axis in (x, y)], [float(axis.max(initial=-np.inf)) for axis in (x, y)])
+        return cls(*least, *most)
 
     def grown(self, metres: float) -> "Box":
         return Box(self.west - metres, self.south - metres, self.east + metres, self.north + metres)
@@ -95,18 +99,20 @@ class Box(NamedTuple):
         return self.east - self.west, self.north - self.south
 
     def has(self, points: Floats) -> NDArray[np.bool_]:
-        found: NDArray[np.bool_] = ((self[:2] <= points) & (points <= self[2:])).all(axis=1)
+        x, y = points.T
+        found: NDArray[np.bool_] = (self.west <= x) & (x <= self.east) & (self.south <= y) & (y <= self.north)
         return found
 
 
 class Vertices(NamedTuple):
     """The points of edges, one edge after the other: the row of the edge among those that were given, the point in the
-    plane, the share of the edge's metres before it, and whether it is the edge's last point."""
+    plane, the share of the edge's metres before it, and whether it is the edge's last point; and the metres of each edge."""
 
     rows: Ints
     points: Floats
     shares: Floats
     is_last: NDArray[np.bool_]
+    metres: Floats
 
     def at(self, rows: Ints, shares: Floats) -> Floats:
         """The points at shares of edges, each on the straight line between two vertices."""
@@ -190,6 +196,7 @@ class Reach:
         if not self.limits or self.limits[0] < 0 or any(low >= high for low, high in zip(self.limits, self.limits[1:])):
             raise ValueError("limits have to be numbers from 0, each greater than the one before")
         self._places = [place for place in places if 0 < place.fraction < 1]
+        self._edges_of_places = np.array([place.edge for place in self._places], dtype=np.int64)
         self._parts = [part for place in self._places for part in self._parts_at(place)]
         self._reached = np.flatnonzero((self._lengths >= 0) & (self._lengths <= self.limits[-1]))
         self.plane, self.edges = Plane(0, METRES_OF_DEGREE), np.empty(0, np.int64)
@@ -202,27 +209,31 @@ class Reach:
         """Lays the plane about the middle of the reached nodes and the places, which may lie on both sides of the 180th
         meridian."""
         network = self.network
-        firsts = network.edge_begin[np.array([place.edge for place in self._places], dtype=np.int64)]
-        points = np.concatenate((self._units_of(self._reached), network.points[firsts]))
-        first = int(points[0, 0])
-        away = wrapped_difference(points[:, 0].astype(np.int64) - first)
+        lons, lats = network.points[network.edge_begin[self._edges_of_places]].T
+        lons = np.concatenate((network.node_lon[self._reached], lons))
+        lats = np.concatenate((network.node_lat[self._reached], lats))
+        first = int(lons[0])
+        away = wrapped_difference(lons.astype(np.int64) - first)
         middle = int(wrapped_difference(np.array([first + (int(away.min()) + int(away.max())) // 2]))[0])
-        lat = (int(points[:, 1].min()) + int(points[:, 1].max())) / 2 / UNITS
+        lat = (int(lats.min()) + int(lats.max())) / 2 / UNITS
         self.plane = Plane(middle, METRES_OF_DEGREE * max(float(np.cos(np.radians(lat))), 0.01))
 
     def _set_boxes(self) -> None:
         """Sets the boxes: around the nodes and places, and then what is reached of edges near by, but for those that are
         so short that no grid shows them."""
-        points, levels = self.plane.of(self._units_of(self._reached)), self.node_levels(self._reached)
-        here = [self.vertices(np.array([each.edge])).at(np.array([0]), np.array([each.fraction])) for each in self._places]
-        for limit in range(len(self.limits)):
-            some = np.concatenate((points[levels <= limit], *here))
-            if len(some):
-                box = Box.around(some)
+        fractions = np.array([place.fraction for place in self._places])
+        here = self.vertices(self._edges_of_places).at(np.arange(len(fractions)), fractions)
+        boxes = [Box.around(here) for _ in self.limits]
+        for nodes in self.chunks(self._reached):
+            points, levels = self.plane.of(self._units_of(nodes)), self._levels_by_length(nodes)
+            for limit, box in enumerate(boxes):
+                boxes[limit] = box.with_(Box.around(points[levels == limit]))
+        for limit, box in enumerate(itertools.accumulate(boxes, Box.with_)):
+            if box.west < np.inf:
                 self.edges = self.edges_near(box.grown(FARTHEST_END))
-                long = self.edges[self.metres_of(self.edges) > min(box.sides) / SHORT]
-                for edges in self.chunks(long):
-                    box = self._around(edges, limit, box)
+                short = min(box.sides) / SHORT
+                for edges in self.chunks(self.edges):
+                    box = self._around(edges[self.metres_of(edges) > short], limit, box)
                 self.boxes[limit] = box
 
     def _around(self, edges: Ints, limit: int, box: Box) -> Box:
@@ -233,8 +244,8 @@ class Reach:
         vertices, shares = self.vertices(edges), self.shares(edges)
         rows, lows, highs = shares.intervals(limit)
         ends = vertices.at(np.tile(rows, 2), np.concatenate((lows, highs)))
-        points = np.concatenate((vertices.points[shares.levels(vertices.rows, vertices.shares) <= limit], ends))
-        return box.with_(Box.around(points)) if len(points) else box
+        is_reached = shares.levels(vertices.rows, vertices.shares) <= limit
+        return box.with_(Box.around(ends)).with_(Box.around(vertices.points[is_reached]))
 
     def _units_of(self, nodes: Ints) -> NDArray[np.int32]:
         """Where nodes lie, in units of a degree."""
@@ -255,12 +266,12 @@ class Reach:
         """The edges in a box, and others."""
         return self._near(self.network.edge_grid, len(self.network.edge_begin) - 1, box)
 
-    def nodes_in(self, box: Box) -> tuple[Ints, Floats]:
-        """The nodes in a box, from 0, and their points in the plane."""
+    def nodes_near(self, box: Box) -> Iterator[tuple[Floats, Levels]]:
+        """The nodes in a box, and others near it, EDGES at a time: their points in the plane, and their levels."""
         nodes = self._near(self.network.node_grid, len(self.network.node_lon), box)
-        points = self.plane.of(self._units_of(nodes))
-        is_inside = box.has(points)
-        return nodes[is_inside], points[is_inside]
+        levels = self.node_levels(nodes)
+        for low in range(0, len(nodes), EDGES):
+            yield self.plane.of(self._units_of(nodes[low : low + EDGES])), levels[low : low + EDGES]
 
     def _near(self, grid: Grid, count: int, box: Box) -> Ints:
         """The things of a grid with so many that lie in the circle around a box."""
@@ -276,18 +287,19 @@ class Reach:
 
     def node_levels(self, nodes: Ints) -> Levels:
         """The levels of nodes. Copies of a node, which turn restrictions make, have the least level of all copies."""
+        found, network = self._levels_by_length(nodes), self.network
+        copies = np.flatnonzero(network.node_ends[nodes])
+        copies = copies[np.argsort(found[copies], kind="stable")]
+        same = (column[nodes[copies]] for column in (network.node_lon, network.node_lat, network.node_osm))
+        found[copies] = found[copies[first_of_equal(*same)]]
+        return found
+
+    def _levels_by_length(self, nodes: Ints) -> Levels:
+        """The levels of nodes, each by itself."""
         lengths = self._lengths[nodes]
-        found = np.searchsorted(self.limits, lengths).astype(np.uint8)
-        found[lengths < 0] = len(self.limits)
-        network = self.network
-        several = np.flatnonzero(network.node_ends[nodes])
-        if len(several):
-            some = nodes[several]
-            keys = np.column_stack((network.node_lon[some], network.node_lat[some], network.node_osm[some]))
-            _, junction = np.unique(keys, axis=0, return_inverse=True)
-            least = np.full(junction.max() + 1, len(self.limits), np.uint8)
-            np.minimum.at(least, junction, found[several])
-            found[several] = least[junction]
+        found = np.full(len(nodes), len(self.limits), np.uint8)
+        for limit in self.limits:
+            found -= (lengths >= 0) & (lengths <= limit)
         return found
 
     def shares(self, edges: Ints) -> Shares:
@@ -341,9 +353,10 @@ class Reach:
         along = np.append(0.0, np.cumsum(steps))[: len(rows)]
         first, last = (np.flatnonzero(each) for each in (np.append(True, is_last[:-1])[: len(rows)], is_last))
         along -= along[first][rows]
-        whole = along[last][rows]
+        metres = along[last]
+        whole = metres[rows]
         shares = np.where(whole > 0, along / np.where(whole > 0, whole, 1.0), is_last)
-        return Vertices(rows, self.plane.of(points), shares, is_last)
+        return Vertices(rows, self.plane.of(points), shares, is_last, metres)
 
     def roads(self, limit: int) -> list[list[Point]]:
         """The lines of all roads that are reached within a limit, which is given by its number, as far as they are
