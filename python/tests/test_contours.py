@@ -134,8 +134,8 @@ def test_nodes_in_one_place_that_differ(made_town):
     field = Field(reach, meshes_of(reach)[0])
     of_square = {}
     for points, levels in reach.nodes_near(field.mesh.box):
-        numbers, is_on = field.mesh.halves(points)
-        rows, columns = np.divmod(numbers, 2 * field.mesh.columns)
+        numbers, is_on = field.mesh.nearest(points)
+        rows, columns = np.divmod(numbers, field.mesh.width)
         for square, level in zip(zip((rows // 2).tolist(), (columns // 2).tolist()), levels[is_on].tolist()):
             of_square.setdefault(square, set()).add(level)
     assert sum(len(levels) > 1 for levels in of_square.values()) > 3

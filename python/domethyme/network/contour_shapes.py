@@ -3,12 +3,12 @@
 A contour is a list of polygons. Contours are given the least first; each lies within the next one, before and afterwards.
 """
 import itertools
-from collections.abc import Iterator, Sequence
-from typing import Any, NamedTuple
+from collections.abc import Sequence
+from typing import Any
 
 import numpy as np
 from shapely.affinity import translate
-from shapely.geometry import MultiLineString, MultiPolygon, Polygon, box
+from shapely.geometry import MultiLineString, MultiPoint, MultiPolygon, Polygon, box
 from shapely.ops import unary_union
 from shapely.prepared import prep
 
@@ -29,11 +29,11 @@ def denoised(contours: Sequence[list[Polygon]], share: float) -> list[list[Polyg
     found: list[list[Polygon]] = []
     for polygons in contours:
         least = share * max((Polygon(each.exterior).area for each in polygons), default=0.0)
-        inner = [each.representative_point() for each in found[-1]] if found else []
+        inner = MultiPoint([each.representative_point() for each in found[-1]] if found else [])
         kept = [
             Polygon(each.exterior, [hole for hole in each.interiors if Polygon(hole).area >= least])
             for each in polygons
-            if Polygon(each.exterior).area >= least or any(map(prep(each).contains, inner))
+            if Polygon(each.exterior).area >= least or prep(each).intersects(inner)
         ]
         # (a part that stays may lie in a hole that doesn't)
         found.append(parts_of(unary_union(kept)) if len(kept) > 1 else kept)
@@ -54,9 +54,9 @@ def generalized(contours: Sequence[list[Polygon]], metres: float) -> list[list[P
     every = list(itertools.chain.from_iterable(itertools.chain.from_iterable(rings)))
     if not every or not metres:
         return [list(polygons) for polygons in contours]
-    lines = Lines(every)
+    lines = lines_of(every)
     for halving in range(HALVINGS):
-        shorter = lines.simplified(metres / 2**halving)
+        shorter = simplified(lines, metres / 2**halving)
         found = [[polygon for each in polygons for polygon in rebuilt(each, shorter)] for polygons in rings]
         if are_nested(found):
             return found
@@ -68,51 +68,34 @@ def rings_of(polygon: Polygon) -> list[Ring]:
     return [tuple(ring.coords)[:-1] for ring in (polygon.exterior, *polygon.interiors)]
 
 
-class Piece(NamedTuple):
-    """A line of Lines, and whether a ring has it backward."""
+def lines_of(rings: Sequence[Ring]) -> dict[Ring, list[Ring]]:
+    """The lines of which each ring consists, between the points where rings part or meet. A ring without such points is
+    one, which begins at its least point."""
+    beside: dict[Point, set[Point]] = {}
+    for ring in rings:
+        for before, here, behind in zip((ring[-1], *ring[:-1]), ring, (*ring[1:], ring[0])):
+            beside.setdefault(here, set()).update((before, behind))
+    found: dict[Ring, list[Ring]] = {}
+    for ring in rings:
+        at = [place for place, point in enumerate(ring) if len(beside[point]) > 2] or [ring.index(min(ring))]
+        twice = ring + ring
+        found[ring] = [twice[begin : end + 1] for begin, end in zip(at, (*at[1:], at[0] + len(ring)))]
+    return found
 
-    number: int
-    is_backward: bool
 
-
-class Lines:
-    """The lines of which rings consist, between the points where rings part or meet."""
-
-    def __init__(self, rings: Sequence[Ring]) -> None:
-        beside: dict[Point, set[Point]] = {}
-        for ring in rings:
-            for before, here, behind in zip((ring[-1], *ring[:-1]), ring, (*ring[1:], ring[0])):
-                beside.setdefault(here, set()).update((before, behind))
-        self._forks = {point for point, others in beside.items() if len(others) > 2}
-        self._numbers: dict[Ring, int] = {}
-        self._pieces = {ring: [self._piece(line) for line in self._cut(ring)] for ring in rings}
-
-    def _cut(self, ring: Ring) -> Iterator[Ring]:
-        """The lines of a ring. A ring without a fork is one, which begins at its least point."""
-        at = [place for place, point in enumerate(ring) if point in self._forks] or [ring.index(min(ring))]
-        for begin, end in zip(at, (*at[1:], at[0] + len(ring))):
-            yield (*ring[begin : end + 1], *ring[: max(0, end + 1 - len(ring))])
-
-    def _piece(self, line: Ring) -> Piece:
-        backward = line[::-1]
-        key = min(line, backward)
-        return Piece(self._numbers.setdefault(key, len(self._numbers)), key != line)
-
-    def simplified(self, metres: float) -> dict[Ring, Ring]:
-        """The rings with fewer points, by the rings as they were; closed."""
-        lats = [line[0][1] for line in self._numbers]
-        scale = np.array([METRES_OF_DEGREE * np.cos(np.radians((min(lats) + max(lats)) / 2)), METRES_OF_DEGREE])
-        shorter = MultiLineString([np.array(line) * scale for line in self._numbers]).simplify(metres)
-        points = ((np.array(line.coords) / scale).round(DECIMALS) for line in getattr(shorter, "geoms", [shorter]))
-        lines = [[(lon, lat) for lon, lat in line.tolist()] for line in points]
-        return {ring: self._ring(pieces, lines) for ring, pieces in self._pieces.items()}
-
-    @staticmethod
-    def _ring(pieces: Sequence[Piece], lines: Sequence[list[Point]]) -> Ring:
-        found: list[Point] = []
-        for number, is_backward in pieces:
-            found += (lines[number][::-1] if is_backward else lines[number])[bool(found) :]
-        return tuple(found)
+def simplified(rings: dict[Ring, list[Ring]], metres: float) -> dict[Ring, Ring]:
+    """Rings with fewer points, closed, by the rings as they were; these are given with their lines."""
+    every = list(dict.fromkeys(min(line, line[::-1]) for lines in rings.values() for line in lines))
+    lats = [line[0][1] for line in every]
+    scale = np.array([METRES_OF_DEGREE * np.cos(np.radians((min(lats) + max(lats)) / 2)), METRES_OF_DEGREE])
+    shorter = MultiLineString([np.array(line) * scale for line in every]).simplify(metres)
+    points = ((np.array(line.coords) / scale).round(DECIMALS) for line in getattr(shorter, "geoms", [shorter]))
+    found = {line: tuple((lon, lat) for lon, lat in some.tolist()) for line, some in zip(every, points)}
+    found |= {line[::-1]: some[::-1] for line, some in found.items()}
+    return {
+        ring: found[lines[0]][:1] + tuple(itertools.chain.from_iterable(found[line][1:] for line in lines))
+        for ring, lines in rings.items()
+    }
 
 
 def rebuilt(rings: Sequence[Ring], shorter: dict[Ring, Ring]) -> list[Polygon]:

@@ -27,7 +27,7 @@ import numpy as np
 from contourpy import FillType, contour_generator
 from numpy.typing import NDArray
 from scipy.ndimage import distance_transform_edt
-from shapely.geometry import Polygon, box as rectangle
+from shapely.geometry import MultiPolygon, Polygon, box as rectangle
 from shapely.ops import unary_union
 
 from .contour_shapes import parts_of, rounded
@@ -54,47 +54,44 @@ NONE = 255
 class Mesh(NamedTuple):
     """A grid.
 
-    step                         in metres
-    first_column, first_row      of its squares, counted from the origin of the plane
-    columns, rows                how many there are
-    first                        the first limit whose contour is drawn on it
-    behind                       the limit behind the last whose grid it is; contours of greater ones are drawn on it too
-    shown                        the box in which contours are drawn on it, None for all
+    step              in metres
+    left, bottom      the first column and row of the field's points, counted from the origin of the plane
+    width, height     how many columns and rows there are
+    first             the first limit whose contour is drawn on it; those of all greater ones are, too
+    shown             the box in which contours are drawn on it, None for all
     """
 
     step: float
-    first_column: int
-    first_row: int
-    columns: int
-    rows: int
+    left: int
+    bottom: int
+    width: int
+    height: int
     first: int
-    behind: int
     shown: Box | None
 
     @classmethod
-    def over(cls, box: Box, step: float, first: int = 0, behind: int = 0, shown: Box | None = None) -> "Mesh":
+    def over(cls, box: Box, step: float, first: int = 0, shown: Box | None = None) -> "Mesh":
         """The grid with all squares that have a part of a box, and one more around them."""
-        west, south, east, north = (int(np.floor(side / step)) for side in box)
-        return cls(step, west - 1, south - 1, east - west + 3, north - south + 3, first, behind, shown)
+        west, south, east, north = (2 * int(np.floor(side / step)) for side in box)
+        return cls(step, west - 2, south - 2, east - west + 6, north - south + 6, first, shown)
 
     @property
     def points(self) -> int:
         """How many points the field has."""
-        return 4 * self.columns * self.rows
+        return self.width * self.height
 
     @property
     def box(self) -> Box:
-        west, south = self.first_column * self.step, self.first_row * self.step
-        return Box(west, south, west + self.columns * self.step, south + self.rows * self.step)
+        west, south, width, height = (self.step / 2 * count for count in self[1:5])
+        return Box(west, south, west + width, south + height)
 
-    def halves(self, points: Floats) -> tuple[Ints, NDArray[np.bool_]]:
-        """The squares of half a step in which points lie, numbered row by row, of those that are on the grid; and which
-        are."""
+    def nearest(self, points: Floats) -> tuple[Ints, NDArray[np.bool_]]:
+        """The points of the field that are nearest to some points, numbered row by row, for those on the grid; and which
+        these are."""
         columns, rows = (np.floor(axis * (2 / self.step)).astype(np.int64) for axis in points.T)
-        columns -= 2 * self.first_column
-        rows -= 2 * self.first_row
-        is_on = (0 <= rows) & (rows < 2 * self.rows) & (0 <= columns) & (columns < 2 * self.columns)
-        return (rows * (2 * self.columns) + columns)[is_on], is_on
+        columns, rows = columns - self.left, rows - self.bottom
+        is_on = (0 <= rows) & (rows < self.height) & (0 <= columns) & (columns < self.width)
+        return (rows * self.width + columns)[is_on], is_on
 
 
 class Contour(NamedTuple):
@@ -117,8 +114,7 @@ def contours(reach: Reach) -> list[Contour]:
             box = reach.boxes[limit]
             assert box is not None  # (the first limit of a grid has one, and then all that follow)
             found[limit].append(cut(field.polygons(limit, allowance_of(box)), reach.plane, mesh.shown, drawn))
-            if limit < mesh.behind:
-                steps[limit] = mesh.step
+            steps[limit] = mesh.step  # (the last one is its own)
         drawn = mesh.shown
     return [Contour(united(parts), step) for parts, step in zip(found, steps)]
 
@@ -161,20 +157,20 @@ def meshes_of(reach: Reach) -> list[Mesh]:
             coarser = min(RATIO * step, next_step)
             shown = shown.aligned(coarser)
             more = min(rim, max(shown.sides) * RIM_SHARE)
-            found.append(Mesh.over(shown.grown(more), step, first, behind, shown))
+            found.append(Mesh.over(shown.grown(more), step, first, shown))
             step, first = coarser, behind
-    return [*found, *(Mesh.over(box, step, first, len(reach.boxes)) for step, first, box in served[-1:])]
+    return [*found, *(Mesh.over(box, step, first) for step, first, box in served[-1:])]
 
 
 def cut(polygons: Iterator[list[Floats]], plane: Plane, shown: Box | None, drawn: Box | None) -> list[Polygon]:
     """Polygons of the plane in degrees, what is in the box that is shown, and not in the one that is drawn already."""
     rings = ([plane.degrees(ring).round(DECIMALS) for ring in polygon] for polygon in polygons)
-    found = [Polygon(shell, holes) for shell, *holes in rings]
+    found = MultiPolygon([Polygon(shell, holes) for shell, *holes in rings])
     if shown is not None:
-        found = [part for polygon in found for part in parts_of(polygon.intersection(square_of(shown, plane)))]
+        found = found.intersection(square_of(shown, plane))
     if drawn is not None:
-        found = [part for polygon in found for part in parts_of(polygon.difference(square_of(drawn, plane)))]
-    return found
+        found = found.difference(square_of(drawn, plane))
+    return parts_of(found)
 
 
 def square_of(box: Box, plane: Plane) -> Polygon:
@@ -203,38 +199,35 @@ class Field:
     """
 
     def __init__(self, reach: Reach, mesh: Mesh) -> None:
-        self.mesh, self._half = mesh, mesh.step / 2
-        self._shape = 2 * mesh.rows, 2 * mesh.columns
-        self.earliest, self.latest = np.full(mesh.points, NONE, np.uint8), np.zeros(mesh.points, np.uint8)
+        self.mesh, self._half, shape = mesh, mesh.step / 2, (mesh.height, mesh.width)
+        self.earliest, self.latest = np.full(shape, NONE, np.uint8), np.zeros(shape, np.uint8)
         self._add_roads(reach)
         self._add_nodes(reach)
-        is_free = self.earliest.reshape(self._shape) == NONE
-        rows, columns = distance_transform_edt(is_free, return_distances=False, return_indices=True)
-        self.nearest = rows * np.int32(self._shape[1]) + columns
-        self.owner = self.earliest[self.nearest]
-        rows -= np.arange(self._shape[0], dtype=np.int32)[:, None]
-        columns -= np.arange(self._shape[1], dtype=np.int32)
+        rows, columns = distance_transform_edt(self.earliest == NONE, return_distances=False, return_indices=True)
+        self.nearest = rows * np.int32(mesh.width) + columns
+        self.owner = self.earliest.ravel()[self.nearest]
+        rows -= np.arange(mesh.height, dtype=np.int32)[:, None]
+        columns -= np.arange(mesh.width, dtype=np.int32)
         self.away = self._half * np.sqrt(rows * rows + columns * columns)
 
     def _add_roads(self, reach: Reach) -> None:
-        """Adds points of roads, half a step apart. Shorter roads have their nodes alone."""
-        for edges in reach.chunks(reach.edges_near(self.mesh.box)):
-            edges = edges[reach.metres_of(edges) > self._half]
+        """Adds points of roads, half a step apart. Of shorter roads both ends are points enough."""
+        for edges in reach.edges_near(self.mesh.box, self._half):
             vertices = reach.vertices(edges)
             parts = np.maximum(1, np.ceil(vertices.metres / self._half)).astype(np.int64)
             rows, number = expand(parts + 1)
             shares = number / parts[rows]
-            numbers, is_on = self.mesh.halves(vertices.at(rows, shares))
+            numbers, is_on = self.mesh.nearest(vertices.at(rows, shares))
             widen(self.earliest, self.latest, numbers, reach.shares(edges).levels(rows[is_on], shares[is_on]))
 
     def _add_nodes(self, reach: Reach) -> None:
         """Adds the nodes, and sets the points of the squares in which they lie. If nodes of a square differ, a half is set
         by one with the least level, and the other by one with the greatest, each on the side of its node."""
-        height, width = self.mesh.rows, self.mesh.columns
+        height, width = self.mesh.height // 2, self.mesh.width // 2
         least, greatest = np.full(height * width, NONE, np.uint8), np.zeros(height * width, np.uint8)
         first, last = np.empty((height * width, 2)), np.empty((height * width, 2))
         for points, levels in reach.nodes_near(self.mesh.box):
-            numbers, is_on = self.mesh.halves(points)
+            numbers, is_on = self.mesh.nearest(points)
             points, levels = points[is_on], levels[is_on]
             squares = numbers // (4 * width) * width + numbers % (2 * width) // 2
             widen(self.earliest, self.latest, numbers, levels)
@@ -251,29 +244,30 @@ class Field:
         for up, right in itertools.product((0, 1), repeat=2):
             is_last = np.where(is_across, right, up) == is_ahead
             forced[squares // width, up, squares % width, right] = np.where(is_last, greatest[squares], least[squares])
-        self.forced = forced.reshape(self._shape)
+        self.forced = forced.reshape(self.earliest.shape)
 
     def _differences(self, points: Ints, limit: int, allowance: float) -> Floats:
         """The field of a limit at points, by their numbers, none of which is at a side: above 0 inside."""
-        width = self._shape[1]
+        width = self.mesh.width
         reached, missed = np.full(len(points), np.inf), np.full(len(points), allowance)
         for up, right in itertools.product((-1, 0, 1), repeat=2):
             near = self.nearest.ravel()[points + up * width + right]
             rows, columns = near // width - points // width, near % width - points % width
             away = self._half * np.sqrt(rows * rows + columns * columns)
-            np.minimum(reached, away, out=reached, where=self.earliest[near] <= limit)
-            np.minimum(missed, away, out=missed, where=self.latest[near] > limit)
-        return missed - reached
+            np.minimum(reached, away, out=reached, where=self.earliest.ravel()[near] <= limit)
+            np.minimum(missed, away, out=missed, where=self.latest.ravel()[near] > limit)
+        found: Floats = missed - reached
+        return found
 
     def _values(self, limit: int, allowance: float, box: tuple[slice, slice]) -> Floats:
-        """What contours of a limit are drawn by, in a part of the grid: above 0 inside, and beside the line by the field."""
+        """What contours of a limit are drawn by in a part of the grid: above 0 inside, and beside the line by the field."""
         forced = self.forced[box]
         is_inside = np.where(forced == NONE, (self.owner[box] <= limit) & (self.away[box] <= allowance), forced <= limit)
         # the line divides the way between two points by their values: 1 to 3 at most, and on the finest grids in the middle
         least, most = self._half / 2, self._half * (1.5 if self._half >= MIN_STEP else 0.5)
         values = np.where(is_inside, most, -most)
         line = np.nonzero(borders(is_inside))
-        field = self._differences((line[0] + box[0].start) * self._shape[1] + line[1] + box[1].start, limit, allowance)
+        field = self._differences((line[0] + box[0].start) * self.mesh.width + line[1] + box[1].start, limit, allowance)
         is_inside = np.where(forced[line] == NONE, field >= 0, forced[line] <= limit)
         field = np.clip(np.where(is_inside == (field >= 0), np.abs(field), 0.0), least, most)
         values[line] = np.where(is_inside, field, -field)
@@ -281,7 +275,7 @@ class Field:
 
     def polygons(self, limit: int, allowance: float) -> Iterator[list[Floats]]:
         """The polygons of a limit in the plane, each by its rings, the outer one first."""
-        is_reached = self.earliest.reshape(self._shape) <= limit
+        is_reached = self.earliest <= limit
         found = [np.flatnonzero(is_reached.any(axis=axis)) for axis in (1, 0)]
         if not len(found[0]):
             return
@@ -289,7 +283,7 @@ class Field:
         rows, columns = (slice(max(0, int(some[0]) - more), int(some[-1]) + more) for some in found)
         values = self._values(limit, allowance, (rows, columns))
         lines = contour_generator(z=values, fill_type=FillType.OuterOffset).filled(0.0, 4 * self.mesh.step)
-        corner = 2 * self.mesh.first_column + columns.start, 2 * self.mesh.first_row + rows.start
+        corner = self.mesh.left + columns.start, self.mesh.bottom + rows.start
         for points, offsets in zip(*lines):
             # (one of both is a whole number, but for last bits)
             places = (points.round(9) + 0.5 + corner) * self._half
@@ -305,9 +299,9 @@ def borders(is_inside: NDArray[np.bool_]) -> NDArray[np.bool_]:
     return found
 
 
-def widen(least: Levels, greatest: Levels, squares: Ints, levels: Levels) -> None:
-    """Lowers the least and raises the greatest levels of squares, by their numbers, to levels."""
+def widen(least: Levels, greatest: Levels, numbers: Ints, levels: Levels) -> None:
+    """Lowers least and raises greatest levels, at numbers that count row by row, to levels."""
     for level in np.flatnonzero(np.bincount(levels)).astype(np.uint8):
-        here = squares[levels == level]
-        least[here] = np.minimum(least[here], level)
-        greatest[here] = np.maximum(greatest[here], level)
+        here = numbers[levels == level]
+        least.ravel()[here] = np.minimum(least.ravel()[here], level)
+        greatest.ravel()[here] = np.maximum(greatest.ravel()[here], level)

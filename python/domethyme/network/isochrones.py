@@ -11,7 +11,6 @@ from typing import Any, Literal, NamedTuple, get_args
 
 from .contour_shapes import closed_rings, denoised, generalized, split
 from .contours import contours
-from .geo import Point
 from .grid import Ints
 from .reach import PlaceOnRoad, Reach
 from .snapping import NO_ARC, RoadIndex, SnappedPoint
@@ -113,7 +112,7 @@ def geometries(reach: Reach, style: Style) -> list[dict[str, Any] | None]:
     """The geometry of each limit."""
     if style.shape == "roads":
         roads = (reach.roads(limit) for limit in range(len(reach.limits)))
-        return [geometry("LineString", [as_lists(line) for line in lines]) for lines in roads]
+        return [geometry("LineString", [[[*point] for point in line] for line in lines]) for lines in roads]
     polygons = [contour.polygons for contour in contours(reach)]
     if style.denoise:
         polygons = denoised(polygons, style.denoise)
@@ -123,10 +122,6 @@ def geometries(reach: Reach, style: Style) -> list[dict[str, Any] | None]:
     if style.shape == "polygons":
         return [geometry("Polygon", parts) for parts in rings]
     return [geometry("LineString", [ring for part in parts for ring in part]) for parts in rings]
-
-
-def as_lists(points: Sequence[Point]) -> list[list[float]]:
-    return [[lon, lat] for lon, lat in points]
 
 
 def geometry(kind: str, parts: list[Any]) -> dict[str, Any] | None:

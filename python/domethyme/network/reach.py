@@ -9,7 +9,7 @@ reached; what isn't reached within any has the number of limits as its level.
 """
 import itertools
 from collections.abc import Collection, Iterator, Sequence
-from typing import NamedTuple
+from typing import NamedTuple, TypeVar
 
 import numpy as np
 from numpy.typing import NDArray
@@ -23,8 +23,8 @@ from .net_file import UNITS, MappedNetwork
 from .sphere import Floats, great_circle_metres, unit_vectors
 
 METRES_OF_DEGREE = EARTH_RADIUS * np.pi / 180
-# Edges that are worked on together.
-EDGES = 1 << 17
+# Nodes, and edges, that are worked on together.
+CHUNK = 1 << 17
 # An edge is short beside a box if its metres are less than this part of the box's lesser side: a fifth of a grid's step
 # at most.
 SHORT = 2048
@@ -32,6 +32,7 @@ SHORT = 2048
 DECIMALS = 6
 
 Levels = NDArray[np.uint8]
+T = TypeVar("T", bound=np.generic)
 
 
 class PlaceOnRoad(NamedTuple):
@@ -76,9 +77,7 @@ class Box(NamedTuple):
     @classmethod
     def around(cls, points: Floats) -> "Box":
         """The smallest one with all of the points. Without any its west is infinite, and it adds nothing to others."""
-        x, y = points.T
-        least, most = ([float(axis.min(initial=np.inf)) for axis in (x, y)], [float(axis.max(initial=-np.inf)) for axis in (x, y)])
-        return cls(*least, *most)
+        return cls(*(axis.min(initial=np.inf) for axis in points.T), *(axis.max(initial=-np.inf) for axis in points.T))
 
     def grown(self, metres: float) -> "Box":
         return Box(self.west - metres, self.south - metres, self.east + metres, self.north + metres)
@@ -106,7 +105,7 @@ class Box(NamedTuple):
 
 class Vertices(NamedTuple):
     """The points of edges, one edge after the other: the row of the edge among those that were given, the point in the
-    plane, the share of the edge's metres before it, and whether it is the edge's last point; and the metres of each edge."""
+    plane, the share of the edge's metres before it, and whether it is the edge's last point; and the metres of edges."""
 
     rows: Ints
     points: Floats
@@ -166,12 +165,16 @@ def joined(rows: Ints, lows: Floats, highs: Floats) -> tuple[Ints, Floats, Float
     return rows[firsts], lows[firsts], np.maximum.reduceat(highs, firsts) if len(firsts) else highs
 
 
+def chunks_of(rows: NDArray[T]) -> Iterator[NDArray[T]]:
+    """The rows, CHUNK at a time."""
+    return (rows[low : low + CHUNK] for low in range(0, len(rows), CHUNK))
+
+
 class Reach:
     """What is reached of a network's roads within limits.
 
     limits    the limits, in the unit of weights
     plane     that in which boxes and points are, about the middle of what is reached
-    edges     the edges with all that is reached, and others near by, which rise
     boxes     for each limit the box of what is reached within it, but for parts of edges that are short beside it; None if
               nothing is
     """
@@ -198,80 +201,67 @@ class Reach:
         self._places = [place for place in places if 0 < place.fraction < 1]
         self._edges_of_places = np.array([place.edge for place in self._places], dtype=np.int64)
         self._parts = [part for place in self._places for part in self._parts_at(place)]
-        self._reached = np.flatnonzero((self._lengths >= 0) & (self._lengths <= self.limits[-1]))
-        self.plane, self.edges = Plane(0, METRES_OF_DEGREE), np.empty(0, np.int64)
+        self.plane = Plane(0, METRES_OF_DEGREE)
         self.boxes: list[Box | None] = [None] * len(self.limits)
-        if len(self._reached) or self._places:
-            self._set_plane()
-            self._set_boxes()
+        reached = np.flatnonzero((self._lengths >= 0) & (self._lengths <= self.limits[-1]))
+        if len(reached) or self._places:
+            self._set_plane(reached)
+            self._set_boxes(reached)
 
-    def _set_plane(self) -> None:
+    def _set_plane(self, reached: Ints) -> None:
         """Lays the plane about the middle of the reached nodes and the places, which may lie on both sides of the 180th
         meridian."""
         network = self.network
         lons, lats = network.points[network.edge_begin[self._edges_of_places]].T
-        lons = np.concatenate((network.node_lon[self._reached], lons))
-        lats = np.concatenate((network.node_lat[self._reached], lats))
-        first = int(lons[0])
-        away = wrapped_difference(lons.astype(np.int64) - first)
-        middle = int(wrapped_difference(np.array([first + (int(away.min()) + int(away.max())) // 2]))[0])
+        lons, lats = np.append(network.node_lon[reached], lons), np.append(network.node_lat[reached], lats)
+        away = wrapped_difference(lons.astype(np.int64) - int(lons[0]))
+        middle = int(lons[0]) + (int(away.min()) + int(away.max())) // 2
         lat = (int(lats.min()) + int(lats.max())) / 2 / UNITS
-        self.plane = Plane(middle, METRES_OF_DEGREE * max(float(np.cos(np.radians(lat))), 0.01))
+        east = METRES_OF_DEGREE * max(float(np.cos(np.radians(lat))), 0.01)
+        self.plane = Plane(int(wrapped_difference(np.array([middle]))[0]), east)
 
-    def _set_boxes(self) -> None:
+    def _set_boxes(self, reached: Ints) -> None:
         """Sets the boxes: around the nodes and places, and then what is reached of edges near by, but for those that are
         so short that no grid shows them."""
         fractions = np.array([place.fraction for place in self._places])
         here = self.vertices(self._edges_of_places).at(np.arange(len(fractions)), fractions)
         boxes = [Box.around(here) for _ in self.limits]
-        for nodes in self.chunks(self._reached):
+        for nodes in chunks_of(reached):
             points, levels = self.plane.of(self._units_of(nodes)), self._levels_by_length(nodes)
-            for limit, box in enumerate(boxes):
-                boxes[limit] = box.with_(Box.around(points[levels == limit]))
+            boxes = [box.with_(Box.around(points[levels == limit])) for limit, box in enumerate(boxes)]
         for limit, box in enumerate(itertools.accumulate(boxes, Box.with_)):
             if box.west < np.inf:
-                self.edges = self.edges_near(box.grown(FARTHEST_END))
-                short = min(box.sides) / SHORT
-                for edges in self.chunks(self.edges):
-                    box = self._around(edges[self.metres_of(edges) > short], limit, box)
+                for edges in self.edges_near(box.grown(FARTHEST_END), min(box.sides) / SHORT):
+                    box = box.with_(self._box_of(edges, limit, box))
                 self.boxes[limit] = box
 
-    def _around(self, edges: Ints, limit: int, box: Box) -> Box:
-        """The box with what is reached of edges within a limit too. Edges in the box needn't be looked at."""
+    def _box_of(self, edges: Ints, limit: int, known: Box) -> Box:
+        """The box of what is reached within a limit of those edges that aren't within a box."""
         begins = self.network.edge_begin[edges]
         rows, places = concat_ranges(begins, self.network.edge_begin[edges + 1] - begins)
-        edges = edges[np.unique(rows[~box.has(self.plane.of(self.network.points[places]))])]
+        edges = edges[np.unique(rows[~known.has(self.plane.of(self.network.points[places]))])]
         vertices, shares = self.vertices(edges), self.shares(edges)
         rows, lows, highs = shares.intervals(limit)
         ends = vertices.at(np.tile(rows, 2), np.concatenate((lows, highs)))
-        is_reached = shares.levels(vertices.rows, vertices.shares) <= limit
-        return box.with_(Box.around(ends)).with_(Box.around(vertices.points[is_reached]))
+        return Box.around(np.concatenate((vertices.points[shares.levels(vertices.rows, vertices.shares) <= limit], ends)))
 
     def _units_of(self, nodes: Ints) -> NDArray[np.int32]:
         """Where nodes lie, in units of a degree."""
         return np.column_stack((self.network.node_lon[nodes], self.network.node_lat[nodes]))
 
-    def metres_of(self, edges: Ints) -> Floats:
-        """The metres of edges, those of one of their arcs."""
-        arcs = np.minimum(self.network.edge_first[edges], len(self.network.edge_arcs) - 1)
-        found: Floats = self.network.arc_metres[self.network.edge_arcs[arcs]]
-        return found
-
-    @staticmethod
-    def chunks(edges: Ints) -> Iterator[Ints]:
-        """The edges, EDGES at a time."""
-        return (edges[low : low + EDGES] for low in range(0, len(edges), EDGES))
-
-    def edges_near(self, box: Box) -> Ints:
-        """The edges in a box, and others."""
-        return self._near(self.network.edge_grid, len(self.network.edge_begin) - 1, box)
+    def edges_near(self, box: Box, metres: float = -1.0) -> Iterator[Ints]:
+        """The edges in a box that are longer than so many metres, and others near it, which rise, some at a time."""
+        network = self.network
+        for edges in chunks_of(self._near(network.edge_grid, len(network.edge_begin) - 1, box)):
+            # (all arcs of an edge have its metres)
+            arcs = network.edge_arcs[np.minimum(network.edge_first[edges], len(network.edge_arcs) - 1)]
+            yield edges[network.arc_metres[arcs] > metres]
 
     def nodes_near(self, box: Box) -> Iterator[tuple[Floats, Levels]]:
-        """The nodes in a box, and others near it, EDGES at a time: their points in the plane, and their levels."""
+        """The nodes in a box, and others near it, some at a time: their points in the plane, and their levels."""
         nodes = self._near(self.network.node_grid, len(self.network.node_lon), box)
-        levels = self.node_levels(nodes)
-        for low in range(0, len(nodes), EDGES):
-            yield self.plane.of(self._units_of(nodes[low : low + EDGES])), levels[low : low + EDGES]
+        for some, levels in zip(chunks_of(nodes), chunks_of(self.node_levels(nodes))):
+            yield self.plane.of(self._units_of(some)), levels
 
     def _near(self, grid: Grid, count: int, box: Box) -> Ints:
         """The things of a grid with so many that lie in the circle around a box."""
@@ -313,12 +303,11 @@ class Reach:
         weights, is_first = network.arc_weight[arcs], network.arc_along[arcs] != self.towards
         groups = (counts.cumsum() - counts)[counts > 0]
         found = np.full((2, len(self.limits), len(edges)), -1.0)
-        for row, limit in enumerate(self.limits):
-            left = limit - lengths
-            share = np.where((lengths < 0) | (left < 0), -1.0, np.where(left < weights, left / np.maximum(weights, 1), 1.0))
-            for side, is_there in enumerate((is_first, ~is_first)):
-                if len(groups):
-                    found[side, row, counts > 0] = np.maximum.reduceat(np.where(is_there, share, -1.0), groups)
+        left = np.array(self.limits)[:, None] - lengths
+        share = np.where((lengths < 0) | (left < 0), -1.0, np.where(left < weights, left / np.maximum(weights, 1), 1.0))
+        if len(groups):
+            for side, is_there in zip(found, (is_first, ~is_first)):
+                side[:, counts > 0] = np.maximum.reduceat(np.where(is_there, share, -1.0), groups, axis=1)
         row_of = {edge: int(np.searchsorted(edges, edge)) for edge, _, _ in self._parts}
         is_here = {edge: row < len(edges) and edges[row] == edge for edge, row in row_of.items()}
         parts = [(row_of[edge], lows, highs) for edge, lows, highs in self._parts if is_here[edge]]
@@ -344,16 +333,16 @@ class Reach:
     def vertices(self, edges: Ints) -> Vertices:
         """The points of edges."""
         begins = self.network.edge_begin[edges]
-        rows, places = concat_ranges(begins, self.network.edge_begin[edges + 1] - begins)
-        points = self.network.points[places]
-        is_last = np.append(rows[1:] != rows[:-1], True)[: len(rows)]
+        counts = self.network.edge_begin[edges + 1] - begins
+        rows, places = concat_ranges(begins, counts)
+        points, ends = self.network.points[places], counts.cumsum()
+        is_last = np.zeros(len(rows), np.bool_)
+        is_last[ends - 1] = True
         sphere = unit_vectors(points[:, 0] / UNITS, points[:, 1] / UNITS)
-        steps = great_circle_metres(sphere[:-1], sphere[1:])
-        steps[is_last[:-1]] = 0.0
-        along = np.append(0.0, np.cumsum(steps))[: len(rows)]
-        first, last = (np.flatnonzero(each) for each in (np.append(True, is_last[:-1])[: len(rows)], is_last))
-        along -= along[first][rows]
-        metres = along[last]
+        steps = np.where(is_last[:-1], 0.0, great_circle_metres(sphere[:-1], sphere[1:]))
+        along = np.append(0.0, steps.cumsum())[: len(rows)]
+        along -= along[ends - counts][rows]
+        metres = along[ends - 1]
         whole = metres[rows]
         shares = np.where(whole > 0, along / np.where(whole > 0, whole, 1.0), is_last)
         return Vertices(rows, self.plane.of(points), shares, is_last, metres)
@@ -361,7 +350,9 @@ class Reach:
     def roads(self, limit: int) -> list[list[Point]]:
         """The lines of all roads that are reached within a limit, which is given by its number, as far as they are
         reached, with DECIMALS. None crosses the 180th meridian."""
-        return [line for edges in self.chunks(self.edges) for line in self._lines(edges, limit)]
+        box = self.boxes[limit]
+        chunks = self.edges_near(box.grown(FARTHEST_END)) if box else ()
+        return [line for edges in chunks for line in self._lines(edges, limit)]
 
     def _lines(self, edges: Ints, limit: int) -> Iterator[list[Point]]:
         rows, lows, highs = self.shares(edges).intervals(limit)
