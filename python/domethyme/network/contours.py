@@ -4,10 +4,9 @@
 
 What lies inside. A point belongs to the nearest road, if that is within the allowance: an eighth of the extent of what is
 reached, but at least 100 m, and at most 200 m or two steps of the grid, whichever is more. It is inside if the part of
-the road there is reached. The field is the difference of two distances in metres: to the nearest road that isn't reached,
-or the allowance if that is less, minus the distance to the nearest road that is. Both are taken from points along the
-roads, half a step apart: those that are nearest to a point of the field or to one beside it, which are found once for all
-limits. The contour is the line where the field is 0.
+the road there is reached. The nearest road is the one with the nearest of points that are half a step apart, and is found
+once for all limits. The field is the mean of nine points around, where one inside counts 1 and one outside -1; but inside it
+is at least 1/3, and outside at most -1/3. The contour is the line where the field is 0.
 
 The grid. Its step is a power of two of metres, at most 1/200 of the contour's width or height, whichever is less, but at
 least half a metre. It is greater for a contour so long and narrow that the field would have more than MAX_POINTS. A
@@ -26,7 +25,7 @@ from typing import NamedTuple
 import numpy as np
 from contourpy import FillType, contour_generator
 from numpy.typing import NDArray
-from scipy.ndimage import distance_transform_edt
+from scipy.ndimage import distance_transform_edt, uniform_filter
 from shapely.geometry import MultiPolygon, Polygon, box as rectangle
 from shapely.ops import unary_union
 
@@ -191,24 +190,21 @@ class Field:
     """The roads about the points of a grid, by arrays of a number for each point, row by row.
 
     earliest   the least level of the points of roads in the square of half a step around a point; NONE for none
-    latest     the greatest level of these; 0 for none
+    owner      the earliest of the nearest point that has one
+    away       the square of the distance to that, in half steps
     forced     the level from which on a point is inside because of the nodes in its square; NONE if there are none
-    nearest    the number of the nearest point that has points of roads in its square
-    owner      the least level of these
-    away       the metres to there
     """
 
     def __init__(self, reach: Reach, mesh: Mesh) -> None:
-        self.mesh, self._half, shape = mesh, mesh.step / 2, (mesh.height, mesh.width)
-        self.earliest, self.latest = np.full(shape, NONE, np.uint8), np.zeros(shape, np.uint8)
+        self.mesh, self._half = mesh, mesh.step / 2
+        self.earliest = np.full((mesh.height, mesh.width), NONE, np.uint8)
         self._add_roads(reach)
         self._add_nodes(reach)
         rows, columns = distance_transform_edt(self.earliest == NONE, return_distances=False, return_indices=True)
-        self.nearest = rows * np.int32(mesh.width) + columns
-        self.owner = self.earliest.ravel()[self.nearest]
+        self.owner = self.earliest.ravel()[rows * np.int32(mesh.width) + columns]
         rows -= np.arange(mesh.height, dtype=np.int32)[:, None]
         columns -= np.arange(mesh.width, dtype=np.int32)
-        self.away = self._half * np.sqrt(rows * rows + columns * columns)
+        self.away = rows * rows + columns * columns
 
     def _add_roads(self, reach: Reach) -> None:
         """Adds points of roads, half a step apart. Of shorter roads both ends are points enough."""
@@ -218,7 +214,7 @@ class Field:
             rows, number = expand(parts + 1)
             shares = number / parts[rows]
             numbers, is_on = self.mesh.nearest(vertices.at(rows, shares))
-            widen(self.earliest, self.latest, numbers, reach.shares(edges).levels(rows[is_on], shares[is_on]))
+            extend(np.minimum, self.earliest, numbers, reach.shares(edges).levels(rows[is_on], shares[is_on]))
 
     def _add_nodes(self, reach: Reach) -> None:
         """Adds the nodes, and sets the points of the squares in which they lie. If nodes of a square differ, a half is set
@@ -229,12 +225,12 @@ class Field:
         for points, levels in reach.nodes_near(self.mesh.box):
             numbers, is_on = self.mesh.nearest(points)
             points, levels = points[is_on], levels[is_on]
+            extend(np.minimum, self.earliest, numbers, levels)
             squares = numbers // (4 * width) * width + numbers % (2 * width) // 2
-            widen(self.earliest, self.latest, numbers, levels)
-            widen(least, greatest, squares, levels)
-            for places, extreme in ((first, least), (last, greatest)):
-                is_extreme = levels == extreme[squares]
-                places[squares[is_extreme]] = points[is_extreme]
+            for choose, found, places in ((np.minimum, least, first), (np.maximum, greatest, last)):
+                extend(choose, found, squares, levels)
+                is_found = levels == found[squares]
+                places[squares[is_found]] = points[is_found]
         forced = np.empty((height, 2, width, 2), np.uint8)
         forced[:] = least.reshape(height, 1, width, 1)
         squares = np.flatnonzero(least < greatest)
@@ -246,43 +242,21 @@ class Field:
             forced[squares // width, up, squares % width, right] = np.where(is_last, greatest[squares], least[squares])
         self.forced = forced.reshape(self.earliest.shape)
 
-    def _differences(self, points: Ints, limit: int, allowance: float) -> Floats:
-        """The field of a limit at points, by their numbers, none of which is at a side: above 0 inside."""
-        width = self.mesh.width
-        reached, missed = np.full(len(points), np.inf), np.full(len(points), allowance)
-        for up, right in itertools.product((-1, 0, 1), repeat=2):
-            near = self.nearest.ravel()[points + up * width + right]
-            rows, columns = near // width - points // width, near % width - points % width
-            away = self._half * np.sqrt(rows * rows + columns * columns)
-            np.minimum(reached, away, out=reached, where=self.earliest.ravel()[near] <= limit)
-            np.minimum(missed, away, out=missed, where=self.latest.ravel()[near] > limit)
-        found: Floats = missed - reached
-        return found
-
-    def _values(self, limit: int, allowance: float, box: tuple[slice, slice]) -> Floats:
-        """What contours of a limit are drawn by in a part of the grid: above 0 inside, and beside the line by the field."""
-        forced = self.forced[box]
-        is_inside = np.where(forced == NONE, (self.owner[box] <= limit) & (self.away[box] <= allowance), forced <= limit)
-        # the line divides the way between two points by their values: 1 to 3 at most, and on the finest grids in the middle
-        least, most = self._half / 2, self._half * (1.5 if self._half >= MIN_STEP else 0.5)
-        values = np.where(is_inside, most, -most)
-        line = np.nonzero(borders(is_inside))
-        field = self._differences((line[0] + box[0].start) * self.mesh.width + line[1] + box[1].start, limit, allowance)
-        is_inside = np.where(forced[line] == NONE, field >= 0, forced[line] <= limit)
-        field = np.clip(np.where(is_inside == (field >= 0), np.abs(field), 0.0), least, most)
-        values[line] = np.where(is_inside, field, -field)
-        return values
-
     def polygons(self, limit: int, allowance: float) -> Iterator[list[Floats]]:
         """The polygons of a limit in the plane, each by its rings, the outer one first."""
-        is_reached = self.earliest <= limit
-        found = [np.flatnonzero(is_reached.any(axis=axis)) for axis in (1, 0)]
+        far = allowance / self._half
+        found = [np.flatnonzero((self.earliest <= limit).any(axis=axis)) for axis in (1, 0)]
         if not len(found[0]):
             return
-        more = int(allowance / self._half) + 2
-        rows, columns = (slice(max(0, int(some[0]) - more), int(some[-1]) + more) for some in found)
-        values = self._values(limit, allowance, (rows, columns))
-        lines = contour_generator(z=values, fill_type=FillType.OuterOffset).filled(0.0, 4 * self.mesh.step)
+        rows, columns = (slice(max(0, int(some[0] - far) - 2), int(some[-1] + far) + 2) for some in found)
+        part = rows, columns
+        is_inside = (self.owner[part] <= limit) & (self.away[part] <= far * far)
+        is_inside = np.where(self.forced[part] == NONE, is_inside, self.forced[part] <= limit)
+        side = np.where(is_inside, np.int8(9), np.int8(-9))
+        # the line divides the way between two points by their values: 1 to 3 at most, and on the finest grids in the middle
+        least, around = np.int8(3 if self._half >= MIN_STEP else 9), uniform_filter(side, 3)
+        values = np.where(is_inside, np.maximum(around, least), np.minimum(around, -least))
+        lines = contour_generator(z=values, fill_type=FillType.OuterOffset).filled(0.0, 9.0)
         corner = self.mesh.left + columns.start, self.mesh.bottom + rows.start
         for points, offsets in zip(*lines):
             # (one of both is a whole number, but for last bits)
@@ -290,18 +264,8 @@ class Field:
             yield [places[begin:end] for begin, end in zip(offsets, offsets[1:])]
 
 
-def borders(is_inside: NDArray[np.bool_]) -> NDArray[np.bool_]:
-    """Which points are beside one on the other side of the line. At the sides of the array there are none."""
-    found = np.zeros_like(is_inside)
-    here = is_inside[1:-1, 1:-1]
-    beside = is_inside[2:, 1:-1], is_inside[:-2, 1:-1], is_inside[1:-1, 2:], is_inside[1:-1, :-2]
-    found[1:-1, 1:-1] = np.any([there != here for there in beside], axis=0)
-    return found
-
-
-def widen(least: Levels, greatest: Levels, numbers: Ints, levels: Levels) -> None:
-    """Lowers least and raises greatest levels, at numbers that count row by row, to levels."""
+def extend(choose: np.ufunc, found: Levels, numbers: Ints, levels: Levels) -> None:
+    """Has levels chosen from those found so far, at numbers that count row by row, and from others."""
     for level in np.flatnonzero(np.bincount(levels)).astype(np.uint8):
         here = numbers[levels == level]
-        least.ravel()[here] = np.minimum(least.ravel()[here], level)
-        greatest.ravel()[here] = np.maximum(greatest.ravel()[here], level)
+        found.ravel()[here] = choose(found.ravel()[here], level)
