@@ -13,7 +13,7 @@ from shapely.affinity import scale, translate
 from shapely.geometry import LineString, MultiPolygon, Point, Polygon, box as rectangle, shape
 
 from domethyme.network import contour_shapes, isochrones, net_file
-from domethyme.network.contours import Field, contours, meshes_of
+from domethyme.network.contours import contours, meshes_of
 from domethyme.network.indexes import UNITS
 from domethyme.network.isochrones import Style, features
 from domethyme.network.reach import DECIMALS, METRES_OF_DEGREE, PlaceOnRoad, Reach
@@ -131,11 +131,11 @@ def test_nodes_in_one_place_that_differ(made_town):
     net, _ = made_town
     found = lengths(net, {430: 0})
     reach = Reach(net, found, [80_000])
-    field = Field(reach, meshes_of(reach)[0])
+    (mesh,) = meshes_of(reach)
     of_square = {}
-    for points, levels in reach.nodes_near(field.mesh.box):
-        numbers, is_on = field.mesh.nearest(points)
-        rows, columns = np.divmod(numbers, field.mesh.width)
+    for points, levels in reach.nodes_near(mesh.box):
+        numbers, is_on = mesh.nearest(points)
+        rows, columns = np.divmod(numbers, mesh.width)
         for square, level in zip(zip((rows // 2).tolist(), (columns // 2).tolist()), levels[is_on].tolist()):
             of_square.setdefault(square, set()).add(level)
     assert sum(len(levels) > 1 for levels in of_square.values()) > 3

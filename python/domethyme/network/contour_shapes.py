@@ -54,7 +54,7 @@ def generalized(contours: Sequence[list[Polygon]], metres: float) -> list[list[P
     every = list(itertools.chain.from_iterable(itertools.chain.from_iterable(rings)))
     if not every or not metres:
         return [list(polygons) for polygons in contours]
-    lines = lines_of(every)
+    lines = split_at_forks(every)
     for halving in range(HALVINGS):
         shorter = simplified(lines, metres / 2**halving)
         found = [[polygon for each in polygons for polygon in rebuilt(each, shorter)] for polygons in rings]
@@ -68,7 +68,7 @@ def rings_of(polygon: Polygon) -> list[Ring]:
     return [tuple(ring.coords)[:-1] for ring in (polygon.exterior, *polygon.interiors)]
 
 
-def lines_of(rings: Sequence[Ring]) -> dict[Ring, list[Ring]]:
+def split_at_forks(rings: Sequence[Ring]) -> dict[Ring, list[Ring]]:
     """The lines of which each ring consists, between the points where rings part or meet. A ring without such points is
     one, which begins at its least point."""
     beside: dict[Point, set[Point]] = {}

@@ -4,15 +4,15 @@
 
 What lies inside. A point belongs to the nearest road, if that is within the allowance: an eighth of the extent of what is
 reached, but at least 100 m, and at most 200 m or two steps of the grid, whichever is more. It is inside if the part of
-the road there is reached. The nearest road is the one with the nearest of points that are half a step apart, and is found
-once for all limits. The field is the mean of nine points around, where one inside counts 1 and one outside -1; but inside it
-is at least 1/3, and outside at most -1/3. The contour is the line where the field is 0.
+the road there is reached. Roads are taken as points, half a step apart, and the nearest is found once for all limits. The
+field is the mean of the nine points around, where one inside counts 1 and one outside -1; but inside it is at least 1/3,
+and outside at most -1/3. The contour is the line where the field is 0.
 
 The grid. Its step is a power of two of metres, at most 1/200 of the contour's width or height, whichever is less, but at
 least half a metre. It is greater for a contour so long and narrow that the field would have more than MAX_POINTS. A
 square of a step has four points of the field, half a step apart. If there are nodes in a square, they determine which of
-its points are inside: all four if all of its nodes are reached, none if none is, and two if some are, as at a bridge. So
-the line passes within 0.7 steps of each node that is on its wrong side, whatever the roads are.
+its points are inside: all four if all of its nodes are reached, none if none is, and the western two if some are, as at a
+bridge. So the line passes within 0.7 steps of each node that is on its wrong side, whatever the roads are.
 
 How contours nest. The field of a greater limit is nowhere less. A line passes between two points of the field at least a
 unit of the last decimal away from both. So rounded lines cross neither themselves nor one another. If contours differ
@@ -187,85 +187,61 @@ def united(parts: Sequence[list[Polygon]]) -> list[Polygon]:
 
 
 class Field:
-    """The roads about the points of a grid, by arrays of a number for each point, row by row.
+    """What is inside from which limit on: arrays of a number for each point of a grid, row by row.
 
-    earliest   the least level of the points of roads in the square of half a step around a point; NONE for none
-    owner      the earliest of the nearest point that has one
-    away       the square of the distance to that, in half steps
-    forced     the level from which on a point is inside because of the nodes in its square; NONE if there are none
+    level   the least level of the nearest road, or of the nodes in the point's square
+    away    the square of the distance to that road, in half steps; 0 in squares with nodes
     """
 
     def __init__(self, reach: Reach, mesh: Mesh) -> None:
         self.mesh, self._half = mesh, mesh.step / 2
-        self.earliest = np.full((mesh.height, mesh.width), NONE, np.uint8)
-        self._add_roads(reach)
-        self._add_nodes(reach)
-        rows, columns = distance_transform_edt(self.earliest == NONE, return_distances=False, return_indices=True)
-        self.owner = self.earliest.ravel()[rows * np.int32(mesh.width) + columns]
-        rows -= np.arange(mesh.height, dtype=np.int32)[:, None]
-        columns -= np.arange(mesh.width, dtype=np.int32)
-        self.away = rows * rows + columns * columns
-
-    def _add_roads(self, reach: Reach) -> None:
-        """Adds points of roads, half a step apart. Of shorter roads both ends are points enough."""
-        for edges in reach.edges_near(self.mesh.box, self._half):
+        least = np.full(mesh.points, NONE, np.uint8)
+        west, east = np.full(mesh.points // 4, NONE, np.uint8), np.zeros(mesh.points // 4, np.uint8)
+        # (of shorter edges both ends are points enough)
+        for edges in reach.edges_near(mesh.box, self._half):
             vertices = reach.vertices(edges)
             parts = np.maximum(1, np.ceil(vertices.metres / self._half)).astype(np.int64)
             rows, number = expand(parts + 1)
             shares = number / parts[rows]
-            numbers, is_on = self.mesh.nearest(vertices.at(rows, shares))
-            extend(np.minimum, self.earliest, numbers, reach.shares(edges).levels(rows[is_on], shares[is_on]))
-
-    def _add_nodes(self, reach: Reach) -> None:
-        """Adds the nodes, and sets the points of the squares in which they lie. If nodes of a square differ, a half is set
-        by one with the least level, and the other by one with the greatest, each on the side of its node."""
-        height, width = self.mesh.height // 2, self.mesh.width // 2
-        least, greatest = np.full(height * width, NONE, np.uint8), np.zeros(height * width, np.uint8)
-        first, last = np.empty((height * width, 2)), np.empty((height * width, 2))
-        for points, levels in reach.nodes_near(self.mesh.box):
-            numbers, is_on = self.mesh.nearest(points)
-            points, levels = points[is_on], levels[is_on]
-            extend(np.minimum, self.earliest, numbers, levels)
-            squares = numbers // (4 * width) * width + numbers % (2 * width) // 2
-            for choose, found, places in ((np.minimum, least, first), (np.maximum, greatest, last)):
-                extend(choose, found, squares, levels)
-                is_found = levels == found[squares]
-                places[squares[is_found]] = points[is_found]
-        forced = np.empty((height, 2, width, 2), np.uint8)
-        forced[:] = least.reshape(height, 1, width, 1)
-        squares = np.flatnonzero(least < greatest)
-        east, north = (last[squares] - first[squares]).T
-        is_across = np.abs(east) >= np.abs(north)
-        is_ahead = np.where(is_across, east, north) >= 0
-        for up, right in itertools.product((0, 1), repeat=2):
-            is_last = np.where(is_across, right, up) == is_ahead
-            forced[squares // width, up, squares % width, right] = np.where(is_last, greatest[squares], least[squares])
-        self.forced = forced.reshape(self.earliest.shape)
+            numbers, is_on = mesh.nearest(vertices.at(rows, shares))
+            extend(np.minimum, least, numbers, reach.shares(edges).levels(rows[is_on], shares[is_on]))
+        for points, levels in reach.nodes_near(mesh.box):
+            numbers, is_on = mesh.nearest(points)
+            squares = numbers // (2 * mesh.width) * (mesh.width // 2) + numbers % mesh.width // 2
+            extend(np.minimum, least, numbers, levels[is_on])
+            extend(np.minimum, west, squares, levels[is_on])
+            extend(np.maximum, east, squares, levels[is_on])
+        is_free = least.reshape(mesh.height, mesh.width) == NONE
+        rows, columns = distance_transform_edt(is_free, return_distances=False, return_indices=True)
+        nearest = rows * np.int32(mesh.width) + columns
+        rows -= np.arange(mesh.height, dtype=np.int32)[:, None]
+        columns -= np.arange(mesh.width, dtype=np.int32)
+        halves = np.stack((west, np.where(west == NONE, west, east)), axis=1)
+        of_nodes = halves.reshape(mesh.height // 2, mesh.width).repeat(2, axis=0)
+        self.level = np.where(of_nodes == NONE, least[nearest], of_nodes)
+        self.away = np.where(of_nodes == NONE, rows * rows + columns * columns, 0)
 
     def polygons(self, limit: int, allowance: float) -> Iterator[list[Floats]]:
         """The polygons of a limit in the plane, each by its rings, the outer one first."""
-        far = allowance / self._half
-        found = [np.flatnonzero((self.earliest <= limit).any(axis=axis)) for axis in (1, 0)]
-        if not len(found[0]):
+        is_inside = (self.level <= limit) & (self.away <= (allowance / self._half) ** 2)
+        rows, columns = (np.flatnonzero(is_inside.any(axis=axis)) for axis in (1, 0))
+        if not len(rows):
             return
-        rows, columns = (slice(max(0, int(some[0] - far) - 2), int(some[-1] + far) + 2) for some in found)
-        part = rows, columns
-        is_inside = (self.owner[part] <= limit) & (self.away[part] <= far * far)
-        is_inside = np.where(self.forced[part] == NONE, is_inside, self.forced[part] <= limit)
-        side = np.where(is_inside, np.int8(9), np.int8(-9))
+        is_inside = np.pad(is_inside[rows[0] : rows[-1] + 1, columns[0] : columns[-1] + 1], 1)
+        around = uniform_filter(np.where(is_inside, np.int8(9), np.int8(-9)), 3)
         # the line divides the way between two points by their values: 1 to 3 at most, and on the finest grids in the middle
-        least, around = np.int8(3 if self._half >= MIN_STEP else 9), uniform_filter(side, 3)
+        least = np.int8(3 if self._half >= MIN_STEP else 9)
         values = np.where(is_inside, np.maximum(around, least), np.minimum(around, -least))
         lines = contour_generator(z=values, fill_type=FillType.OuterOffset).filled(0.0, 9.0)
-        corner = self.mesh.left + columns.start, self.mesh.bottom + rows.start
+        corner = self.mesh.left + columns[0] - 0.5, self.mesh.bottom + rows[0] - 0.5
         for points, offsets in zip(*lines):
             # (one of both is a whole number, but for last bits)
-            places = (points.round(9) + 0.5 + corner) * self._half
+            places = (points.round(9) + corner) * self._half
             yield [places[begin:end] for begin, end in zip(offsets, offsets[1:])]
 
 
 def extend(choose: np.ufunc, found: Levels, numbers: Ints, levels: Levels) -> None:
-    """Has levels chosen from those found so far, at numbers that count row by row, and from others."""
+    """Has levels at numbers chosen from those found so far and from others."""
     for level in np.flatnonzero(np.bincount(levels)).astype(np.uint8):
         here = numbers[levels == level]
-        found.ravel()[here] = choose(found.ravel()[here], level)
+        found[here] = choose(found[here], level)

@@ -25,9 +25,9 @@ from .sphere import Floats, great_circle_metres, unit_vectors
 METRES_OF_DEGREE = EARTH_RADIUS * np.pi / 180
 # Nodes, and edges, that are worked on together.
 CHUNK = 1 << 17
-# An edge is short beside a box if its metres are less than this part of the box's lesser side: a fifth of a grid's step
+# An edge is short beside a box if its metres are less than this part of the box's lesser side: two fifths of a grid's step
 # at most.
-SHORT = 2048
+SHORT = 1024
 # Roads are shown to so many decimals of a degree, 11 cm.
 DECIMALS = 6
 
