@@ -271,8 +271,10 @@ class Reach:
         far = great_circle_metres(unit_vectors(corners[:, 0], np.clip(corners[:, 1], -90, 90)), unit_vectors(lon, lat))
         _, begins, ends = grid.candidate_slices(lon, lat, far.max(keepdims=True) + 1.0)
         is_near = np.zeros(count, dtype=bool)
-        for begin, end in zip(begins.tolist(), ends.tolist()):
-            is_near[grid.things[begin:end]] = True
+        low, high = (int(begins.min()), int(ends.max())) if len(begins) else (0, 0)
+        things = grid.things[low:high]
+        for begin, end in zip((begins - low).tolist(), (ends - low).tolist()):
+            is_near[things[begin:end]] = True
         return np.flatnonzero(is_near)
 
     def node_levels(self, nodes: Ints) -> Levels:
