@@ -186,6 +186,18 @@ def test_limits_that_differ_much(made_roads):
     assert np.count_nonzero(counts) > 2
 
 
+@pytest.mark.parametrize("form", ["polygons", "roads"])
+def test_chunks_change_nothing(made_town, monkeypatch, form):
+    """Nodes and edges are worked on in chunks, which are smaller than a town here."""
+    net, _ = made_town
+    found = lengths(net, {430: 0})
+    shapes = []
+    for size in (1 << 17, 50):
+        monkeypatch.setattr("domethyme.network.reach.CHUNK", size)
+        shapes.append(features(Reach(net, found, [10_000, 60_000, 120_000]), [1, 2, 3], "time", Style(form)))
+    assert shapes[0] == shapes[1]
+
+
 def has_both(box, ends):
     return box.has(ends[:, 0]) & box.has(ends[:, 1])
 
