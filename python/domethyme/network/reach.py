@@ -305,11 +305,11 @@ class Reach:
         weights, is_first = network.arc_weight[arcs], network.arc_along[arcs] != self.towards
         groups = (counts.cumsum() - counts)[counts > 0]
         found = np.full((2, len(self.limits), len(edges)), -1.0)
-        left = np.array(self.limits)[:, None] - lengths
-        share = np.where((lengths < 0) | (left < 0), -1.0, np.where(left < weights, left / np.maximum(weights, 1), 1.0))
-        if len(groups):
+        for row, limit in enumerate(self.limits if len(groups) else ()):
+            left = limit - lengths
+            share = np.where((lengths < 0) | (left < 0), -1.0, np.where(left < weights, left / np.maximum(weights, 1), 1.0))
             for side, is_there in zip(found, (is_first, ~is_first)):
-                side[:, counts > 0] = np.maximum.reduceat(np.where(is_there, share, -1.0), groups, axis=1)
+                side[row, counts > 0] = np.maximum.reduceat(np.where(is_there, share, -1.0), groups)
         row_of = {edge: int(np.searchsorted(edges, edge)) for edge, _, _ in self._parts}
         is_here = {edge: row < len(edges) and edges[row] == edge for edge, row in row_of.items()}
         parts = [(row_of[edge], lows, highs) for edge, lows, highs in self._parts if is_here[edge]]
