@@ -81,8 +81,8 @@ class Mesh(NamedTuple):
 
     @property
     def box(self) -> Box:
-        west, south, width, height = (self.step / 2 * count for count in self[1:5])
-        return Box(west, south, west + width, south + height)
+        west, south, half = self.left, self.bottom, self.step / 2
+        return Box(west * half, south * half, (west + self.width) * half, (south + self.height) * half)
 
     def nearest(self, points: Floats) -> tuple[Ints, NDArray[np.bool_]]:
         """The points of the field that are nearest to some points, numbered row by row, for those on the grid; and which
