@@ -186,6 +186,19 @@ def test_limits_that_differ_much(made_roads):
     assert np.count_nonzero(counts) > 2
 
 
+def test_two_places_almost_half_a_world_apart():
+    """A grid of a few rows, which is as long as the way between. Nothing there is inside."""
+    net = network(
+        [(lon + x, 0) for lon in (0, 150) for x in (0, 0.01, -0.01)],
+        [Road(start, start + number, 10_000, 10_000) for start in (0, 3) for number in (1, 2)],
+    )
+    found = lengths(net, {0: 0, 3: 0})
+    reach = Reach(net, found, [10_000])
+    (contour,) = contours(reach)
+    assert len(contour.polygons) == 2 and misplaced(net, found, reach, 0, contour) == (0, 0, 6, 0)
+    assert MultiPolygon(contour.polygons).bounds[2] < 150.1 and max(p.area for p in contour.polygons) < 0.001
+
+
 @pytest.mark.parametrize("form", ["polygons", "roads"])
 def test_chunks_change_nothing(made_town, monkeypatch, form):
     """Nodes and edges are worked on in chunks, which are smaller than a town here."""

@@ -219,7 +219,9 @@ class Field:
         halves = np.stack((west, np.where(west == NONE, west, east)), axis=1)
         of_nodes = halves.reshape(mesh.height // 2, mesh.width).repeat(2, axis=0)
         self.level = np.where(of_nodes == NONE, least[nearest], of_nodes)
-        self.away = np.where(of_nodes == NONE, rows * rows + columns * columns, 0)
+        # (whole numbers as great as allowances' squares are exact)
+        away = np.square(rows, dtype=np.float32) + np.square(columns, dtype=np.float32)
+        self.away = np.where(of_nodes == NONE, away, 0)
 
     def polygons(self, limit: int, allowance: float) -> Iterator[list[Floats]]:
         """The polygons of a limit in the plane, each by its rings, the outer one first."""
