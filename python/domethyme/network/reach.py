@@ -147,13 +147,12 @@ class Shares(NamedTuple):
     def intervals(self, limit: int) -> tuple[Ints, Floats, Floats]:
         """What is reached within a limit: rows, which rise, and the shares between which they are; those of a row are
         apart."""
-        ways = self.first[limit], self.last[limit]
-        one, other = (np.flatnonzero(way > 0) for way in ways)
-        of_parts = [(row, float(lows[limit]), float(highs[limit])) for row, lows, highs in self.parts]
-        more = np.array([part for part in of_parts if part[1] < part[2]], dtype=float).reshape(-1, 3)
+        one, other = (np.flatnonzero(way[limit] > 0) for way in (self.first, self.last))
+        parts = [(row, lows[limit], highs[limit]) for row, lows, highs in self.parts if lows[limit] < highs[limit]]
+        more = np.array(parts, dtype=float).reshape(-1, 3)
         rows = np.concatenate((one, other, more[:, 0].astype(np.int64)))
-        lows = np.concatenate((np.zeros(len(one)), 1 - ways[1][other], more[:, 1]))
-        return joined(rows, lows, np.concatenate((ways[0][one], np.ones(len(other)), more[:, 2])))
+        lows = np.concatenate((np.zeros(len(one)), 1 - self.last[limit, other], more[:, 1]))
+        return joined(rows, lows, np.concatenate((self.first[limit, one], np.ones(len(other)), more[:, 2])))
 
 
 def joined(rows: Ints, lows: Floats, highs: Floats) -> tuple[Ints, Floats, Floats]:
