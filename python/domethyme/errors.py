@@ -20,8 +20,9 @@
 Arguments that can't be used at all, such as arrays of a wrong shape, raise a plain ValueError, and a package that is
 missing a plain ImportError.
 """
+import contextlib
 import os
-from collections.abc import Sequence
+from collections.abc import Iterator, Sequence
 from typing import Any
 
 from .deprecated import warn_renamed
@@ -148,6 +149,15 @@ def error_from_exit(status: int, stderr: bytes, file: str = "") -> DomethymeErro
 def os_reason(error: OSError) -> str:
     """The reason of an OSError without its number and file."""
     return error.strerror or os.strerror(error.errno or 0)
+
+
+@contextlib.contextmanager
+def raised_as(kind: type[FileError], file: "str | os.PathLike[str]", caught: type[Exception] = OSError) -> Iterator[None]:
+    """An error in the block, an OSError unless another one is named, is raised as one of this package that names the file."""
+    try:
+        yield
+    except caught as error:
+        raise kind(os_reason(error) if isinstance(error, OSError) else str(error), file) from error
 
 
 def __getattr__(name: str) -> Any:

@@ -12,6 +12,7 @@ row for sure, and others but for one in four milliards; it isn't made against fo
 written in place is found by its times, where a block is verified and where `check_unchanged` is called. If it is the same file by its
 size and its checksum, as behind `touch` or a backup, all blocks are verified anew as they are read.
 """
+import math
 import mmap
 import os
 import weakref
@@ -22,7 +23,7 @@ from typing import IO, Any, NamedTuple
 import numpy as np
 from numpy.typing import NDArray
 
-from ..errors import NetworkError, os_reason
+from ..errors import NetworkError, raised_as
 from .parallel import map_slices
 
 MAGIC = b"\x89DMNET\r\n"
@@ -41,9 +42,8 @@ class ArraySpec(NamedTuple):
     columns: int = 1
 
     @property
-    def row(self) -> int:
-        """The bytes of a row."""
-        return np.dtype(self.values).itemsize * self.columns
+    def row_shape(self) -> tuple[int, ...]:
+        return (self.columns,) if self.columns > 1 else ()
 
 
 Schema = Mapping[str, ArraySpec]
@@ -57,7 +57,7 @@ def write(file: IO[bytes], form: Schema, version: int, arrays: Iterable[tuple[st
         if name != expected:
             raise ValueError(f"array {name} comes where {expected} is next")
         values = np.ascontiguousarray(array, dtype=kind.values)
-        if values.shape[1:] != ((kind.columns,) if kind.columns > 1 else ()):
+        if values.shape[1:] != kind.row_shape:
             raise ValueError(f"array {name} has rows of another length")
         rows.append(len(values))
         whole = values.reshape(-1).view(np.uint8)
@@ -76,9 +76,7 @@ def write(file: IO[bytes], form: Schema, version: int, arrays: Iterable[tuple[st
 def checksums(whole: NDArray[np.uint8]) -> list[int]:
     """The CRC-32 of each block of bytes."""
     def sums(part: slice) -> list[int]:
-        return [
-            zlib.crc32(whole[begin : min(begin + BLOCK, part.stop)].data) for begin in range(part.start, part.stop, BLOCK)
-        ]
+        return [zlib.crc32(whole[begin : begin + BLOCK].data) for begin in range(part.start, part.stop, BLOCK)]
 
     return [each for found in map_slices(sums, len(whole), BLOCK << 8) for each in found]
 
@@ -93,13 +91,11 @@ class MappedFile:
         # a descriptor of its own, by which `check_unchanged` looks at the file that is mapped, whatever has its name
         self._file = os.dup(file.fileno())
         weakref.finalize(self, os.close, self._file)
-        try:
+        with raised_as(NetworkError, path):
             self._state = self._stat()
             if self._state[0] < HEAD.itemsize:
                 raise self.damaged_error("it is too short")
             self._bytes = np.frombuffer(mmap.mmap(self._file, 0, prot=mmap.PROT_READ), np.uint8)
-        except OSError as error:
-            raise NetworkError(os_reason(error), path) from error
         self.columns = self._read_columns(self._read_head())
 
     def _stat(self) -> tuple[int, int, int]:
@@ -119,9 +115,7 @@ class MappedFile:
         if now == self._state:
             return
         if now[0] != self._state[0] or self._sum_now() != self.sum:
-            raise NetworkError(
-                "was written to while it was in use; new files have to take their place by a rename", self.path
-            )
+            raise NetworkError("was written to while it was in use; new files have to take their place by a rename", self.path)
         for column in self.columns.values():
             column.forget()
         self._state = now
@@ -138,8 +132,7 @@ class MappedFile:
 
     def _read_head(self) -> int:
         """Looks at the head and the tail's checksum. Returns where the tail begins."""
-        head = self._bytes[: HEAD.itemsize].copy().view(HEAD)
-        found, size = head[0], len(self._bytes)
+        found, size = self._bytes[: HEAD.itemsize].copy().view(HEAD)[0], len(self._bytes)
         if found["magic"] != MAGIC:
             raise NetworkError(f"isn't a network's file; {self.remedy}", self.path)
         if found["version"] not in self._forms:
@@ -156,18 +149,16 @@ class MappedFile:
 
     def _read_columns(self, tail: int) -> "dict[str, Column]":
         """The columns, by the sizes in the tail."""
-        count = len(self._form)
-        rows = [int(number) for number in self._bytes[tail : tail + 8 * count].copy().view("<u8")]
-        place, begin, found = HEAD.itemsize, tail + 8 * count, {}
+        place, begin, found = HEAD.itemsize, tail + 8 * len(self._form), {}
+        rows: list[int] = self._bytes[tail:begin].copy().view("<u8").tolist()
         for (name, kind), length in zip(self._form.items(), rows):
-            size = length * kind.row
-            blocks = -(-size // BLOCK)
-            if place + size > tail or begin + 4 * blocks > len(self._bytes):
+            size = length * kind.columns * np.dtype(kind.values).itemsize
+            end = begin + 4 * -(-size // BLOCK)
+            if place + size > tail or end > len(self._bytes):
                 raise self.damaged_error(f"{name} is longer than the file")
-            values = self._bytes[place : place + size].view(kind.values)
-            sums = self._bytes[begin : begin + 4 * blocks].view("<u4")
-            found[name] = Column(self, name, values.reshape(-1, kind.columns) if kind.columns > 1 else values, sums)
-            place, begin = place + size + -size % ALIGNED, begin + 4 * blocks
+            values = self._bytes[place : place + size].view(kind.values).reshape(-1, *kind.row_shape)
+            found[name] = Column(self, name, values, self._bytes[begin:end].view("<u4"))
+            place, begin = place + size + -size % ALIGNED, end
         if (place, begin) != (tail, len(self._bytes)):
             raise self.damaged_error("its arrays don't fill it")
         return found
@@ -187,7 +178,7 @@ class Column:
         self.min_step: int | None = None
         self._file, self._name, self._values, self._sums = file, name, values, sums
         self._verified = np.zeros(len(sums), dtype=bool)
-        self._shift = (BLOCK // (values.itemsize * (values.shape[1] if values.ndim > 1 else 1))).bit_length() - 1
+        self._shift = (BLOCK // (values.itemsize * math.prod(values.shape[1:]))).bit_length() - 1
         self._all_verified = not len(sums)
 
     def __len__(self) -> int:

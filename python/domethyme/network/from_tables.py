@@ -18,32 +18,31 @@
 Columns may have other letters, and common names (columns.py).
 """
 import array
+import dataclasses
 import os
 import warnings
 from collections.abc import Iterator, Sequence
-from typing import Any, NamedTuple
+from typing import Any
 
 import numpy as np
 from numpy.typing import NDArray
 
 from ..csv_tables import excerpt, open_input, open_table, parse_float, parse_int
 from ..dimacs import read_graph
-from ..errors import NetworkError
+from ..errors import NetworkError, raised_as
 from ..limits import MAX_LINES, MAX_NODES, MAX_WEIGHT
 from ..program import StrPath
 from .columns import OF_ARCS, OF_NODES, Say, take_columns
 from .geo import parse_linestring
-from .groups import expand, first_of_equal, offsets
-from .indexes import unique_text_rows
+from .groups import Ints
 from .net_file import (
-    NO_OSM, TEXTS, UNITS, VERSION, Arrays, MappedNetwork, encoded, find_inconsistency, load_network, map_tempfile,
+    NO_OSM, TEXTS, UNITS, ArcArrays, MappedNetwork, NodeArrays, build_arrays as build_arrays, load_network, map_tempfile,
     to_units
 )
 from .reading import read_coordinates
 from .sphere import great_circle_metres, unit_vectors
 from .tables import ENDS, graph_of, is_coordinates
 
-Ints = NDArray[np.int64]
 BLOCK = 1 << 24
 FARTHEST_END = 1000.0
 LEAST_ID, GREATEST_ID = -(1 << 63) + 1, (1 << 63) - 1
@@ -55,15 +54,12 @@ BOTH, ALONG = (True, True), (True, False)
 SHORTER, FASTEST = 0.99, 400.0
 
 
-class Nodes(NamedTuple):
-    """Where nodes are, in units, and their rows in the table by their names; None where the names are numbers from 1. `keys` are their
-    names in answers, none where these are numbers from 1; `path` is the file, and `columns` those that it has."""
+@dataclasses.dataclass
+class Nodes(NodeArrays):
+    """Nodes with their rows in the table by their names, None where the names are numbers from 1, its path and its columns. Their
+    keys are their names in answers, none where these are numbers from 1."""
 
-    osm: Ints
-    places: NDArray[np.int32]
-    ends: NDArray[np.uint8]
-    rows: dict[str, int] | None
-    keys: Sequence[str] = ()
+    rows: dict[str, int] | None = None
     path: StrPath = ""
     columns: Sequence[str] = ()
 
@@ -80,22 +76,6 @@ class Nodes(NamedTuple):
         return found
 
 
-class Arcs(NamedTuple):
-    """Arcs: their nodes, from 1, weights, seconds and metres, ways, rows of texts, and lines, in units: those of arc i are
-    points[begins[i]:begins[i + 1]]."""
-
-    starts: Ints
-    ends: Ints
-    weights: Ints
-    seconds: NDArray[np.float64]
-    metres: NDArray[np.float64]
-    osm: Ints
-    row: Ints
-    texts: list[tuple[str, ...]]
-    begins: Ints
-    points: NDArray[np.int32]
-
-
 def nothing(_line: str) -> None:
     """Says nothing of a table."""
 
@@ -104,7 +84,7 @@ def read_nodes(path: StrPath, say: Say = nothing) -> Nodes:
     """The nodes of a table, or of a .co file; `say` gets a line for what may be meant otherwise. Raises NetworkError."""
     if is_coordinates(path):
         places = read_co(path)
-        return Nodes(np.full(len(places), NO_OSM), places, np.zeros(len(places), np.uint8), None)
+        return Nodes(np.full(len(places), NO_OSM), places, np.zeros(len(places), np.uint8))
     osm, ends, degrees = array.array("q"), array.array("B"), array.array("d")
     rows: dict[str, int] = {}
     keys: dict[str, int] = {}
@@ -124,17 +104,13 @@ def read_nodes(path: StrPath, say: Say = nothing) -> Nodes:
                     raise NetworkError(f"{name} {excerpt(fields[name])} comes twice", path, row)
     if not len(osm) or len(osm) > MAX_NODES:
         raise NetworkError(f"has {len(osm)} nodes, and a network has from 1 to {MAX_NODES}", path)
-    lon, lat = np.array(degrees).reshape(-1, 2).T
-    places = np.column_stack((to_units(lon, 180), to_units(lat, 90)))
     told = keys or rows
     shown_keys = () if all(name == str(row) for name, row in told.items()) else list(told)
-    return Nodes(
-        np.array(osm, dtype=np.int64), places, np.array(ends, dtype=np.uint8), rows if is_named else None, shown_keys, path,
-        columns
-    )
+    places = to_units(np.array(degrees).reshape(-1, 2))
+    return Nodes(np.array(osm), places, np.array(ends), shown_keys, rows if is_named else None, path, columns)
 
 
-def read_arcs(path: StrPath, nodes: Nodes, weight: str = "time", say: Say = nothing) -> Arcs:
+def read_arcs(path: StrPath, nodes: Nodes, weight: str = "time", say: Say = nothing) -> ArcArrays:
     """The arcs of a table, or of a .gr file. Those without a weight have milliseconds (`time`) or centimetres (`length`). `say` gets a
     line for what may be meant otherwise. Raises NetworkError."""
     if os.fspath(path).endswith((".gr", ".gr.gz")):
@@ -169,7 +145,7 @@ def read_arcs(path: StrPath, nodes: Nodes, weight: str = "time", say: Say = noth
     if whole.max() > MAX_WEIGHT:
         raise NetworkError(f"would weigh more than {MAX_WEIGHT}", path, int(of_rows[whole.argmax()]))
     doubt_seconds(weights, seconds, lengths, weight, path, say)
-    return Arcs(
+    return ArcArrays(
         starts, stops, whole.astype(np.int64), seconds, lengths, osm_ids, of_texts, list(known), begins, points_of_lines
     )
 
@@ -262,7 +238,7 @@ def line_metres(begins: Ints, points: NDArray[np.int32]) -> NDArray[np.float64]:
     return found
 
 
-def straight_arcs(starts: Ints, ends: Ints, weights: Ints, nodes: Nodes) -> Arcs:
+def straight_arcs(starts: Ints, ends: Ints, weights: Ints, nodes: Nodes) -> ArcArrays:
     """Arcs that lead straight from node to node, without a way, a name and seconds."""
     points = np.stack((nodes.places[starts - 1], nodes.places[ends - 1]), axis=1).reshape(-1, 2)
     lengths = np.empty(len(starts))
@@ -272,55 +248,9 @@ def straight_arcs(starts: Ints, ends: Ints, weights: Ints, nodes: Nodes) -> Arcs
         lengths[low : low + (1 << 20)] = np.round(great_circle_metres(sphere[::2], sphere[1::2]), 2)
     nothing = np.zeros(len(starts), np.int64)
     begins = np.arange(0, 2 * len(starts) + 1, 2)
-    return Arcs(
+    return ArcArrays(
         starts, ends, weights, np.zeros(len(starts)), lengths, nothing, nothing, [("",) * len(TEXTS)], begins, points
     )
-
-
-def build_arrays(nodes: Nodes, arcs: Arcs, attribution: str = "", sizes: tuple[int, int] = (0, 0)) -> Arrays:
-    """The network of nodes and arcs. Raises ValueError where they don't fit together."""
-    edge, is_along, first, backward = edges_from_arcs(arcs)
-    counts = np.diff(arcs.begins)[first]
-    owner, position = expand(counts)
-    rows = arcs.begins[first][owner] + np.where(backward[owner], counts[owner] - 1 - position, position)
-    names: dict[str, int] = {}
-    texts = np.array([[names.setdefault(text, len(names) + 1) for text in row] for row in arcs.texts], dtype=np.int32)
-    listed, keys = encoded(attribution, names, nodes.keys)
-    row_texts, row = unique_text_rows(texts, arcs.row)
-    found = Arrays(
-        np.array([VERSION]), np.array(sizes), nodes.osm, nodes.places[:, 0].copy(), nodes.places[:, 1].copy(), nodes.ends,
-        arcs.starts.astype(np.int32), arcs.ends.astype(np.int32), arcs.weights, arcs.seconds, arcs.metres, arcs.osm,
-        row, edge, is_along, row_texts, offsets(counts), arcs.points[rows],
-        np.cumsum([0, *map(len, listed)], dtype=np.int64), np.frombuffer(b"".join(listed), dtype=np.uint8), keys,
-    )
-    if problem := find_inconsistency(found):
-        raise ValueError(problem)
-    return found
-
-
-def edges_from_arcs(arcs: Arcs) -> tuple[NDArray[np.int32], NDArray[np.bool_], Ints, NDArray[np.bool_]]:
-    """The edge of each arc and whether it leads along it; and for each edge its first arc and whether its line is that arc's
-    backward. Lines of a way that are equal, in either direction, are one edge."""
-    first, last = arcs.begins[:-1], arcs.begins[1:] - 1
-    ends = arcs.points[np.stack((first, last), axis=1)].astype(np.int64)
-    keys = (ends[:, :, 0] << 32) + ends[:, :, 1]
-    is_along = keys[:, 0] < keys[:, 1]
-    for arc in np.flatnonzero(keys[:, 0] == keys[:, 1]).tolist():
-        line = arcs.points[first[arc] : last[arc] + 1].tolist()
-        is_along[arc] = line <= line[::-1]
-    known: dict[bytes, int] = {}
-    # straight lines are told apart by their ends; of the others all points are compared
-    is_straight = last - first == 1
-    chosen = np.flatnonzero(is_straight)
-    ends_of_chosen = keys[chosen]
-    leader = np.full(len(first), -1, dtype=np.int64)
-    leader[chosen] = chosen[first_of_equal(ends_of_chosen.min(axis=1), ends_of_chosen.max(axis=1), arcs.osm[chosen])]
-    for arc in np.flatnonzero(~is_straight).tolist():
-        line = arcs.points[first[arc] : last[arc] + 1]
-        key = (line if is_along[arc] else line[::-1]).tobytes() + int(arcs.osm[arc]).to_bytes(8, "little", signed=True)
-        leader[arc] = known.setdefault(key, arc)
-    leaders, edge = np.unique(leader, return_inverse=True)
-    return edge.astype(np.int32), is_along, leaders, ~is_along[leaders]
 
 
 # Files of the DIMACS challenge
@@ -332,10 +262,8 @@ def load_network_or_dimacs(word: StrPath) -> MappedNetwork:
         return load_network(os.fspath(word))
     nodes = read_nodes(word)
     arcs = read_arcs(graph_of(word), nodes)
-    try:
+    with raised_as(NetworkError, word, ValueError):
         return map_tempfile(build_arrays(nodes, arcs), os.fspath(word))
-    except ValueError as error:
-        raise NetworkError(str(error), word) from error
 
 
 def read_co(path: StrPath) -> NDArray[np.int32]:
@@ -349,7 +277,7 @@ def read_co(path: StrPath) -> NDArray[np.int32]:
             places[rows[:, 0] - 1] = rows[:, 1:] * (UNITS // 1_000_000)
             return places
     nodes = read_coordinates(path)
-    return np.column_stack((to_units(nodes.lon, 180), to_units(nodes.lat, 90)))
+    return to_units(np.column_stack((nodes.lon, nodes.lat)))
 
 
 def read_gr(path: StrPath, nodes: int) -> tuple[Ints, Ints, Ints]:

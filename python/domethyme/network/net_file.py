@@ -6,25 +6,29 @@ than they are and these are their sizes. Places are in tenths of a millionth of 
 numbers of rows in one list of texts, which is an array of bytes and the offsets at which they begin. An edge is a line of a way, in
 the direction that sorts first, with arcs along it and against.
 """
+import dataclasses
 import functools
 import itertools
 import os
 import re
 import stat
 import tempfile
+from collections import Counter
 from collections.abc import Iterable, Iterator, Sequence
 from typing import IO, Any, NamedTuple
 
 import numpy as np
 from numpy.typing import NDArray
 
-from ..errors import NetworkError, os_reason
+from ..errors import NetworkError, raised_as
+from ..hierarchy_file import open_nonblocking
 from ..limits import MAX_WEIGHT
 from ..program import StrPath
 from . import column_file, indexes
 from .column_file import ArraySpec, Column, MappedFile
 from .geo import Point, parse_linestring
 from .grid import Grid, concat_ranges
+from .groups import Ints, expand, first_of_equal, offsets
 from .parallel import differs_from_previous, map_slices
 from .tables import (
     ARC_COLUMNS, ENDS, NODE_COLUMNS, Arc, Files, has_columns, iter_arc_rows, need_nodes, read_attribution,
@@ -83,18 +87,88 @@ class Arrays(NamedTuple):
     node_texts: NDArray[np.int32] = np.empty(0, np.int32)
 
 
+@dataclasses.dataclass
+class NodeArrays:
+    """Nodes: osm, ends and keys as in Arrays, but the keys as texts, and places in units, of shape (nodes, 2), lon and lat."""
+
+    osm: Ints
+    places: NDArray[np.int32]
+    ends: NDArray[np.uint8]
+    keys: Sequence[str] = ()
+
+
+class ArcArrays(NamedTuple):
+    """Arcs: their nodes, from 1, weights, seconds and metres, ways, rows of texts, and lines, in units: those of arc i are
+    points[begins[i]:begins[i + 1]]."""
+
+    starts: Ints
+    ends: Ints
+    weights: Ints
+    seconds: NDArray[np.float64]
+    metres: NDArray[np.float64]
+    osm: Ints
+    row: Ints
+    texts: Sequence[tuple[str, ...]]
+    begins: Ints
+    points: NDArray[np.int32]
+
+
+def build_arrays(nodes: NodeArrays, arcs: ArcArrays, attribution: str = "", sizes: Sequence[int] = (0, 0)) -> Arrays:
+    """The network of nodes and arcs. Raises ValueError where they don't fit together."""
+    edge, is_along, first, backward = edges_from_arcs(arcs)
+    counts = np.diff(arcs.begins)[first]
+    owner, position = expand(counts)
+    rows = arcs.begins[first][owner] + np.where(backward[owner], counts[owner] - 1 - position, position)
+    names: dict[str, int] = {}
+    texts = np.array([[names.setdefault(text, len(names) + 1) for text in row] for row in arcs.texts], dtype=np.int32)
+    row_texts, row = indexes.unique_text_rows(texts.reshape(-1, len(TEXTS)), arcs.row)
+    encoded = [text.encode("utf-8", "replace") for text in (attribution, *names, *nodes.keys)]
+    found = Arrays(
+        np.array([VERSION]), np.array(sizes), nodes.osm, nodes.places[:, 0].copy(), nodes.places[:, 1].copy(), nodes.ends,
+        arcs.starts.astype(np.int32), arcs.ends.astype(np.int32), arcs.weights, arcs.seconds, arcs.metres, arcs.osm,
+        row, edge, is_along, row_texts, offsets(counts), arcs.points[rows],
+        np.cumsum([0, *map(len, encoded)], dtype=np.int64), np.frombuffer(b"".join(encoded), dtype=np.uint8),
+        np.arange(len(names) + 1, len(encoded), dtype=np.int32),
+    )
+    if problem := find_inconsistency(found):
+        raise ValueError(problem)
+    return found
+
+
+def edges_from_arcs(arcs: ArcArrays) -> tuple[NDArray[np.int32], NDArray[np.bool_], Ints, NDArray[np.bool_]]:
+    """The edge of each arc and whether it leads along it; and for each edge its first arc and whether its line is that arc's
+    backward. Lines of a way that are equal, in either direction, are one edge."""
+    first, last = arcs.begins[:-1], arcs.begins[1:] - 1
+    ends = arcs.points[np.stack((first, last), axis=1)].astype(np.int64)
+    keys = (ends[:, :, 0] << 32) + ends[:, :, 1]
+    is_along = keys[:, 0] < keys[:, 1]
+    for arc in np.flatnonzero(keys[:, 0] == keys[:, 1]).tolist():
+        line = arcs.points[first[arc] : last[arc] + 1].tolist()
+        is_along[arc] = line <= line[::-1]
+    known: dict[bytes, int] = {}
+    # straight lines are told apart by their ends; of the others all points are compared
+    is_straight = last - first == 1
+    chosen = np.flatnonzero(is_straight)
+    ends_of_chosen = keys[chosen]
+    leader = np.full(len(first), -1, dtype=np.int64)
+    leader[chosen] = chosen[first_of_equal(ends_of_chosen.min(axis=1), ends_of_chosen.max(axis=1), arcs.osm[chosen])]
+    for arc in np.flatnonzero(~is_straight).tolist():
+        line = arcs.points[first[arc] : last[arc] + 1]
+        key = (line if is_along[arc] else line[::-1]).tobytes() + int(arcs.osm[arc]).to_bytes(8, "little", signed=True)
+        leader[arc] = known.setdefault(key, arc)
+    leaders, edge = np.unique(leader, return_inverse=True)
+    return edge.astype(np.int32), is_along, leaders, ~is_along[leaders]
+
+
 class Builder:
     """Makes Arrays of nodes and arcs that are added in their order."""
 
     def __init__(self, attribution: str = "") -> None:
+        self._attribution = attribution
         self._nodes: list[tuple[int, float, float, int]] = []
         self._keys: list[str] = []
-        self._arcs: list[tuple[int, int, int, float, float, int]] = []
-        self._texts: dict[str, int] = {}
-        self._attribution = attribution
-        self._rows: list[tuple[int, ...]] = []
-        self._known_rows: dict[tuple[str, ...], int] = {}
-        self._row_of_arc: list[int] = []
+        self._arcs: list[tuple[int, int, int, float, float, int, int]] = []
+        self._texts: dict[tuple[str, ...], int] = {}
         self._lines: list[str] = []
 
     def add_node(self, osm: int | None, lon: float, lat: float, ends: str, key: str | None = None) -> None:
@@ -105,153 +179,118 @@ class Builder:
 
     def add_arc(self, arc: Arc, path: StrPath | None = None, row: int | None = None) -> None:
         """Adds an arc, of this row of a file. Raises NetworkError where its WKT is no line."""
-        texts = arc.highway, arc.name, arc.ref, arc.junction, arc.destination, arc.structure
-        known = self._known_rows.get(texts)
-        if known is None:
-            known = self._known_rows[texts] = len(self._rows)
-            self._rows.append(tuple(self._texts.setdefault(text, len(self._texts) + 1) for text in texts))
         line = LINE.fullmatch(arc.wkt)
         points = () if line else parse_linestring(arc.wkt, path, row)
         self._lines.append(line[1] if line else ", ".join(f"{lon:.9f} {lat:.9f}" for lon, lat in points))
-        self._arcs.append(arc[:6])
-        self._row_of_arc.append(known)
+        self._arcs.append((*arc[:6], self._texts.setdefault((arc.highway, arc.name, *arc[9:]), len(self._texts))))
 
     def build(self, sizes: Sequence[int] = (0, 0)) -> Arrays:
         """The arrays. Raises ValueError for a number that has no room in them."""
-        osm, lon, lat, ends = zip(*self._nodes) if self._nodes else ((), (), (), ())
-        starts, stops, weights, seconds, metres, ways = zip(*self._arcs) if self._arcs else ((),) * 6
-        arc_osm = to_int64(ways, "osm")
-        edges = edges_from_lines(self._lines, arc_osm)
-        texts, keys = encoded(self._attribution, self._texts, self._keys)
-        rows = np.array(self._rows, dtype=np.int32).reshape(-1, len(TEXTS))
-        rows, row = indexes.unique_text_rows(rows, np.array(self._row_of_arc, dtype=np.int64))
-        found = Arrays(
-            np.array([VERSION]), np.array(sizes, dtype=np.int64), to_int64(osm, "osm"), to_units(lon, 180),
-            to_units(lat, 90),
-            np.array(ends, dtype=np.uint8), to_int64(starts, "from").astype(np.int32),
-            to_int64(stops, "to").astype(np.int32),
-            to_int64(weights, "weight"), np.array(seconds, dtype=np.float64), np.array(metres, dtype=np.float64), arc_osm,
-            row, *edges[:2], rows, *edges[2:],
-            np.cumsum([0, *map(len, texts)], dtype=np.int64), np.frombuffer(b"".join(texts), dtype=np.uint8), keys,
+        osm, lon, lat, ends = zip(*self._nodes) if self._nodes else ((),) * 4
+        starts, stops, weights, seconds, metres, ways, row = zip(*self._arcs) if self._arcs else ((),) * 7
+        places = np.fromstring(" ".join(self._lines).replace(",", " "), dtype=np.float64, sep=" ")
+        nodes = NodeArrays(
+            to_int64(osm, "osm"), to_units(np.column_stack((lon, lat))), np.array(ends, dtype=np.uint8), self._keys
         )
-        if problem := find_inconsistency(found):
-            raise ValueError(problem)
-        return found
+        arcs = ArcArrays(
+            to_int64(starts, "from"), to_int64(stops, "to"), to_int64(weights, "weight"), np.array(seconds, np.float64),
+            np.array(metres, np.float64), to_int64(ways, "osm"), np.array(row, np.int64), list(self._texts),
+            offsets(np.array([line.count(",") + 1 for line in self._lines], np.int64)), to_units(places.reshape(-1, 2)),
+        )
+        return build_arrays(nodes, arcs, self._attribution, sizes)
 
 
-def encoded(attribution: str, texts: Iterable[str], keys: Sequence[str]) -> tuple[list[bytes], NDArray[np.int32]]:
-    """The list of texts of a network in UTF-8: what the data asks to be said, the others and the keys of nodes; and the numbers of the
-    keys."""
-    found = [text.encode("utf-8", "replace") for text in (attribution, *texts, *keys)]
-    return found, np.arange(len(found) - len(keys), len(found), dtype=np.int32)
-
-
-def to_int64(values: Iterable[int], name: str) -> NDArray[np.int64]:
+def to_int64(values: Iterable[int], name: str) -> Ints:
     try:
         return np.array(tuple(values), dtype=np.int64)
     except OverflowError:
         raise ValueError(f"a number of {name} is too great") from None
 
 
-def to_units(degrees: Any, most: int) -> NDArray[np.int32]:
-    """Degrees in units. Raises ValueError for what are none."""
-    values = np.array(degrees, dtype=np.float64)
-    if not (np.abs(values) <= most).all():
-        raise ValueError(f"a place isn't from -{most} to {most} degrees")
-    found: NDArray[np.int32] = np.round(values * UNITS).astype(np.int32)
-    return found
-
-
-def edges_from_lines(
-    lines: list[str], ways: NDArray[np.int64]
-) -> tuple[NDArray[np.int32], NDArray[np.bool_], NDArray[np.int64], NDArray[np.int32]]:
-    """The edges of arcs with these lines and ways: the edge of each arc and whether it leads along it, and the edges' points."""
-    counts = [line.count(",") + 1 for line in lines]
-    places = np.fromstring(" ".join(lines).replace(",", " "), dtype=np.float64, sep=" ").reshape(-1, 2)
-    every = np.column_stack((to_units(places[:, 0], 180), to_units(places[:, 1], 90)))
-    edge, along = np.empty(len(lines), dtype=np.int32), np.empty(len(lines), dtype=np.bool_)
-    known: dict[tuple[int, bytes], int] = {}
-    kept: list[NDArray[np.int32]] = []
-    begin = 0
-    keys = every.tolist()
-    for arc, (count, way) in enumerate(zip(counts, ways.tolist())):
-        end = begin + count
-        is_along = keys[begin:end] <= keys[begin:end][::-1]
-        line = every[begin:end] if is_along else every[begin:end][::-1]
-        number = known.setdefault((way, line.tobytes()), len(kept))
-        if number == len(kept):
-            kept.append(line)
-        edge[arc], along[arc] = number, is_along
-        begin = end
-    offsets = np.cumsum([0, *map(len, kept)], dtype=np.int64)
-    return edge, along, offsets, np.concatenate(kept) if kept else np.empty((0, 2), dtype=np.int32)
+def to_units(places: NDArray[Any]) -> NDArray[np.int32]:
+    """Rows of lon and lat in degrees as units. Raises ValueError for what are no degrees."""
+    for degrees, most in zip(places.T, (180, 90)):
+        if not (np.abs(degrees) <= most).all():
+            raise ValueError(f"a place isn't from -{most} to {most} degrees")
+    return np.asarray(np.round(places * UNITS), np.int32)
 
 
 def find_inconsistency(arrays: Arrays) -> str | None:
     """What is wrong with arrays that don't fit together; None where they do."""
-    nodes, arcs, edges = len(arrays.node_osm), len(arrays.arc_from), len(arrays.edge_begin) - 1
-    shapes: dict[str, tuple[int, ...]] = {name: (nodes,) for name in ("node_osm", "node_lon", "node_lat", "node_ends")}
-    shapes.update((name, (arcs,)) for name in Arrays._fields if name.startswith("arc_"))
-    shapes.update(
-        version=(1,), sizes=(2,), row_texts=(len(arrays.row_texts), indexes.TEXTS_PER_ROW), points=(len(arrays.points), 2)
-    )
-    if len(arrays.node_texts):
-        shapes["node_texts"] = (nodes,)
-    for name, shape in shapes.items():
-        if getattr(arrays, name).shape != shape:
+    size = Counter({name: len(values) for name, values in arrays._asdict().items()})
+    fields = {"version": Field(I8, 1), "sizes": Field(I8, 2), **fields_of(size)}
+    for name, values in arrays._asdict().items():
+        spec, rows, low, high, min_step = fields[name]
+        if name == "node_texts" and not len(values):
+            continue
+        if values.shape != (size[name] if rows is None else rows, *spec.row_shape):
             return f"{name} has another size"
-    for name, begin, end in (
-        ("edge", arrays.edge_begin, len(arrays.points)),
-        ("text", arrays.text_begin, len(arrays.text_bytes)),
-    ):
-        if (
-            begin.ndim != 1
-            or len(begin) < 1
-            or begin[0] != 0
-            or begin[-1] != end
-            or (np.diff(begin) < (name == "edge") * 2).any()
-        ):
-            return f"{name}_begin has wrong offsets"
-    for name, (low, high) in limits_of(nodes, edges, len(arrays.row_texts), len(arrays.text_begin) - 1).items():
-        values = getattr(arrays, name)
-        if values.size and not (values.min() >= low and values.max() <= high):
+        if min_step is not None and not (len(values) and values[0] == 0 and values[-1] == high):
+            return f"{name} has wrong offsets"
+        if min_step is not None and (np.diff(values) < min_step).any():
+            return f"{name} has wrong offsets"
+        if low is not None and values.size and not (values.min() >= low and values.max() <= high):
             return f"{name} isn't from {low:g} to {high:g}"
     return None
 
 
-def limits_of(nodes: int, edges: int, rows: int, texts: int) -> dict[str, tuple[float, float]]:
-    """The least and greatest value of arrays of a network with so many nodes, edges, rows of texts and texts."""
-    return {
-        "node_lon": (-180 * UNITS, 180 * UNITS), "node_lat": (-90 * UNITS, 90 * UNITS), "node_ends": (0, len(ENDS) - 1),
-        "arc_from": (1, nodes), "arc_to": (1, nodes), "arc_weight": (0, MAX_WEIGHT), "arc_edge": (0, edges - 1),
-        "arc_row": (0, rows - 1), "row_texts": (0, texts - 1), "node_texts": (0, texts - 1), "arc_seconds": (0, 1e12),
-        "arc_metres": (0, 1e12),
-        "points": (-180 * UNITS, 180 * UNITS),
-    }
-
-
-# The arrays of the file. `about` has the numbers of ABOUT. The others are those of Arrays, and of index.py. A text's bytes and offsets come as they are.
+# The numbers of the array `about`.
 ABOUT = (
     "nodes_size", "arcs_size", "unit", "begins", "ends", "node_height", "edge_height", "west", "south", "east", "north",
     *(f"shown_{kind}" for kind in range(len(ROAD_CLASSES))),
 )
-FILE_SCHEMA = {
-    "about": ArraySpec("<i8"),
-    "node_osm": ArraySpec("<i8"), "node_lon": ArraySpec("<i4"), "node_lat": ArraySpec("<i4"), "node_ends": ArraySpec("|u1"),
-    "arc_from": ArraySpec("<i4"), "arc_to": ArraySpec("<i4"), "arc_weight": ArraySpec("<i8"),
-    "arc_seconds": ArraySpec("<f8"),
-    "arc_metres": ArraySpec("<f8"), "arc_osm": ArraySpec("<i8"), "arc_row": ArraySpec("<i4"), "arc_edge": ArraySpec("<i4"),
-    "arc_along": ArraySpec("|b1"),
-    "row_texts": ArraySpec("<i4", indexes.TEXTS_PER_ROW), "edge_begin": ArraySpec("<i8"), "points": ArraySpec("<i4", 2),
-    "text_begin": ArraySpec("<i8"), "text_bytes": ArraySpec("|u1"),
-    "out_begin": ArraySpec("<i8"), "out_arcs": ArraySpec("<i4"), "edge_first": ArraySpec("<i8"),
-    "edge_arcs": ArraySpec("<i4"), "degrees": ArraySpec("|u1"),
-    "node_keys": ArraySpec("<i8"), "node_cells": ArraySpec("<i8"), "node_things": ArraySpec("<i4"),
-    "edge_keys": ArraySpec("<i8"), "edge_cells": ArraySpec("<i8"), "edge_things": ArraySpec("<i4"),
-    "step_begin": ArraySpec("<i8"), "step_codes": ArraySpec("<u4"), "step_points": ArraySpec("<i4"),
-    "step_edges": ArraySpec("<i4"),
-}
-FORMS = {VERSION: FILE_SCHEMA, WITH_KEYS: FILE_SCHEMA | {"node_texts": ArraySpec("<i4")}}
+I4, I8, U1, F8 = ArraySpec("<i4"), ArraySpec("<i8"), ArraySpec("|u1"), ArraySpec("<f8")
+FAR_EAST, FAR_NORTH = 180 * UNITS, 90 * UNITS
+
+
+class Field(NamedTuple):
+    """An array of the file: its values, how many rows it has, the least and the greatest value, and how much more each value is at
+    least than the one before; None where there is no such rule."""
+
+    spec: ArraySpec
+    rows: int | None = None
+    low: float | None = None
+    high: float | None = None
+    min_step: int | None = None
+
+
+def fields_of(size: "Counter[str]") -> dict[str, Field]:
+    """The arrays of the file in their order, by the sizes of those that are there: `about`, those of Arrays, and those of
+    indexes.py. A text's bytes come as they are. Offsets are those with a `min_step`."""
+    nodes, arcs, edges, texts = size["node_osm"], size["arc_from"], size["edge_begin"] - 1, size["text_begin"] - 1
+    points, steps = size["points"], size["step_codes"]
+    return {
+        "about": Field(I8, len(ABOUT)),
+        "node_osm": Field(I8, nodes),
+        "node_lon": Field(I4, nodes, -FAR_EAST, FAR_EAST),
+        "node_lat": Field(I4, nodes, -FAR_NORTH, FAR_NORTH),
+        "node_ends": Field(U1, nodes, 0, len(ENDS) - 1),
+        "arc_from": Field(I4, arcs, 1, nodes), "arc_to": Field(I4, arcs, 1, nodes),
+        "arc_weight": Field(I8, arcs, 0, MAX_WEIGHT),
+        "arc_seconds": Field(F8, arcs, 0, 1e12), "arc_metres": Field(F8, arcs, 0, 1e12),
+        "arc_osm": Field(I8, arcs),
+        "arc_row": Field(I4, arcs, 0, size["row_texts"] - 1),
+        "arc_edge": Field(I4, arcs, 0, edges - 1), "arc_along": Field(ArraySpec("|b1"), arcs),
+        "row_texts": Field(ArraySpec("<i4", indexes.TEXTS_PER_ROW), None, 0, texts - 1),
+        "edge_begin": Field(I8, None, 0, points, 2),
+        "points": Field(ArraySpec("<i4", 2), None, -FAR_EAST, FAR_EAST),
+        "text_begin": Field(I8, None, 0, size["text_bytes"], 0), "text_bytes": Field(U1),
+        "out_begin": Field(I8, nodes + 1, 0, arcs, 0), "out_arcs": Field(I4, arcs, 0, arcs - 1),
+        "edge_first": Field(I8, edges + 1, 0, arcs, 0), "edge_arcs": Field(I4, arcs, 0, arcs - 1),
+        "degrees": Field(U1, nodes + 1),
+        "node_keys": Field(I8), "node_cells": Field(I8, size["node_keys"] + 1, 0, nodes, 0),
+        "node_things": Field(I4, nodes, 0, nodes - 1),
+        "edge_keys": Field(I8), "edge_cells": Field(I8, size["edge_keys"] + 1, 0, size["edge_things"], 0),
+        "edge_things": Field(I4, None, 0, edges - 1),
+        "step_begin": Field(I8, len(ROAD_CLASSES) + 1, 0, steps, 0), "step_codes": Field(ArraySpec("<u4")),
+        "step_points": Field(I4, steps, 0, points - 2), "step_edges": Field(I4, steps, 0, edges - 1),
+        "node_texts": Field(I4, nodes, 0, texts - 1),
+    }
+
+
+SCHEMA_WITH_KEYS = {name: field.spec for name, field in fields_of(Counter()).items()}
+FILE_SCHEMA = {name: spec for name, spec in SCHEMA_WITH_KEYS.items() if name != "node_texts"}
+FORMS = {VERSION: FILE_SCHEMA, WITH_KEYS: SCHEMA_WITH_KEYS}
 
 
 def write(file: IO[bytes], arrays: Arrays) -> None:
@@ -277,8 +316,7 @@ def iter_file_arrays(arrays: Arrays) -> Iterator[tuple[str, NDArray[Any]]]:
         *levels.shown_from,
     ]
     yield "about", np.array(numbers, dtype=np.int64)
-    for name in list(FILE_SCHEMA)[1 : list(FILE_SCHEMA).index("out_begin")]:
-        yield name, getattr(arrays, name)
+    yield from zip(Arrays._fields[2:-1], arrays[2:-1])  # (all but the version, the sizes and node_texts)
     yield from zip(("out_begin", "out_arcs"), indexes.outgoing_arcs(arrays))
     yield from zip(("edge_first", "edge_arcs"), indexes.arcs_by_edge(arrays))
     yield "degrees", indexes.node_degrees(arrays)
@@ -347,26 +385,22 @@ class MappedNetwork:
     """
 
     def __init__(self, file: IO[bytes], path: str) -> None:
-        self.path = path
-        self.file = MappedFile(file, path, FORMS, REMEDY)
+        self.path, self.file = path, MappedFile(file, path, FORMS, REMEDY)
         found = self.file.columns
-        self.node_osm, self.node_lon, self.node_lat, self.node_ends = (
-            found[f"node_{each}"] for each in ("osm", "lon", "lat", "ends")
-        )
+        self.node_osm, self.node_ends = found["node_osm"], found["node_ends"]
+        self.node_lon, self.node_lat = found["node_lon"], found["node_lat"]
         self.arc_from, self.arc_to, self.arc_weight = found["arc_from"], found["arc_to"], found["arc_weight"]
         self.arc_seconds, self.arc_metres, self.arc_osm = found["arc_seconds"], found["arc_metres"], found["arc_osm"]
         self.arc_edge, self.arc_along = found["arc_edge"], found["arc_along"]
         self.arc_row, self.row_texts = found["arc_row"], found["row_texts"]
-        self.arc_texts = ArcTexts(self.arc_row, self.row_texts)
         self.edge_begin, self.points = found["edge_begin"], found["points"]
         self.text_begin, self.text_bytes = found["text_begin"], found["text_bytes"]
-        self.texts = Texts(self.text_begin, self.text_bytes)
         self.node_texts: Any = found.get("node_texts", np.empty(0, np.int32))
         self.out_begin, self.out_arcs, self.degrees = found["out_begin"], found["out_arcs"], found["degrees"]
         self.edge_first, self.edge_arcs = found["edge_first"], found["edge_arcs"]
         self.step_begin, self.step_codes = found["step_begin"], found["step_codes"]
         self.step_points, self.step_edges = found["step_points"], found["step_edges"]
-        self._check_sizes()
+        self.arc_texts, self.texts = ArcTexts(self.arc_row, self.row_texts), Texts(self.text_begin, self.text_bytes)
         self._set_limits()
         self.about = dict(zip(ABOUT, found["about"][:].tolist()))
         self.node_grid, self.edge_grid = self._grid("node"), self._grid("edge")
@@ -374,50 +408,23 @@ class MappedNetwork:
 
     def _grid(self, name: str) -> Grid:
         found, height = self.file.columns, self.about[f"{name}_height"] / UNITS
-        if not indexes.MIN_BAND_HEIGHT <= height <= 2 * indexes.MAX_BAND_HEIGHT or not 0 <= self.about["unit"] < len(
-            UNITS_OF_WEIGHTS
-        ):
+        has_unit = 0 <= self.about["unit"] < len(UNITS_OF_WEIGHTS)
+        if not (has_unit and indexes.MIN_BAND_HEIGHT <= height <= 2 * indexes.MAX_BAND_HEIGHT):
             raise self.file.damaged_error("about has wrong numbers")
         margin = 0.001 if name == "node" else indexes.grid_margin(height)
         return Grid(height, margin, found[f"{name}_keys"], found[f"{name}_cells"], found[f"{name}_things"])
 
-    def _check_sizes(self) -> None:
-        """Raises NetworkError where arrays that belong together differ in their sizes."""
-        found = {name: len(column) for name, column in self.file.columns.items()}
-        nodes, arcs, edges = found["node_osm"], found["arc_from"], found["edge_begin"] - 1
-        expected = {name: nodes for name in found if name.startswith("node_") and name not in ("node_keys", "node_cells")}
-        expected |= {name: arcs for name in FILE_SCHEMA if name.startswith("arc_")}
-        expected |= {
-            "about": len(ABOUT), "out_begin": nodes + 1, "out_arcs": arcs, "edge_first": edges + 1, "edge_arcs": arcs,
-            "degrees": nodes + 1, "node_cells": found["node_keys"] + 1, "edge_cells": found["edge_keys"] + 1,
-            "step_begin": len(ROAD_CLASSES) + 1, "step_points": found["step_codes"], "step_edges": found["step_codes"],
-        }
-        for name, size in expected.items():
-            if found[name] != size:
-                raise self.file.damaged_error(f"{name} has another size")
-        if not found["text_begin"] > 1 or not found["edge_begin"]:
-            raise self.file.damaged_error("it has no texts or edges")
-
     def _set_limits(self) -> None:
-        """Says what each column may have, which is verified with its checksums."""
-        found = self.file.columns
-        size = {name: len(column) for name, column in found.items()}
-        nodes, arcs, edges = size["node_osm"], size["arc_from"], size["edge_begin"] - 1
-        limits: dict[str, tuple[float, float]] = {
-            **limits_of(nodes, edges, size["row_texts"], size["text_begin"] - 1),
-            "out_arcs": (0, arcs - 1), "edge_arcs": (0, arcs - 1), "node_things": (0, nodes - 1),
-            "edge_things": (0, edges - 1),
-            "step_points": (0, size["points"] - 2), "step_edges": (0, edges - 1),
-        }
-        offsets = {
-            "edge_begin": "points", "text_begin": "text_bytes", "out_begin": "out_arcs", "edge_first": "edge_arcs",
-            "node_cells": "node_things", "edge_cells": "edge_things", "step_begin": "step_codes",
-        }
-        limits |= {name: (0, size[other]) for name, other in offsets.items()}
-        for name in limits.keys() & found.keys():
-            found[name].low, found[name].high = limits[name]
-        for name in offsets:
-            found[name].min_step = 2 if name == "edge_begin" else 0
+        """Says what each column may have, which is verified with its checksums. Raises NetworkError where arrays that belong together
+        differ in their sizes."""
+        size = Counter({name: len(column) for name, column in self.file.columns.items()})
+        fields = fields_of(size)
+        for name, column in self.file.columns.items():
+            _, rows, column.low, column.high, column.min_step = fields[name]
+            if rows not in (None, len(column)):
+                raise self.file.damaged_error(f"{name} has another size")
+        if not size["text_begin"] > 1 or not size["edge_begin"]:
+            raise self.file.damaged_error("it has no texts or edges")
 
     @functools.cached_property
     def unit(self) -> str:
@@ -473,18 +480,10 @@ REMEDY = "convert the map again, or make it of its tables, as `to_network NODES 
 def read(path: StrPath) -> MappedNetwork:
     """The file of a network. Raises NetworkError for one that can't be read, is damaged where that is looked at when it is opened,
     or is of another version."""
-    try:
-        with open(path, "rb", opener=open_nonblocking) as file:
-            if not stat.S_ISREG(os.fstat(file.fileno()).st_mode):
-                raise NetworkError("is no regular file, so it can't be mapped", path)
-            return MappedNetwork(file, os.fspath(path))
-    except OSError as error:
-        raise NetworkError(os_reason(error), path) from error
-
-
-def open_nonblocking(path: str, flags: int) -> int:
-    """A descriptor, without waiting for a writer where the path is a pipe."""
-    return os.open(path, flags | os.O_NONBLOCK)
+    with raised_as(NetworkError, path), open(path, "rb", opener=open_nonblocking) as file:
+        if not stat.S_ISREG(os.fstat(file.fileno()).st_mode):
+            raise NetworkError("is no regular file, so it can't be mapped", path)
+        return MappedNetwork(file, os.fspath(path))
 
 
 def map_tempfile(arrays: Arrays, path: str) -> MappedNetwork:
@@ -532,10 +531,8 @@ def load_network(prefix: str) -> MappedNetwork:
         return read(Files(prefix).binary)
     need_nodes(prefix)
     arrays = arrays_from_tables(prefix)
-    try:
+    with raised_as(NetworkError, prefix, ValueError):
         return map_tempfile(arrays, prefix)
-    except ValueError as error:
-        raise NetworkError(str(error), prefix) from error
 
 
 def arrays_from_tables(prefix: str) -> Arrays:
@@ -546,7 +543,5 @@ def arrays_from_tables(prefix: str) -> Arrays:
         builder.add_node(*node, key)
     for row, arc in iter_arc_rows(files.arcs, len(nodes.osm)):
         builder.add_arc(arc, files.arcs, row)
-    try:
+    with raised_as(NetworkError, prefix, ValueError):
         return builder.build([os.stat(table).st_size for table in (files.nodes, files.arcs)])
-    except ValueError as error:
-        raise NetworkError(str(error), prefix) from error

@@ -83,7 +83,7 @@ def load_node_index(word: StrPath) -> NodeIndex:
     if arrays is not None:
         return NodeIndex.of(arrays)
     nodes = read_nodes(path)
-    lon, lat = net_file.to_units(nodes.lon, 180), net_file.to_units(nodes.lat, 90)
+    lon, lat = net_file.to_units(np.column_stack((nodes.lon, nodes.lat))).T
     ends = np.array([ENDS.index(each) for each in nodes.ends], dtype=np.uint8)
     osm = np.array([NO_OSM if each is None else each for each in nodes.osm], dtype=np.int64)
     return NodeIndex(osm, lon, lat, ends, indexes.node_grid(lon, lat), path, nodes.keys)
