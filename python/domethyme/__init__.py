@@ -26,22 +26,8 @@ from typing import TYPE_CHECKING, Any
 from .checking import check
 from .deprecated import warn_renamed
 from .errors import (
-    DomethymeError,
-    FileError,
-    GraphError,
-    HierarchyError,
-    HierarchyNotFound,
-    LibraryError,
-    LibraryNotFound,
-    NetworkError,
-    NoSuchNode,
-    NotProved,
-    OutOfMemory,
-    ProgramError,
-    ProgramNotFound,
-    ProgramStopped,
-    ReadWriteError,
-    WrongHierarchy,
+    DomethymeError, FileError, GraphError, HierarchyError, HierarchyNotFound, LibraryError, LibraryNotFound, NetworkError,
+    NoSuchNode, NotProved, OutOfMemory, ProgramError, ProgramNotFound, ProgramStopped, ReadWriteError, WrongHierarchy
 )
 from .extras import need
 from .graphs import Graph, prepare, unscaled, write_graph
@@ -56,35 +42,10 @@ if TYPE_CHECKING:
     from .routes import Routes
 
 __all__ = [
-    "DomethymeError",
-    "Fault",
-    "FileError",
-    "Graph",
-    "GraphError",
-    "Hierarchy",
-    "HierarchyError",
-    "HierarchyNotFound",
-    "Keys",
-    "LibraryError",
-    "LibraryNotFound",
-    "Network",
-    "NetworkError",
-    "NoSuchNode",
-    "NO_PATH",
-    "NotProved",
-    "OutOfMemory",
-    "ProgramError",
-    "ProgramNotFound",
-    "ProgramStopped",
-    "ReadWriteError",
-    "Route",
-    "Routes",
-    "WrongHierarchy",
-    "check",
-    "find_program",
-    "prepare",
-    "unscaled",
-    "write_graph",
+    "DomethymeError", "Fault", "FileError", "Graph", "GraphError", "Hierarchy", "HierarchyError", "HierarchyNotFound", "Keys",
+    "LibraryError", "LibraryNotFound", "Network", "NetworkError", "NoSuchNode", "NO_PATH", "NotProved", "OutOfMemory",
+    "ProgramError", "ProgramNotFound", "ProgramStopped", "ReadWriteError", "Route", "Routes", "WrongHierarchy", "check",
+    "find_program", "prepare", "unscaled", "write_graph"
 ]
 
 # The name of DomethymeError in scripts that are older than this package.
@@ -98,14 +59,13 @@ def __getattr__(name: str) -> Any:
     if name in RENAMED:
         warn_renamed(f"domethyme.{name}", RENAMED[name])
         return globals()[RENAMED[name]]
-    if name in ("Network", "Routes"):
-        need("numpy")
+    if name not in ("Network", "Routes"):
+        raise AttributeError(f"module 'domethyme' has no attribute {name!r}")
+    need("numpy")
     if name == "Network":
         from .network.network import Network
 
         return Network
-    if name == "Routes":
-        from .routes import Routes
+    from .routes import Routes
 
-        return Routes
-    raise AttributeError(f"module 'domethyme' has no attribute {name!r}")
+    return Routes

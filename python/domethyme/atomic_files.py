@@ -1,10 +1,5 @@
 """Files to write that are whole after a with-block, or as they were before it. A write that fails raises OSError with the
 name of the file; the word `-` is standard output.
-
-    atomic_write(path, mode="w")  a file; pipes, devices and standard output are written straight. Mode "w" is UTF-8 text, "wb"
-                                 bytes.
-    atomic_write_all(*paths)     several such files of text, all or none
-    add_paths_to_errors(*paths)  an OSError of a full disk in the block names these files
 """
 import contextlib
 import errno
@@ -22,24 +17,25 @@ from .program import StrPath
 
 @contextlib.contextmanager
 def atomic_write(path: StrPath, mode: str = "w") -> Iterator[IO[Any]]:
-    """A file to write: whole after the block, or as it was where the block ends by an exception."""
+    """A file to write: whole after the block, or as it was where the block ends by an exception. Pipes, devices and standard output
+    are written straight. Mode "w" is UTF-8 text, "wb" bytes."""
     if str(path) == "-":
         if isinstance(sys.stdout, io.TextIOWrapper):
             sys.stdout.reconfigure(encoding="utf-8", newline="\n")
         yield sys.stdout if mode == "w" else sys.stdout.buffer  # type: ignore[misc]
         sys.stdout.flush()
     elif is_special_file(path):
-        with add_paths_to_errors(path), open(path, mode, **encoding_options(mode)) as file:
+        with add_paths_to_errors(path), open_to_write(path, mode) as file:
             yield file
     else:
-        with add_paths_to_errors(path), temp_files_for([path], mode) as (file,):
+        with temp_files_for([path], mode) as (file,):
             yield file
 
 
 @contextlib.contextmanager
 def atomic_write_all(*paths: StrPath) -> Iterator[list[IO[Any]]]:
     """Files of text to write: all whole after the block, or all as they were where it ends by an exception."""
-    with add_paths_to_errors(*paths), temp_files_for(paths, "w") as files:
+    with temp_files_for(paths, "w") as files:
         yield files
 
 
@@ -62,8 +58,8 @@ def is_special_file(path: StrPath) -> bool:
         return False
 
 
-def encoding_options(mode: str) -> dict[str, Any]:
-    return {} if "b" in mode else {"encoding": "utf-8", "newline": "\n"}
+def open_to_write(path: StrPath, mode: str) -> IO[Any]:
+    return open(path, mode) if "b" in mode else open(path, mode, encoding="utf-8", newline="\n")
 
 
 @contextlib.contextmanager
@@ -71,21 +67,18 @@ def temp_files_for(paths: Sequence[StrPath], mode: str) -> Iterator[list[IO[Any]
     """Files beside those of the paths, which take their places, synced, when the block has ended well."""
     targets = [os.path.realpath(path) for path in paths]
     temp_paths: list[str] = []
-    try:
+    with add_paths_to_errors(*paths), contextlib.ExitStack() as leftovers:
         with contextlib.ExitStack() as opened_files:
             files: list[IO[Any]] = []
             for path, target in zip(paths, targets):
-                temp_path = make_temp_file(path, target)
-                temp_paths.append(temp_path)
-                files.append(opened_files.enter_context(open(temp_path, mode, **encoding_options(mode))))
+                temp_paths.append(make_temp_file(path, target))
+                leftovers.callback(unlink_missing_ok, temp_paths[-1])
+                files.append(opened_files.enter_context(open_to_write(temp_paths[-1], mode)))
             yield files
             for file in files:
                 file.flush()
                 os.fsync(file.fileno())
         replace_all(temp_paths, targets)
-    finally:
-        for temp_path in temp_paths:
-            unlink_missing_ok(temp_path)
 
 
 def make_temp_file(path: StrPath, target: str) -> str:
@@ -115,21 +108,16 @@ def permissions_at(target: str) -> int:
 
 def replace_all(temp_paths: list[str], targets: list[str]) -> None:
     """Gives each file its target's name; where one can't have it, those before get their old files back."""
-    backups = [f"{temp_path}.old" for temp_path in temp_paths]
-    done = 0
-    try:
-        for target, backup in zip(targets[:-1], backups):
-            back_up(target, backup)
-        for temp_path, target in zip(temp_paths, targets):
+    *before, last = zip(temp_paths, targets)
+    with contextlib.ExitStack() as backups, contextlib.ExitStack() as undone:
+        for temp_path, target in before:
+            backups.callback(unlink_missing_ok, f"{temp_path}.old")
+            back_up(target, f"{temp_path}.old")
+        for temp_path, target in before:
             os.replace(temp_path, target)
-            done += 1
-    except BaseException:
-        for target, backup in zip(targets[:done], backups):
-            restore(target, backup)
-        raise
-    finally:
-        for backup in backups:
-            unlink_missing_ok(backup)
+            undone.callback(restore, target, f"{temp_path}.old")
+        os.replace(*last)
+        undone.pop_all()
 
 
 def back_up(target: str, old: str) -> None:

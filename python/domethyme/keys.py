@@ -29,18 +29,14 @@ class Keys:
         """
         self._names: list[Hashable]
         self._nodes: dict[Any, int]
-        self._ambiguous: set[Hashable]
+        self._ambiguous: set[Hashable] = set()
         self._digest: str | None = None
         self._is_partial = isinstance(keys, Mapping)
         if isinstance(keys, Keys):
-            self._names, self._nodes, self._ambiguous = keys._names, keys._nodes, keys._ambiguous
-            self._digest, self._is_partial = keys._digest, keys._is_partial
+            vars(self).update(vars(keys))
         elif isinstance(keys, Mapping):
-            self._names, self._nodes, self._ambiguous = (
-                keys_by_node(keys),
-                {to_python_scalar(key): int(keys[key]) for key in keys},
-                set(),
-            )
+            self._names = keys_by_node(keys)
+            self._nodes = {to_python_scalar(key): int(node) for key, node in keys.items()}
         else:
             self._names = [to_python_scalar(key) for key in keys]
             self._nodes, self._ambiguous = index_keys(self._names)
@@ -63,14 +59,18 @@ class Keys:
     @classmethod
     def of_rows(cls, names: "Iterable[Hashable]", ends: Iterable[str]) -> "Keys":
         """The key of each node, or None, and its place at a junction with turn restrictions, as `read` has them."""
+        rows = list(zip(names, ends))
+        begins = {key: node for node, (key, end) in enumerate(rows) if end == "from" and key is not None}
+        return cls._choosing([key for key, _ in rows], begins)
+
+    @classmethod
+    def _choosing(cls, names: list[Hashable], chosen: Mapping[Any, int]) -> "Keys":
+        """The key of each node, or None, and the nodes of keys that name several."""
         keys = cls(())
-        keys._names = list(names)
-        keys._nodes, keys._ambiguous = index_keys(keys._names)
-        begins = {
-            key: node for node, (key, end) in enumerate(zip(keys._names, ends)) if end == "from" and key in keys._ambiguous
-        }
-        keys._nodes |= begins
-        keys._ambiguous -= begins.keys()
+        keys._names = names
+        keys._nodes, keys._ambiguous = index_keys(names)
+        keys._nodes |= chosen
+        keys._ambiguous -= chosen.keys()
         return keys
 
     @classmethod
@@ -111,18 +111,15 @@ class Keys:
         if self._digest is None and not os.path.exists(keys_path(hierarchy)):
             return
         digest = hashlib.sha256(data).hexdigest()
-        if self._digest is not None and self._digest != digest:
+        if self._digest not in (None, digest):
             again = "if its nodes are numbered as in that file, save them for it: keys.save(path)"
             raise ValueError(f"the keys were saved for another file than {os.fspath(hierarchy)}: {again}")
         try:
             saved = load_if_matching(hierarchy, digest)
         except FileError:
             return
-        if saved is None:
-            return
         for key, node in self._nodes.items():
-            other = saved._nodes.get(key, node)
-            if other != node:
+            if saved is not None and (other := saved._nodes.get(key, node)) != node:
                 beside = f"node {other} in {keys_path(hierarchy)}: take Keys.load, or delete that file"
                 raise ValueError(f"key {key!r} names node {node} here, and {beside}")
 
@@ -185,18 +182,15 @@ def load_if_matching(hierarchy: StrPath, digest: str) -> Keys | None:
             raise FileError(f"is of another format than {FORMAT!r}", path)
         if saved["hierarchy"] != digest:
             return None
-        keys = Keys(())
-        keys._names, keys._digest, keys._is_partial = list(saved["keys"]), digest, True
-        keys._nodes, keys._ambiguous = index_keys(keys._names)
-        chosen = dict(saved["chosen"])
-        if any(keys._names[node] != key for key, node in chosen.items()):
+        names, chosen = list(saved["keys"]), dict(saved["chosen"])
+        if any(names[node] != key for key, node in chosen.items()):
             raise ValueError("chosen")
+        keys = Keys._choosing(names, chosen)
     except OSError as error:
         raise FileError(os_reason(error), path) from error
     except (ValueError, TypeError, LookupError) as error:
         raise FileError("has no keys as Keys.save writes them", path) from error
-    keys._nodes |= chosen
-    keys._ambiguous -= chosen.keys()
+    keys._digest, keys._is_partial = digest, True
     return keys
 
 
