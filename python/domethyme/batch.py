@@ -76,14 +76,11 @@ def routes(router: Router, pairs: NDArray[np.int64]) -> BatchRoutes:
     """The routes of pairs of nodes, of shape (n, 2)."""
 
     def query_chunk(part: slice, seat: Searcher) -> BatchRoutes:
-        found = [route_arrays(seat, source, target) for source, target in pairs[part].tolist()]
-        lengths, nodes = zip(*found)
+        lengths, nodes = zip(*(route_arrays(seat, source, target) for source, target in pairs[part].tolist()))
         return BatchRoutes(np.array(lengths, np.int64), np.array([*map(len, nodes)], np.int64), np.concatenate(nodes))
 
-    found = map_chunks(router, query_chunk, len(pairs)) or [
-        BatchRoutes(np.empty(0, np.int64), np.empty(0, np.int64), np.empty(0, np.int32))
-    ]
-    lengths, counts, nodes = zip(*found)
+    none = BatchRoutes(np.empty(0, np.int64), np.empty(0, np.int64), np.empty(0, np.int32))
+    lengths, counts, nodes = zip(none, *map_chunks(router, query_chunk, len(pairs)))
     return BatchRoutes(np.concatenate(lengths), np.concatenate(counts), np.concatenate(nodes))
 
 

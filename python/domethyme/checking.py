@@ -4,8 +4,8 @@ import subprocess
 from collections.abc import Callable, Sequence
 from typing import TYPE_CHECKING
 
-from .errors import NotProved, ProgramError, WrongHierarchy, error_from_exit, os_reason
-from .program import StrPath, find_program
+from .errors import NotProved, WrongHierarchy, error_from_exit
+from .program import StrPath, find_program, run_explaining
 
 if TYPE_CHECKING:
     from .graphs import Graph
@@ -33,22 +33,17 @@ def run_check(
 ) -> None:
     """Checks a hierarchy's file, which messages call by this name, against a graph's, as `check` does. The program has the open
     `files`, too. `before` is called in its process before it begins, for a caller without threads."""
-    nothing, pipe = subprocess.DEVNULL, subprocess.PIPE
-    words = [program, "check", "--explain", "--", graph, hierarchy]
-    try:
-        completed = subprocess.run(words, stdin=nothing, stdout=pipe, stderr=pipe, pass_fds=files, preexec_fn=before)
-    except OSError as error:
-        raise ProgramError(f"{program}: {os_reason(error)}") from error
-    if completed.returncode == 0:
+    options = {"stdout": subprocess.PIPE, "pass_fds": files, "preexec_fn": before}
+    completed = run_explaining(program, ["check"], [graph, hierarchy], **options)
+    status = completed.returncode
+    if status == 0:
         return
-    if completed.returncode not in (WRONG, NOT_SHOWN):
-        raise error_from_exit(
-            completed.returncode, completed.stderr.replace(os.fsencode(hierarchy), os.fsencode(name)), name
-        )
+    if status not in (WRONG, NOT_SHOWN):
+        raise error_from_exit(status, completed.stderr.replace(os.fsencode(hierarchy), os.fsencode(name)), name)
     line = completed.stdout.decode("ascii", "replace").strip()
     told = completed.stderr.decode("utf-8", "replace").replace(hierarchy, name)
     explanation = [" ".join(each.split()) for each in told.splitlines()]
-    if completed.returncode == NOT_SHOWN:
+    if status == NOT_SHOWN:
         raise NotProved(f"{name}: {line}", NOT_SHOWN, explanation)
     fault = WrongHierarchy(f"{name}: {line}", WRONG, explanation)
     words = line.split()

@@ -7,21 +7,20 @@ import warnings
 from collections.abc import Iterator
 from typing import TYPE_CHECKING, Any, Literal
 
-from . import dimacs, library, limits
+from . import dimacs, library
 from .atomic_files import atomic_write
 from .deprecated import warn_renamed
 from .errors import ReadWriteError, os_reason
 from .extras import need
 from .hierarchy import Hierarchy
 from .keys import Keys
-from .limits import MAX_NODES, MAX_WEIGHT
+from .limits import MAX_LINES, MAX_NODES, MAX_WEIGHT
 from .program import StrPath, find_program, run_program
 
 if TYPE_CHECKING:
     import numpy as np
     from numpy.typing import ArrayLike, NDArray
 
-MAX_ARCS = limits.MAX_LINES
 Order = Literal["edges", "neighbours", "depth"]
 
 
@@ -34,12 +33,8 @@ class Graph:
     """
 
     def __init__(
-        self,
-        from_nodes: "ArrayLike",
-        to_nodes: "ArrayLike",
-        weights: "ArrayLike",
-        nodes: int | None = None,
-        keys: Keys | None = None,
+        self, from_nodes: "ArrayLike", to_nodes: "ArrayLike", weights: "ArrayLike", nodes: int | None = None,
+        keys: Keys | None = None
     ) -> None:
         """Nodes are whole numbers from 0, weights from 0 to 4294967295. Without `nodes` there are those up to the greatest
         of an arc. Raises ValueError for arrays that can't be meant so."""
@@ -51,8 +46,8 @@ class Graph:
         self.weights: "NDArray[np.int64]" = whole_numbers("weights", weights, 0, MAX_WEIGHT)
         if self.weights.ndim != 1 or not self.from_nodes.shape == self.to_nodes.shape == self.weights.shape:
             raise ValueError("from_nodes, to_nodes and weights have to be of one dimension and as long as one another")
-        if len(self.weights) > MAX_ARCS:
-            raise ValueError(f"a graph has at most {MAX_ARCS} arcs")
+        if len(self.weights) > MAX_LINES:
+            raise ValueError(f"a graph has at most {MAX_LINES} arcs")
         least = int(max(self.from_nodes.max(initial=-1), self.to_nodes.max(initial=-1))) + 1
         if nodes is not None and not least <= nodes <= MAX_NODES:
             raise ValueError(f"the number of nodes has to be from {least}, by the arcs, to {MAX_NODES}")
@@ -137,9 +132,8 @@ def scaled(weights: "ArrayLike", scale: float) -> "NDArray[np.int64]":
         raise ValueError(f"weights times {scale:g} have to be from 0 to {MAX_WEIGHT}")
     rounded: "NDArray[np.int64]" = np.rint(products).astype(np.int64)
     if lost := int(np.count_nonzero((products > 0) & (rounded == 0))):
-        warnings.warn(
-            f"{lost} of {rounded.size} weights are above 0, and 0 once they are scaled by {scale:g}", stacklevel=3
-        )
+        says = f"{lost} of {rounded.size} weights are above 0, and 0 once they are scaled by {scale:g}"
+        warnings.warn(says, stacklevel=3)
     return rounded
 
 
@@ -172,15 +166,8 @@ def write_graph(
 
 
 def prepare(
-    graph: "Graph | StrPath",
-    hierarchy: StrPath,
-    order: Order = "depth",
-    workers: int | None = None,
-    seed: int | None = None,
-    program: StrPath | None = None,
-    switch_order_after: int | None = None,
-    *,
-    stint: int | None = None,
+    graph: "Graph | StrPath", hierarchy: StrPath, order: Order = "depth", workers: int | None = None, seed: int | None = None,
+    program: StrPath | None = None, switch_order_after: int | None = None, *, stint: int | None = None
 ) -> Hierarchy:
     """Makes the file of the hierarchy of a Graph, or of a graph's file, by `routecli prepare`. Returns the Hierarchy. At an
     exception its file is as it was before.
@@ -196,10 +183,10 @@ def prepare(
     """
     if stint is not None:
         warn_renamed("prepare(stint=)", "prepare(switch_order_after=)")
-    stint = switch_order_after if stint is None else stint
+        switch_order_after = stint
     found = find_program(program)
     library.load_library()  # (the result is a Hierarchy: what it needs is looked for before the work)
-    options = {"--order": order, "--workers": workers, "--seed": seed, "--stint": stint}
+    options = {"--order": order, "--workers": workers, "--seed": seed, "--stint": switch_order_after}
     arguments = [str(word) for name, value in options.items() if value is not None for word in (name, value)]
     with graph_file(graph) as text:
         run_program(found, ["prepare", *arguments], [text, os.fspath(hierarchy)])
@@ -214,19 +201,13 @@ def graph_file(graph: "Graph | StrPath") -> Iterator[str]:
     """The path of the text of a graph, which is written for the block where there is only a Graph. Raises ReadWriteError where a
     file can't be opened."""
     if not isinstance(graph, Graph):
-        check_readable(graph)
+        try:
+            open(graph, "rb").close()
+        except OSError as error:
+            raise ReadWriteError(f"{os.fspath(graph)}: {os_reason(error)}", 7) from error
         yield os.fspath(graph)
         return
     with tempfile.TemporaryDirectory(prefix="domethyme-") as folder:
         text = os.path.join(folder, "graph.gr")
         graph.write(text)
         yield text
-
-
-def check_readable(path: StrPath) -> None:
-    """Raises ReadWriteError where a file can't be opened."""
-    try:
-        with open(path, "rb"):
-            pass
-    except OSError as error:
-        raise ReadWriteError(f"{os.fspath(path)}: {os_reason(error)}", 7) from error

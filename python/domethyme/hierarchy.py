@@ -1,5 +1,6 @@
 """A file of a hierarchy, and the questions that it answers."""
 import functools
+import operator
 import os
 from collections.abc import Hashable, Iterable, Mapping, Sequence
 from typing import TYPE_CHECKING, Any, Literal, Union, overload
@@ -52,12 +53,8 @@ class Hierarchy:
     """
 
     def __init__(
-        self,
-        path: StrPath,
-        *,
-        keys: "Keys | Mapping[Any, int] | Iterable[Hashable] | None" = None,
-        network: "Network | StrPath | None" = None,
-        compare_all: bool = False,
+        self, path: StrPath, *, keys: "Keys | Mapping[Any, int] | Iterable[Hashable] | None" = None,
+        network: "Network | StrPath | None" = None, compare_all: bool = False
     ) -> None:
         """Reads the file, which takes 0.4 seconds for a million nodes, and some 350 bytes of memory a node.
 
@@ -77,7 +74,12 @@ class Hierarchy:
             self.keys = None if keys is None else Keys(keys, self.nodes)
             if self.keys is not None:
                 self.keys.check_consistent(path, data)
-            self.network, self._compare_all = as_network(network), compare_all
+            if isinstance(network, (str, os.PathLike)):
+                need("numpy")
+                from .network.network import Network
+
+                network = Network(network)
+            self.network, self._compare_all = network, compare_all
             self._router = Router(data, self._name)
             if self.network is not None:
                 self.network.compare(file.fileno(), self._name, compare_all)
@@ -140,14 +142,12 @@ class Hierarchy:
     def routes(self, pairs: Any) -> "Routes":
         """The Routes of many pairs, which are given and asked for as for `lengths`."""
         need("numpy")
-        import numpy as np
-
         from . import arrays, batch, routes
+        from .network.groups import offsets
 
         asked = arrays.pairs_of(pairs, self.keys, self.nodes)
         found = batch.routes(self._router, asked)
-        offsets = np.concatenate([[0], np.cumsum(found.counts)])
-        return routes.Routes(found.lengths, found.nodes, offsets, asked, self.keys, routes.index_of(pairs))
+        return routes.Routes(found.lengths, found.nodes, offsets(found.counts), asked, self.keys, routes.index_of(pairs))
 
     @overload
     def matrix(self, sources: "NDArray[Any]", targets: "NDArray[Any] | None" = None, by: By | None = None) -> "NDArray[np.int64]": ...
@@ -196,9 +196,7 @@ class Hierarchy:
         where routes begin, or with side="to" one where they end, which differ at junctions with turn restrictions. Two numbers
         give a node and a float, two arrays give two arrays. Needs the network. Raises NoSuchNode where none is
         `within` so many metres, and ValueError."""
-        if self.network is None:
-            raise ValueError("the hierarchy has no network: give Hierarchy the word network=")
-        nodes, metres = self.network.nearest(lon, lat, side_of(side, end))
+        nodes, metres = self._need_network().nearest(lon, lat, side_of(side, end))
         check_within(metres, within)
         if self.keys is None:
             return nodes, metres
@@ -249,8 +247,7 @@ class Hierarchy:
         The lengths are the library's. Polygons and lines are drawn from them and aren't proved. Raises NoSuchNode if no
         road is near enough, ValueError, and what `reach` does.
         """
-        if self.network is None:
-            raise ValueError("the hierarchy has no network: give Hierarchy the word network=")
+        network = self._need_network()
         for name in ("numpy", "scipy", "contourpy", "shapely"):
             need(name)
         from . import batch
@@ -258,16 +255,21 @@ class Hierarchy:
 
         refuse_towards(towards)
         asked = list(metres) or list(minutes) or list(DEFAULT_MINUTES)
-        roads, is_metres = self.network.roads, len(metres) > 0
+        roads, is_metres = network.roads, len(metres) > 0
         limits = isochrones.limits(roads.unit, minutes if is_metres else asked, metres)
         if max(limits) > MAX_LIMIT:
             raise ValueError(f"{max(asked):g} is too much: lengths are asked for up to 2^62")
-        points = self.network.points_on_roads(place, max_metres)
+        points = network.points_on_roads(place, max_metres)
         reach = isochrones.reach_from(roads, points, limits, functools.partial(batch.reach, self._router))
         style = isochrones.Style(shape, generalize, denoise, colors, roads.texts[0])
         return isochrones.features(reach, asked, "distance" if is_metres else "time", style)
 
     # What they share
+
+    def _need_network(self) -> "Network":
+        if self.network is None:
+            raise ValueError("the hierarchy has no network: give Hierarchy the word network=")
+        return self.network
 
     def _node(self, node: Hashable) -> int:
         """The number of a node or key, from 0."""
@@ -275,14 +277,16 @@ class Hierarchy:
             return self.keys.node(node)
         if not is_whole(node):
             raise ValueError(f"{node!r} is no node: nodes are whole numbers, or keys where Hierarchy has keys=")
-        number: int = node.__index__()  # type: ignore[attr-defined]
+        number = operator.index(node)  # type: ignore[arg-type]
         if not 0 <= number < self.nodes:
             raise NoSuchNode(f"there is no node {number}: the hierarchy has nodes 0 to {self.nodes - 1}", node)
-        return int(number)
+        return number
 
     def _ends(self, name: str, ends: Ends) -> list[tuple[int, int]]:
         """One side of `between`: nodes from 0, and what is added at each."""
-        rows = ends.items() if isinstance(ends, Mapping) else [row if is_pair(row) else (row, 0) for row in ends]
+        rows = ends.items() if isinstance(ends, Mapping) else [
+            row if isinstance(row, tuple) and len(row) == 2 else (row, 0) for row in ends
+        ]
         found = [(self._node(node), as_int(name, added)) for node, added in rows]
         if not found:
             raise ValueError(f"{name} have to be a node or more")
@@ -296,15 +300,6 @@ class Hierarchy:
         numbers = answer.nodes
         nodes: list[Any] = list(numbers) if self.keys is None else [self.keys.key(number) for number in numbers]
         return Route(nodes[0], nodes[-1], answer.length, nodes, numbers)
-
-
-def as_network(network: "Network | StrPath | None") -> "Network | None":
-    if network is None or not isinstance(network, (str, os.PathLike)):
-        return network
-    need("numpy")
-    from .network.network import Network
-
-    return Network(network)
 
 
 def check_within(metres: Any, within: float) -> None:
@@ -328,13 +323,9 @@ def as_int(name: str, added: Any) -> int:
     """An added length as an int, which it has to be."""
     if not is_whole(added):
         raise ValueError(f"the lengths added at {name} have to be whole numbers, and {added!r} is none")
-    return int(added.__index__())
+    return operator.index(added)
 
 
 def is_whole(value: Any) -> bool:
     """Whether a value is a whole number, of Python or numpy, and no truth value."""
     return hasattr(value, "__index__") and not isinstance(value, bool) and getattr(value, "dtype", None) != bool
-
-
-def is_pair(row: Any) -> bool:
-    return isinstance(row, tuple) and len(row) == 2

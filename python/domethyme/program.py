@@ -3,7 +3,7 @@ import os
 import pathlib
 import shutil
 import subprocess
-from typing import Union
+from typing import Any, Union
 
 from .errors import ProgramError, ProgramNotFound, error_from_exit, os_reason
 
@@ -35,12 +35,17 @@ def find_program(named: StrPath | None = None) -> str:
 def run_program(program: str, arguments: list[str], files: list[str]) -> None:
     """Runs the program to its end, with empty standard input, on files of any names; raises the error of its exit status if that
     isn't 0, with the program's explanation."""
-    try:
-        nothing = subprocess.DEVNULL
-        completed = subprocess.run(
-            [program, *arguments, "--explain", "--", *files], stdin=nothing, stdout=nothing, stderr=subprocess.PIPE
-        )
-    except OSError as error:
-        raise ProgramError(f"{program}: {os_reason(error)}") from error
+    completed = run_explaining(program, arguments, files, stdout=subprocess.DEVNULL)
     if completed.returncode != 0:
         raise error_from_exit(completed.returncode, completed.stderr)
+
+
+def run_explaining(
+    program: str, arguments: list[str], files: list[str], **options: Any
+) -> "subprocess.CompletedProcess[bytes]":
+    """The same with `options` for subprocess.run, and whatever status it ends with."""
+    words = [program, *arguments, "--explain", "--", *files]
+    try:
+        return subprocess.run(words, stdin=subprocess.DEVNULL, stderr=subprocess.PIPE, **options)
+    except OSError as error:
+        raise ProgramError(f"{program}: {os_reason(error)}") from error

@@ -71,18 +71,14 @@ def matches_request(request: bytes, reply: bytes) -> bool:
         return True
     if kind == b"b":
         return reply == b"n" or matches_between(request, reply)
-    if reply == b"n" + ends:
-        return True
-    return reply.startswith((b"r" if kind == b"q" else b"d") + ends + b" ")
+    return reply == b"n" + ends or reply.startswith((b"r" if kind == b"q" else b"d") + ends + b" ")
 
 
 def matches_between(request: bytes, reply: bytes) -> bool:
     """Whether a line `r S T ..` has one of the starts and one of the ends of a request `b S C .. : T D ..`."""
     words = reply.split(b" ", 3)
     starts, _, ends = request[2:].partition(b" : ")
-    if len(words) != 4 or words[0] != b"r":
-        return False
-    return words[1] in starts.split()[::2] and words[2] in ends.split()[::2]
+    return len(words) == 4 and words[0] == b"r" and words[1] in starts.split()[::2] and words[2] in ends.split()[::2]
 
 
 def reply_error(reply: bytes) -> DomethymeError:

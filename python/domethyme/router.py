@@ -13,9 +13,9 @@ import time
 import weakref
 from collections.abc import Iterator, Sequence
 from ctypes import addressof, byref
-from typing import NamedTuple
+from typing import Any, NamedTuple
 
-from .errors import DomethymeError, HierarchyError, LibraryError, OutOfMemory
+from .errors import HierarchyError, LibraryError, OutOfMemory
 from .library import (
     FIRST_FAULT, NO_LENGTH, NO_PATH, NO_ROOM, OK, OUT_OF_MEMORY, TOO_LONG, BetweenInfo, Handle, RouteInfo, Seed,
     error_message, load_later_call, load_library
@@ -63,16 +63,9 @@ class Searcher:
         if hasattr(self, "_at"):
             self.close()
 
-    @property
-    def count(self) -> int:
-        """The number of nodes."""
-        self._check(self._library.domethyme_nodes(self._at, byref(self._number)))
-        return self._number.value
-
-    @property
-    def version(self) -> int:
-        """The version of the file."""
-        self._check(self._library.domethyme_version(self._at, byref(self._number)))
+    def figure(self, name: str) -> int:
+        """The number of `nodes`, or the `version` of the file."""
+        self._check(getattr(self._library, f"domethyme_{name}")(self._at, byref(self._number)))
         return self._number.value
 
     def length(self, source: int, target: int) -> int | None:
@@ -82,22 +75,13 @@ class Searcher:
 
     def route(self, source: int, target: int) -> bool:
         """Whether there is a path. A shortest one, of the fewest arcs, is in `route_info` and at the beginning of `nodes`."""
-        info = self.route_info
-        while True:
-            code = self._library.domethyme_route(self._at, source, target, byref(info), self._nodes_at, self._capacity)
-            if code != NO_ROOM:
-                return self._is_path(code)
-            self._resize_buffer(2 * info.nodes)
+        return self._with_room(self._library.domethyme_route, self.route_info, source, target)
 
     def between(self, starts: "ctypes.Array[Seed]", ends: "ctypes.Array[Seed]") -> bool:
         """The same from one of several starts to one of several ends, of the least whole length. It is in `between_info` and
         `nodes`."""
-        info, sides = self.between_info, (addressof(starts), len(starts), addressof(ends), len(ends))
-        while True:
-            code = self._library.domethyme_between(self._at, *sides, byref(info), self._nodes_at, self._capacity)
-            if code != NO_ROOM:
-                return self._is_path(code)
-            self._resize_buffer(2 * info.nodes)
+        sides = addressof(starts), len(starts), addressof(ends), len(ends)
+        return self._with_room(self._library.domethyme_between, self.between_info, *sides)
 
     def lengths(self, pairs: int, count: int, lengths: int) -> None:
         """Writes the least length of each pair of an array, NO_LENGTH if there is no path, to another; both by their
@@ -114,29 +98,31 @@ class Searcher:
         most = NO_LENGTH if limit is None else limit
         self._check(load_later_call("reach")(self._at, addressof(starts), len(starts), most, lengths, count))
 
+    def _with_room(self, call: Any, info: RouteInfo | BetweenInfo, *question: int) -> bool:
+        """Whether a call finds a path, of which it writes to the info and to `nodes`, with as much room as it needs."""
+        while (code := call(self._at, *question, byref(info), self._nodes_at, self._capacity)) == NO_ROOM:
+            self._resize_buffer(2 * info.nodes)
+        return self._is_path(code)
+
     def _resize_buffer(self, room: int) -> None:
         self.nodes, self._capacity = (ctypes.c_uint32 * room)(), room
         self._nodes_at = addressof(self.nodes)
 
     def _is_path(self, code: int) -> bool:
         """Whether a code says that there is a path. Raises the error of one that says neither."""
-        if code == OK:
-            return True
         if code != NO_PATH:
-            raise self._error(code)
-        return False
+            self._check(code)
+        return code == OK
 
     def _check(self, code: int) -> None:
-        if code != OK:
-            raise self._error(code)
-
-    def _error(self, code: int) -> DomethymeError:
+        if code == OK:
+            return
         message = f"{self.name}: {error_message(code)}"
         if code == OUT_OF_MEMORY:
-            return OutOfMemory(message, 6)
+            raise OutOfMemory(message, 6)
         if code == TOO_LONG or code >= FIRST_FAULT:
-            return HierarchyError(message, 4)
-        return LibraryError(message)
+            raise HierarchyError(message, 4)
+        raise LibraryError(message)
 
 
 class Router:
@@ -147,7 +133,7 @@ class Router:
         and LibraryNotFound."""
         self.name, self._first = name, Searcher(name)
         self._first.open(data)
-        self.nodes, self.version = self._first.count, self._first.version
+        self.nodes, self.version = self._first.figure("nodes"), self._first.figure("version")
         self._idle: list[Searcher] = []
         self._seats: "weakref.WeakSet[Searcher]" = weakref.WeakSet()
         self._making, self._is_closed = threading.Lock(), False

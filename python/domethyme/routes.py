@@ -9,6 +9,7 @@ from numpy.typing import NDArray
 from .deprecated import warn_renamed
 from .extras import need
 from .keys import Keys
+from .network.groups import expand, offsets
 
 if TYPE_CHECKING:
     from .network.network import Network
@@ -27,13 +28,8 @@ class Routes:
     """
 
     def __init__(
-        self,
-        lengths: NDArray[np.int64],
-        nodes: NDArray[np.int32],
-        offsets: NDArray[np.int64],
-        pairs: NDArray[np.int64],
-        keys: Keys | None = None,
-        index: Any = None,
+        self, lengths: NDArray[np.int64], nodes: NDArray[np.int32], offsets: NDArray[np.int64], pairs: NDArray[np.int64],
+        keys: Keys | None = None, index: Any = None
     ) -> None:
         self.lengths, self.nodes, self.offsets, self.pairs = lengths, nodes, offsets, pairs
         self.keys, self.index = keys, index
@@ -99,12 +95,10 @@ class Routes:
         return network.geojson(self)
 
     def _slice(self, rows: slice) -> "Routes":
-        chosen = np.arange(len(self))[rows]
-        parts = [self.node_indices(row) for row in chosen.tolist()]
-        offsets = np.concatenate([[0], np.cumsum(self.arcs[chosen] + 1)]).astype(np.int64)
-        nodes = np.concatenate([np.empty(0, np.int32), *parts])
-        index = None if self.index is None else self.index[rows]
-        return Routes(self.lengths[chosen], nodes, offsets, self.pairs[chosen], self.keys, index)
+        counts, index = np.diff(self.offsets)[rows], None if self.index is None else self.index[rows]
+        route, position = expand(counts)
+        nodes = self.nodes[self.offsets[:-1][rows][route] + position]
+        return Routes(self.lengths[rows].copy(), nodes, offsets(counts), self.pairs[rows].copy(), self.keys, index)
 
 
 def index_of(pairs: Any) -> Any:
