@@ -1,12 +1,4 @@
 """Tables in CSV, read row by row, and the numbers in texts.
-
-    open_table(path, required)   with-block: a Table of a CSV file; iterate for (row, {column: text}); `.columns` are the
-                                 names in order, those of `required` are there
-    open_input(path)             with-block: a stream of bytes, unpacked if the file is one of gzip
-    parse_int(text, what, path, row, low, high)     the int
-    parse_float(text, what, path, row, low, high)   the float
-    escape_formula(text), unescape_formula(text)    a text as a field of CSV that no program takes for a formula, and back
-
 The path `-` is standard input. What is wrong is a NetworkError with file and row. Needs nothing but Python's own library.
 """
 import contextlib
@@ -21,7 +13,7 @@ import zlib
 from collections.abc import Iterable, Iterator
 from typing import IO, cast
 
-from .errors import NetworkError, os_reason
+from .errors import NetworkError, raised_as
 from .limits import MAX_WEIGHT
 from .program import StrPath
 
@@ -31,7 +23,7 @@ GZIP = b"\x1f\x8b"
 ALIKE = 0.7
 # How a formula begins for programs that show tables, and what is a number to them.
 FORMULA, NUMBER = re.compile("'*[-=+@\t\r]"), re.compile(r"[-+]?[0-9]*\.?[0-9]+(?:[eE][-+]?[0-9]+)?")
-DIGITS, BYTES_OF_DIGITS = re.compile("[-+]?[0-9]{1,4000}"), re.compile(b"[-+]?[0-9]{1,4000}")
+DIGITS = re.compile("[-+]?[0-9]{1,4000}")
 
 
 @contextlib.contextmanager
@@ -40,10 +32,8 @@ def open_input(path: StrPath) -> Iterator[IO[bytes]]:
     with contextlib.ExitStack() as opened:
         stream = cast(io.BufferedReader, sys.stdin.buffer)
         if str(path) != "-":
-            try:
+            with raised_as(NetworkError, path):
                 stream = opened.enter_context(open(path, "rb"))
-            except OSError as error:
-                raise NetworkError(os_reason(error), path) from error
         if stream.peek(2)[:2] != GZIP:
             yield stream
             return
@@ -57,15 +47,14 @@ def open_input(path: StrPath) -> Iterator[IO[bytes]]:
 
 
 class Table:
-    """The rows of a CSV file, by the names of its first row: iterate for (row, {column: text})."""
+    """The rows of a CSV file, by the names of its first row, `columns`: iterate for (row, {column: text})."""
 
     def __init__(self, path: StrPath, stream: IO[bytes], required: Iterable[str]) -> None:
         self.path = path
         self.reader = csv.reader(decode_lines(path, stream), strict=True)
-        found = self.next_record()
-        if found is None:
+        if (columns := self.next_record()) is None:
             raise NetworkError("is empty", path)
-        self.columns = found
+        self.columns = columns
         need_columns(path, self.columns, required)
 
     def __iter__(self) -> Iterator[tuple[int, dict[str, str]]]:
@@ -123,15 +112,14 @@ def decode_lines(path: StrPath, stream: IO[bytes]) -> Iterator[str]:
     """The lines of a UTF-8 text; a mark of the byte order at its beginning is dropped."""
     for row, line in enumerate(stream, 1):
         try:
-            text = line.decode("utf-8-sig" if row == 1 else "utf-8")
+            yield line.decode("utf-8-sig" if row == 1 else "utf-8")
         except UnicodeDecodeError as error:
             raise NetworkError("isn't UTF-8", path, row) from error
-        yield text
 
 
 def parse_int(text: str | bytes, what: str, path: StrPath, row: int | None, low: int = 0, high: int = MAX_WEIGHT) -> int:
     """The value of a text (or bytes) of decimal digits, maybe with a sign, from low to high."""
-    if not (DIGITS.fullmatch(text) if isinstance(text, str) else BYTES_OF_DIGITS.fullmatch(text)):
+    if not DIGITS.fullmatch(text if isinstance(text, str) else text.decode("ascii", "replace")):
         raise NetworkError(f"{what} {excerpt(text)} isn't an integer", path, row)
     value = int(text)
     if not low <= value <= high:
@@ -169,8 +157,3 @@ def excerpt(text: str | bytes) -> str:
     """A text of an input as messages show it: quoted, and not longer than a message should be."""
     text = text.decode("utf-8", "replace") if isinstance(text, bytes) else text
     return repr(text if len(text) <= 40 else text[:40] + "..")
-
-
-# Graphs, pairs and answers
-
-

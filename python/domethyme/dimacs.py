@@ -1,11 +1,4 @@
 """Graphs, pairs and answers as texts, in the formats of docs/FORMATS.md.
-
-    read_graph(path)             GraphLists(nodes, starts, ends, weights): a number and three lists, in the file's order
-    write_graph(file, nodes, arcs, comments=())     arcs are (start, end, weight)
-    write_pairs(file, pairs, comments=())           the query file
-    read_answers(path)           yields the protocol.RouteReply of each line that `routecli route` prints
-    dimacs_lines, parse_problem_line                what lines of graphs, pairs and coordinates have in common
-
 Nodes are numbered from 1, as in the texts. The path `-` is standard input. What is wrong is a NetworkError with file and row.
 Needs nothing but Python's own library.
 """
@@ -67,8 +60,7 @@ def read_graph(path: StrPath) -> GraphLists:
 
 def write_graph(file: IO[str], nodes: int, arcs: Collection[Iterable[int]], comments: Iterable[str] = ()) -> None:
     """Writes a .gr file: the comments, a line each, the problem line, and an arc line for each (start, end, weight)."""
-    for comment in comments:
-        file.write(f"c {comment}\n")
+    file.writelines(f"c {comment}\n" for comment in comments)
     file.write(f"p sp {nodes} {len(arcs)}\n")
     file.writelines(f"a {start} {end} {weight}\n" for start, end, weight in arcs)
 

@@ -46,10 +46,11 @@ from .tables import ENDS, graph_of, is_coordinates
 BLOCK = 1 << 24
 FARTHEST_END = 1000.0
 LEAST_ID, GREATEST_ID = -(1 << 63) + 1, (1 << 63) - 1
-# What says in which directions a road is open: along its row, and back.
-ONE_WAY = {"1": (True, False), "yes": (True, False), "true": (True, False), "-1": (False, True), "reverse": (False, True)}
-TWO_WAYS = ("0", "no", "false", "")
-BOTH, ALONG = (True, True), (True, False)
+# In which directions a road is open, along its row and back; and what says so.
+ALONG, BACK, BOTH = (True, False), (False, True), (True, True)
+ONE_WAY = {
+    "1": ALONG, "yes": ALONG, "true": ALONG, "-1": BACK, "reverse": BACK, "0": BOTH, "no": BOTH, "false": BOTH, "": BOTH
+}
 # What is doubted: arcs that are so much shorter than the straight line, to a metre, and faster than so many km/h.
 SHORTER, FASTEST = 0.99, 400.0
 
@@ -76,11 +77,7 @@ class Nodes(NodeArrays):
         return found
 
 
-def nothing(_line: str) -> None:
-    """Says nothing of a table."""
-
-
-def read_nodes(path: StrPath, say: Say = nothing) -> Nodes:
+def read_nodes(path: StrPath, say: Say = lambda line: None) -> Nodes:
     """The nodes of a table, or of a .co file; `say` gets a line for what may be meant otherwise. Raises NetworkError."""
     if is_coordinates(path):
         places = read_co(path)
@@ -110,14 +107,14 @@ def read_nodes(path: StrPath, say: Say = nothing) -> Nodes:
     return Nodes(np.array(osm), places, np.array(ends), shown_keys, rows if is_named else None, path, columns)
 
 
-def read_arcs(path: StrPath, nodes: Nodes, weight: str = "time", say: Say = nothing) -> ArcArrays:
+def read_arcs(path: StrPath, nodes: Nodes, weight: str = "time", say: Say = lambda line: None) -> ArcArrays:
     """The arcs of a table, or of a .gr file. Those without a weight have milliseconds (`time`) or centimetres (`length`). `say` gets a
     line for what may be meant otherwise. Raises NetworkError."""
     if os.fspath(path).endswith((".gr", ".gr.gz")):
         return straight_arcs(*read_gr(path, len(nodes.osm)), nodes)
     numbers = array.array("q")  # (of an arc five: from, to, way, row of texts, row of the table)
     figures = array.array("d")  # (weight, seconds, metres, km/h, where NaN is none)
-    lines = LineBuilder(nodes)
+    begins_of_lines, points_of_lines = array.array("q", [0]), array.array("i")
     known: dict[tuple[str, ...], int] = {}
     with open_table(path, ()) as rows:
         take_columns(rows, OF_ARCS, ("from", "to"), say)
@@ -126,28 +123,28 @@ def read_arcs(path: StrPath, nodes: Nodes, weight: str = "time", say: Say = noth
             texts = tuple(fields.get(name, "") for name in TEXTS)
             osm = parse_int(fields["osm"], "osm", path, row, LEAST_ID, GREATEST_ID) if fields.get("osm") else 0
             more = osm, known.setdefault(texts, len(known)), row
-            line, values = lines.of(start, end, fields.get("wkt", ""), path, row), arc_values(fields, weight, path, row)
+            line = line_of(nodes.places[[start - 1, end - 1]], fields.get("wkt", ""), path, row)
+            values = arc_values(fields, weight, path, row)
             is_along, is_back = directions_of(fields, path, row)
-            for ends, points in [((start, end), line)] * is_along + [((end, start), line[::-1])] * is_back:
+            for ends, places in [((start, end), line)] * is_along + [((end, start), line[::-1])] * is_back:
                 numbers.extend((*ends, *more))
                 figures.extend(values)
-                lines.add(points)
+                points_of_lines.frombytes(places.tobytes())
+                begins_of_lines.append(len(points_of_lines) // 2)
     starts, stops, osm_ids, of_texts, of_rows = np.array(numbers, dtype=np.int64).reshape(-1, 5).T.copy()
     if not len(starts) or len(starts) > MAX_LINES:
         raise NetworkError(f"has {len(starts)} arcs, and a network has from 1 to {MAX_LINES}", path)
     weights, seconds, lengths, speeds = np.array(figures).reshape(-1, 4).T.copy()
-    begins, points_of_lines = lines.build()
+    begins, points = np.array(begins_of_lines), np.array(points_of_lines).reshape(-1, 2)
     doubt_lengths(lengths, nodes.places[starts - 1], nodes.places[stops - 1], path, say)
-    lengths = np.where(np.isnan(lengths), np.round(line_metres(begins, points_of_lines), 2), lengths)
+    lengths = np.where(np.isnan(lengths), np.round(line_metres(begins, points), 2), lengths)
     seconds = np.where(np.isnan(seconds), np.nan_to_num(np.round(lengths * 3.6 / speeds, 3)), seconds)
     derived = np.maximum(1, np.round(1000 * seconds if weight == "time" else 100 * lengths))
     whole = np.where(np.isnan(weights), derived, weights)
     if whole.max() > MAX_WEIGHT:
         raise NetworkError(f"would weigh more than {MAX_WEIGHT}", path, int(of_rows[whole.argmax()]))
     doubt_seconds(weights, seconds, lengths, weight, path, say)
-    return ArcArrays(
-        starts, stops, whole.astype(np.int64), seconds, lengths, osm_ids, of_texts, list(known), begins, points_of_lines
-    )
+    return ArcArrays(starts, stops, whole.astype(np.int64), seconds, lengths, osm_ids, of_texts, list(known), begins, points)
 
 
 def directions_of(fields: dict[str, str], path: StrPath, row: int) -> tuple[bool, bool]:
@@ -155,9 +152,9 @@ def directions_of(fields: dict[str, str], path: StrPath, row: int) -> tuple[bool
     if "oneway" not in fields:
         return ALONG
     text = fields["oneway"].strip().lower()
-    if text not in ONE_WAY and text not in TWO_WAYS:
+    if text not in ONE_WAY:
         raise NetworkError(f"oneway {excerpt(text)} is none of 1, yes, -1, 0, no", path, row)
-    return ONE_WAY.get(text, BOTH)
+    return ONE_WAY[text]
 
 
 def doubt_lengths(
@@ -197,36 +194,18 @@ def arc_values(fields: dict[str, str], weight: str, path: StrPath, row: int) -> 
     return own, seconds, length, speed
 
 
-class LineBuilder:
-    """The lines of arcs, one after the other."""
-
-    def __init__(self, nodes: Nodes) -> None:
-        self._places = nodes.places
-        self._begins, self._points = array.array("q", [0]), array.array("i")
-
-    def of(self, start: int, end: int, wkt: str, path: StrPath, row: int) -> NDArray[np.int32]:
-        """The line of a road between nodes from 1; "" is the straight one. Raises NetworkError where it doesn't lead from the one
-        to the other."""
-        ends = self._places[[start - 1, end - 1]]
-        if not wkt:
-            return ends
-        places = np.array(parse_linestring(wkt, path, row))
-        if not (np.isfinite(places).all() and (np.abs(places) <= (180, 90)).all()):
-            raise NetworkError(f"WKT {excerpt(wkt)} has what are no degrees", path, row)
-        away = great_circle_metres(unit_vectors(*places[[0, -1]].T), unit_vectors(*(ends / UNITS).T))
-        if away.max() > FARTHEST_END:
-            raise NetworkError(f"its line ends {away.max():,.0f} m from its node: are from and to swapped?", path, row)
-        line: NDArray[np.int32] = np.round(places * UNITS).astype(np.int32)
-        return line
-
-    def add(self, line: NDArray[np.int32]) -> None:
-        """Adds the line of an arc."""
-        self._points.frombytes(np.ascontiguousarray(line, dtype=np.int32).tobytes())
-        self._begins.append(len(self._points) // 2)
-
-    def build(self) -> tuple[Ints, NDArray[np.int32]]:
-        """Where each line begins, and the end; and the points."""
-        return np.array(self._begins, dtype=np.int64), np.array(self._points, dtype=np.int32).reshape(-1, 2)
+def line_of(ends: NDArray[np.int32], wkt: str, path: StrPath, row: int) -> NDArray[np.int32]:
+    """The line of a road between two places in units; "" is the straight one. Raises NetworkError where it doesn't lead from the one to
+    the other."""
+    if not wkt:
+        return ends
+    places = np.array(parse_linestring(wkt, path, row))
+    if not (np.isfinite(places).all() and (np.abs(places) <= (180, 90)).all()):
+        raise NetworkError(f"WKT {excerpt(wkt)} has what are no degrees", path, row)
+    away = great_circle_metres(unit_vectors(*places[[0, -1]].T), unit_vectors(*(ends / UNITS).T))
+    if away.max() > FARTHEST_END:
+        raise NetworkError(f"its line ends {away.max():,.0f} m from its node: are from and to swapped?", path, row)
+    return to_units(places)
 
 
 def line_metres(begins: Ints, points: NDArray[np.int32]) -> NDArray[np.float64]:

@@ -1,9 +1,5 @@
 """The nodes and arcs of a network, from the file that is to be read: NETWORK.net where it is no older than the tables, the tables, or a
 DIMACS .co file and its graph.
-
-    read_nodes(path)             Nodes(osm, lon, lat, ends): lists, node n at n - 1; of a .nodes.csv or a DIMACS .co file
-    arcs_from_net(arrays)        the arcs of a mapped file, as Arcs
-    mapped_if_current(prefix)    NETWORK.net, mapped, where it is current and there is numpy
 """
 import os
 from collections.abc import Iterator
@@ -67,24 +63,21 @@ def arcs_from_net(arrays: "net_file.MappedNetwork") -> Iterator[Arc]:
 
 def read_coordinates(path: StrPath) -> Nodes:
     """The nodes of a DIMACS .co file: `p aux sp co N`, and `v NODE X Y` in millionths of a degree, in any order."""
-    lon: list[float | None] | None = None
-    lat: list[float | None] = []
+    places: list[tuple[float, float] | None] | None = None
     with open_input(path) as stream:
         for row, fields in dimacs_lines(path, stream):
-            if fields[0] == b"p" and lon is None:
-                count = parse_problem_line(fields, (b"aux", b"sp", b"co"), path, row, MAX_NODES)
-                lon, lat = [None] * count, [None] * count
-            elif fields[0] == b"v" and lon is not None and len(fields) == 4:
-                place = parse_int(fields[1], "node", path, row, 1, len(lon)) - 1
-                lon[place] = parse_int(fields[2], "x", path, row, -180_000_000, 180_000_000) / 1e6
-                lat[place] = parse_int(fields[3], "y", path, row, -90_000_000, 90_000_000) / 1e6
+            if fields[0] == b"p" and places is None:
+                places = [None] * parse_problem_line(fields, (b"aux", b"sp", b"co"), path, row, MAX_NODES)
+            elif fields[0] == b"v" and places is not None and len(fields) == 4:
+                node = parse_int(fields[1], "node", path, row, 1, len(places))
+                lon = parse_int(fields[2], "x", path, row, -180_000_000, 180_000_000) / 1e6
+                places[node - 1] = lon, parse_int(fields[3], "y", path, row, -90_000_000, 90_000_000) / 1e6
             else:
-                missing = " before the line `p aux sp co N`" if lon is None else ""
+                missing = " before the line `p aux sp co N`" if places is None else ""
                 raise NetworkError(f"is no line of coordinates{missing}", path, row)
-    if lon is None:
+    if places is None:
         raise NetworkError("has no line `p aux sp co N`", path)
-    if None in lon:
-        raise NetworkError(f"has no coordinates of node {lon.index(None) + 1}", path)
-    places = [(east, north) for east, north in zip(lon, lat) if east is not None and north is not None]
-    lons, lats = [east for east, _ in places], [north for _, north in places]
-    return Nodes([None] * len(lon), lons, lats, [""] * len(lon))
+    if None in places:
+        raise NetworkError(f"has no coordinates of node {places.index(None) + 1}", path)
+    known = [place for place in places if place is not None]
+    return Nodes([None] * len(known), [lon for lon, _ in known], [lat for _, lat in known], [""] * len(known))

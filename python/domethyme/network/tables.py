@@ -14,17 +14,6 @@ A network is files with one beginning of their names, NETWORK:
 
 Beside each table lie NAME.csvt and NAME.prj, by which GDAL and QGIS know the kinds of its columns and that it has degrees of
 WGS 84; no tool here reads them. The columns ends, ref, junction, destination and structure may be missing, and are empty then.
-
-    Files(prefix)                `.path`, `.graph`, `.nodes`, `.arcs`, `.binary`: the paths; `.forms`: those for GDAL and their texts
-    is_coordinates(word), graph_of(word), paths_of(word)    a DIMACS file X.co; the graph of a network; all its files
-    is_written_by_tools(table, columns)             whether a table begins as those that the tools write
-    read_node_table(path)        Nodes(osm, lon, lat, ends): lists, node n at n - 1
-    nodes_file(word)             the path of the nodes that a tool's argument NETWORK means: NETWORK.nodes.csv, or a .co file
-    write_nodes(file, nodes)     the rows of .nodes.csv
-    read_arcs(path)              yields Arcs; iter_arc_rows yields their rows in the file too
-    write_arcs(file, arcs)       the rows of .arcs.csv
-    read_attribution(network)    what the data asks to be said wherever it is shown, "" for nothing: the comment of the
-                                 graph that `osm_to_gr --attribution` wrote. OSM_ATTRIBUTION is that of OpenStreetMap.
 """
 import csv
 import errno
@@ -54,12 +43,11 @@ WGS_84 = (
     'GEOGCS["WGS 84",DATUM["WGS_1984",SPHEROID["WGS 84",6378137,298.257223563]],PRIMEM["Greenwich",0],'
     'UNIT["degree",0.0174532925199433],AUTHORITY["EPSG","4326"]]'
 )
+NAME_IT = "name the network by the beginning of its files' names"
 WRONG_SUFFIXES = {
-    ".gr": "is a graph: name the network by the beginning of its files' names, {0}, or a file of coordinates, {0}.co",
-    ".rch": "is a hierarchy: name the network by the beginning of its files' names",
-    ".nodes.csv": "name the network by the beginning of its files' names, {0}",
-    ".arcs.csv": "name the network by the beginning of its files' names, {0}",
-    ".net": "name the network by the beginning of its files' names, {0}",
+    ".gr": f"is a graph: {NAME_IT}, {{0}}, or a file of coordinates, {{0}}.co",
+    ".rch": f"is a hierarchy: {NAME_IT}",
+    **dict.fromkeys((".nodes.csv", ".arcs.csv", ".net"), f"{NAME_IT}, {{0}}"),
 }
 ENDS = ("", "from", "to", "no")
 Side = Literal["from", "to"]
@@ -104,23 +92,21 @@ def paths_of(word: StrPath) -> list[str]:
 
 def has_columns(path: StrPath, columns: Sequence[str]) -> bool:
     """Whether a table has these columns, as those have that the tools read in place of NETWORK.net."""
-    try:
-        with open(path, "rb") as file:
-            return set(columns) <= set(file.readline(1 << 16).decode("utf-8-sig", "replace").strip().split(","))
-    except OSError:
-        return False
+    return set(columns) <= set(first_line(path, "utf-8-sig").split(","))
 
 
 def is_written_by_tools(path: StrPath, columns: Sequence[str]) -> bool:
     """Whether a table begins with the columns that the tools write, and maybe the keys of nodes, so it isn't a user's own."""
+    return first_line(path, "utf-8") in (",".join(columns), ",".join([*columns, KEY]))
+
+
+def first_line(path: StrPath, encoding: str) -> str:
+    """The names of a table's columns, "" where it can't be read."""
     try:
         with open(path, "rb") as file:
-            return file.readline(1 << 16).decode("utf-8", "replace").strip() in (
-                ",".join(columns),
-                ",".join([*columns, KEY]),
-            )
+            return file.readline(1 << 16).decode(encoding, "replace").strip()
     except OSError:
-        return False
+        return ""
 
 
 class Nodes(NamedTuple):
@@ -197,9 +183,8 @@ def write_nodes(file: IO[str], nodes: Nodes) -> None:
     """Writes a .nodes.csv file: degrees to the seventh place, as OpenStreetMap has them."""
     rows = csv.writer(file, lineterminator="\n")
     rows.writerow((*ALL_NODE_COLUMNS, KEY) if nodes.keys else ALL_NODE_COLUMNS)
-    keys = ((escape_formula(key),) for key in nodes.keys) if nodes.keys else itertools.repeat(())
-    for node, ((osm, lon, lat, ends), key) in enumerate(zip(zip(*nodes[:4]), keys), 1):
-        rows.writerow((node, "" if osm is None else osm, f"{lon:.7f}", f"{lat:.7f}", ends, *key))
+    for node, (osm, lon, lat, ends, *key) in enumerate(zip(*nodes[:4], *([nodes.keys] if nodes.keys else [])), 1):
+        rows.writerow((node, "" if osm is None else osm, f"{lon:.7f}", f"{lat:.7f}", ends, *map(escape_formula, key)))
 
 
 def read_arcs(path: StrPath) -> Iterator[Arc]:
@@ -246,11 +231,7 @@ def read_attribution(network: StrPath) -> str:
     if not os.path.exists(graph):
         return ""
     with open_input(graph) as file:
-        comments = itertools.takewhile(
-            lambda line: line.startswith("c"), (line.decode("utf-8", "replace") for line in file)
-        )
-        return next(
-            (line[len(ATTRIBUTION_COMMENT) :].strip() for line in comments if line.startswith(ATTRIBUTION_COMMENT)), ""
-        )
-
-
+        for line in itertools.takewhile(lambda line: line.startswith(b"c"), file):
+            if line.startswith(ATTRIBUTION_COMMENT.encode()):
+                return line.decode("utf-8", "replace").removeprefix(ATTRIBUTION_COMMENT).strip()
+    return ""
