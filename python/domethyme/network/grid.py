@@ -70,7 +70,7 @@ class Grid(NamedTuple):
         lowest = np.maximum(band_index(lat - span, self.height), first)
         highest = np.minimum(band_index(lat + span, self.height), last)
         which, bands = concat_ranges(lowest, np.maximum(0, highest - lowest + 1))
-        counts, away = column_counts(bands, self.height), np.cos(np.radians(lat))
+        counts, away = columns_per_band(self.height)[bands], np.cos(np.radians(lat))
         has_pole = (np.abs(lat) + span >= 90) | (np.sin(angle) >= away)
         sine = np.where(has_pole, 0, np.sin(angle))
         half = np.where(has_pole, 180.0, np.degrees(np.arcsin(sine / np.maximum(away, 1e-300))))[which]
@@ -196,36 +196,34 @@ class Grid(NamedTuple):
 
     def nearest_batch(self, lon: Floats, lat: Floats, metres: PairDistanceFunction) -> tuple[Ints, Floats]:
         """The thing nearest to each place, and the metres to it, as `nearest` has them; -1 and infinity where there is none."""
-        nodes, away = np.full(len(lon), -1, dtype=np.int64), np.full(len(lon), np.inf)
+        found = np.full(len(lon), -1, dtype=np.int64), np.full(len(lon), np.inf)
         for begin in range(0, len(lon), BATCH_SIZE):
-            part = slice(begin, begin + BATCH_SIZE)
-            left = np.arange(len(lon[part]))
+            left = np.arange(begin, min(begin + BATCH_SIZE, len(lon)))
             if len(left) > SMALL_BATCH:
-                left = self._resolve_nearby(lon[part], lat[part], shift_indices(metres, begin), nodes[part], away[part])
-            for row in (left + begin).tolist():
-                place = np.array([row])
-                found = self.nearest(
-                    (float(lon[row]), float(lat[row])), 1, lambda some: metres(np.repeat(place, len(some)), some)
-                )
-                if found:
-                    away[row], nodes[row] = found[0]
-        return nodes, away
+                left = self._resolve_nearby(lon, lat, left, metres, found)
+            for row in left.tolist():
+                place = float(lon[row]), float(lat[row])
+                for away, thing in self.nearest(place, 1, lambda things: metres(np.full(len(things), row), things)):
+                    found[0][row], found[1][row] = thing, away
+        return found
 
-    def _resolve_nearby(self, lon: Floats, lat: Floats, metres: PairDistanceFunction, nodes: Ints, away: Floats) -> Ints:
-        """Sets the nearest things of the places that have some near by; returns the others."""
-        left, reach = np.arange(len(lon)), np.full(len(lon), self.initial_radius)
+    def _resolve_nearby(
+        self, lon: Floats, lat: Floats, left: Ints, metres: PairDistanceFunction, found: tuple[Ints, Floats]
+    ) -> Ints:
+        """Finds the nearest things of those of the places `left` that have some near by; returns the others."""
+        (nodes, away), reach = found, np.full(len(left), self.initial_radius)
         for _ in range(MAX_DOUBLINGS):
-            which, begins, ends = self.candidate_slices(lon[left], lat[left], reach[left])
+            which, begins, ends = self.candidate_slices(lon[left], lat[left], reach)
             is_few = np.bincount(which, ends - begins, len(left)) <= MAX_CANDIDATES // 4
             chosen = is_few[which]
             pairs, rows = concat_ranges(begins[chosen], (ends - begins)[chosen])
             places, things = left[which[chosen][pairs]], self.things[rows]
             far = metres(places, things)
             order = np.lexsort((things, far, places))
-            first = order[np.append(True, np.diff(places[order]) > 0)[: len(order)]]
+            first = order[differs_from_previous(places[order])]
             nodes[places[first]], away[places[first]] = things[first], far[first]
-            is_left = ~is_few | (away[left] > reach[left])
-            reach[left] = np.where(np.isfinite(away[left]), away[left], 4 * reach[left])
+            is_left = ~is_few | (away[left] > reach)
+            reach = np.where(np.isfinite(away[left]), away[left], 4 * reach)[is_left]
             left = left[is_left]
         nodes[left], away[left] = -1, np.inf
         return left
@@ -234,11 +232,6 @@ class Grid(NamedTuple):
 def size_of(slices: list[tuple[int, int]]) -> int:
     """How many things slices have."""
     return sum(end - begin for begin, end in slices)
-
-
-def shift_indices(metres: PairDistanceFunction, begin: int) -> PairDistanceFunction:
-    """The metres by numbers of places that count from `begin`."""
-    return lambda places, things: metres(places + begin, things)
 
 
 def concat_ranges(begins: NDArray[Any], counts: NDArray[Any]) -> tuple[Ints, Ints]:
@@ -263,15 +256,7 @@ def half_widths(lat: Floats, angle: Floats, south: Floats, height: float) -> Flo
 
 def band_index(lat: Floats, height: float) -> Ints:
     """The band of each latitude."""
-    last = math.ceil(180 / height) - 1
-    found: Ints = np.clip(np.floor((lat + 90) / height), 0, last).astype(np.int64)
-    return found
-
-
-def column_counts(bands: Ints, height: float) -> Ints:
-    """How many cells bands have."""
-    found: Ints = columns_per_band(height)[bands]
-    return found
+    return np.asarray(np.clip(np.floor((lat + 90) / height), 0, math.ceil(180 / height) - 1), np.int64)
 
 
 @functools.lru_cache(4)
@@ -281,23 +266,20 @@ def columns_per_band(height: float) -> Ints:
     widest = np.maximum(0, np.maximum(south, -(south + height)))  # (the latitude that is nearest to the equator)
     # (a little less, so that machines that round a cosine differently agree)
     counts = np.floor(360 * np.cos(np.radians(np.minimum(widest, 90))) / height - 1e-6)
-    found: Ints = np.maximum(1, counts).astype(np.int64)
-    return found
+    return np.asarray(np.maximum(1, counts), np.int64)
 
 
 def cell_keys(lon: Floats, lat: Floats, height: float) -> Ints:
     """The key of the cell of each place in degrees."""
     bands = band_index(lat, height)
-    counts = column_counts(bands, height)
-    found: Ints = (bands << BAND_SHIFT) + np.clip(np.floor((lon + 180) / 360 * counts).astype(np.int64), 0, counts - 1)
-    return found
+    counts = columns_per_band(height)[bands]
+    return (bands << BAND_SHIFT) + np.clip(np.floor((lon + 180) / 360 * counts).astype(np.int64), 0, counts - 1)
 
 
 def pack_keys(cells: Ints, things: NDArray[Any]) -> NDArray[np.uint64]:
     """Things and the cells in which they are listed, each pair a number, in the order of cells and then of things."""
     bands, mask = cells >> BAND_SHIFT, (1 << COLUMN_BITS) - 1
-    found: NDArray[np.uint64] = ((bands << COLUMN_BITS | cells & mask) << THING_BITS | things).view(np.uint64)
-    return found
+    return np.asarray((bands << COLUMN_BITS | cells & mask) << THING_BITS | things).view(np.uint64)
 
 
 def build_grid(lists: list[NDArray[np.uint64]], height: float, margin: float) -> Grid:

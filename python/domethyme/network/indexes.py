@@ -9,7 +9,7 @@ from numpy.typing import NDArray
 
 from .geo import EARTH_RADIUS
 from .grid import Grid, build_grid, cell_keys, pack_keys
-from .groups import expand
+from .groups import Ints, expand, offsets
 from .parallel import differs_from_previous, map_slices, parallel_argsort
 from .sphere import angles, interpolate, unit_vectors
 from .zoom_levels import Floats, Levels, morton_codes, road_class, sort_by_cell, to_mercator
@@ -25,8 +25,6 @@ TEXTS_PER_ROW = 8
 # have steps.
 MIN_BAND_HEIGHT = 0.0025
 MAX_BAND_HEIGHT = 80.0
-
-Ints = NDArray[np.int64]
 
 
 def outgoing_arcs(arrays: "Arrays") -> tuple[Ints, NDArray[np.int32]]:
@@ -57,7 +55,7 @@ def argsort_arcs(start: NDArray[np.int32], end: NDArray[np.int32], weight: Ints)
 def arcs_by_edge(arrays: "Arrays") -> tuple[Ints, NDArray[np.int32]]:
     """The arcs on edge e are arcs[begins[e]:begins[e + 1]], in their order."""
     counts = np.bincount(arrays.arc_edge, minlength=len(arrays.edge_begin) - 1)
-    return np.append(0, np.cumsum(counts)), np.argsort(arrays.arc_edge, kind="stable").astype(np.int32)
+    return offsets(counts), np.argsort(arrays.arc_edge, kind="stable").astype(np.int32)
 
 
 def node_degrees(arrays: "Arrays") -> NDArray[np.uint8]:
@@ -124,7 +122,11 @@ def edge_grid(points: NDArray[Any], steps: NDArray[np.int32], edges: NDArray[np.
     if lengths.max(initial=0) > 3.1:
         raise ValueError("a line leads half round the earth from one point to the next")
     height = MIN_BAND_HEIGHT
-    while height < MAX_BAND_HEIGHT and count_pieces(lengths, height) > 2 * len(steps):
+
+    def count_pieces(part: slice) -> int:
+        return int(pieces_per_segment(lengths[part], height).sum())
+
+    while height < MAX_BAND_HEIGHT and sum(map_slices(count_pieces, len(lengths))) > 2 * len(steps):
         height *= 2
 
     def pack_slice(part: slice) -> NDArray[np.uint64]:
@@ -138,8 +140,7 @@ def edge_grid(points: NDArray[Any], steps: NDArray[np.int32], edges: NDArray[np.
         middles = interpolate(begins, ends, shares, whole)
         lat = np.degrees(np.arctan2(middles[:, 2], np.hypot(middles[:, 0], middles[:, 1])))
         found = pack_keys(cell_keys(np.degrees(np.arctan2(middles[:, 1], middles[:, 0])), lat, height), edge)
-        different: NDArray[np.uint64] = found[differs_from_previous(found)]
-        return different
+        return np.asarray(found[differs_from_previous(found)])
 
     return build_grid(map_slices(pack_slice, len(steps)), height, grid_margin(height))
 
@@ -154,15 +155,9 @@ def segment_ends(points: NDArray[Any], steps: NDArray[np.int32]) -> tuple[Floats
     return found[steps - first], found[steps + 1 - first]
 
 
-def count_pieces(lengths: Floats, height: float) -> int:
-    """How many pieces there are in all."""
-    return sum(map_slices(lambda part: int(pieces_per_segment(lengths[part], height).sum()), len(lengths)))
-
-
 def pieces_per_segment(lengths: Floats, height: float) -> Ints:
     """How many pieces steps of these angles are cut into: each is at most half as long as a band is high."""
-    found: Ints = np.maximum(1, np.ceil(lengths / math.radians(height / 2))).astype(np.int64)
-    return found
+    return np.asarray(np.maximum(1, np.ceil(lengths / math.radians(height / 2))), np.int64)
 
 
 def grid_margin(height: float) -> float:
@@ -175,8 +170,7 @@ def grid_margin(height: float) -> float:
 
 def wrapped_difference(east: NDArray[Any]) -> NDArray[Any]:
     """Differences of longitudes in units, the shorter way round."""
-    found: NDArray[Any] = (east + FULL_CIRCLE // 2) % FULL_CIRCLE - FULL_CIRCLE // 2
-    return found
+    return np.asarray((east + FULL_CIRCLE // 2) % FULL_CIRCLE - FULL_CIRCLE // 2)
 
 
 def segment_middles(points: Any, steps: NDArray[Any]) -> Floats:
@@ -184,10 +178,9 @@ def segment_middles(points: Any, steps: NDArray[Any]) -> Floats:
     begins = points[steps].astype(np.int64)
     moves = points[steps + 1] - begins
     moves[:, 0] = wrapped_difference(moves[:, 0])
-    middles = (begins + moves / 2) / UNITS
+    middles: Floats = (begins + moves / 2) / UNITS
     middles[:, 0] = (middles[:, 0] + 180) % 360 - 180
-    found: Floats = middles
-    return found
+    return middles
 
 
 def build_zoom_levels(arrays: "Arrays", steps: NDArray[np.int32], edges: NDArray[np.int32]) -> Levels:

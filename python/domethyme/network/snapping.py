@@ -131,8 +131,7 @@ class RoadIndex:
         """The lightest arc from each node of a route to the next; NO_ARC if there is none."""
         self.arrays.file.check_unchanged()
         line = np.array(nodes, dtype=np.int64)
-        found: list[int] = self.arrays.lightest(line[:-1], line[1:]).tolist()
-        return found
+        return list(self.arrays.lightest(line[:-1], line[1:]).tolist())
 
     @functools.cached_property
     def roundabout_texts(self) -> Ints:
@@ -142,8 +141,7 @@ class RoadIndex:
 
     def is_roundabout(self, arcs: NDArray[np.int64]) -> NDArray[np.bool_]:
         """Which arcs are on a roundabout."""
-        found: NDArray[np.bool_] = (self.arrays.arc_texts[arcs, JUNCTION][:, None] == self.roundabout_texts).any(axis=1)
-        return found
+        return np.asarray((self.arrays.arc_texts[arcs, JUNCTION][:, None] == self.roundabout_texts).any(axis=1))
 
     def count_exits(self, node: int) -> int:
         """How many roads leave a roundabout at a node."""
@@ -164,7 +162,7 @@ class RoadIndex:
         found = {
             arc: Arc(start, end, weight, self.texts[name], number, is_along) for arc, name, start, end, weight, is_along in rows
         }
-        return Edge(points, cumulative_metres(points), found)
+        return Edge(points, list(itertools.accumulate(segment_metres(points), initial=0.0)), found)
 
     def nearest(self, place: Point, count: int = 1, step: Callable[[], object] = lambda: None) -> list[SnappedPoint]:
         """The nearest points of the `count` nearest edges, the nearest first, and of equally near ones the first of the file.
@@ -210,8 +208,7 @@ class RoadIndex:
     def _metres(self, place: Floats, edges: Ints) -> Floats:
         """The metres from a place to each edge."""
         ways = self._project(place, edges)
-        found: Floats = np.minimum.reduceat(ways.metres, np.flatnonzero(differs_from_previous(ways.which)))
-        return found
+        return np.asarray(np.minimum.reduceat(ways.metres, np.flatnonzero(differs_from_previous(ways.which))))
 
     def _snap_to_edge(self, place: Floats, edge: int) -> SnappedPoint:
         """The nearest point of an edge."""
@@ -222,8 +219,16 @@ class RoadIndex:
         """The nearest point of segment `best` of the projections, which is of this edge."""
         line, share = self.edge(edge), float(ways.shares[best])
         step = int(ways.rows[best]) - int(self.arrays.edge_begin[edge])
-        place = interpolate_one(line.points[step], line.points[step + 1], share)
-        return self._make_snap(edge, self._fraction(line, step, share), place, float(ways.metres[best]))
+        lon, lat = interpolate_one(line.points[step], line.points[step + 1], share)
+        fraction = self._fraction(line, step, share)
+        place = round(lon, 6), round(lat, 6), float(ways.metres[best]), edge, fraction
+        name = next((arc.name for arc in line.arcs.values() if arc.name), "")
+        if 0.0 < fraction < 1.0:
+            return SnappedPoint(*place, *self.split_arcs(line.arcs, fraction), (), name)
+        first = next(iter(line.arcs.values()))
+        copies = self.split_nodes(first.start if first.is_along == (fraction == 0.0) else first.end)
+        exits, entries = ({each: (0, NO_ARC) for each in copies if self.ends(each) in ("", side)} for side in ("from", "to"))
+        return SnappedPoint(*place, exits, entries, copies, name)
 
     @staticmethod
     def _fraction(line: Edge, step: int, part: float) -> float:
@@ -232,19 +237,6 @@ class RoadIndex:
         if along <= END_TOLERANCE or line.metres <= 2 * END_TOLERANCE:
             return 0.0
         return 1.0 if along >= line.metres - END_TOLERANCE else along / line.metres
-
-    def _make_snap(self, edge: int, fraction: float, point: Point, metres: float) -> SnappedPoint:
-        arcs = self.edge(edge).arcs
-        name = next((arc.name for arc in arcs.values() if arc.name), "")
-        place = round(point[0], 6), round(point[1], 6)
-        if fraction in (0.0, 1.0):
-            first = next(iter(arcs.values()))
-            node = first.start if first.is_along == (fraction == 0.0) else first.end
-            copies = self.split_nodes(node)
-            exits = {each: (0, NO_ARC) for each in copies if self.ends(each) in ("", "from")}
-            entries = {each: (0, NO_ARC) for each in copies if self.ends(each) in ("", "to")}
-            return SnappedPoint(*place, metres, edge, fraction, exits, entries, copies, name)
-        return SnappedPoint(*place, metres, edge, fraction, *self.split_arcs(arcs, fraction), (), name)
 
     def split_arcs(self, arcs: dict[int, Arc], fraction: float) -> tuple[dict[int, tuple[int, int]], dict[int, tuple[int, int]]]:
         """The exits and the entries of a point that splits these arcs at a fraction of their edge."""
@@ -303,11 +295,6 @@ def point_at(edge: Edge, metres: float) -> Point:
     part = (metres - begin) / length if length else 0.0
     lon, lat = interpolate_one(edge.points[index - 1], edge.points[index], part)
     return round(lon, 7), round(lat, 7)
-
-
-def cumulative_metres(points: tuple[Point, ...]) -> list[float]:
-    """The metres from the first point along the line to each."""
-    return list(itertools.accumulate(segment_metres(points), initial=0.0))
 
 
 def segment_metres(points: "tuple[Point, ...] | list[Point]") -> list[float]:
