@@ -10,10 +10,13 @@ Nodes are numbered from 1, as there, and requests and replies are without their 
 """
 from typing import NamedTuple
 
-from .errors import DomethymeError, HierarchyError, OutOfMemory, ProgramError
+from .errors import HierarchyError, OutOfMemory, ProgramError
 
 # What may befall a request that is right.
-ERROR_REPLIES = (b"e OutOfMemory", b"e TooLong")
+ERROR_REPLIES = {
+    b"e OutOfMemory": (OutOfMemory, "routecli ran out of memory at a question", 6),
+    b"e TooLong": (HierarchyError, "the file is of no graph: a route by it would repeat a node (TooLong)", 4),
+}
 NOT_A_REPLY = "is no answer of routecli"
 NO_PATH = -1
 
@@ -57,8 +60,11 @@ def parse_reply(line: bytes) -> RouteReply:
 def parse_reply_to(request: bytes, reply: bytes) -> RouteReply | None:
     """What a reply to a request says, None if there is no path. Raises the error of a reply `e`, and ProgramError for a line
     that is no reply to this request."""
+    if reply in ERROR_REPLIES:
+        error, message, status = ERROR_REPLIES[reply]
+        raise error(message, status)
     if reply.startswith(b"e "):
-        raise reply_error(reply)
+        raise ProgramError(f"routecli refused a question: {reply[2:].decode('ascii', 'replace')}")
     if not matches_request(request, reply):
         raise ProgramError("routecli replied to another pair than it was asked")
     return None if reply.startswith(b"n") else parse_reply(reply)
@@ -79,13 +85,3 @@ def matches_between(request: bytes, reply: bytes) -> bool:
     words = reply.split(b" ", 3)
     starts, _, ends = request[2:].partition(b" : ")
     return len(words) == 4 and words[0] == b"r" and words[1] in starts.split()[::2] and words[2] in ends.split()[::2]
-
-
-def reply_error(reply: bytes) -> DomethymeError:
-    """The error that a reply `e KIND` means."""
-    kind = reply[2:].decode("ascii", "replace")
-    if kind == "OutOfMemory":
-        return OutOfMemory("routecli ran out of memory at a question", 6)
-    if kind == "TooLong":
-        return HierarchyError("the file is of no graph: a route by it would repeat a node (TooLong)", 4)
-    return ProgramError(f"routecli refused a question: {kind}")

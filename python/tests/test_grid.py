@@ -75,7 +75,7 @@ class NearestTests(ToolCase):
             roads = self.network(middle, number)
             lines = [roads.arrays.edge_line(edge) for edge in range(roads.edges)]
             nodes = list(zip(np.asarray(roads.arrays.node_lon) / 1e7, np.asarray(roads.arrays.node_lat) / 1e7))
-            near = NodeIndex.of(roads.arrays)
+            near = NodeIndex(roads.arrays)
             draw = random.Random(number)
             for spread in [30, 2000, 2000, 20_000, 3_000_000]:
                 place = place_beside(draw.choice(nodes), draw, spread)
@@ -115,7 +115,7 @@ class NearestTests(ToolCase):
     def test_many_places_at_once_are_as_each_alone(self):
         """More than are looked at together."""
         roads = self.network((180.0, 10.0), 9)
-        draw, near = random.Random(2), NodeIndex.of(roads.arrays)
+        draw, near = random.Random(2), NodeIndex(roads.arrays)
         places = np.array([place_beside((180.0, 10.0), draw, draw.choice((100, 5000, 900_000))) for _ in range(1500)])
         nodes, metres = near.nearest(places[:, 0], places[:, 1], "to")
         lon, lat = np.asarray(roads.arrays.node_lon) / 1e7, np.asarray(roads.arrays.node_lat) / 1e7

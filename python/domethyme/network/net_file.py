@@ -31,7 +31,7 @@ from .grid import Grid, concat_ranges
 from .groups import Ints, expand, first_of_equal, offsets
 from .parallel import differs_from_previous, map_slices
 from .tables import (
-    ARC_COLUMNS, ENDS, NODE_COLUMNS, Arc, Files, has_columns, iter_arc_rows, need_nodes, read_attribution,
+    ARC_COLUMNS, ENDS, NODE_COLUMNS, Arc, Files, Nodes, has_columns, iter_arc_rows, need_nodes, read_attribution,
     read_node_table
 )
 from .zoom_levels import ROAD_CLASSES
@@ -176,6 +176,11 @@ class Builder:
         self._nodes.append((NO_OSM if osm is None else osm, lon, lat, ENDS.index(ends)))
         if key is not None:
             self._keys.append(key)
+
+    def add_nodes(self, nodes: Nodes) -> None:
+        """Adds all nodes of a table."""
+        for node, key in zip(zip(*nodes[:4]), nodes.keys or itertools.repeat(None)):
+            self.add_node(*node, key)
 
     def add_arc(self, arc: Arc, path: StrPath | None = None, row: int | None = None) -> None:
         """Adds an arc, of this row of a file. Raises NetworkError where its WKT is no line."""
@@ -539,8 +544,7 @@ def arrays_from_tables(prefix: str) -> Arrays:
     """The network of NETWORK.nodes.csv and NETWORK.arcs.csv, and of the comment of NETWORK.gr."""
     files, builder = Files(prefix), Builder(read_attribution(prefix))
     nodes = read_node_table(files.nodes)
-    for node, key in zip(zip(*nodes[:4]), nodes.keys or itertools.repeat(None)):
-        builder.add_node(*node, key)
+    builder.add_nodes(nodes)
     for row, arc in iter_arc_rows(files.arcs, len(nodes.osm)):
         builder.add_arc(arc, files.arcs, row)
     with raised_as(NetworkError, prefix, ValueError):

@@ -101,7 +101,7 @@ class RoadIndex:
         self.texts, self.unit, self.degree = self.arrays.texts, self.arrays.unit, self.arrays.degrees
         self.has_seconds = self.arrays.has_seconds
         self.edge = functools.lru_cache(EDGE_CACHE_SIZE)(self._edge)
-        self._places = NodeIndex.of(self.arrays)
+        self._places = NodeIndex(self.arrays)
 
     @property
     def edges(self) -> int:
