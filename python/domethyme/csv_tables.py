@@ -46,8 +46,26 @@ def open_input(path: StrPath) -> Iterator[IO[bytes]]:
 # Tables
 
 
+class Row(dict[str, str]):
+    """The texts of a row by their columns, and the file and row that they are of."""
+
+    path: StrPath
+    row: int
+
+    def error(self, message: str) -> NetworkError:
+        return NetworkError(message, self.path, self.row)
+
+    def whole(self, column: str, low: int = 0, high: int = MAX_WEIGHT) -> int:
+        """The value of a column, as `parse_int` has it."""
+        return parse_int(self[column], column, self.path, self.row, low, high)
+
+    def number(self, column: str, low: float = -math.inf, high: float = math.inf) -> float:
+        """The value of a column, as `parse_float` has it."""
+        return parse_float(self[column], column, self.path, self.row, low, high)
+
+
 class Table:
-    """The rows of a CSV file, by the names of its first row, `columns`: iterate for (row, {column: text})."""
+    """The rows of a CSV file, by the names of its first row, `columns`: iterate for (row, Row)."""
 
     def __init__(self, path: StrPath, stream: IO[bytes], required: Iterable[str]) -> None:
         self.path = path
@@ -57,14 +75,15 @@ class Table:
         self.columns = columns
         need_columns(path, self.columns, required)
 
-    def __iter__(self) -> Iterator[tuple[int, dict[str, str]]]:
+    def __iter__(self) -> Iterator[tuple[int, Row]]:
         while (record := self.next_record()) is not None:
             if not record:
                 continue
-            row = self.reader.line_num
+            fields = Row(zip(self.columns, record))
+            fields.path, fields.row = self.path, self.reader.line_num
             if len(record) != len(self.columns):
-                raise NetworkError(f"has {len(record)} fields in place of {len(self.columns)}", self.path, row)
-            yield row, dict(zip(self.columns, record))
+                raise fields.error(f"has {len(record)} fields in place of {len(self.columns)}")
+            yield fields.row, fields
 
     def next_record(self) -> list[str] | None:
         """The fields of the next record, or None at the end."""

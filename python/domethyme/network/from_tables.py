@@ -27,7 +27,7 @@ from typing import Any
 import numpy as np
 from numpy.typing import NDArray
 
-from ..csv_tables import excerpt, open_input, open_table, parse_float, parse_int
+from ..csv_tables import Row, excerpt, open_input, open_table
 from ..dimacs import read_graph
 from ..errors import NetworkError, raised_as
 from ..limits import MAX_LINES, MAX_NODES, MAX_WEIGHT
@@ -41,11 +41,12 @@ from .net_file import (
 )
 from .reading import read_coordinates
 from .sphere import great_circle_metres, unit_vectors
-from .tables import ENDS, graph_of, is_coordinates
+from .tables import ENDS, ends_of, graph_of, is_coordinates
 
 BLOCK = 1 << 24
 FARTHEST_END = 1000.0
-LEAST_ID, GREATEST_ID = -(1 << 63) + 1, (1 << 63) - 1
+# The ids of OpenStreetMap that there may be.
+IDS = NO_OSM + 1, (1 << 63) - 1
 # In which directions a road is open, along its row and back; and what says so.
 ALONG, BACK, BOTH = (True, False), (False, True), (True, True)
 ONE_WAY = {
@@ -64,17 +65,17 @@ class Nodes(NodeArrays):
     path: StrPath = ""
     columns: Sequence[str] = ()
 
-    def number(self, name: str, column: str, path: StrPath, row: int) -> int:
-        """The number of a node by its name, from 1."""
+    def number(self, fields: Row, column: str) -> int:
+        """The number of a node by its name in a row of arcs, from 1."""
+        name = fields[column]
         if self.rows is None:
             if self.columns and not name.lstrip("+-").isdecimal():
                 why = f"{self.path} has no column node, so its nodes are numbered by rows; its columns are {', '.join(self.columns)}"
-                raise NetworkError(f"{column} {excerpt(name)} is no number, and {why}", path, row)
-            return parse_int(name, column, path, row, 1, len(self.osm))
-        found = self.rows.get(name)
-        if found is None:
-            raise NetworkError(f"{column} {excerpt(name)} isn't in {self.path}", path, row)
-        return found
+                raise fields.error(f"{column} {excerpt(name)} is no number, and {why}")
+            return fields.whole(column, 1, len(self.osm))
+        if name not in self.rows:
+            raise fields.error(f"{column} {excerpt(name)} isn't in {self.path}")
+        return self.rows[name]
 
 
 def read_nodes(path: StrPath, say: Say = lambda line: None) -> Nodes:
@@ -89,16 +90,13 @@ def read_nodes(path: StrPath, say: Say = lambda line: None) -> Nodes:
         take_columns(lines, OF_NODES, ("lon", "lat"), say)
         is_named, columns = "node" in lines.columns, lines.columns
         named = [(name, into) for name, into in (("node", rows), ("key", keys)) if name in columns]
-        for row, fields in lines:
-            for column, most in (("lon", 180), ("lat", 90)):
-                degrees.append(parse_float(fields[column], column, path, row, -most, most))
-            osm.append(parse_int(fields["osm"], "osm", path, row, LEAST_ID, GREATEST_ID) if fields.get("osm") else NO_OSM)
-            if (end := fields.get("ends", "")) not in ENDS:
-                raise NetworkError(f"ends {excerpt(end)} is none of from, to, no", path, row)
-            ends.append(ENDS.index(end))
+        for _, fields in lines:
+            degrees.extend((fields.number("lon", -180, 180), fields.number("lat", -90, 90)))
+            osm.append(fields.whole("osm", *IDS) if fields.get("osm") else NO_OSM)
+            ends.append(ENDS.index(ends_of(fields)))
             for name, into in named:
                 if into.setdefault(fields[name], len(osm)) != len(osm):
-                    raise NetworkError(f"{name} {excerpt(fields[name])} comes twice", path, row)
+                    raise fields.error(f"{name} {excerpt(fields[name])} comes twice")
     if not len(osm) or len(osm) > MAX_NODES:
         raise NetworkError(f"has {len(osm)} nodes, and a network has from 1 to {MAX_NODES}", path)
     told = keys or rows
@@ -119,13 +117,12 @@ def read_arcs(path: StrPath, nodes: Nodes, weight: str = "time", say: Say = lamb
     with open_table(path, ()) as rows:
         take_columns(rows, OF_ARCS, ("from", "to"), say)
         for row, fields in rows:
-            start, end = (nodes.number(fields[side], side, path, row) for side in ("from", "to"))
+            start, end = nodes.number(fields, "from"), nodes.number(fields, "to")
             texts = tuple(fields.get(name, "") for name in TEXTS)
-            osm = parse_int(fields["osm"], "osm", path, row, LEAST_ID, GREATEST_ID) if fields.get("osm") else 0
+            osm = fields.whole("osm", *IDS) if fields.get("osm") else 0
             more = osm, known.setdefault(texts, len(known)), row
-            line = line_of(nodes.places[[start - 1, end - 1]], fields.get("wkt", ""), path, row)
-            values = arc_values(fields, weight, path, row)
-            is_along, is_back = directions_of(fields, path, row)
+            line, values = line_of(nodes.places[[start - 1, end - 1]], fields), arc_values(fields, weight)
+            is_along, is_back = directions_of(fields)
             for ends, places in [((start, end), line)] * is_along + [((end, start), line[::-1])] * is_back:
                 numbers.extend((*ends, *more))
                 figures.extend(values)
@@ -147,13 +144,13 @@ def read_arcs(path: StrPath, nodes: Nodes, weight: str = "time", say: Say = lamb
     return ArcArrays(starts, stops, whole.astype(np.int64), seconds, lengths, osm_ids, of_texts, list(known), begins, points)
 
 
-def directions_of(fields: dict[str, str], path: StrPath, row: int) -> tuple[bool, bool]:
+def directions_of(fields: Row) -> tuple[bool, bool]:
     """Whether a row has an arc from its first node to its second, and one back."""
     if "oneway" not in fields:
         return ALONG
     text = fields["oneway"].strip().lower()
     if text not in ONE_WAY:
-        raise NetworkError(f"oneway {excerpt(text)} is none of 1, yes, -1, 0, no", path, row)
+        raise fields.error(f"oneway {excerpt(text)} is none of 1, yes, -1, 0, no")
     return ONE_WAY[text]
 
 
@@ -179,32 +176,32 @@ def doubt_seconds(
         say(f"{path}: {count} arcs take 0 seconds, and weigh 1")
 
 
-def arc_values(fields: dict[str, str], weight: str, path: StrPath, row: int) -> tuple[float, float, float, float]:
+def arc_values(fields: Row, weight: str) -> tuple[float, float, float, float]:
     """The weight, seconds, metres and km/h of an arc; NaN where there are none."""
-    own = float(parse_int(fields["weight"], "weight", path, row)) if fields.get("weight") else np.nan
+    own = float(fields.whole("weight")) if fields.get("weight") else np.nan
     seconds, length, long_ways, speed = (
-        parse_float(fields[name], name, path, row, 0, 1e12) if fields.get(name) else np.nan
-        for name in ("seconds", "metres", "km", "kmh")
+        fields.number(name, 0, 1e12) if fields.get(name) else np.nan for name in ("seconds", "metres", "km", "kmh")
     )
     length = 1000 * long_ways if np.isnan(length) else length
     if speed == 0:
-        raise NetworkError("kmh is 0", path, row)
+        raise fields.error("kmh is 0")
     if np.isnan(own) and weight == "time" and np.isnan(seconds) and np.isnan(speed):
-        raise NetworkError("has none of weight, seconds and kmh (with --weight length the metres are taken)", path, row)
+        raise fields.error("has none of weight, seconds and kmh (with --weight length the metres are taken)")
     return own, seconds, length, speed
 
 
-def line_of(ends: NDArray[np.int32], wkt: str, path: StrPath, row: int) -> NDArray[np.int32]:
-    """The line of a road between two places in units; "" is the straight one. Raises NetworkError where it doesn't lead from the one to
-    the other."""
+def line_of(ends: NDArray[np.int32], fields: Row) -> NDArray[np.int32]:
+    """The line of a road between two places in units, a straight one where the row has none. Raises NetworkError where it doesn't lead
+    from the one to the other."""
+    wkt = fields.get("wkt", "")
     if not wkt:
         return ends
-    places = np.array(parse_linestring(wkt, path, row))
+    places = np.array(parse_linestring(wkt, fields.path, fields.row))
     if not (np.isfinite(places).all() and (np.abs(places) <= (180, 90)).all()):
-        raise NetworkError(f"WKT {excerpt(wkt)} has what are no degrees", path, row)
+        raise fields.error(f"WKT {excerpt(wkt)} has what are no degrees")
     away = great_circle_metres(unit_vectors(*places[[0, -1]].T), unit_vectors(*(ends / UNITS).T))
     if away.max() > FARTHEST_END:
-        raise NetworkError(f"its line ends {away.max():,.0f} m from its node: are from and to swapped?", path, row)
+        raise fields.error(f"its line ends {away.max():,.0f} m from its node: are from and to swapped?")
     return to_units(places)
 
 

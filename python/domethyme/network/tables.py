@@ -23,7 +23,7 @@ import re
 from collections.abc import Iterable, Iterator, Sequence
 from typing import IO, Literal, NamedTuple
 
-from ..csv_tables import escape_formula, excerpt, open_input, open_table, parse_float, parse_int
+from ..csv_tables import Row, escape_formula, excerpt, open_input, open_table
 from ..errors import NetworkError
 from ..limits import MAX_NODES
 from ..program import StrPath
@@ -50,6 +50,7 @@ WRONG_SUFFIXES = {
     **dict.fromkeys((".nodes.csv", ".arcs.csv", ".net"), f"{NAME_IT}, {{0}}"),
 }
 ENDS = ("", "from", "to", "no")
+INT64 = -(1 << 63), (1 << 63) - 1
 Side = Literal["from", "to"]
 
 
@@ -163,20 +164,24 @@ def read_node_table(path: StrPath) -> Nodes:
     keys: list[str] = []
     nodes = Nodes([], [], [], [])
     with open_table(path, NODE_COLUMNS) as rows:
-        for row, fields in rows:
+        for _, fields in rows:
             expected = len(nodes.lon) + 1
             if fields["node"] != str(expected):
-                raise NetworkError(f"has node {excerpt(fields['node'])} where node {expected} comes next", path, row)
-            osm = fields["osm"]
-            nodes.osm.append(parse_int(osm, "osm", path, row, -(1 << 63), (1 << 63) - 1) if osm else None)
-            nodes.lon.append(parse_float(fields["lon"], "lon", path, row, -180, 180))
-            nodes.lat.append(parse_float(fields["lat"], "lat", path, row, -90, 90))
-            nodes.ends.append(fields.get("ends", ""))
-            if nodes.ends[-1] not in ENDS:
-                raise NetworkError(f"ends {excerpt(nodes.ends[-1])} is none of from, to, no", path, row)
+                raise fields.error(f"has node {excerpt(fields['node'])} where node {expected} comes next")
+            nodes.osm.append(fields.whole("osm", *INT64) if fields["osm"] else None)
+            nodes.lon.append(fields.number("lon", -180, 180))
+            nodes.lat.append(fields.number("lat", -90, 90))
+            nodes.ends.append(ends_of(fields))
             if KEY in fields:
                 keys.append(fields[KEY])
     return nodes._replace(keys=keys or ())
+
+
+def ends_of(fields: Row) -> str:
+    """Which ends of routes the node of a row has."""
+    if (ends := fields.get("ends", "")) not in ENDS:
+        raise fields.error(f"ends {excerpt(ends)} is none of from, to, no")
+    return ends
 
 
 def write_nodes(file: IO[str], nodes: Nodes) -> None:
@@ -197,15 +202,8 @@ def iter_arc_rows(path: StrPath, nodes: int = MAX_NODES) -> Iterator[tuple[int, 
     with open_table(path, ARC_COLUMNS) as rows:
         for row, fields in rows:
             yield row, Arc(
-                parse_int(fields["from"], "from", path, row, 1, nodes),
-                parse_int(fields["to"], "to", path, row, 1, nodes),
-                parse_int(fields["weight"], "weight", path, row),
-                parse_float(fields["seconds"], "seconds", path, row, 0),
-                parse_float(fields["metres"], "metres", path, row, 0),
-                parse_int(fields["osm"], "osm", path, row, -(1 << 63), (1 << 63) - 1),
-                fields["highway"],
-                fields["name"],
-                fields["WKT"],
+                fields.whole("from", 1, nodes), fields.whole("to", 1, nodes), fields.whole("weight"), fields.number("seconds", 0),
+                fields.number("metres", 0), fields.whole("osm", *INT64), fields["highway"], fields["name"], fields["WKT"],
                 *(fields.get(name, "") for name in ("ref", "junction", "destination", "structure")),
             )
 
