@@ -49,6 +49,7 @@ def open_input(path: StrPath) -> Iterator[IO[bytes]]:
 class Row(dict[str, str]):
     """The texts of a row by their columns, and the file and row that they are of."""
 
+    __slots__ = ("path", "row")
     path: StrPath
     row: int
 

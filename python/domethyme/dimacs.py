@@ -29,13 +29,6 @@ def dimacs_lines(path: StrPath, stream: IO[bytes]) -> Iterator[tuple[int, list[b
             yield row, fields
 
 
-def parse_problem_line(fields: list[bytes], names: tuple[bytes, ...], path: StrPath, row: int, most: int) -> int:
-    """The number at the end of a problem line `p NAMES NUMBER`."""
-    if tuple(fields[1:-1]) != names:
-        raise NetworkError(f"is no problem line `p {b' '.join(names).decode()} NUMBER`", path, row)
-    return parse_int(fields[-1], "the number", path, row, 0, most)
-
-
 def read_graph(path: StrPath) -> GraphLists:
     """The graph of a .gr file (`-` is standard input)."""
     graph: GraphLists | None = None

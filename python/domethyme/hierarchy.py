@@ -197,7 +197,10 @@ class Hierarchy:
         give a node and a float, two arrays give two arrays. Needs the network. Raises NoSuchNode where none is
         `within` so many metres, and ValueError."""
         nodes, metres = self._need_network().nearest(lon, lat, side_of(side, end))
-        check_within(metres, within)
+        for place, away in enumerate([metres] if isinstance(metres, float) else metres.ravel().tolist()):
+            if not away <= within:
+                message = f"place {place} has no node within {within:g} m: the nearest is {away:,.0f} m away; lon comes before lat"
+                raise NoSuchNode(message, place)
         if self.keys is None:
             return nodes, metres
         return (self.keys.key(nodes) if isinstance(nodes, int) else self.keys.of(nodes)), metres
@@ -300,17 +303,6 @@ class Hierarchy:
         numbers = answer.nodes
         nodes: list[Any] = list(numbers) if self.keys is None else [self.keys.key(number) for number in numbers]
         return Route(nodes[0], nodes[-1], answer.length, nodes, numbers)
-
-
-def check_within(metres: Any, within: float) -> None:
-    """Raises NoSuchNode for the first place whose node is farther away."""
-    import numpy as np
-
-    far = np.flatnonzero(~(np.ravel(metres) <= within))
-    if len(far):
-        place, away = int(far[0]), float(np.ravel(metres)[far[0]])
-        message = f"place {place} has no node within {within:g} m: the nearest is {away:,.0f} m away; lon comes before lat"
-        raise NoSuchNode(message, place)
 
 
 def refuse_towards(towards: bool) -> None:

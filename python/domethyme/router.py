@@ -211,10 +211,6 @@ class Router:
         if self._is_closed:
             self._idle.clear()
 
-    def _after_fork_in_child(self) -> None:
-        """In a child after a fork: where another thread was making a seat, which is as it left it, the hierarchy is closed."""
-        self._is_closed, self._making = self._is_closed or self._making.locked(), threading.Lock()
-
 
 def seed_array(rows: Sequence[tuple[int, int]]) -> "ctypes.Array[Seed]":
     """Starts or ends: a node and a length that is added there in each row."""
@@ -224,9 +220,10 @@ def seed_array(rows: Sequence[tuple[int, int]]) -> "ctypes.Array[Seed]":
 _routers: "weakref.WeakSet[Router]" = weakref.WeakSet()
 
 
-def _keep_all() -> None:
+def _after_fork_in_child() -> None:
+    """Closes hierarchies of which another thread was making a seat, which is as it left it."""
     for each in list(_routers):
-        each._after_fork_in_child()
+        each._is_closed, each._making = each._is_closed or each._making.locked(), threading.Lock()
 
 
-os.register_at_fork(after_in_child=_keep_all)
+os.register_at_fork(after_in_child=_after_fork_in_child)

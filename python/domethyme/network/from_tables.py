@@ -244,38 +244,32 @@ def load_network_or_dimacs(word: StrPath) -> MappedNetwork:
 
 def read_co(path: StrPath) -> NDArray[np.int32]:
     """The places of a .co file in units."""
-    found = read_rows_fast(path, b"p aux sp co ", b"v", 3)
-    if found is not None:
-        count, rows = found
-        is_each = len(rows) == count and (np.sort(rows[:, 0]) == np.arange(1, count + 1)).all()
+    rows = read_rows_fast(path, b"p aux sp co ", b"v")
+    if rows is not None:
+        rows = rows[np.argsort(rows[:, 0])]
+        is_each = (rows[:, 0] == np.arange(1, len(rows) + 1)).all()
         if is_each and (np.abs(rows[:, 1:]) <= (180_000_000, 90_000_000)).all():
-            places = np.empty((count, 2), np.int32)
-            places[rows[:, 0] - 1] = rows[:, 1:] * (UNITS // 1_000_000)
-            return places
+            return (rows[:, 1:] * (UNITS // 1_000_000)).astype(np.int32)
     nodes = read_coordinates(path)
     return to_units(np.column_stack((nodes.lon, nodes.lat)))
 
 
 def read_gr(path: StrPath, nodes: int) -> tuple[Ints, Ints, Ints]:
     """The arcs of a .gr file with so many nodes: starts, ends and weights."""
-    found = read_rows_fast(path, b"p sp %d " % nodes, b"a", 3)
-    if found is not None:
-        count, rows = found
+    rows = read_rows_fast(path, b"p sp %d " % nodes, b"a")
+    if rows is not None and ((rows >= (1, 1, 0)) & (rows <= (nodes, nodes, MAX_WEIGHT))).all():
         starts, ends, weights = rows.T.copy()
-        has_nodes = 1 <= rows[:, :2].min(initial=1) <= rows[:, :2].max(initial=1) <= nodes
-        if len(rows) == count and has_nodes and 0 <= weights.min(initial=0) <= weights.max(initial=0) <= MAX_WEIGHT:
-            return starts, ends, weights
+        return starts, ends, weights
     read = read_graph(path)
     if read.nodes != nodes:
         raise NetworkError(f"has {read.nodes} nodes, and there are places of {nodes}", path)
-    starts, ends, weights = (np.array(values, dtype=np.int64) for values in (read.starts, read.ends, read.weights))
-    return starts, ends, weights
+    return np.array(read.starts, np.int64), np.array(read.ends, np.int64), np.array(read.weights, np.int64)
 
 
-def read_rows_fast(path: StrPath, problem: bytes, letter: bytes, columns: int) -> tuple[int, Ints] | None:
-    """The number at the end of the problem line, and the numbers of the lines that begin with a letter; None for a file with anything
-    else behind its first comments, which is for the reader that knows what is wrong."""
-    parts: list[Ints] = []
+def read_rows_fast(path: StrPath, problem: bytes, letter: bytes) -> Ints | None:
+    """The numbers of the lines that begin with a letter, of shape (lines, 3), by a problem line that ends with how many there are; None
+    for a file with anything else behind its first comments, which is for the reader that knows what is wrong."""
+    parts = [np.empty(0, np.int64)]
     with open_input(path) as stream:
         line = stream.readline()
         while line.startswith(b"c") or line == b"\n":
@@ -285,29 +279,28 @@ def read_rows_fast(path: StrPath, problem: bytes, letter: bytes, columns: int) -
         for block in iter_blocks(stream):
             lines = block.count(b"\n")
             text = (b"\n" + block).replace(b"\n" + letter + b" ", b"\n")
-            if len(text) != len(block) + 1 - 2 * lines or not rows_are_regular(text, columns):
+            if len(text) != len(block) + 1 - 2 * lines or not rows_are_regular(text):
                 return None
             with warnings.catch_warnings():
                 warnings.simplefilter("error")
                 try:
-                    numbers = np.fromstring(text, dtype=np.int64, sep=" ")
+                    parts.append(np.fromstring(text, dtype=np.int64, sep=" "))
                 except (DeprecationWarning, ValueError):
                     return None
-            if len(numbers) != lines * columns:
+            if len(parts[-1]) != 3 * lines:
                 return None
-            parts.append(numbers)
-    return int(line[len(problem) :]), np.concatenate([np.empty(0, np.int64), *parts]).reshape(-1, columns)
+    rows = np.concatenate(parts).reshape(-1, 3)
+    return rows if len(rows) == int(line[len(problem) :]) else None
 
 
-def rows_are_regular(text: bytes, count: int) -> bool:
-    """Whether the lines behind a first line feed are all so many numbers with a blank between any two, as far as their signs show."""
+def rows_are_regular(text: bytes) -> bool:
+    """Whether the lines behind a first line feed are all three numbers with a blank between any two, as far as their signs show."""
     signs = text.count(b"-") - text.count(b" -") - text.count(b"\n-")
     if signs or text.translate(None, b"-0123456789 \n"):
         return False
     marks = np.frombuffer(text, np.uint8)
     marks = marks[marks <= ord(" ")][1:]
-    pattern = np.array([ord(" ")] * (count - 1) + [ord("\n")], np.uint8)
-    return len(marks) % count == 0 and bool((marks.reshape(-1, count) == pattern).all())
+    return len(marks) % 3 == 0 and bool((marks.reshape(-1, 3) == list(b"  \n")).all())
 
 
 def iter_blocks(stream: Any) -> Iterator[bytes]:

@@ -406,7 +406,14 @@ class MappedNetwork:
         self.step_begin, self.step_codes = found["step_begin"], found["step_codes"]
         self.step_points, self.step_edges = found["step_points"], found["step_edges"]
         self.arc_texts, self.texts = ArcTexts(self.arc_row, self.row_texts), Texts(self.text_begin, self.text_bytes)
-        self._set_limits()
+        size = Counter({name: len(column) for name, column in found.items()})
+        fields = fields_of(size)
+        for name, column in found.items():
+            _, rows, column.low, column.high, column.min_step = fields[name]
+            if rows not in (None, len(column)):
+                raise self.file.damaged_error(f"{name} has another size")
+        if not size["text_begin"] > 1 or not size["edge_begin"]:
+            raise self.file.damaged_error("it has no texts or edges")
         self.about = dict(zip(ABOUT, found["about"][:].tolist()))
         self.node_grid, self.edge_grid = self._grid("node"), self._grid("edge")
         self.version, self.sizes = np.array([VERSION]), np.array([self.about["nodes_size"], self.about["arcs_size"]])
@@ -418,18 +425,6 @@ class MappedNetwork:
             raise self.file.damaged_error("about has wrong numbers")
         margin = 0.001 if name == "node" else indexes.grid_margin(height)
         return Grid(height, margin, found[f"{name}_keys"], found[f"{name}_cells"], found[f"{name}_things"])
-
-    def _set_limits(self) -> None:
-        """Says what each column may have, which is verified with its checksums. Raises NetworkError where arrays that belong together
-        differ in their sizes."""
-        size = Counter({name: len(column) for name, column in self.file.columns.items()})
-        fields = fields_of(size)
-        for name, column in self.file.columns.items():
-            _, rows, column.low, column.high, column.min_step = fields[name]
-            if rows not in (None, len(column)):
-                raise self.file.damaged_error(f"{name} has another size")
-        if not size["text_begin"] > 1 or not size["edge_begin"]:
-            raise self.file.damaged_error("it has no texts or edges")
 
     @functools.cached_property
     def unit(self) -> str:

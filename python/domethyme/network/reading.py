@@ -6,7 +6,7 @@ from collections.abc import Iterator
 from typing import TYPE_CHECKING, Any
 
 from ..csv_tables import open_input, parse_int
-from ..dimacs import dimacs_lines, parse_problem_line
+from ..dimacs import dimacs_lines
 from ..errors import NetworkError
 from ..limits import MAX_NODES
 from ..program import StrPath
@@ -67,7 +67,9 @@ def read_coordinates(path: StrPath) -> Nodes:
     with open_input(path) as stream:
         for row, fields in dimacs_lines(path, stream):
             if fields[0] == b"p" and places is None:
-                places = [None] * parse_problem_line(fields, (b"aux", b"sp", b"co"), path, row, MAX_NODES)
+                if fields[1:-1] != [b"aux", b"sp", b"co"]:
+                    raise NetworkError("is no problem line `p aux sp co NUMBER`", path, row)
+                places = [None] * parse_int(fields[-1], "the number", path, row, 0, MAX_NODES)
             elif fields[0] == b"v" and places is not None and len(fields) == 4:
                 node = parse_int(fields[1], "node", path, row, 1, len(places))
                 lon = parse_int(fields[2], "x", path, row, -180_000_000, 180_000_000) / 1e6

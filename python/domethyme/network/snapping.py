@@ -171,8 +171,7 @@ class RoadIndex:
         here = np.array(place)
 
         def metres(edges: Ints) -> Floats:
-            parts = [self._metres(here, part) for part in split_by_points(edges, self.arrays.edge_begin)]
-            return parts[0] if len(parts) == 1 else np.concatenate(parts)
+            return np.concatenate([self._metres(here, part) for part in split_by_points(edges, self.arrays.edge_begin)])
 
         near = self.arrays.edge_grid.nearest(place, min(count, self.edges), metres, step)
         return [self._snap_to_edge(here, edge) for _, edge in near]
