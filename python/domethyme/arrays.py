@@ -1,5 +1,4 @@
 """Arguments as arrays, and pandas' objects in and out, where pandas is there. Needs numpy."""
-import sys
 from collections.abc import Hashable, Iterable
 from typing import Any
 
@@ -7,8 +6,9 @@ import numpy as np
 from numpy.typing import ArrayLike, NDArray
 
 from .errors import NoSuchNode
-from .extras import need
+from .extras import load
 from .keys import Keys, as_list
+from .limits import MAX_NODES
 
 Numbers = NDArray[np.int64]
 COLUMNS = (("from_node", "to_node"), ("from", "to"), ("source", "target"))
@@ -37,7 +37,7 @@ def pairs_of(pairs: Any, keys: Keys | None, nodes: int) -> Numbers:
         firsts, seconds = columns if columns is not None else split(pairs)
         found = np.column_stack([keys.nodes(firsts), keys.nodes(seconds)])
     else:
-        found = whole_numbers("pairs", pairs if columns is None else np.column_stack(columns), 0, (1 << 25) - 1)
+        found = whole_numbers("pairs", pairs if columns is None else np.column_stack(columns), 0, MAX_NODES - 1)
         found = found.reshape(0, 2) if found.size == 0 else found
         if found.ndim != 2 or found.shape[1] != 2:
             raise ValueError("pairs have to be rows of two nodes")
@@ -72,7 +72,7 @@ def nodes_of(name: str, values: Any, keys: Keys | None, nodes: int) -> Numbers:
     """The values, an array or anything that can be iterated, as an array of one dimension of nodes from 0."""
     if keys is not None:
         return keys.nodes(values)
-    array = whole_numbers(name, values if hasattr(values, "__array__") else as_list(values), 0, (1 << 25) - 1)
+    array = whole_numbers(name, values if hasattr(values, "__array__") else as_list(values), 0, MAX_NODES - 1)
     if array.ndim != 1:
         raise ValueError(f"{name} have to be of one dimension")
     if array.size and array.max() >= nodes:
@@ -85,16 +85,11 @@ def is_pandas(value: Any) -> bool:
     return type(value).__module__.partition(".")[0] == "pandas"
 
 
-def labels(values: Any) -> Any:
-    """The labels of an axis for values that a caller gave: those of a Series or Index are its values."""
-    return getattr(values, "array", values)
-
-
 def like_frame(lengths: Numbers, pairs: Any) -> Any:
     """The lengths as a Series of Int64 with the frame's index where the pairs came as a frame, else as they are."""
     if not is_pandas(pairs):
         return lengths
-    return sys.modules["pandas"].Series(with_missing(lengths), index=pairs.index, name="length")
+    return load("pandas").Series(with_missing(lengths), index=pairs.index, name="length")
 
 
 def like_axes(table: Numbers, sources: Any, targets: Any, has_keys: bool, missing: Any) -> Any:
@@ -104,33 +99,26 @@ def like_axes(table: Numbers, sources: Any, targets: Any, has_keys: bool, missin
     filled = table if missing is None else np.where(table < 0, missing, table)
     if not is_frame:
         return filled
-    need("pandas")
-    import pandas
-
     columns = {place: with_missing(column) if missing is None else column for place, column in enumerate(filled.T)}
-    frame = pandas.DataFrame(columns, index=axis(sources))
+    frame = load("pandas").DataFrame(columns, index=axis(sources))
     frame.columns = axis(targets)
     return frame
 
 
 def by_keys(lengths: Numbers, keys: Keys) -> Any:
     """The length of each node as a Series of Int64 by the nodes' keys, missing where there is none."""
-    need("pandas")
-    import pandas
-
+    pandas = load("pandas")
     index = pandas.Index(keys.of(np.arange(len(lengths))), tupleize_cols=False)
     return pandas.Series(with_missing(lengths), index=index, name="length")
 
 
 def axis(values: Any) -> Any:
-    """The labels of an axis for values that a caller gave."""
-    import pandas
-
+    """The labels of an axis for values that a caller gave: those of a Series or Index are its values."""
     if hasattr(values, "__array__"):
-        return pandas.Index(labels(values))
-    return pandas.Index(as_list(values), tupleize_cols=False)
+        return load("pandas").Index(getattr(values, "array", values))
+    return load("pandas").Index(as_list(values), tupleize_cols=False)
 
 
 def with_missing(lengths: Numbers) -> Any:
-    """The lengths as pandas' Int64, missing if there is no path. Pandas is loaded."""
-    return sys.modules["pandas"].arrays.IntegerArray(lengths.copy(), lengths < 0)
+    """The lengths as pandas' Int64, missing if there is no path."""
+    return load("pandas").arrays.IntegerArray(lengths.copy(), lengths < 0)

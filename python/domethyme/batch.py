@@ -105,11 +105,7 @@ def map_chunks(
     if len(parts) < 2:
         return [*map(run_chunk, parts)]
     with concurrent.futures.ThreadPoolExecutor(min(len(parts), cpu_count())) as threads:
-        try:
-            return [*threads.map(run_chunk, parts)]
-        except BaseException:
-            threads.shutdown(wait=True, cancel_futures=True)
-            raise
+        return [*threads.map(run_chunk, parts)]  # (an exception cancels the parts that haven't begun)
 
 
 def cpu_count() -> int:

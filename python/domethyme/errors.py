@@ -1,24 +1,6 @@
-"""The errors of this package.
-
-    DomethymeError
-    ├── ProgramError         `routecli` can't be run, or ended in a way that no input explains
-    │   ├── ProgramNotFound  there is no such program (also a FileNotFoundError)
-    │   └── ProgramStopped   it was ended by a signal
-    ├── LibraryError         the library libdomethyme refused a question
-    │   └── LibraryNotFound  there is no such library (also a FileNotFoundError)
-    ├── GraphError           the text of a graph is refused
-    ├── HierarchyError       a file of a hierarchy is refused
-    │   ├── HierarchyNotFound  there is no such file (also a FileNotFoundError)
-    │   ├── WrongHierarchy   it isn't right for the graph that it was checked against
-    │   └── NotProved        a check showed neither that it is right nor that it isn't
-    ├── FileError            a file is refused by this package and not by the program
-    │   └── NetworkError     a file of a network (nodes, arcs), or of places or pairs in one
-    ├── NoSuchNode           a node or key that the hierarchy doesn't have (also a ValueError and a LookupError)
-    ├── OutOfMemory          the program or the library ran out of memory (also a MemoryError)
-    └── ReadWriteError       a read or write failed (also an OSError)
-
-Arguments that can't be used at all, such as arrays of a wrong shape, raise a plain ValueError, and a package that is
-missing a plain ImportError.
+"""The errors of this package: a DomethymeError for what the program, the library or a file refuses. Many are errors of Python's own too.
+Arguments that can't be used at all, such as arrays of a wrong shape, raise a plain ValueError, and a package that is missing a
+plain ImportError.
 """
 import contextlib
 import os

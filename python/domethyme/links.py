@@ -7,7 +7,7 @@ import numpy as np
 from numpy.typing import NDArray
 
 from .errors import HierarchyError
-from .hierarchy_file import HEAD_BYTES, pread_all
+from .hierarchy_file import HEAD_BYTES, pread_all, read_header
 from .network.parallel import differs_from_previous
 
 if TYPE_CHECKING:
@@ -37,8 +37,7 @@ class Links(NamedTuple):
     @classmethod
     def of(cls, file: int, name: str) -> "Links":
         """Those of a file, version 1 or 2, that messages call `name`."""
-        head = os.pread(file, HEAD_BYTES, 0)
-        return cls(file, name, KINDS[head[:4]], int.from_bytes(head[4:8], "big"), int.from_bytes(head[8:16], "big"))
+        return cls(file, name, KINDS[os.pread(file, 4, 0)], *read_header(file, name))
 
     def parts(self) -> Iterator[NDArray[Any]]:
         """All links, AT_A_TIME in a part. Raises HierarchyError for a link that can't be."""

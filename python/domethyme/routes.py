@@ -7,7 +7,7 @@ import numpy as np
 from numpy.typing import NDArray
 
 from .deprecated import warn_renamed
-from .extras import need
+from .extras import load
 from .keys import Keys
 from .network.groups import expand, offsets
 
@@ -81,14 +81,11 @@ class Routes:
     def to_frame(self) -> Any:
         """A DataFrame of pandas with a row for each pair: from, to (nodes or keys), length and arcs, which are Int64 and missing
         if there is no path. It has the index of the frame that the pairs came as."""
-        need("pandas")
-        import pandas
-
         from .arrays import with_missing
 
         ends = [column if self.keys is None else self.keys.of(column) for column in self.pairs.T]
         columns = {"from": ends[0], "to": ends[1], "length": with_missing(self.lengths), "arcs": with_missing(self.arcs)}
-        return pandas.DataFrame(columns, index=self.index)
+        return load("pandas").DataFrame(columns, index=self.index)
 
     def geojson(self, network: "Network") -> dict[str, Any]:
         """The routes as a FeatureCollection along the real road; see Network.geojson."""

@@ -1,9 +1,4 @@
-"""Arrays whose rows are in groups, one group after the other. Needs numpy.
-
-    offsets(counts)           where each group begins, and last where they end
-    expand(counts)            of each row the group and the position in it
-    first_of_equal(*columns)  for each row the first one that equals it
-"""
+"""Arrays whose rows are in groups, one group after the other, and equal rows. Needs numpy."""
 from typing import Any
 
 import numpy as np

@@ -12,7 +12,7 @@ from .. import belonging
 from ..csv_tables import unescape_formula
 from ..deprecated import side_of
 from ..errors import NetworkError, NoSuchNode
-from ..extras import need
+from ..extras import load
 from ..keys import Keys, parse_key
 from ..links import Links
 from ..program import StrPath
@@ -75,9 +75,7 @@ class Network:
     def nodes_frame(self) -> Any:
         """A DataFrame of pandas with the columns osm, lon, lat and ends, and key where nodes have keys, whose index are the nodes from
         0; with others of NETWORK.nodes.csv where the tools wrote that."""
-        need("pandas")
-        import pandas
-
+        pandas = load("pandas")
         if has_columns(self._files.nodes, NODE_COLUMNS):
             frame = pandas.read_csv(self._files.nodes, dtype={"osm": "Int64"})
             return frame.drop(columns="node").rename_axis("node")
@@ -91,9 +89,7 @@ class Network:
 
     def arcs_frame(self) -> Any:
         """A DataFrame of pandas with the columns of NETWORK.arcs.csv, whose `from` and `to` count from 0."""
-        need("pandas")
-        import pandas
-
+        pandas = load("pandas")
         if has_columns(self._files.arcs, ARC_COLUMNS) and has_columns(self._files.nodes, NODE_COLUMNS):
             frame = pandas.read_csv(self._files.arcs, keep_default_na=False)
             texts = [name for name in frame.columns if frame[name].dtype == object]

@@ -55,10 +55,9 @@ def arcs_from_net(arrays: "net_file.MappedNetwork") -> Iterator[Arc]:
             arrays.arc_texts
         )
         rows = zip(*(values[part].tolist() for values in figures))
-        for place, (start, end, weight, seconds, metres, osm, row) in enumerate(rows, begin):
-            highway, name, ref, junction, destination, structure = (arrays.texts[text] for text in row)
-            line = format_linestring(arrays.line(place))
-            yield Arc(start, end, weight, seconds, metres, osm, highway, name, line, ref, junction, destination, structure)
+        for place, (*figures_of_arc, row) in enumerate(rows, begin):
+            highway, name, *others = (arrays.texts[text] for text in row)
+            yield Arc(*figures_of_arc, highway, name, format_linestring(arrays.line(place)), *others)
 
 
 def read_coordinates(path: StrPath) -> Nodes:

@@ -261,11 +261,7 @@ class RoadIndex:
         """The points of an arc between two fractions of it."""
         arc = self.arc(number)
         edge = self.edge(arc.edge)
-        if begin <= 0.0 and end >= 1.0:
-            return list(edge.points) if arc.is_along else list(edge.points[::-1])
-        if not arc.is_along:
-            return clip(edge, 1.0 - end, 1.0 - begin)[::-1]
-        return clip(edge, begin, end)
+        return clip(edge, begin, end) if arc.is_along else clip(edge, 1.0 - end, 1.0 - begin)[::-1]
 
 
 def split_by_points(edges: Ints, begins: Column) -> Iterator[Ints]:
@@ -280,6 +276,8 @@ def split_by_points(edges: Ints, begins: Column) -> Iterator[Ints]:
 
 def clip(edge: Edge, begin: float, end: float) -> list[Point]:
     """The points of an edge between two fractions."""
+    if begin <= 0.0 and end >= 1.0:
+        return list(edge.points)
     low, high = begin * edge.metres, end * edge.metres
     first = edge.points[0] if begin <= 0.0 else point_at(edge, low)
     last = edge.points[-1] if end >= 1.0 else point_at(edge, high)

@@ -19,7 +19,6 @@ import csv
 import errno
 import itertools
 import os
-import re
 from collections.abc import Iterable, Iterator, Sequence
 from typing import IO, Literal, NamedTuple
 
@@ -80,9 +79,10 @@ def is_coordinates(word: StrPath) -> bool:
 
 def graph_of(word: StrPath) -> str:
     """The path of the graph of a tool's word NETWORK: NETWORK.gr, and of a file X.co X.gr, or X.gr.gz where that alone is there."""
-    name = os.fspath(word)
-    graph = Files(re.sub(r"\.co(\.gz)?$", "", name)).graph
-    return f"{graph}.gz" if is_coordinates(word) and not os.path.exists(graph) and os.path.exists(f"{graph}.gz") else graph
+    if not is_coordinates(word):
+        return Files(word).graph
+    graph = Files(os.fspath(word).removesuffix(".gz").removesuffix(".co")).graph
+    return f"{graph}.gz" if not os.path.exists(graph) and os.path.exists(f"{graph}.gz") else graph
 
 
 def paths_of(word: StrPath) -> list[str]:
