@@ -107,12 +107,7 @@ class ReadWriteError(DomethymeError, OSError):
 
 
 WARNING = "routecli: warning: "
-KINDS: dict[int, type[DomethymeError]] = {
-    3: GraphError,
-    4: HierarchyError,
-    6: OutOfMemory,
-    7: ReadWriteError,
-}
+KINDS: dict[int, type[DomethymeError]] = {3: GraphError, 4: HierarchyError, 6: OutOfMemory, 7: ReadWriteError}
 
 
 def error_from_exit(status: int, stderr: bytes, file: str = "") -> DomethymeError:

@@ -290,7 +290,12 @@ class Hierarchy:
         rows = ends.items() if isinstance(ends, Mapping) else [
             row if isinstance(row, tuple) and len(row) == 2 else (row, 0) for row in ends
         ]
-        found = [(self._node(node), as_int(name, added)) for node, added in rows]
+        found = []
+        for node, added in rows:
+            number = self._node(node)
+            if not is_whole(added):
+                raise ValueError(f"the lengths added at {name} have to be whole numbers, and {added!r} is none")
+            found.append((number, operator.index(added)))
         if not found:
             raise ValueError(f"{name} have to be a node or more")
         if not all(0 <= added <= MAX_ADDED for _, added in found):
@@ -309,13 +314,6 @@ def refuse_towards(towards: bool) -> None:
     """Raises ValueError for lengths that the library doesn't have."""
     if towards:
         raise ValueError("towards=True isn't supported: the library has lengths from starts, and none towards places")
-
-
-def as_int(name: str, added: Any) -> int:
-    """An added length as an int, which it has to be."""
-    if not is_whole(added):
-        raise ValueError(f"the lengths added at {name} have to be whole numbers, and {added!r} is none")
-    return operator.index(added)
 
 
 def is_whole(value: Any) -> bool:

@@ -43,7 +43,10 @@ class Routes:
     def __getitem__(self, row: slice) -> "Routes": ...
     def __getitem__(self, row: int | slice) -> "NDArray[Any] | Routes":
         if isinstance(row, slice):
-            return self._slice(row)
+            counts, index = np.diff(self.offsets)[row], None if self.index is None else self.index[row]
+            route, position = expand(counts)
+            nodes = self.nodes[self.offsets[:-1][row][route] + position]
+            return Routes(self.lengths[row].copy(), nodes, offsets(counts), self.pairs[row].copy(), self.keys, index)
         nodes = self.node_indices(row)
         return nodes if self.keys is None else self.keys.of(nodes)
 
@@ -90,12 +93,6 @@ class Routes:
     def geojson(self, network: "Network") -> dict[str, Any]:
         """The routes as a FeatureCollection along the real road; see Network.geojson."""
         return network.geojson(self)
-
-    def _slice(self, rows: slice) -> "Routes":
-        counts, index = np.diff(self.offsets)[rows], None if self.index is None else self.index[rows]
-        route, position = expand(counts)
-        nodes = self.nodes[self.offsets[:-1][rows][route] + position]
-        return Routes(self.lengths[rows].copy(), nodes, offsets(counts), self.pairs[rows].copy(), self.keys, index)
 
 
 def index_of(pairs: Any) -> Any:

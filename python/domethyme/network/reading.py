@@ -57,7 +57,7 @@ def arcs_from_net(arrays: "net_file.MappedNetwork") -> Iterator[Arc]:
         rows = zip(*(values[part].tolist() for values in figures))
         for place, (*figures_of_arc, row) in enumerate(rows, begin):
             highway, name, *others = (arrays.texts[text] for text in row)
-            yield Arc(*figures_of_arc, highway, name, format_linestring(arrays.line(place)), *others)
+            yield Arc._make((*figures_of_arc, highway, name, format_linestring(arrays.line(place)), *others))
 
 
 def read_coordinates(path: StrPath) -> Nodes:

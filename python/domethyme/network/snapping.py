@@ -174,7 +174,8 @@ class RoadIndex:
             return np.concatenate([self._metres(here, part) for part in split_by_points(edges, self.arrays.edge_begin)])
 
         near = self.arrays.edge_grid.nearest(place, min(count, self.edges), metres, step)
-        return [self._snap_to_edge(here, edge) for _, edge in near]
+        found = ((edge, self._project(here, np.array([edge]))) for _, edge in near)
+        return [self._snap_on_segment(edge, ways, int(ways.metres.argmin())) for edge, ways in found]
 
     def nearest_batch(self, places: Sequence[Point]) -> Iterator[SnappedPoint]:
         """The nearest point of a road to each place, as by `nearest`. Those within the grid's first radius are found at once."""
@@ -208,11 +209,6 @@ class RoadIndex:
         """The metres from a place to each edge."""
         ways = self._project(place, edges)
         return np.asarray(np.minimum.reduceat(ways.metres, np.flatnonzero(differs_from_previous(ways.which))))
-
-    def _snap_to_edge(self, place: Floats, edge: int) -> SnappedPoint:
-        """The nearest point of an edge."""
-        ways = self._project(place, np.array([edge]))
-        return self._snap_on_segment(edge, ways, int(ways.metres.argmin()))
 
     def _snap_on_segment(self, edge: int, ways: SegmentProjections, best: int) -> SnappedPoint:
         """The nearest point of segment `best` of the projections, which is of this edge."""
