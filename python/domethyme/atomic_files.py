@@ -24,7 +24,7 @@ def atomic_write(path: StrPath, mode: str = "w") -> Iterator[IO[Any]]:
             sys.stdout.reconfigure(encoding="utf-8", newline="\n")
         yield sys.stdout if mode == "w" else sys.stdout.buffer  # type: ignore[misc]
         sys.stdout.flush()
-    elif is_special_file(path):
+    elif os.path.exists(path) and not os.path.isfile(path):
         with add_paths_to_errors(path), open_to_write(path, mode) as file:
             yield file
     else:
@@ -48,14 +48,6 @@ def add_paths_to_errors(*paths: StrPath) -> Iterator[None]:
         if error.filename is None and error.errno in (errno.ENOSPC, errno.EDQUOT, errno.EFBIG, errno.EIO):
             raise OSError(error.errno, error.strerror, ", ".join(os.fspath(path) for path in paths)) from error
         raise
-
-
-def is_special_file(path: StrPath) -> bool:
-    """Whether there is something at the path that is no regular file: a pipe, a terminal, a device."""
-    try:
-        return not stat.S_ISREG(os.stat(path).st_mode)
-    except FileNotFoundError:
-        return False
 
 
 def open_to_write(path: StrPath, mode: str) -> IO[Any]:

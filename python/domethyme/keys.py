@@ -149,11 +149,7 @@ class Keys:
         """The nodes of many keys. Raises NoSuchNode for the first that names none."""
         import numpy as np
 
-        listed = as_list(keys)
-        try:
-            return np.fromiter((self._nodes[key] for key in listed), dtype=np.int64, count=len(listed))
-        except (KeyError, TypeError):
-            return np.array([self.node(key) for key in listed], dtype=np.int64)
+        return np.fromiter(map(self.node, as_list(keys)), np.int64)
 
     def of(self, nodes: "NDArray[np.integer[Any]]") -> "NDArray[Any]":
         """The keys of many nodes: an array of int64 where all of them are whole numbers, else of objects."""
