@@ -2,7 +2,7 @@
 import concurrent.futures
 import os
 from collections.abc import Callable, Sequence
-from typing import NamedTuple, TypeVar
+from typing import TypeVar
 
 import numpy as np
 from numpy.typing import NDArray
@@ -17,14 +17,7 @@ from .router import Router, Searcher, seed_array
 CHUNK_SIZE = 512
 MAX_ROWS, MAX_CHUNK_CELLS = 256, 1 << 16
 T = TypeVar("T")
-
-
-class BatchRoutes(NamedTuple):
-    """Routes: the length of each, NO_PATH where there is none, how many nodes it has, and the nodes of all."""
-
-    lengths: NDArray[np.int64]
-    counts: NDArray[np.int64]
-    nodes: NDArray[np.int32]
+RouteArrays = tuple[NDArray[np.int64], NDArray[np.int64], NDArray[np.int32]]
 
 
 def lengths(router: Router, pairs: NDArray[np.int64]) -> NDArray[np.int64]:
@@ -72,16 +65,17 @@ def reach(router: Router, starts: Sequence[tuple[int, int]], limit: int | None) 
     return found
 
 
-def routes(router: Router, pairs: NDArray[np.int64]) -> BatchRoutes:
-    """The routes of pairs of nodes, of shape (n, 2)."""
+def routes(router: Router, pairs: NDArray[np.int64]) -> RouteArrays:
+    """The routes of pairs of nodes, of shape (n, 2): the length of each, NO_PATH where there is none, how many nodes it has, and the
+    nodes of all."""
 
-    def query_chunk(part: slice, seat: Searcher) -> BatchRoutes:
+    def query_chunk(part: slice, seat: Searcher) -> RouteArrays:
         lengths, nodes = zip(*(route_arrays(seat, source, target) for source, target in pairs[part].tolist()))
-        return BatchRoutes(np.array(lengths, np.int64), np.array([*map(len, nodes)], np.int64), np.concatenate(nodes))
+        return np.array(lengths, np.int64), np.array([*map(len, nodes)], np.int64), np.concatenate(nodes)
 
-    none = BatchRoutes(np.empty(0, np.int64), np.empty(0, np.int64), np.empty(0, np.int32))
+    none = np.empty(0, np.int64), np.empty(0, np.int64), np.empty(0, np.int32)
     lengths, counts, nodes = zip(none, *map_chunks(router, query_chunk, len(pairs)))
-    return BatchRoutes(np.concatenate(lengths), np.concatenate(counts), np.concatenate(nodes))
+    return np.concatenate(lengths), np.concatenate(counts), np.concatenate(nodes)
 
 
 def route_arrays(seat: Searcher, source: int, target: int) -> tuple[int, NDArray[np.int32]]:

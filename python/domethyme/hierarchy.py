@@ -146,8 +146,8 @@ class Hierarchy:
         from .network.groups import offsets
 
         asked = arrays.pairs_of(pairs, self.keys, self.nodes)
-        found = batch.routes(self._router, asked)
-        return routes.Routes(found.lengths, found.nodes, offsets(found.counts), asked, self.keys, routes.index_of(pairs))
+        lengths, counts, nodes = batch.routes(self._router, asked)
+        return routes.Routes(lengths, nodes, offsets(counts), asked, self.keys, routes.index_of(pairs))
 
     @overload
     def matrix(self, sources: "NDArray[Any]", targets: "NDArray[Any] | None" = None, by: By | None = None) -> "NDArray[np.int64]": ...
