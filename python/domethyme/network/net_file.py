@@ -14,7 +14,7 @@ import re
 import stat
 import tempfile
 from collections import Counter
-from collections.abc import Iterable, Iterator, Sequence
+from collections.abc import Iterator, Sequence
 from typing import IO, Any, NamedTuple
 
 import numpy as np
@@ -190,26 +190,18 @@ class Builder:
         self._arcs.append((*arc[:6], self._texts.setdefault((arc.highway, arc.name, *arc[9:]), len(self._texts))))
 
     def build(self, sizes: Sequence[int] = (0, 0)) -> Arrays:
-        """The arrays. Raises ValueError for a number that has no room in them."""
+        """The arrays. Raises ValueError where they don't fit together."""
         osm, lon, lat, ends = zip(*self._nodes) if self._nodes else ((),) * 4
         starts, stops, weights, seconds, metres, ways, row = zip(*self._arcs) if self._arcs else ((),) * 7
         places = np.fromstring(" ".join(self._lines).replace(",", " "), dtype=np.float64, sep=" ")
-        nodes = NodeArrays(
-            to_int64(osm, "osm"), to_units(np.column_stack((lon, lat))), np.array(ends, dtype=np.uint8), self._keys
-        )
+        counts = np.array([line.count(",") + 1 for line in self._lines], np.int64)
+        nodes = NodeArrays(np.array(osm, np.int64), to_units(np.column_stack((lon, lat))), np.array(ends, np.uint8), self._keys)
         arcs = ArcArrays(
-            to_int64(starts, "from"), to_int64(stops, "to"), to_int64(weights, "weight"), np.array(seconds, np.float64),
-            np.array(metres, np.float64), to_int64(ways, "osm"), np.array(row, np.int64), list(self._texts),
-            offsets(np.array([line.count(",") + 1 for line in self._lines], np.int64)), to_units(places.reshape(-1, 2)),
+            np.array(starts, np.int64), np.array(stops, np.int64), np.array(weights, np.int64), np.array(seconds, np.float64),
+            np.array(metres, np.float64), np.array(ways, np.int64), np.array(row, np.int64), list(self._texts), offsets(counts),
+            to_units(places.reshape(-1, 2)),
         )
         return build_arrays(nodes, arcs, self._attribution, sizes)
-
-
-def to_int64(values: Iterable[int], name: str) -> Ints:
-    try:
-        return np.array(tuple(values), dtype=np.int64)
-    except OverflowError:
-        raise ValueError(f"a number of {name} is too great") from None
 
 
 def to_units(places: NDArray[Any]) -> NDArray[np.int32]:
