@@ -47,9 +47,9 @@ BLOCK = 1 << 24
 FARTHEST_END = 1000.0
 # The ids of OpenStreetMap that there may be.
 IDS = NO_OSM + 1, (1 << 63) - 1
-# In which directions a road is open, along its row and back; and what says so.
-ALONG, BACK, BOTH = (True, False), (False, True), (True, True)
-ONE_WAY = {
+# In which directions a road is open, 1 along its row and -1 back; and what says so.
+ALONG, BACK, BOTH = (1,), (-1,), (1, -1)
+ONE_WAY: dict[str, tuple[int, ...]] = {
     "1": ALONG, "yes": ALONG, "true": ALONG, "-1": BACK, "reverse": BACK, "0": BOTH, "no": BOTH, "false": BOTH, "": BOTH
 }
 # What is doubted: arcs that are so much shorter than the straight line, to a metre, and faster than so many km/h.
@@ -122,11 +122,10 @@ def read_arcs(path: StrPath, nodes: Nodes, weight: str = "time", say: Say = lamb
             osm = fields.whole("osm", *IDS) if fields.get("osm") else 0
             more = osm, known.setdefault(texts, len(known)), row
             line, values = line_of(nodes.places[[start - 1, end - 1]], fields), arc_values(fields, weight)
-            is_along, is_back = directions_of(fields)
-            for ends, places in [((start, end), line)] * is_along + [((end, start), line[::-1])] * is_back:
-                numbers.extend((*ends, *more))
+            for step in directions_of(fields):
+                numbers.extend((*(start, end)[::step], *more))
                 figures.extend(values)
-                points_of_lines.frombytes(places.tobytes())
+                points_of_lines.frombytes(line[::step].tobytes())
                 begins_of_lines.append(len(points_of_lines) // 2)
     starts, stops, osm_ids, of_texts, of_rows = np.array(numbers, dtype=np.int64).reshape(-1, 5).T.copy()
     if not len(starts) or len(starts) > MAX_LINES:
@@ -144,11 +143,9 @@ def read_arcs(path: StrPath, nodes: Nodes, weight: str = "time", say: Say = lamb
     return ArcArrays(starts, stops, whole.astype(np.int64), seconds, lengths, osm_ids, of_texts, list(known), begins, points)
 
 
-def directions_of(fields: Row) -> tuple[bool, bool]:
-    """Whether a row has an arc from its first node to its second, and one back."""
-    if "oneway" not in fields:
-        return ALONG
-    text = fields["oneway"].strip().lower()
+def directions_of(fields: Row) -> tuple[int, ...]:
+    """The directions in which the road of a row is open; without a column that says it there is one."""
+    text = fields.get("oneway", "1").strip().lower()
     if text not in ONE_WAY:
         raise fields.error(f"oneway {excerpt(text)} is none of 1, yes, -1, 0, no")
     return ONE_WAY[text]
