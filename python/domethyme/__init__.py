@@ -42,10 +42,10 @@ if TYPE_CHECKING:
     from .routes import Routes
 
 __all__ = [
-    "DomethymeError", "Fault", "FileError", "Graph", "GraphError", "Hierarchy", "HierarchyError", "HierarchyNotFound", "Keys",
-    "LibraryError", "LibraryNotFound", "Network", "NetworkError", "NoSuchNode", "NO_PATH", "NotProved", "OutOfMemory",
-    "ProgramError", "ProgramNotFound", "ProgramStopped", "ReadWriteError", "Route", "Routes", "WrongHierarchy", "check",
-    "find_program", "prepare", "unscaled", "write_graph"
+    "DomethymeError", "Fault", "FileError", "Graph", "GraphError", "Hierarchy", "HierarchyError", "HierarchyNotFound",
+    "Keys", "LibraryError", "LibraryNotFound", "Network", "NetworkError", "NoSuchNode", "NO_PATH", "NotProved",
+    "OutOfMemory", "ProgramError", "ProgramNotFound", "ProgramStopped", "ReadWriteError", "Route", "Routes",
+    "WrongHierarchy", "check", "find_program", "prepare", "unscaled", "write_graph"
 ]
 
 # The name of DomethymeError in scripts that are older than this package.

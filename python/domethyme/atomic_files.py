@@ -17,8 +17,8 @@ from .program import StrPath
 
 @contextlib.contextmanager
 def atomic_write(path: StrPath, mode: str = "w") -> Iterator[IO[Any]]:
-    """A file to write: whole after the block, or as it was where the block ends by an exception. Pipes, devices and standard output
-    are written straight. Mode "w" is UTF-8 text, "wb" bytes."""
+    """A file to write: whole after the block, or as it was where the block ends by an exception. Pipes, devices and
+    standard output are written straight. Mode "w" is UTF-8 text, "wb" bytes."""
     if str(path) == "-":
         if isinstance(sys.stdout, io.TextIOWrapper):
             sys.stdout.reconfigure(encoding="utf-8", newline="\n")

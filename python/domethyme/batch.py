@@ -66,8 +66,8 @@ def reach(router: Router, starts: Sequence[tuple[int, int]], limit: int | None) 
 
 
 def routes(router: Router, pairs: NDArray[np.int64]) -> RouteArrays:
-    """The routes of pairs of nodes, of shape (n, 2): the length of each, NO_PATH where there is none, how many nodes it has, and the
-    nodes of all."""
+    """The routes of pairs of nodes, of shape (n, 2): the length of each, NO_PATH where there is none, how many nodes it
+    has, and the nodes of all."""
 
     def query_chunk(part: slice, seat: Searcher) -> RouteArrays:
         lengths, nodes = zip(*(route_arrays(seat, source, target) for source, target in pairs[part].tolist()))

@@ -60,7 +60,7 @@ def compare_files(hierarchy: str, network: str, whole: bool = False) -> None:
 def compare(file: int, name: str, network: "MappedNetwork", whole: bool = False) -> None:
     """Raises WrongHierarchy where an open file of a hierarchy, whose head fits its size, isn't that of a network.
 
-    Above MAX_COMPARED links 5,000 drawn ones or more are compared, unless `whole`. For a million nodes all links take a second.
+    Above MAX_COMPARED links 5,000 drawn ones or more are compared, unless `whole`. All of a million nodes take a second.
     """
     from .links import Links
 

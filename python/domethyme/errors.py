@@ -1,6 +1,6 @@
-"""The errors of this package: a DomethymeError for what the program, the library or a file refuses. Many are errors of Python's own too.
-Arguments that can't be used at all, such as arrays of a wrong shape, raise a plain ValueError, and a package that is missing a
-plain ImportError.
+"""The errors of this package: a DomethymeError for what the program, the library or a file refuses. Many are errors of
+Python's own too. Arguments that can't be used at all, such as arrays of a wrong shape, raise a plain ValueError, and a
+package that is missing a plain ImportError.
 """
 import contextlib
 import os
@@ -130,7 +130,7 @@ def os_reason(error: OSError) -> str:
 
 @contextlib.contextmanager
 def raised_as(kind: type[FileError], file: "str | os.PathLike[str]", caught: type[Exception] = OSError) -> Iterator[None]:
-    """An error in the block, an OSError unless another one is named, is raised as one of this package that names the file."""
+    """What is caught in the block, an OSError unless it is named, is raised as an error of this package with the file."""
     try:
         yield
     except caught as error:

@@ -166,8 +166,9 @@ def write_graph(
 
 
 def prepare(
-    graph: "Graph | StrPath", hierarchy: StrPath, order: Order = "depth", workers: int | None = None, seed: int | None = None,
-    program: StrPath | None = None, switch_order_after: int | None = None, *, stint: int | None = None
+    graph: "Graph | StrPath", hierarchy: StrPath, order: Order = "depth", workers: int | None = None,
+    seed: int | None = None, program: StrPath | None = None, switch_order_after: int | None = None, *,
+    stint: int | None = None
 ) -> Hierarchy:
     """Makes the file of the hierarchy of a Graph, or of a graph's file, by `routecli prepare`. Returns the Hierarchy. At an
     exception its file is as it was before.

@@ -199,8 +199,8 @@ class Hierarchy:
         nodes, metres = self._need_network().nearest(lon, lat, side_of(side, end))
         for place, away in enumerate([metres] if isinstance(metres, float) else metres.ravel().tolist()):
             if not away <= within:
-                message = f"place {place} has no node within {within:g} m: the nearest is {away:,.0f} m away; lon comes before lat"
-                raise NoSuchNode(message, place)
+                nearest = f"the nearest is {away:,.0f} m away; lon comes before lat"
+                raise NoSuchNode(f"place {place} has no node within {within:g} m: {nearest}", place)
         if self.keys is None:
             return nodes, metres
         return (self.keys.key(nodes) if isinstance(nodes, int) else self.keys.of(nodes)), metres

@@ -93,8 +93,8 @@ class Links(NamedTuple):
 
 
 def least_arcs(network: "MappedNetwork", behind: int, last: int) -> tuple[NDArray[np.int64], NDArray[np.int64]]:
-    """The least arcs between different nodes whose keys lie behind one key, up to another: their keys, which rise, and weights.
-    A key is the number of the first node, from 0, and 32 bits with that of the second."""
+    """The least arcs between different nodes whose keys lie behind one key, up to another: their keys, which rise, and
+    weights. A key is the number of the first node, from 0, and 32 bits with that of the second."""
     first, end = max(behind, 0) >> 32, min((last >> 32) + 1, len(network.out_begin) - 1)
     arcs = network.out_arcs[int(network.out_begin[first]) : int(network.out_begin[end])]
     starts, ends = network.arc_from[arcs].astype(np.int64) - 1, network.arc_to[arcs].astype(np.int64) - 1
@@ -104,7 +104,7 @@ def least_arcs(network: "MappedNetwork", behind: int, last: int) -> tuple[NDArra
 
 
 def wrong_link(part: NDArray[Any], weights: NDArray[np.int64]) -> str | None:
-    """The first of the links that can't be, by the weights of the network's least arcs between their ends, NO_ARC for none."""
+    """The first of the links that can't be, by the weights of the least arcs between their ends, NO_ARC for none."""
     is_arc = part["middle"] == NO_MIDDLE
     is_wrong = np.where(is_arc, weights != part["weight"], (weights != NO_ARC) & (weights < part["weight"]))
     if not is_wrong.any():

@@ -115,7 +115,8 @@ class MappedFile:
         if now == self._state:
             return
         if now[0] != self._state[0] or self._sum_now() != self.sum:
-            raise NetworkError("was written to while it was in use; new files have to take their place by a rename", self.path)
+            problem = "was written to while it was in use; new files have to take their place by a rename"
+            raise NetworkError(problem, self.path)
         for column in self.columns.values():
             column.forget()
         self._state = now

@@ -58,8 +58,8 @@ SHORTER, FASTEST = 0.99, 400.0
 
 @dataclasses.dataclass
 class Nodes(NodeArrays):
-    """Nodes with their rows in the table by their names, None where the names are numbers from 1, its path and its columns. Their
-    keys are their names in answers, none where these are numbers from 1."""
+    """Nodes with their rows in the table by their names, None where the names are numbers from 1, its path and its columns.
+    Their keys are their names in answers, none where these are numbers from 1."""
 
     rows: dict[str, int] | None = None
     path: StrPath = ""
@@ -140,7 +140,8 @@ def read_arcs(path: StrPath, nodes: Nodes, weight: str = "time", say: Say = lamb
     if whole.max() > MAX_WEIGHT:
         raise NetworkError(f"would weigh more than {MAX_WEIGHT}", path, int(of_rows[whole.argmax()]))
     doubt_seconds(weights, seconds, lengths, weight, path, say)
-    return ArcArrays(starts, stops, whole.astype(np.int64), seconds, lengths, osm_ids, of_texts, list(known), begins, points)
+    whole = whole.astype(np.int64)
+    return ArcArrays(starts, stops, whole, seconds, lengths, osm_ids, of_texts, list(known), begins, points)
 
 
 def directions_of(fields: Row) -> tuple[int, ...]:
@@ -188,8 +189,8 @@ def arc_values(fields: Row, weight: str) -> tuple[float, float, float, float]:
 
 
 def line_of(ends: NDArray[np.int32], fields: Row) -> NDArray[np.int32]:
-    """The line of a road between two places in units, a straight one where the row has none. Raises NetworkError where it doesn't lead
-    from the one to the other."""
+    """The line of a road between two places in units, a straight one where the row has none. Raises NetworkError where it
+    doesn't lead from the one to the other."""
     wkt = fields.get("wkt", "")
     if not wkt:
         return ends
@@ -264,8 +265,8 @@ def read_gr(path: StrPath, nodes: int) -> tuple[Ints, Ints, Ints]:
 
 
 def read_rows_fast(path: StrPath, problem: bytes, letter: bytes) -> Ints | None:
-    """The numbers of the lines that begin with a letter, of shape (lines, 3), by a problem line that ends with how many there are; None
-    for a file with anything else behind its first comments, which is for the reader that knows what is wrong."""
+    """The numbers of the lines that begin with a letter, of shape (lines, 3), by a problem line that ends with their number.
+    None for a file with anything else behind its first comments, for the reader that knows what is wrong."""
     parts = [np.empty(0, np.int64)]
     with open_input(path) as stream:
         line = stream.readline()
@@ -291,7 +292,7 @@ def read_rows_fast(path: StrPath, problem: bytes, letter: bytes) -> Ints | None:
 
 
 def rows_are_regular(text: bytes) -> bool:
-    """Whether the lines behind a first line feed are all three numbers with a blank between any two, as far as their signs show."""
+    """Whether the lines behind a first line feed are three numbers with a blank between any two, as far as signs show."""
     signs = text.count(b"-") - text.count(b" -") - text.count(b"\n-")
     if signs or text.translate(None, b"-0123456789 \n"):
         return False

@@ -89,7 +89,7 @@ class Arrays(NamedTuple):
 
 @dataclasses.dataclass
 class NodeArrays:
-    """Nodes: osm, ends and keys as in Arrays, but the keys as texts, and places in units, of shape (nodes, 2), lon and lat."""
+    """Nodes: osm and ends as in Arrays, places in units, of shape (nodes, 2), lon and lat, and keys, () for none."""
 
     osm: Ints
     places: NDArray[np.int32]
@@ -136,8 +136,8 @@ def build_arrays(nodes: NodeArrays, arcs: ArcArrays, attribution: str = "", size
 
 
 def edges_from_arcs(arcs: ArcArrays) -> tuple[NDArray[np.int32], NDArray[np.bool_], Ints, NDArray[np.bool_]]:
-    """The edge of each arc and whether it leads along it; and for each edge its first arc and whether its line is that arc's
-    backward. Lines of a way that are equal, in either direction, are one edge."""
+    """The edge of each arc and whether it leads along it; and for each edge its first arc and whether its line is that
+    arc's backward. Lines of a way that are equal, in either direction, are one edge."""
     first, last = arcs.begins[:-1], arcs.begins[1:] - 1
     ends = arcs.points[np.stack((first, last), axis=1)].astype(np.int64)
     keys = (ends[:, :, 0] << 32) + ends[:, :, 1]
@@ -195,11 +195,12 @@ class Builder:
         starts, stops, weights, seconds, metres, ways, row = zip(*self._arcs) if self._arcs else ((),) * 7
         places = np.fromstring(" ".join(self._lines).replace(",", " "), dtype=np.float64, sep=" ")
         counts = np.array([line.count(",") + 1 for line in self._lines], np.int64)
-        nodes = NodeArrays(np.array(osm, np.int64), to_units(np.column_stack((lon, lat))), np.array(ends, np.uint8), self._keys)
+        of_nodes = to_units(np.column_stack((lon, lat)))
+        nodes = NodeArrays(np.array(osm, np.int64), of_nodes, np.array(ends, np.uint8), self._keys)
         arcs = ArcArrays(
-            np.array(starts, np.int64), np.array(stops, np.int64), np.array(weights, np.int64), np.array(seconds, np.float64),
-            np.array(metres, np.float64), np.array(ways, np.int64), np.array(row, np.int64), list(self._texts), offsets(counts),
-            to_units(places.reshape(-1, 2)),
+            np.array(starts, np.int64), np.array(stops, np.int64), np.array(weights, np.int64),
+            np.array(seconds, np.float64), np.array(metres, np.float64), np.array(ways, np.int64),
+            np.array(row, np.int64), list(self._texts), offsets(counts), to_units(places.reshape(-1, 2)),
         )
         return build_arrays(nodes, arcs, self._attribution, sizes)
 
@@ -241,8 +242,8 @@ FAR_EAST, FAR_NORTH = 180 * UNITS, 90 * UNITS
 
 
 class Field(NamedTuple):
-    """An array of the file: its values, how many rows it has, the least and the greatest value, and how much more each value is at
-    least than the one before; None where there is no such rule."""
+    """An array of the file: its values, how many rows it has, the least and the greatest value, and how much more each
+    value is at least than the one before; None where there is no such rule."""
 
     spec: ArraySpec
     rows: int | None = None

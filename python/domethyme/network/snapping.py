@@ -222,7 +222,8 @@ class RoadIndex:
             return SnappedPoint(*place, *self.split_arcs(line.arcs, fraction), (), name)
         first = next(iter(line.arcs.values()))
         copies = self.split_nodes(first.start if first.is_along == (fraction == 0.0) else first.end)
-        exits, entries = ({each: (0, NO_ARC) for each in copies if self.ends(each) in ("", side)} for side in ("from", "to"))
+        exits = {each: (0, NO_ARC) for each in copies if self.ends(each) in ("", "from")}
+        entries = {each: (0, NO_ARC) for each in copies if self.ends(each) in ("", "to")}
         return SnappedPoint(*place, exits, entries, copies, name)
 
     @staticmethod

@@ -202,8 +202,9 @@ def iter_arc_rows(path: StrPath, nodes: int = MAX_NODES) -> Iterator[tuple[int, 
     with open_table(path, ARC_COLUMNS) as rows:
         for row, fields in rows:
             yield row, Arc(
-                fields.whole("from", 1, nodes), fields.whole("to", 1, nodes), fields.whole("weight"), fields.number("seconds", 0),
-                fields.number("metres", 0), fields.whole("osm", *INT64), fields["highway"], fields["name"], fields["WKT"],
+                fields.whole("from", 1, nodes), fields.whole("to", 1, nodes), fields.whole("weight"),
+                fields.number("seconds", 0), fields.number("metres", 0), fields.whole("osm", *INT64),
+                fields["highway"], fields["name"], fields["WKT"],
                 *(fields.get(name, "") for name in ("ref", "junction", "destination", "structure")),
             )
 
