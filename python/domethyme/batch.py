@@ -99,7 +99,11 @@ def map_chunks(
     if len(parts) < 2:
         return [*map(run_chunk, parts)]
     with concurrent.futures.ThreadPoolExecutor(min(len(parts), cpu_count())) as threads:
-        return [*threads.map(run_chunk, parts)]  # (an exception cancels the parts that haven't begun)
+        try:
+            return [*threads.map(run_chunk, parts)]
+        except BaseException:
+            threads.shutdown(wait=True, cancel_futures=True)
+            raise
 
 
 def cpu_count() -> int:

@@ -265,8 +265,8 @@ def read_gr(path: StrPath, nodes: int) -> tuple[Ints, Ints, Ints]:
 
 
 def read_rows_fast(path: StrPath, problem: bytes, letter: bytes) -> Ints | None:
-    """The numbers of the lines that begin with a letter, of shape (lines, 3), by a problem line that ends with their number.
-    None for a file with anything else behind its first comments, for the reader that knows what is wrong."""
+    """The numbers of the lines that begin with a letter, of shape (lines, 3), by a problem line that ends with how many. None
+    for a file with anything else behind its first comments, which is for the reader that knows what is wrong."""
     parts = [np.empty(0, np.int64)]
     with open_input(path) as stream:
         line = stream.readline()

@@ -8,7 +8,6 @@ the direction that sorts first, with arcs along it and against.
 """
 import dataclasses
 import functools
-import itertools
 import os
 import re
 import stat
@@ -161,26 +160,20 @@ def edges_from_arcs(arcs: ArcArrays) -> tuple[NDArray[np.int32], NDArray[np.bool
 
 
 class Builder:
-    """Makes Arrays of nodes and arcs that are added in their order."""
+    """Makes Arrays of nodes and arcs that are added in their order, the nodes behind those that are given."""
 
-    def __init__(self, attribution: str = "") -> None:
-        self._attribution = attribution
-        self._nodes: list[tuple[int, float, float, int]] = []
-        self._keys: list[str] = []
+    def __init__(self, attribution: str = "", nodes: Nodes | None = None) -> None:
+        self._attribution, self._nodes = attribution, nodes or Nodes([], [], [], [])
         self._arcs: list[tuple[int, int, int, float, float, int, int]] = []
         self._texts: dict[tuple[str, ...], int] = {}
         self._lines: list[str] = []
 
-    def add_node(self, osm: int | None, lon: float, lat: float, ends: str, key: str | None = None) -> None:
-        """Adds a node; all have a key, or none has."""
-        self._nodes.append((NO_OSM if osm is None else osm, lon, lat, ENDS.index(ends)))
-        if key is not None:
-            self._keys.append(key)
-
-    def add_nodes(self, nodes: Nodes) -> None:
-        """Adds all nodes of a table."""
-        for node, key in zip(zip(*nodes[:4]), nodes.keys or itertools.repeat(None)):
-            self.add_node(*node, key)
+    def add_node(self, osm: int | None, lon: float, lat: float, ends: str) -> None:
+        """Adds a node without a key."""
+        self._nodes.osm.append(osm)
+        self._nodes.lon.append(lon)
+        self._nodes.lat.append(lat)
+        self._nodes.ends.append(ends)
 
     def add_arc(self, arc: Arc, path: StrPath | None = None, row: int | None = None) -> None:
         """Adds an arc, of this row of a file. Raises NetworkError where its WKT is no line."""
@@ -191,17 +184,18 @@ class Builder:
 
     def build(self, sizes: Sequence[int] = (0, 0)) -> Arrays:
         """The arrays. Raises ValueError where they don't fit together."""
-        osm, lon, lat, ends = zip(*self._nodes) if self._nodes else ((),) * 4
         starts, stops, weights, seconds, metres, ways, row = zip(*self._arcs) if self._arcs else ((),) * 7
         places = np.fromstring(" ".join(self._lines).replace(",", " "), dtype=np.float64, sep=" ")
         counts = np.array([line.count(",") + 1 for line in self._lines], np.int64)
-        of_nodes = to_units(np.column_stack((lon, lat)))
-        nodes = NodeArrays(np.array(osm, np.int64), of_nodes, np.array(ends, np.uint8), self._keys)
+        osm = np.array([NO_OSM if each is None else each for each in self._nodes.osm], np.int64)
+        of_nodes = to_units(np.column_stack((self._nodes.lon, self._nodes.lat)))
+        ends = np.array([ENDS.index(each) for each in self._nodes.ends], np.uint8)
         arcs = ArcArrays(
             np.array(starts, np.int64), np.array(stops, np.int64), np.array(weights, np.int64),
             np.array(seconds, np.float64), np.array(metres, np.float64), np.array(ways, np.int64),
             np.array(row, np.int64), list(self._texts), offsets(counts), to_units(places.reshape(-1, 2)),
         )
+        nodes = NodeArrays(osm, of_nodes, ends, self._nodes.keys)
         return build_arrays(nodes, arcs, self._attribution, sizes)
 
 
@@ -530,9 +524,9 @@ def load_network(prefix: str) -> MappedNetwork:
 
 def arrays_from_tables(prefix: str) -> Arrays:
     """The network of NETWORK.nodes.csv and NETWORK.arcs.csv, and of the comment of NETWORK.gr."""
-    files, builder = Files(prefix), Builder(read_attribution(prefix))
+    files, attribution = Files(prefix), read_attribution(prefix)
     nodes = read_node_table(files.nodes)
-    builder.add_nodes(nodes)
+    builder = Builder(attribution, nodes)
     for row, arc in iter_arc_rows(files.arcs, len(nodes.osm)):
         builder.add_arc(arc, files.arcs, row)
     with raised_as(NetworkError, prefix, ValueError):

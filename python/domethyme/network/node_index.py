@@ -65,6 +65,4 @@ def load_node_index(word: StrPath) -> NodeIndex:
     path = need_nodes(word)
     if not is_coordinates(word) and (arrays := mapped_if_current(os.fspath(word))) is not None:
         return NodeIndex(arrays)
-    builder = Builder()
-    builder.add_nodes(read_nodes(path))
-    return NodeIndex(map_tempfile(builder.build(), path), has_arcs=False)
+    return NodeIndex(map_tempfile(Builder(nodes=read_nodes(path)).build(), path), has_arcs=False)
