@@ -21,8 +21,7 @@ import array
 import dataclasses
 import os
 import warnings
-from collections.abc import Iterator, Sequence
-from typing import Any
+from collections.abc import Sequence
 
 import numpy as np
 from numpy.typing import NDArray
@@ -43,7 +42,6 @@ from .reading import read_coordinates
 from .sphere import great_circle_metres, unit_vectors
 from .tables import ENDS, ends_of, graph_of, is_coordinates
 
-BLOCK = 1 << 24
 FARTHEST_END = 1000.0
 # The ids of OpenStreetMap that there may be.
 IDS = NO_OSM + 1, (1 << 63) - 1
@@ -267,47 +265,17 @@ def read_gr(path: StrPath, nodes: int) -> tuple[Ints, Ints, Ints]:
 def read_rows_fast(path: StrPath, problem: bytes, letter: bytes) -> Ints | None:
     """The numbers of the lines that begin with a letter, of shape (lines, 3), by a problem line that ends with how many. None
     for a file with anything else behind its first comments, which is for the reader that knows what is wrong."""
-    parts = [np.empty(0, np.int64)]
-    with open_input(path) as stream:
+    with open_input(path) as stream, warnings.catch_warnings():
+        warnings.simplefilter("error")
         line = stream.readline()
         while line.startswith(b"c") or line == b"\n":
             line = stream.readline()
-        if not line.startswith(problem) or not line[len(problem) :].strip().isdigit():
+        count = line.removeprefix(problem).strip()
+        if not line.startswith(problem) or not count.isdigit():
             return None
-        for block in iter_blocks(stream):
-            lines = block.count(b"\n")
-            text = (b"\n" + block).replace(b"\n" + letter + b" ", b"\n")
-            if len(text) != len(block) + 1 - 2 * lines or not rows_are_regular(text):
-                return None
-            with warnings.catch_warnings():
-                warnings.simplefilter("error")
-                try:
-                    parts.append(np.fromstring(text, dtype=np.int64, sep=" "))
-                except (DeprecationWarning, ValueError):
-                    return None
-            if len(parts[-1]) != 3 * lines:
-                return None
-    rows = np.concatenate(parts).reshape(-1, 3)
-    return rows if len(rows) == int(line[len(problem) :]) else None
-
-
-def rows_are_regular(text: bytes) -> bool:
-    """Whether the lines behind a first line feed are three numbers with a blank between any two, as far as signs show."""
-    signs = text.count(b"-") - text.count(b" -") - text.count(b"\n-")
-    if signs or text.translate(None, b"-0123456789 \n"):
-        return False
-    marks = np.frombuffer(text, np.uint8)
-    marks = marks[marks <= ord(" ")][1:]
-    return len(marks) % 3 == 0 and bool((marks.reshape(-1, 3) == list(b"  \n")).all())
-
-
-def iter_blocks(stream: Any) -> Iterator[bytes]:
-    """The rest of a stream in blocks of whole lines."""
-    rest = b""
-    while part := stream.read(BLOCK):
-        whole, feed, left = (rest + part).rpartition(b"\n")
-        if feed:
-            yield whole + feed
-        rest = left
-    if rest:
-        yield rest + b"\n"
+        kind = np.dtype([("letter", "S2"), ("numbers", np.int64, 3)])
+        try:
+            rows = np.loadtxt(stream, kind, comments=None, delimiter=" ", encoding="ascii", ndmin=1)
+        except (Warning, ValueError):
+            return None
+    return rows["numbers"] if len(rows) == int(count) and (rows["letter"] == letter).all() else None
