@@ -71,9 +71,7 @@ class Graph:
         from .keys import as_list, is_missing, to_python_scalar
 
         starts, ends = ([to_python_scalar(key) for key in as_list(side)] for side in (sources, targets))
-        numbers: dict[Any, int] = {}
-        for key in [*starts, *ends]:
-            numbers.setdefault(key, len(numbers))
+        numbers = {key: node for node, key in enumerate(dict.fromkeys([*starts, *ends]))}
         if any(map(is_missing, numbers)):
             raise ValueError("an arc has no key at an end")
         if scale is not None:

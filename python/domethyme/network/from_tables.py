@@ -52,6 +52,8 @@ ONE_WAY: dict[str, tuple[int, ...]] = {
 }
 # What is doubted: arcs that are so much shorter than the straight line, to a metre, and faster than so many km/h.
 SHORTER, FASTEST = 0.99, 400.0
+# Makes numpy refuse what it takes for a blank, or drops, and bytes.split doesn't.
+NO_BLANKS = bytes.maketrans(b"\0\x1c\x1d\x1e\x1f", b"?????")
 
 
 @dataclasses.dataclass
@@ -274,8 +276,9 @@ def read_rows_fast(path: StrPath, problem: bytes, letter: bytes) -> Ints | None:
         if not line.startswith(problem) or not count.isdigit():
             return None
         kind = np.dtype([("letter", "S2"), ("numbers", np.int64, 3)])
+        lines = (line.translate(NO_BLANKS) for line in stream)
         try:
-            rows = np.loadtxt(stream, kind, comments=None, delimiter=" ", encoding="ascii", ndmin=1)
+            rows = np.loadtxt(lines, kind, comments=None, delimiter=" ", encoding="ascii", ndmin=1)
         except (Warning, ValueError):
             return None
     return rows["numbers"] if len(rows) == int(count) and (rows["letter"] == letter).all() else None
