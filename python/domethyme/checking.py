@@ -2,18 +2,15 @@
 import os
 import subprocess
 from collections.abc import Callable, Sequence
-from typing import TYPE_CHECKING
 
 from .errors import NotProved, WrongHierarchy, error_from_exit
+from .graphs import Graph, graph_file
 from .program import StrPath, find_program, run_explaining
-
-if TYPE_CHECKING:
-    from .graphs import Graph
 
 WRONG, NOT_SHOWN = 9, 10
 
 
-def check(graph: "Graph | StrPath", hierarchy: StrPath, program: StrPath | None = None) -> None:
+def check(graph: Graph | StrPath, hierarchy: StrPath, program: StrPath | None = None) -> None:
     """Returns if the file of a hierarchy is right for a Graph, or for a graph's file, whoever made it. Then each length that it
     answers is the least one in that graph.
 
@@ -22,8 +19,6 @@ def check(graph: "Graph | StrPath", hierarchy: StrPath, program: StrPath | None 
     Raises WrongHierarchy if it isn't right, NotProved if neither is shown, and GraphError, HierarchyError, OutOfMemory,
     ReadWriteError, ProgramNotFound, ProgramError.
     """
-    from .graphs import graph_file
-
     with graph_file(graph) as text:
         run_check(find_program(program), text, os.fspath(hierarchy), os.fspath(hierarchy))
 

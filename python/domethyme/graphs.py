@@ -13,7 +13,7 @@ from .deprecated import warn_renamed
 from .errors import ReadWriteError, os_reason
 from .extras import need
 from .hierarchy import Hierarchy
-from .keys import Keys
+from .keys import Keys, as_list, is_missing, to_python_scalar
 from .limits import MAX_LINES, MAX_NODES, MAX_WEIGHT
 from .program import StrPath, find_program, run_program
 
@@ -67,8 +67,6 @@ class Graph:
         """
         need("numpy")
         import numpy as np
-
-        from .keys import as_list, is_missing, to_python_scalar
 
         starts, ends = ([to_python_scalar(key) for key in as_list(side)] for side in (sources, targets))
         numbers = {key: node for node, key in enumerate(dict.fromkeys([*starts, *ends]))}

@@ -6,6 +6,7 @@ from typing import TYPE_CHECKING, Any, overload
 import numpy as np
 from numpy.typing import NDArray
 
+from .arrays import with_missing
 from .deprecated import warn_renamed
 from .extras import load
 from .keys import Keys
@@ -84,8 +85,6 @@ class Routes:
     def to_frame(self) -> Any:
         """A DataFrame of pandas with a row for each pair: from, to (nodes or keys), length and arcs, which are Int64 and missing
         if there is no path. It has the index of the frame that the pairs came as."""
-        from .arrays import with_missing
-
         ends = [column if self.keys is None else self.keys.of(column) for column in self.pairs.T]
         columns = {"from": ends[0], "to": ends[1], "length": with_missing(self.lengths), "arcs": with_missing(self.arcs)}
         return load("pandas").DataFrame(columns, index=self.index)

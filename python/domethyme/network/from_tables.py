@@ -40,7 +40,7 @@ from .net_file import (
 )
 from .reading import read_coordinates
 from .sphere import great_circle_metres, unit_vectors
-from .tables import ENDS, ends_of, graph_of, is_coordinates
+from .tables import ENDS, read_ends, graph_of, is_coordinates
 
 FARTHEST_END = 1000.0
 # The ids of OpenStreetMap that there may be.
@@ -72,7 +72,7 @@ class Nodes(NodeArrays):
             if self.columns and not name.lstrip("+-").isdecimal():
                 why = f"{self.path} has no column node, so its nodes are numbered by rows; its columns are {', '.join(self.columns)}"
                 raise fields.error(f"{column} {excerpt(name)} is no number, and {why}")
-            return fields.whole(column, 1, len(self.osm))
+            return fields.read_int(column, 1, len(self.osm))
         if name not in self.rows:
             raise fields.error(f"{column} {excerpt(name)} isn't in {self.path}")
         return self.rows[name]
@@ -91,9 +91,9 @@ def read_nodes(path: StrPath, say: Say = lambda line: None) -> Nodes:
         is_named, columns = "node" in lines.columns, lines.columns
         named = [(name, into) for name, into in (("node", rows), ("key", keys)) if name in columns]
         for _, fields in lines:
-            degrees.extend((fields.number("lon", -180, 180), fields.number("lat", -90, 90)))
-            osm.append(fields.whole("osm", *IDS) if fields.get("osm") else NO_OSM)
-            ends.append(ENDS.index(ends_of(fields)))
+            degrees.extend((fields.read_float("lon", -180, 180), fields.read_float("lat", -90, 90)))
+            osm.append(fields.read_int("osm", *IDS) if fields.get("osm") else NO_OSM)
+            ends.append(ENDS.index(read_ends(fields)))
             for name, into in named:
                 if into.setdefault(fields[name], len(osm)) != len(osm):
                     raise fields.error(f"{name} {excerpt(fields[name])} comes twice")
@@ -119,7 +119,7 @@ def read_arcs(path: StrPath, nodes: Nodes, weight: str = "time", say: Say = lamb
         for row, fields in rows:
             start, end = nodes.number(fields, "from"), nodes.number(fields, "to")
             texts = tuple(fields.get(name, "") for name in TEXTS)
-            osm = fields.whole("osm", *IDS) if fields.get("osm") else 0
+            osm = fields.read_int("osm", *IDS) if fields.get("osm") else 0
             more = osm, known.setdefault(texts, len(known)), row
             line, values = line_of(nodes.places[[start - 1, end - 1]], fields), arc_values(fields, weight)
             for step in directions_of(fields):
@@ -176,9 +176,9 @@ def doubt_seconds(
 
 def arc_values(fields: Row, weight: str) -> tuple[float, float, float, float]:
     """The weight, seconds, metres and km/h of an arc; NaN where there are none."""
-    own = float(fields.whole("weight")) if fields.get("weight") else np.nan
+    own = float(fields.read_int("weight")) if fields.get("weight") else np.nan
     seconds, length, long_ways, speed = (
-        fields.number(name, 0, 1e12) if fields.get(name) else np.nan for name in ("seconds", "metres", "km", "kmh")
+        fields.read_float(name, 0, 1e12) if fields.get(name) else np.nan for name in ("seconds", "metres", "km", "kmh")
     )
     length = 1000 * long_ways if np.isnan(length) else length
     if speed == 0:
@@ -265,8 +265,8 @@ def read_gr(path: StrPath, nodes: int) -> tuple[Ints, Ints, Ints]:
 
 
 def read_rows_fast(path: StrPath, problem: bytes, letter: bytes) -> Ints | None:
-    """The numbers of the lines that begin with a letter, of shape (lines, 3), by a problem line that ends with how many. None
-    for a file with anything else behind its first comments, which is for the reader that knows what is wrong."""
+    """The numbers of the lines that begin with a letter, of shape (lines, 3), by a problem line that ends with the count.
+    None for a file with anything else behind its first comments, for the reader that knows what is wrong."""
     with open_input(path) as stream, warnings.catch_warnings():
         warnings.simplefilter("error")
         line = stream.readline()

@@ -3,7 +3,7 @@ import functools
 import itertools
 import os
 from collections.abc import Iterator
-from typing import TYPE_CHECKING, Any, overload
+from typing import Any, overload
 
 import numpy as np
 from numpy.typing import ArrayLike, NDArray
@@ -23,11 +23,9 @@ from .geo import Point, to_geojson_geometry
 from .net_file import NO_OSM, UNITS
 from .node_index import NodeIndex, load_node_index
 from .reading import arcs_from_net
+from .snapping import RoadIndex, SnappedPoint
 from .sphere import Floats as Floats
 from .tables import ALL_ARC_COLUMNS, ARC_COLUMNS, ENDS, KEY, NODE_COLUMNS, Files, Side, arcs_file, has_columns, need_nodes
-
-if TYPE_CHECKING:
-    from .snapping import RoadIndex, SnappedPoint
 
 
 class Network:
@@ -178,13 +176,11 @@ class Network:
         return from_tables.load_network_or_dimacs(self.prefix)
 
     @functools.cached_property
-    def roads(self) -> "RoadIndex":
+    def roads(self) -> RoadIndex:
         """Its roads, for points on them. Raises NetworkError where there are no arcs."""
-        from .snapping import RoadIndex
-
         return RoadIndex(self.prefix)
 
-    def points_on_roads(self, places: Rows, max_metres: float) -> "list[SnappedPoint]":
+    def points_on_roads(self, places: Rows, max_metres: float) -> list[SnappedPoint]:
         """The nearest point of a road to a place (lon, lat) in degrees, or to each of several. Raises NoSuchNode where none is
         within this many metres, ValueError for what are no degrees, and NetworkError."""
         rows = np.asarray(places, float)

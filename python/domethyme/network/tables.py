@@ -168,16 +168,16 @@ def read_node_table(path: StrPath) -> Nodes:
             expected = len(nodes.lon) + 1
             if fields["node"] != str(expected):
                 raise fields.error(f"has node {excerpt(fields['node'])} where node {expected} comes next")
-            nodes.osm.append(fields.whole("osm", *INT64) if fields["osm"] else None)
-            nodes.lon.append(fields.number("lon", -180, 180))
-            nodes.lat.append(fields.number("lat", -90, 90))
-            nodes.ends.append(ends_of(fields))
+            nodes.osm.append(fields.read_int("osm", *INT64) if fields["osm"] else None)
+            nodes.lon.append(fields.read_float("lon", -180, 180))
+            nodes.lat.append(fields.read_float("lat", -90, 90))
+            nodes.ends.append(read_ends(fields))
             if KEY in fields:
                 keys.append(fields[KEY])
     return nodes._replace(keys=keys or ())
 
 
-def ends_of(fields: Row) -> str:
+def read_ends(fields: Row) -> str:
     """Which ends of routes the node of a row has."""
     if (ends := fields.get("ends", "")) not in ENDS:
         raise fields.error(f"ends {excerpt(ends)} is none of from, to, no")
@@ -202,8 +202,8 @@ def iter_arc_rows(path: StrPath, nodes: int = MAX_NODES) -> Iterator[tuple[int, 
     with open_table(path, ARC_COLUMNS) as rows:
         for row, fields in rows:
             yield row, Arc(
-                fields.whole("from", 1, nodes), fields.whole("to", 1, nodes), fields.whole("weight"),
-                fields.number("seconds", 0), fields.number("metres", 0), fields.whole("osm", *INT64),
+                fields.read_int("from", 1, nodes), fields.read_int("to", 1, nodes), fields.read_int("weight"),
+                fields.read_float("seconds", 0), fields.read_float("metres", 0), fields.read_int("osm", *INT64),
                 fields["highway"], fields["name"], fields["WKT"],
                 *(fields.get(name, "") for name in ("ref", "junction", "destination", "structure")),
             )
