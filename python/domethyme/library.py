@@ -73,11 +73,10 @@ def find_library(named: StrPath | None = None) -> str:
 
     Raises LibraryNotFound for one that is named and isn't there.
     """
-    for choice in (named, os.environ.get("DOMETHYME_LIBRARY")):
-        if choice:
-            if not os.path.isfile(choice):
-                raise LibraryNotFound(f"{os.fspath(choice)}: is no file of a library")
-            return os.path.abspath(choice)
+    if choice := named or os.environ.get("DOMETHYME_LIBRARY"):
+        if not os.path.isfile(choice):
+            raise LibraryNotFound(f"{os.fspath(choice)}: is no file of a library")
+        return os.path.abspath(choice)
     return next((str(place) for place in (INSIDE, BUILT) if place.is_file()), NAME)
 
 

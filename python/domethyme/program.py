@@ -20,15 +20,12 @@ def find_program(named: StrPath | None = None) -> str:
 
     Raises ProgramNotFound.
     """
-    for choice in (named, os.environ.get("ROUTECLI")):
-        if choice:
-            found = shutil.which(choice)
-            if found is None:
-                raise ProgramNotFound(f"{os.fspath(choice)}: is no program that can be run")
-            return os.path.abspath(found)
-    for place in (str(INSIDE), "routecli", str(BUILT)):
+    choice = named or os.environ.get("ROUTECLI")
+    for place in [choice] if choice else [INSIDE, "routecli", BUILT]:
         if (found := shutil.which(place)) is not None:
             return os.path.abspath(found)
+    if choice:
+        raise ProgramNotFound(f"{os.fspath(choice)}: is no program that can be run")
     raise ProgramNotFound("routecli isn't found: name it as `program`, set ROUTECLI, or build it as README.md says")
 
 

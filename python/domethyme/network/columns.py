@@ -20,12 +20,11 @@ Say = Callable[[str], object]
 def take_columns(table: Table, known: Mapping[str, tuple[str, ...]], needed: Iterable[str], say: Say) -> None:
     """Gives the columns of a table the names by which they are known, in small letters, and says which aren't used. Raises NetworkError
     for those that are missing, all in one, and for two columns of one meaning."""
-    by_small_letters: dict[str, list[str]] = {}
-    for column in table.columns:
-        by_small_letters.setdefault(column.lower(), []).append(column)
+    small_letters = [column.lower() for column in table.columns]
     found: dict[str, str] = {}
     for name, others in known.items():
-        meant = [column for each in ([name] if name in by_small_letters else others) for column in by_small_letters.get(each, ())]
+        names = [name] if name in small_letters else others
+        meant = [column for each in names for column in table.columns if column.lower() == each]
         if len(meant) > 1:
             raise NetworkError(f"has the columns {' and '.join(meant)}, of which each may be {name}: rename one", table.path, 1)
         if meant:
