@@ -2,6 +2,7 @@
 import hashlib
 import json
 import os
+from collections import Counter
 from collections.abc import Hashable, Iterable, Mapping, Sequence
 from typing import TYPE_CHECKING, Any
 
@@ -204,14 +205,9 @@ def keys_by_node(nodes: Mapping[Any, int]) -> list[Hashable]:
 
 def index_keys(names: Sequence[Hashable]) -> tuple[dict[Any, int], set[Hashable]]:
     """The node of each key that names one, and the keys that name several."""
-    nodes: dict[Any, int] = {}
-    shared: set[Hashable] = set()
-    for node, key in enumerate(names):
-        if key is not None and nodes.setdefault(key, node) != node:
-            shared.add(key)
-    for key in shared:
-        del nodes[key]
-    return nodes, shared
+    counts = Counter(key for key in names if key is not None)
+    nodes = {key: node for node, key in enumerate(names) if counts[key] == 1}
+    return nodes, {key for key, count in counts.items() if count > 1}
 
 
 def parse_key(text: str) -> Hashable:
@@ -221,10 +217,9 @@ def parse_key(text: str) -> Hashable:
     return int(text) if is_plain else text or None
 
 
-def to_python_scalar(key: Any) -> Hashable:
+def to_python_scalar(key: Any) -> Any:
     """A scalar of numpy as the Python object that equals it; anything else as it is."""
-    found: Hashable = key.item() if type(key).__module__ == "numpy" else key
-    return found
+    return key.item() if type(key).__module__ == "numpy" else key
 
 
 def is_missing(key: Any) -> bool:
