@@ -132,14 +132,20 @@ def read_arcs(path: StrPath, nodes: Nodes, weight: str = "time", say: Say = lamb
         raise NetworkError(f"has {len(starts)} arcs, and a network has from 1 to {MAX_LINES}", path)
     weights, seconds, lengths, speeds = np.array(figures).reshape(-1, 4).T.copy()
     begins, points = np.array(begins_of_lines), np.array(points_of_lines).reshape(-1, 2)
-    doubt_lengths(lengths, nodes.places[starts - 1], nodes.places[stops - 1], path, say)
+    given = ~np.isnan(lengths)
+    ends = (unit_vectors(*nodes.places[each[given] - 1].T / UNITS) for each in (starts, stops))
+    is_short = lengths[given] < SHORTER * great_circle_metres(*ends) - 1
+    doubt(is_short, "metres of {} arcs are less than the straight line: are they km?", path, say)
     lengths = np.where(np.isnan(lengths), np.round(line_metres(begins, points), 2), lengths)
     seconds = np.where(np.isnan(seconds), np.nan_to_num(np.round(lengths * 3.6 / speeds, 3)), seconds)
     derived = np.maximum(1, np.round(1000 * seconds if weight == "time" else 100 * lengths))
     whole = np.where(np.isnan(weights), derived, weights)
     if whole.max() > MAX_WEIGHT:
         raise NetworkError(f"would weigh more than {MAX_WEIGHT}", path, int(of_rows[whole.argmax()]))
-    doubt_seconds(weights, seconds, lengths, weight, path, say)
+    is_fast = (seconds > 0) & (lengths * 3.6 > FASTEST * seconds)
+    doubt(is_fast, f"{{}} arcs are faster than {FASTEST:g} km/h: are the units those of --help?", path, say)
+    takes_none = (seconds == 0) & np.isnan(weights) & (weight == "time")
+    doubt(takes_none, "{} arcs take 0 seconds, and weigh 1", path, say)
     whole = whole.astype(np.int64)
     return ArcArrays(starts, stops, whole, seconds, lengths, osm_ids, of_texts, list(known), begins, points)
 
@@ -152,26 +158,10 @@ def directions_of(fields: Row) -> tuple[int, ...]:
     return ONE_WAY[text]
 
 
-def doubt_lengths(
-    ways: NDArray[np.float64], begins: NDArray[np.int32], ends: NDArray[np.int32], path: StrPath, say: Say
-) -> None:
-    """Says how many of the metres that are given are less than the straight line."""
-    given = np.flatnonzero(~np.isnan(ways))
-    both = (places[given].T / UNITS for places in (begins, ends))
-    straight_ways = great_circle_metres(*(unit_vectors(lon, lat) for lon, lat in both))
-    if count := int(np.count_nonzero(ways[given] < SHORTER * straight_ways - 1)):
-        say(f"{path}: metres of {count} arcs are less than the straight line: are they km?")
-
-
-def doubt_seconds(
-    weights: NDArray[np.float64], seconds: NDArray[np.float64], ways: NDArray[np.float64], weight: str, path: StrPath,
-    say: Say
-) -> None:
-    """Says how many arcs are faster than FASTEST, and how many weigh 1 since they take no time."""
-    if count := int(np.count_nonzero((seconds > 0) & (ways * 3.6 > FASTEST * seconds))):
-        say(f"{path}: {count} arcs are faster than {FASTEST:g} km/h: are the units those of --help?")
-    if count := int(np.count_nonzero((seconds == 0) & np.isnan(weights))) if weight == "time" else 0:
-        say(f"{path}: {count} arcs take 0 seconds, and weigh 1")
+def doubt(arcs: NDArray[np.bool_], says: str, path: StrPath, say: Say) -> None:
+    """Says of how many arcs something is doubted, where it is of any."""
+    if count := int(np.count_nonzero(arcs)):
+        say(f"{path}: {says.format(count)}")
 
 
 def arc_values(fields: Row, weight: str) -> tuple[float, float, float, float]:
@@ -208,8 +198,7 @@ def line_metres(begins: Ints, points: NDArray[np.int32]) -> NDArray[np.float64]:
     sphere = unit_vectors(points[:, 0] / UNITS, points[:, 1] / UNITS)
     sums = np.append(0.0, np.cumsum(great_circle_metres(sphere[:-1], sphere[1:])))
     # (what leads from a line's end to the next line's beginning is in none of the differences)
-    found: NDArray[np.float64] = sums[begins[1:] - 1] - sums[begins[:-1]]
-    return found
+    return np.asarray(sums[begins[1:] - 1] - sums[begins[:-1]])
 
 
 def straight_arcs(starts: Ints, ends: Ints, weights: Ints, nodes: Nodes) -> ArcArrays:
