@@ -6,6 +6,7 @@ than they are and these are their sizes. Places are in tenths of a millionth of 
 numbers of rows in one list of texts, which is an array of bytes and the offsets at which they begin. An edge is a line of a way, in
 the direction that sorts first, with arcs along it and against.
 """
+import array
 import dataclasses
 import functools
 import os
@@ -164,7 +165,8 @@ class Builder:
 
     def __init__(self, attribution: str = "", nodes: Nodes | None = None) -> None:
         self._attribution, self._nodes = attribution, nodes or Nodes([], [], [], [])
-        self._arcs: list[tuple[int, int, int, float, float, int, int]] = []
+        self._numbers = array.array("q")  # (of an arc five: from, to, weight, way, row of texts)
+        self._figures = array.array("d")  # (seconds, metres)
         self._texts: dict[tuple[str, ...], int] = {}
         self._lines: list[str] = []
 
@@ -180,22 +182,21 @@ class Builder:
         line = LINE.fullmatch(arc.wkt)
         points = () if line else parse_linestring(arc.wkt, path, row)
         self._lines.append(line[1] if line else ", ".join(f"{lon:.9f} {lat:.9f}" for lon, lat in points))
-        self._arcs.append((*arc[:6], self._texts.setdefault((arc.highway, arc.name, *arc[9:]), len(self._texts))))
+        row_of_texts = self._texts.setdefault((arc.highway, arc.name, *arc[9:]), len(self._texts))
+        self._numbers.extend((arc.start, arc.end, arc.weight, arc.osm, row_of_texts))
+        self._figures.extend((arc.seconds, arc.metres))
 
     def build(self, sizes: Sequence[int] = (0, 0)) -> Arrays:
         """The arrays. Raises ValueError where they don't fit together."""
-        starts, stops, weights, seconds, metres, ways, row = zip(*self._arcs) if self._arcs else ((),) * 7
-        places = np.fromstring(" ".join(self._lines).replace(",", " "), dtype=np.float64, sep=" ")
-        counts = np.array([line.count(",") + 1 for line in self._lines], np.int64)
+        starts, stops, weights, ways, row = np.array(self._numbers).reshape(-1, 5).T.copy()
+        seconds, metres = np.array(self._figures).reshape(-1, 2).T.copy()
+        places = np.fromstring(" ".join(self._lines).replace(",", " "), dtype=np.float64, sep=" ").reshape(-1, 2)
+        begins = offsets(np.array([line.count(",") + 1 for line in self._lines], np.int64))
+        texts, points = list(self._texts), to_units(places)
+        arcs = ArcArrays(starts, stops, weights, seconds, metres, ways, row, texts, begins, points)
         osm = np.array([NO_OSM if each is None else each for each in self._nodes.osm], np.int64)
-        of_nodes = to_units(np.column_stack((self._nodes.lon, self._nodes.lat)))
         ends = np.array([ENDS.index(each) for each in self._nodes.ends], np.uint8)
-        arcs = ArcArrays(
-            np.array(starts, np.int64), np.array(stops, np.int64), np.array(weights, np.int64),
-            np.array(seconds, np.float64), np.array(metres, np.float64), np.array(ways, np.int64),
-            np.array(row, np.int64), list(self._texts), offsets(counts), to_units(places.reshape(-1, 2)),
-        )
-        nodes = NodeArrays(osm, of_nodes, ends, self._nodes.keys)
+        nodes = NodeArrays(osm, to_units(np.column_stack((self._nodes.lon, self._nodes.lat))), ends, self._nodes.keys)
         return build_arrays(nodes, arcs, self._attribution, sizes)
 
 
@@ -493,9 +494,8 @@ def is_current(prefix: str) -> bool:
     if not os.path.exists(files.binary):
         if os.path.exists(files.old):
             made = f"`to_network {files.nodes} {files.arcs} {prefix}` makes {files.binary} of the tables"
-            raise NetworkError(
-                f"is an archive of an earlier version, which isn't read: {made}, or convert the map again", files.old
-            )
+            why = f"is an archive of an earlier version, which isn't read: {made}, or convert the map again"
+            raise NetworkError(why, files.old)
         return False
     tables = {files.nodes: NODE_COLUMNS, files.arcs: ARC_COLUMNS}
     if not any(map(os.path.exists, tables)):

@@ -65,9 +65,8 @@ class Network:
             return Keys([parse_key(key) for key in keys])
         osm = [None if each == NO_OSM else each for each in self._places.osm[:].tolist()]
         if all(each is None for each in osm):
-            raise NetworkError(
-                "its nodes have no keys: they are in the column node, or osm, of the table of nodes", self.prefix
-            )
+            why = "its nodes have no keys: they are in the column node, or osm, of the table of nodes"
+            raise NetworkError(why, self.prefix)
         return Keys.of_rows(osm, [ENDS[each] for each in self._places.ends[:].tolist()])
 
     def nodes_frame(self) -> Any:
@@ -152,11 +151,9 @@ class Network:
 
     def _arcs(self, nodes: "list[int]") -> list[int]:
         """The lightest arc from each of the nodes, from 0, to the next."""
-        line = np.array(nodes, dtype=np.int64) + 1
-        if line.min() < 1 or line.max() > len(self._arrays.node_osm):
-            raise NetworkError(
-                f"a route has a node that it hasn't: it has {len(self._arrays.node_osm)} nodes", self._files.arcs
-            )
+        line, count = np.array(nodes, dtype=np.int64) + 1, len(self._arrays.node_osm)
+        if line.min() < 1 or line.max() > count:
+            raise NetworkError(f"a route has a node that it hasn't: it has {count} nodes", self._files.arcs)
         arcs: list[int] = self._arrays.lightest(line[:-1], line[1:]).tolist()
         if -1 in arcs:
             start, end = nodes[arcs.index(-1) :][:2]

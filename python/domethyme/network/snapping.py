@@ -93,10 +93,9 @@ class RoadIndex:
     """
 
     def __init__(self, prefix: str) -> None:
-        self.prefix = prefix
         self.arrays: MappedNetwork = load_network(prefix)
-        self.nodes, self.count = len(self.arrays.node_osm), len(self.arrays.arc_from)
-        if not self.count:
+        self.nodes = len(self.arrays.node_osm)
+        if not len(self.arrays.arc_from):
             raise NetworkError("has no arcs", self.arrays.path)
         self.texts, self.unit, self.degree = self.arrays.texts, self.arrays.unit, self.arrays.degrees
         self.has_seconds = self.arrays.has_seconds
