@@ -15,10 +15,9 @@ def open_hierarchy_file(name: str) -> IO[bytes]:
     """The open file of a hierarchy, which has to be a regular one: it is read again for each process."""
     try:
         file = open(name, "rb", buffering=0, opener=open_nonblocking)
-    except FileNotFoundError as error:
-        raise HierarchyNotFound(f"{name}: {os_reason(error)}", 7) from error
     except OSError as error:
-        raise HierarchyError(f"{name}: {os_reason(error)}", 7) from error
+        kind = HierarchyNotFound if isinstance(error, FileNotFoundError) else HierarchyError
+        raise kind(f"{name}: {os_reason(error)}", 7) from error
     if not stat.S_ISREG(os.fstat(file.fileno()).st_mode):
         file.close()
         raise HierarchyError(f"{name}: is no regular file", 7)

@@ -40,7 +40,7 @@ from .net_file import (
 )
 from .reading import read_coordinates
 from .sphere import great_circle_metres, unit_vectors
-from .tables import ENDS, read_ends, graph_of, is_coordinates
+from .tables import ENDS, graph_of, is_coordinates, read_ends
 
 FARTHEST_END = 1000.0
 # The ids of OpenStreetMap that there may be.
