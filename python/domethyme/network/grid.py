@@ -76,19 +76,17 @@ class Grid(NamedTuple):
         half = np.where(has_pole, 180.0, np.degrees(np.arcsin(sine / np.maximum(away, 1e-300))))[which]
         if span.max(initial=0) > WIDE_DEGREES:
             half = np.minimum(half, half_widths(lat[which], angle[which], bands * self.height - 90, self.height))
-        west, east = (
-            np.floor((side + 180) / 360 * counts).astype(np.int64) for side in (lon[which] - half, lon[which] + half)
-        )
+        sides = lon[which] - half, lon[which] + half
+        west, east = (np.floor((side + 180) / 360 * counts).astype(np.int64) for side in sides)
         is_all = east - west >= counts - 1
         west, east = np.where(is_all, 0, west), np.where(is_all, counts - 1, east)
-        # rows with their first and last columns: what is beyond a side of the band comes again at its other one
-        before, beyond = np.flatnonzero(west < 0), np.flatnonzero(east >= counts)
-        inside = np.arange(len(bands)), np.maximum(west, 0), np.minimum(east, counts - 1)
-        past_west = before, (west + counts)[before], (counts - 1)[before]
-        past_east = beyond, np.zeros(len(beyond), np.int64), (east - counts)[beyond]
-        row, low, high = map(np.concatenate, zip(inside, past_west, past_east))
+        # (what is beyond a side of the band comes again at its other one)
+        around = np.array([[0], [1], [-1]]) * counts
+        low, high = np.maximum(west + around, 0), np.minimum(east + around, counts - 1)
+        is_there = low <= high
+        row = np.nonzero(is_there)[1]
         band = bands[row] << BAND_SHIFT
-        return which[row], band + low, band + high + 1
+        return which[row], band + low[is_there], band + high[is_there] + 1
 
     @property
     def initial_radius(self) -> float:
