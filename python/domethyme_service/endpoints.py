@@ -6,35 +6,61 @@ from typing import Any, NamedTuple
 
 from .errors import RequestError
 from .parameters import (
-    Alternatives, Annotations, Bearings, Choice, Colors, Context, ContinueStraight, Contours, Flag, Ignored, IndexList, IntRange,
-    Key, Node, NumberRange, Parameter, PositiveNumber, Radiuses, Unsupported, Values, parse_parameters
+    Choice, Context, Parameter, Values, annotations, contours, ignored, node, number_range, parse_alternatives,
+    parse_bearing, parse_colors, parse_continue_straight, parse_indices, parse_number, parse_parameters, parse_positive,
+    parse_radius, parse_text, per_place, unsupported
 )
 from .static import PAGE_FILES
 
-UNSUPPORTED_VALUES = "snapping=any and flatbuffers aren't supported"
-RADIUSES, BEARINGS = Radiuses("radiuses"), Bearings("bearings")
-FALLBACK_SPEED, SCALE_FACTOR = PositiveNumber("fallback_speed"), PositiveNumber("scale_factor")
+UNSUPPORTED_VALUES = "snapping=any and flatbuffers aren't there"
+RADIUSES = Parameter(
+    "radiuses", "for each place metres, `unlimited`, or nothing for that of `--default-radius`",
+    per_place(parse_radius, "there has to be a radius for each place"), "are metres, or unlimited", "",
+)
+BEARINGS = Parameter(
+    "bearings", "for each place `DEGREES,RANGE`, from north, clockwise, to 360 and 180, or nothing",
+    per_place(parse_bearing, "there has to be a bearing for each place, or nothing between semicolons"),
+    "are DEGREES,RANGE, from 0 to 360 and from 0 to 180", "",
+)
+FALLBACK_SPEED = Parameter("fallback_speed", "a number above 0", parse_positive, "is a number above 0")
+SCALE_FACTOR = Parameter("scale_factor", "a number above 0", parse_positive, "is a number above 0")
 FALLBACK_COORDINATE = Choice("fallback_coordinate", "input", "snapped")
-GENERATE_HINTS, SKIP_WAYPOINTS = Flag("generate_hints", True), Flag("skip_waypoints", False)
+GENERATE_HINTS, SKIP_WAYPOINTS = Choice("generate_hints", "true", "false"), Choice("skip_waypoints", "false", "true")
 OVERVIEW = Choice("overview", "simplified", "full", "false")
 GEOMETRIES = Choice("geometries", "polyline", "polyline6", "geojson")
-STEPS = Flag("steps", False)
-ANNOTATIONS = Annotations("annotations", ("duration", "weight", "distance", "datasources", "speed", "nodes"), "false")
-TABLE_ANNOTATIONS = Annotations("annotations", ("duration", "distance", "weight"), "duration", is_list_only=True)
-NUMBER = IntRange("number", 1, 100)
-SOURCES, DESTINATIONS = IndexList("sources"), IndexList("destinations")
-CONTOURS_MINUTES = Contours("contours_minutes", 600, ", if weights are times")
-CONTOURS_METERS = Contours("contours_meters", 1_000_000, ", if weights are lengths")
-CONTOURS_COLORS, POLYGONS = Colors("contours_colors"), Flag("polygons", False)
-GENERALIZE = NumberRange("generalize", 1e6, "metres by which contours are simplified")
-DENOISE = NumberRange("denoise", 1, "0 to 1: parts and holes smaller than this share of the largest part go")
-FROM, TO = Node("from"), Node("to")
-FROM_KEY, TO_KEY = Key("from_key"), Key("to_key")
+STEPS, POLYGONS = Choice("steps", "false", "true"), Choice("polygons", "false", "true")
+ANNOTATIONS = annotations(("duration", "weight", "distance", "datasources", "speed", "nodes"), "false")
+TABLE_ANNOTATIONS = annotations(("duration", "distance", "weight"), "duration", is_list_only=True)
+NUMBER = Parameter("number", "1 to 100; 1 without it", parse_number, "is from 1 to 100", "1")
+SOURCES, DESTINATIONS = [
+    Parameter(name, "`all`, or numbers of places, from 0", parse_indices, "are numbers of places, from 0", "all")
+    for name in ("sources", "destinations")
+]
+ALTERNATIVES = Parameter(
+    "alternatives", "`false`, `true` or a number; the answer has one route always", parse_alternatives,
+    "is true, false or a number",
+)
+CONTINUE_STRAIGHT = Parameter(
+    "continue_straight", "`default`, `false`, and `true` for two places", parse_continue_straight,
+    "is default, true or false", rejected="`true` for more",
+)
+CONTOURS_MINUTES = contours("contours_minutes", 600, ", if weights are times")
+CONTOURS_METERS = contours("contours_meters", 1_000_000, ", if weights are lengths")
+CONTOURS_COLORS = Parameter(
+    "contours_colors", "six hexadecimal digits for each contour; without it four that differ for the colour-blind",
+    parse_colors, "are six hexadecimal digits each",
+)
+GENERALIZE = number_range("generalize", 1e6, "metres by which contours are simplified")
+DENOISE = number_range("denoise", 1, "0 to 1: parts and holes smaller than this share of the largest part go")
+FROM, TO = node("from"), node("to")
+FROM_KEY, TO_KEY = [
+    Parameter(name, "the key of a node, where the network has keys", parse_text) for name in ("from_key", "to_key")
+]
 
 # The parameters of all of OSRM's services.
 COMMON: tuple[Parameter[Any], ...] = (
-    RADIUSES, Ignored("hints"), GENERATE_HINTS, SKIP_WAYPOINTS, BEARINGS, Unsupported("approaches", "unrestricted"),
-    Unsupported("exclude"), Choice("snapping", "default", unsupported=["any"], message=UNSUPPORTED_VALUES),
+    RADIUSES, ignored("hints"), GENERATE_HINTS, SKIP_WAYPOINTS, BEARINGS, unsupported("approaches", "unrestricted"),
+    unsupported("exclude"), Choice("snapping", "default", unsupported=["any"], message=UNSUPPORTED_VALUES),
     Choice("format", "json", unsupported=["flatbuffers"], message=UNSUPPORTED_VALUES),
 )
 
@@ -65,18 +91,16 @@ ENDPOINTS = (
     Endpoint("/map/about", "/map/about", "the box of the roads, the attribution, and a number that changes with the network",
              unknown="there is no such parameter"),
     Endpoint("/map/roads", "/map/roads/ZOOM/X/Y", "the roads in a square tile, as maps of the web number them, to zoom 16",
-             (Ignored("v"),), "there is no such parameter"),
+             (ignored("v"),), "there is no such parameter"),
     osrm_endpoint("route", "/route/v1/PROFILE/PLACES", "a route by two places or more, to 500, a leg for each two",
-                  Alternatives("alternatives"), ContinueStraight("continue_straight"), Unsupported("waypoints"), ANNOTATIONS,
-                  OVERVIEW, GEOMETRIES, STEPS),
+                  ALTERNATIVES, CONTINUE_STRAIGHT, unsupported("waypoints"), ANNOTATIONS, OVERVIEW, GEOMETRIES, STEPS),
     osrm_endpoint("nearest", "/nearest/v1/PROFILE/PLACE", "the nearest points of roads", NUMBER),
     osrm_endpoint("table", "/table/v1/PROFILE/PLACES", "durations, distances and weights, by up to 2,000 places",
                   FALLBACK_SPEED, FALLBACK_COORDINATE, SCALE_FACTOR, TABLE_ANNOTATIONS, SOURCES, DESTINATIONS),
     Endpoint("/isochrone", "/isochrone/v1/PROFILE/PLACE", "what is reached within minutes or metres, as GeoJSON",
              (CONTOURS_MINUTES, CONTOURS_METERS, CONTOURS_COLORS, POLYGONS, GENERALIZE, DENOISE, RADIUSES, BEARINGS,
-              Ignored("access_token"),
-              Choice("reverse", "false", unsupported=["true"], message="reverse=true isn't supported"),
-              Unsupported("exclude"), Unsupported("depart_at")), "isochrone has no parameter {!r}"),
+              ignored("access_token"), Choice("reverse", "false", unsupported=["true"], message="reverse=true isn't there"),
+              unsupported("exclude"), unsupported("depart_at")), "isochrone has no parameter {!r}"),
     *(osrm_endpoint(service, "", "") for service in ("match", "trip", "tile")),
     Endpoint("/nodes/route", "/nodes/route", "a route between nodes by their numbers, from 1", (FROM, TO, FROM_KEY, TO_KEY)),
     Endpoint("/nodes/length", "/nodes/length", "its length alone; null if there is no path", (FROM, TO, FROM_KEY, TO_KEY)),
@@ -116,7 +140,7 @@ def endpoint_list() -> list[str]:
 
 def required_query(endpoint: Endpoint) -> str:
     """The required part of a query."""
-    needed = [parameter.name for parameter in endpoint.parameters or () if isinstance(parameter, Node)]
+    needed = [parameter.name for parameter in endpoint.parameters or () if parameter in (FROM, TO)]
     return "?" * bool(needed) + "&".join(f"{name}=NODE" for name in needed)
 
 

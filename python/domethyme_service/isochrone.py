@@ -35,9 +35,10 @@ def parse_request(path: str, query: Mapping[str, str], default_radius: float) ->
 
 def answer(queries: Queries, roads: RoadIndex, request: Request) -> str:
     """The answer to a request. Raises RequestError."""
-    contours, values = request.values[CONTOURS_MINUTES] or request.values[CONTOURS_METERS], request.values
+    values = request.values
+    contours, colors = values.get(CONTOURS_MINUTES) or values.get(CONTOURS_METERS) or [], values.get(CONTOURS_COLORS) or []
     weight_limits = parse_limits(values, roads.unit)
-    if values[CONTOURS_COLORS] and len(values[CONTOURS_COLORS]) != len(contours):
+    if colors and len(colors) != len(contours):
         raise invalid_value("contours_colors has to have a colour for each contour")
 
     def lengths(starts: Sequence[tuple[int, int]], limit: int) -> NDArray[np.int64]:
@@ -47,14 +48,14 @@ def answer(queries: Queries, roads: RoadIndex, request: Request) -> str:
         return found
 
     reach = reach_from(roads, snap_places(roads, request), weight_limits, lengths)
-    shape: Shape = "polygons" if values[POLYGONS] else "lines"
-    style = Style(shape, values[GENERALIZE], values[DENOISE], values[CONTOURS_COLORS], roads.texts[0])
+    shape: Shape = "polygons" if values[POLYGONS] == "true" else "lines"
+    style = Style(shape, values[GENERALIZE], values[DENOISE], colors, roads.texts[0])
     return to_json(features(reach, contours, METRICS[roads.unit][0], style))
 
 
 def parse_limits(values: Values, unit: str) -> list[int]:
     """The contours in the unit of weights. Raises RequestError."""
-    minutes, metres = values[CONTOURS_MINUTES], values[CONTOURS_METERS]
+    minutes, metres = values.get(CONTOURS_MINUTES) or [], values.get(CONTOURS_METERS) or []
     if bool(minutes) == bool(metres):
         raise invalid_query("there has to be one of contours_minutes and contours_meters")
     name = CONTOURS_MINUTES.name if minutes else CONTOURS_METERS.name

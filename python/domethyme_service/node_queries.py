@@ -30,9 +30,9 @@ def length_answer(queries: Queries, source: int, target: int) -> bytes:
     return queries.keys.add_keys(length_json((source, target), NO_PATH if length is None else length), (source, target))
 
 
-def find_node(queries: Queries, values: Values, number: Parameter[int | None], key: Parameter[str | None]) -> int:
+def find_node(queries: Queries, values: Values, number: Parameter[int], key: Parameter[str]) -> int:
     """The node of one of two parameters, a number or a key. Raises RequestError."""
-    node, name = values[number], values[key]
+    node, name = values.get(number), values.get(key)
     if node is not None and name is not None:
         raise invalid_query(f"{number.name} and {key.name} are both given")
     if name is not None:

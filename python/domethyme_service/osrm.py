@@ -114,7 +114,7 @@ def no_segment_error(roads: RoadIndex, request: Request, number: int) -> Request
 def make_waypoint(request: Request, snapped: SnappedPoint, nodes: list[int] | None = None) -> Waypoint:
     """An OSRM waypoint. Clients send its hint back, and the service ignores it."""
     found: Waypoint = {"name": snapped.name, "location": [snapped.lon, snapped.lat], "distance": round(snapped.metres, 6)}
-    if request.values[GENERATE_HINTS]:
+    if request.values[GENERATE_HINTS] == "true":
         found["hint"] = base64.urlsafe_b64encode(f"{snapped.lon:.6f},{snapped.lat:.6f}".encode()).decode()
     if nodes is not None:
         found["nodes"] = nodes
@@ -157,7 +157,7 @@ def route_response(roads: RoadIndex, request: Request, snapped_points: list[Snap
     if request.values[OVERVIEW] != "false":
         whole["geometry"] = overview(request, snapped_points, geometries, budget)
     found = {"code": '"Ok"', "routes": join_array([join_object(whole)])}
-    if not request.values[SKIP_WAYPOINTS]:
+    if request.values[SKIP_WAYPOINTS] == "false":
         found["waypoints"] = to_json([make_waypoint(request, snapped) for snapped in snapped_points])
     return join_object(found)
 
@@ -172,7 +172,7 @@ def leg_response(
         "summary": "", "steps": [],
         "weight": totals["weight"], "duration": totals["duration"], "distance": totals["distance"],
     }
-    if request.values[STEPS]:
+    if request.values[STEPS] == "true":
         encode = functools.partial(encode_geometries, format_=request.values[GEOMETRIES])
         response["steps"] = build_steps(roads, geometry, (start.lon, start.lat), (end.lon, end.lat), encode)
         response["summary"] = ", ".join(list(dict.fromkeys(step["name"] for step in response["steps"] if step["name"]))[:2])
@@ -207,7 +207,7 @@ def table(engine: Engine, request: Request) -> str:
     starts, stops = [snapped_points[place] for place in sources], [snapped_points[place] for place in destinations]
     make_table = table_of_weights if options.wants_weights_only else table_by_routes
     found = make_table(engine.queries, engine.roads, options, starts, stops)
-    if not request.values[SKIP_WAYPOINTS]:
+    if request.values[SKIP_WAYPOINTS] == "false":
         found["sources"] = to_json([make_waypoint(request, snapped) for snapped in starts])
         found["destinations"] = to_json([make_waypoint(request, snapped) for snapped in stops])
     return join_object({"code": '"Ok"', **found})

@@ -45,7 +45,7 @@ class TableOptions(NamedTuple):
             raise not_implemented("this network has no seconds, so no durations: ask annotations=weight or distance")
         sources, destinations = ([places[number] for number in values[side]] for side in (SOURCES, DESTINATIONS))
         is_snapped = values[FALLBACK_COORDINATE] == "snapped"
-        scale, fallback = values[SCALE_FACTOR], values[FALLBACK_SPEED]
+        scale, fallback = values.get(SCALE_FACTOR), values.get(FALLBACK_SPEED)
         return cls(values[TABLE_ANNOTATIONS], roads.unit, sources, destinations, scale, fallback, is_snapped)
 
     @property

@@ -22,7 +22,7 @@ from domethyme_service.errors import malformed
 from domethyme_service.gunicorn_app import FIXED_SETTINGS
 from domethyme_service.metrics import SharedMetrics
 from domethyme_service.osrm_request import SERVICES
-from domethyme_service.parameters import Flag, Choice
+from domethyme_service.parameters import Choice
 from domethyme_service.worker import MAX_HEAD, HeadState, classify_head
 from domethyme_service.wsgi import Options, Service
 
@@ -31,7 +31,7 @@ COMMON = [each.name for each in endpoints.COMMON]
 OWN = {service: endpoints.BY_NAME[f"/{service}"].parameters[len(COMMON) :] for service in SERVICES}
 KNOWN = {service: [each.name for each in some] for service, some in OWN.items()}
 ALL = [*endpoints.COMMON, *itertools.chain(*OWN.values())]
-WORDS = {each.name: (*each.words, *getattr(each, "unsupported", ())) for each in ALL if isinstance(each, (Flag, Choice))}
+WORDS = {each.name: (*each.words, *getattr(each, "unsupported", ())) for each in ALL if isinstance(each, Choice)}
 OF_TABLES = ("fallback_coordinate",)
 
 SEED, COUNT, FEW = 17, 10_000, 100
