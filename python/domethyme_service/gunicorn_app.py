@@ -155,7 +155,7 @@ class Arbiter(gunicorn.arbiter.Arbiter):  # type: ignore[misc] # (gunicorn has n
         super().manage_workers()
         self.old_workers = [worker for worker in self.old_workers if worker.pid in self.WORKERS]
         if self.pending_reloads and not any(worker.row.workers for worker in self.old_workers):
-            self.app.metrics.own.reloads += self.pending_reloads
+            self.app.metrics.own.reloads_total += self.pending_reloads
             self.pending_reloads = 0
             log.info("reloaded, %d nodes", self.app.callable.queries.nodes)
 
@@ -194,13 +194,13 @@ class Arbiter(gunicorn.arbiter.Arbiter):  # type: ignore[misc] # (gunicorn has n
 
     def refuse_reload(self, why: str) -> None:
         log.error("reload refused: %s", why)
-        self.app.metrics.own.reload_failures += 1
+        self.app.metrics.own.reload_failures_total += 1
         self.app.metrics.own.last_reload_failed = 1
 
     def kill_worker(self, pid: int, sig: int) -> None:
         """Sends a signal to a worker, to end it; SIGABRT if it doesn't report."""
         if sig == signal.SIGABRT:
-            self.app.metrics.own.worker_timeouts += 1
+            self.app.metrics.own.worker_timeouts_total += 1
         elif pid in self.WORKERS and sig in (signal.SIGTERM, signal.SIGQUIT):
             self.WORKERS[pid].is_stopping = True
         super().kill_worker(pid, sig)
@@ -226,9 +226,9 @@ def post_fork(arbiter: Arbiter, worker: Worker) -> None:
 
 def child_exit(arbiter: Arbiter, worker: Worker) -> None:
     """Counts a worker that ended by itself, which the arbiter replaces."""
-    worker.row.reset_gauges()
+    worker.row.process = worker.row.workers = 0
     if not worker.is_stopping:
-        arbiter.app.metrics.own.worker_restarts += 1
+        arbiter.app.metrics.own.worker_restarts_total += 1
         log.error("worker %s has ended: another one is started", worker.pid)
 
 
@@ -252,7 +252,7 @@ def when_ready(arbiter: Arbiter) -> None:
 
 def record_load(metrics: SharedMetrics) -> None:
     """Stores when the files that are served were opened."""
-    metrics.own.last_reload_failed, metrics.own.last_reload_timestamp = 0, time.time()
+    metrics.own.last_reload_failed, metrics.own.last_reload_timestamp_seconds = 0, time.time()
 
 
 def ready_message(service: Service) -> str:

@@ -50,7 +50,7 @@ class Queries:
 
     def length(self, source: int, target: int) -> int | None:
         """The length of a shortest path, None if there is no path."""
-        self._metrics.own.queries += 1
+        self._metrics.own.queries_total += 1
         try:
             return self.router.length(source - 1, target - 1)
         except DomethymeError as error:
@@ -62,7 +62,7 @@ class Queries:
 
     def between(self, exits: SnapEnds, entries: SnapEnds) -> RouteReply | None:
         """A shortest path from one of several nodes to one of several, with the weights of both ends added. None if there is none."""
-        self._metrics.own.queries += 1
+        self._metrics.own.queries_total += 1
         sides = [[(node - 1, side[node][0]) for node in sorted(side)] for side in (exits, entries)]
         try:
             found = self.router.between(sides[0], sides[1])
@@ -75,7 +75,7 @@ class Queries:
     def reach(self, starts: Sequence[tuple[int, int]], limit: int) -> NDArray[np.int64]:
         """The least length of each node from the nearest of several, which are numbered from 0 here, each with what is added
         there; NO_PATH above the limit."""
-        self._metrics.own.queries += 1
+        self._metrics.own.queries_total += 1
         try:
             return batch.reach(self.router, starts, limit)
         except LibraryNotFound as error:
@@ -93,7 +93,7 @@ class Queries:
                 searcher.lengths(pairs_u32.ctypes.data, len(pairs_u32), out.ctypes.data)
         except DomethymeError as error:
             raise query_error(error) from error
-        self._metrics.own.queries += len(pairs)
+        self._metrics.own.queries_total += len(pairs)
         found: list[int] = out.tolist()
         return found
 
@@ -108,7 +108,7 @@ class Queries:
                 searcher.table(*addresses)
         except DomethymeError as error:
             raise query_error(error) from error
-        self._metrics.own.queries += len(sources)
+        self._metrics.own.queries_total += len(sources)
         return out
 
 

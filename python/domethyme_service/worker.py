@@ -193,7 +193,7 @@ class Worker(SyncWorker):  # type: ignore[misc] # (gunicorn has no types)
             if self.slots.acquire():
                 self.serve(self.queue.popleft())
             elif self.queue[0].deadline < time.monotonic():
-                self.row.long_refused += 1
+                self.row.long_requests_refused_total += 1
                 self.reject(self.queue.popleft(), RequestError(503, "Overloaded", "too many long requests at once"))
             else:
                 return
@@ -264,7 +264,7 @@ class Worker(SyncWorker):  # type: ignore[misc] # (gunicorn has no types)
         signal.setitimer(signal.ITIMER_REAL, 0)
 
     def end_after_alarm(self) -> None:
-        self.row.cancelled += 1
+        self.row.requests_cancelled_total += 1
         self.alive = False
 
     def handle_error(self, request: Any, client: socket.socket, address: Any, error: Exception) -> None:
