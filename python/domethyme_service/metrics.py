@@ -41,7 +41,9 @@ METRICS = (
     Metric("worker_timeouts_total", "counter", "Workers that were killed since they were silent.", "front_silences_total"),
     Metric("reloads_total", "counter", "Reloads of the files."),
     Metric("reload_failures_total", "counter", "Reloads that were refused.", "reloads_refused_total"),
-    Metric("requests_cancelled_total", "counter", "Requests that were ended since they took too long.", "work_stopped_total"),
+    Metric(
+        "requests_cancelled_total", "counter", "Requests that were ended since they took too long.", "work_stopped_total"
+    ),
     Metric("long_requests_refused_total", "counter", "Long requests that were refused since too many were under way."),
 )
 

@@ -1,10 +1,10 @@
 """Queries to the hierarchy in the memory of this process (domethyme.router), whose answers the library proves. Nodes are
 numbered from 1, as in files."""
+import contextlib
 import json
-from collections.abc import Sequence
+from collections.abc import Iterator, Sequence
 
 import numpy as np
-from numpy.typing import NDArray
 
 from domethyme import DomethymeError, LibraryNotFound, batch
 from domethyme.network.leg_tables import Ints
@@ -40,6 +40,15 @@ class NodeKeys:
         return b'%b,"from_key":%b,"to_key":%b}' % (answer[:-1], *(self._json_keys[node - 1] for node in pair))
 
 
+@contextlib.contextmanager
+def query_errors() -> Iterator[None]:
+    """Raises RequestError for an error of the library."""
+    try:
+        yield
+    except DomethymeError as error:
+        raise RequestError(500, "InternalError", error.message) from error
+
+
 class Queries:
     """A router whose queries are counted. `nodes` and `links` are the hierarchy's numbers of them, `keys` the network's.
 
@@ -48,31 +57,28 @@ class Queries:
     def __init__(self, router: Router, links: int, metrics: SharedMetrics, keys: NodeKeys = NodeKeys()) -> None:
         self.router, self.nodes, self.links, self._metrics, self.keys = router, router.nodes, links, metrics, keys
 
+    @query_errors()
     def length(self, source: int, target: int) -> int | None:
         """The length of a shortest path, None if there is no path."""
         self._metrics.own.queries_total += 1
-        try:
-            return self.router.length(source - 1, target - 1)
-        except DomethymeError as error:
-            raise query_error(error) from error
+        return self.router.length(source - 1, target - 1)
 
     def route(self, source: int, target: int) -> RouteReply | None:
         """A shortest path, None if there is none."""
         return self.between({source: (0, 0)}, {target: (0, 0)})
 
+    @query_errors()
     def between(self, exits: SnapEnds, entries: SnapEnds) -> RouteReply | None:
-        """A shortest path from one of several nodes to one of several, with the weights of both ends added. None if there is none."""
+        """A shortest path from one of several nodes to one of several, with the weights of both ends added; or None."""
         self._metrics.own.queries_total += 1
         sides = [[(node - 1, side[node][0]) for node in sorted(side)] for side in (exits, entries)]
-        try:
-            found = self.router.between(sides[0], sides[1])
-        except DomethymeError as error:
-            raise query_error(error) from error
+        found = self.router.between(sides[0], sides[1])
         if found is None:
             return None
         return RouteReply(found.source + 1, found.target + 1, found.length, tuple([node + 1 for node in found.nodes]))
 
-    def reach(self, starts: Sequence[tuple[int, int]], limit: int) -> NDArray[np.int64]:
+    @query_errors()
+    def reach(self, starts: Sequence[tuple[int, int]], limit: int) -> Ints:
         """The least length of each node from the nearest of several, which are numbered from 0 here, each with what is added
         there; NO_PATH above the limit."""
         self._metrics.own.queries_total += 1
@@ -80,38 +86,21 @@ class Queries:
             return batch.reach(self.router, starts, limit)
         except LibraryNotFound as error:
             raise not_implemented("the service's library is too old for isochrones") from error
-        except DomethymeError as error:
-            raise query_error(error) from error
 
+    @query_errors()
     def lengths(self, pairs: Sequence[Pair]) -> list[int]:
         """The length of a shortest path of each pair, NO_PATH if there is none."""
-        if not pairs:
-            return []
-        pairs_u32, out = np.array(pairs, np.uint32).reshape(-1, 2) - np.uint32(1), np.empty(len(pairs), np.int64)
-        try:
-            with self.router.searcher() as searcher:
-                searcher.lengths(pairs_u32.ctypes.data, len(pairs_u32), out.ctypes.data)
-        except DomethymeError as error:
-            raise query_error(error) from error
+        found: list[int] = batch.lengths(self.router, np.array(pairs, np.int64).reshape(-1, 2) - 1).tolist()
         self._metrics.own.queries_total += len(pairs)
-        found: list[int] = out.tolist()
         return found
 
+    @query_errors()
     def table(self, sources: Ints, targets: Ints) -> Ints:
-        """The length of a shortest path from each source to each target, NO_PATH if there is none: a new array with a row for each
-        source. Here nodes are numbered from 0. More rows to the same targets take less time. Each row counts as a query."""
-        sources_u32, targets_u32 = (np.ascontiguousarray(nodes, np.uint32) for nodes in (sources, targets))
-        out = np.empty((len(sources), len(targets)), np.int64)
-        try:
-            with self.router.searcher() as searcher:
-                addresses = sources_u32.ctypes.data, len(sources), targets_u32.ctypes.data, len(targets), out.ctypes.data
-                searcher.table(*addresses)
-        except DomethymeError as error:
-            raise query_error(error) from error
+        """The length of a shortest path from each source to each target, NO_PATH if there is none: a new array with a row
+        for each source. Here nodes are numbered from 0. More rows to the same targets take less time. A row is a query."""
+        rows, columns = (np.ascontiguousarray(nodes, np.uint32) for nodes in (sources, targets))
+        out = np.empty((len(rows), len(columns)), np.int64)
+        with self.router.searcher() as searcher:
+            searcher.table(rows.ctypes.data, len(rows), columns.ctypes.data, len(columns), out.ctypes.data)
         self._metrics.own.queries_total += len(sources)
         return out
-
-
-def query_error(error: DomethymeError) -> RequestError:
-    """A query that the library couldn't answer."""
-    return RequestError(500, "InternalError", error.message)
