@@ -14,7 +14,6 @@ gunicorn manages its processes, and nginx is the proxy in front of it (packaging
     node_queries   routes and lengths between nodes by number
     osrm           OSRM's API: route, nearest, table
     osrm_request   parses a request of OSRM's API
-    osrm_types     the parts of its answers as typed dictionaries
     osrm_geometry  the lines of its answers, and annotations
     osrm_steps     the steps of a route
     osrm_tables    tables of durations and distances

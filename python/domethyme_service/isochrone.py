@@ -1,48 +1,34 @@
 """Mapbox's Isochrone API, version 1: what is reached from a place within minutes or metres, as GeoJSON. The lengths to the nodes
 are the library's, which are proved; contours are drawn from them (domethyme.network.contours)."""
 import itertools
-from collections.abc import Mapping, Sequence
+from collections.abc import Sequence
 
 import numpy as np
-from numpy.typing import NDArray
 
+from domethyme.network.grid import Ints
 from domethyme.network.isochrones import METRICS, Shape, Style, features, limits, reach_from
-from domethyme.network.snapping import RoadIndex
 
-from .endpoints import BY_NAME, CONTOURS_COLORS, CONTOURS_METERS, CONTOURS_MINUTES, DENOISE, GENERALIZE, POLYGONS
+from .endpoints import CONTOURS_COLORS, CONTOURS_METERS, CONTOURS_MINUTES, DENOISE, GENERALIZE, POLYGONS
 from .errors import RequestError, invalid_query, invalid_value, not_implemented
 from .json_text import to_json
-from .osrm import snap_places
-from .osrm_request import PROFILE, Request, parse_coordinates
-from .parameters import Context, Values
-from .queries import Queries
+from .osrm import Engine, snap_places
+from .osrm_request import Request
+from .parameters import Values
 
 # Nodes that may be reached. With four contours a million took 200 MB and 8 seconds of a busy processor, half of it for the nodes.
 MAX_REACHED = 4_000_000
 
 
-def parse_request(path: str, query: Mapping[str, str], default_radius: float) -> Request:
-    """The request of a path `/isochrone/v1/PROFILE/PLACE`, still percent-encoded, where PROFILE may have two words. Raises
-    RequestError."""
-    words = path.split("/")
-    if words[2] != "v1":
-        raise RequestError(400, "InvalidVersion", "the path is /isochrone/v1/PROFILE/PLACE")
-    if len(words) not in (5, 6) or not all(map(PROFILE.fullmatch, words[3:-1])):
-        raise RequestError(400, "InvalidUrl", "the path is /isochrone/v1/PROFILE/PLACE, and PROFILE has a word or two")
-    places = parse_coordinates(words[-1], "isochrone")
-    return Request("isochrone", places, BY_NAME["/isochrone"].values(query, Context(len(places), default_radius)))
-
-
-def answer(queries: Queries, roads: RoadIndex, request: Request) -> str:
+def answer(engine: Engine, request: Request) -> str:
     """The answer to a request. Raises RequestError."""
-    values = request.values
+    roads, values = engine.roads, request.values
     contours, colors = values.get(CONTOURS_MINUTES) or values.get(CONTOURS_METERS) or [], values.get(CONTOURS_COLORS) or []
     weight_limits = parse_limits(values, roads.unit)
     if colors and len(colors) != len(contours):
         raise invalid_value("contours_colors has to have a colour for each contour")
 
-    def lengths(starts: Sequence[tuple[int, int]], limit: int) -> NDArray[np.int64]:
-        found = queries.reach(starts, limit)
+    def lengths(starts: Sequence[tuple[int, int]], limit: int) -> Ints:
+        found = engine.queries.reach(starts, limit)
         if np.count_nonzero(found >= 0) > MAX_REACHED:
             raise RequestError(400, "TooBig", f"more than {MAX_REACHED:,} nodes are reached: ask for less")
         return found

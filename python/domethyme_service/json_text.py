@@ -1,7 +1,9 @@
 """JSON in parts: large arrays and objects are joined from texts that are encoded one by one."""
 import json
 from collections.abc import Iterable, Mapping
+from typing import Any
 
+Json = dict[str, Any]
 # (no value contains itself)
 ENCODER = json.JSONEncoder(separators=(",", ":"), allow_nan=False, ensure_ascii=False, check_circular=False)
 

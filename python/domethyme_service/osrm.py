@@ -1,7 +1,6 @@
 """OSRM's API, version 1: route, nearest and table. Answers are JSON with its members. A route is a shortest path, by
 `weight`, between the points of roads that are nearest to the places, as the library proves."""
 import base64
-import functools
 import itertools
 from collections.abc import Iterator, Sequence
 from typing import NamedTuple
@@ -12,17 +11,12 @@ from domethyme.network.legs import Leg, find_leg
 from domethyme.network.snapping import RoadIndex, SnappedPoint
 
 from .budget import Budget
-from .endpoints import (
-    ANNOTATIONS, BEARINGS, DESTINATIONS, GENERATE_HINTS, GEOMETRIES, NUMBER, OVERVIEW, RADIUSES, SKIP_WAYPOINTS,
-    SOURCES, STEPS
-)
+from .endpoints import ANNOTATIONS, BEARINGS, GENERATE_HINTS, GEOMETRIES, NUMBER, OVERVIEW, RADIUSES, SKIP_WAYPOINTS, STEPS
 from .errors import RequestError
-from .json_text import join_array, join_object, to_json
+from .json_text import Json, join_array, join_object, to_json
 from .osrm_geometry import annotate, encode_geometries, join_lines, leg_lines, simplify_lines
 from .osrm_request import Request
 from .osrm_steps import build_steps
-from .osrm_tables import TableOptions, table_by_routes, table_of_weights
-from .osrm_types import RouteLeg, Waypoint
 from .queries import Queries
 
 # A place is near the network if it is within this many degrees of the bounding box of its roads.
@@ -39,20 +33,14 @@ class Engine(NamedTuple):
     max_cells: int
 
 
-def answer(engine: Engine, request: Request) -> str:
-    """The answer to a request. Raises RequestError, and NetworkError if the network isn't the hierarchy's."""
-    if request.service == "table":
-        return table(engine, request)
-    return route(engine, request) if request.service == "route" else nearest(engine.roads, request)
-
-
-def nearest(roads: RoadIndex, request: Request) -> str:
+def nearest(engine: Engine, request: Request) -> str:
     """The nearest points of roads, with the OpenStreetMap ids of the nodes at the ends of their edges; 0 is none."""
-    snapped_points = snap_candidates(roads, request, 0, request.values[NUMBER])
-    if not snapped_points:
+    roads = engine.roads
+    points = snap_candidates(roads, request, 0, request.values[NUMBER])
+    if not points:
         raise no_segment_error(roads, request, 0)
-    waypoints = [make_waypoint(request, snapped, edge_osm_ids(roads, snapped)) for snapped in snapped_points]
-    return to_json({"code": "Ok", "waypoints": waypoints})
+    found = [{**make_waypoint(request, snapped), "nodes": edge_osm_ids(roads, snapped)} for snapped in points]
+    return to_json({"code": "Ok", "waypoints": found})
 
 
 def edge_osm_ids(roads: RoadIndex, snapped: SnappedPoint) -> list[int]:
@@ -82,12 +70,13 @@ def snap_places(roads: RoadIndex, request: Request) -> list[SnappedPoint]:
 
 def snap_each(roads: RoadIndex, request: Request) -> Iterator[SnappedPoint | None]:
     """The nearest point to each place, within its bearing; None if there is none."""
-    if all(each is None for each in request.values[BEARINGS]):
+    bearings = request.values[BEARINGS]
+    if any(bearings):
+        for number in range(len(request.places)):
+            yield next(iter(snap_candidates(roads, request, number, 1)), None)
+    else:
         for begin in range(0, len(request.places), SNAP_BATCH):
             yield from roads.nearest_batch(request.places[begin : begin + SNAP_BATCH])
-        return
-    for number in range(len(request.places)):
-        yield next(iter(snap_candidates(roads, request, number, 1)), None)
 
 
 def is_near_network(roads: RoadIndex, lon: float, lat: float) -> bool:
@@ -111,41 +100,30 @@ def no_segment_error(roads: RoadIndex, request: Request, number: int) -> Request
     )
 
 
-def make_waypoint(request: Request, snapped: SnappedPoint, nodes: list[int] | None = None) -> Waypoint:
+def make_waypoint(request: Request, snapped: SnappedPoint) -> Json:
     """An OSRM waypoint. Clients send its hint back, and the service ignores it."""
-    found: Waypoint = {"name": snapped.name, "location": [snapped.lon, snapped.lat], "distance": round(snapped.metres, 6)}
+    found = {"name": snapped.name, "location": [snapped.lon, snapped.lat], "distance": round(snapped.metres, 6)}
     if request.values[GENERATE_HINTS] == "true":
         found["hint"] = base64.urlsafe_b64encode(f"{snapped.lon:.6f},{snapped.lat:.6f}".encode()).decode()
-    if nodes is not None:
-        found["nodes"] = nodes
     return found
+
+
+def waypoints(request: Request, **points: Sequence[SnappedPoint]) -> dict[str, str]:
+    """The members of an answer with waypoints, unless they are to be skipped."""
+    if request.values[SKIP_WAYPOINTS] == "true":
+        return {}
+    return {name: to_json([make_waypoint(request, snapped) for snapped in some]) for name, some in points.items()}
 
 
 def route(engine: Engine, request: Request) -> str:
     """The route by all places in order, a leg between each two."""
-    snapped_points = snap_places(engine.roads, request)
-    return route_response(engine.roads, request, snapped_points, find_legs(engine, snapped_points))
-
-
-def find_legs(engine: Engine, snapped_points: Sequence[SnappedPoint]) -> list[Leg]:
-    """The legs of a route by these points. Raises RequestError if a leg has no path."""
-    legs: list[Leg] = []
-    for number, (start, end) in enumerate(itertools.pairwise(snapped_points)):
-        leg = find_leg(engine.queries, engine.roads, start, end)
-        if leg is None:
-            raise RequestError(400, "NoRoute", f"there is no route from place {number} to place {number + 1}")
-        legs.append(leg)
-    return legs
-
-
-def route_response(roads: RoadIndex, request: Request, snapped_points: list[SnappedPoint], legs: list[Leg]) -> str:
-    """The answer, from the legs."""
-    budget, geometries = Budget(), []
+    roads, points, budget = engine.roads, snap_places(engine.roads, request), Budget()
+    legs, geometries = find_legs(engine, points), list[LegGeometry | None]()
     for leg in legs:
         geometries.append(geometry := leg_geometry(roads, leg))
         budget.spend(0 if geometry is None else len(geometry.points))
     totals, texts = [], []
-    for each in zip(snapped_points, snapped_points[1:], legs, geometries):
+    for each in zip(itertools.pairwise(points), legs, geometries):
         leg_json = leg_response(roads, request, *each)
         texts.append(to_json(leg_json))
         totals.append((leg_json["weight"], leg_json["duration"] or 0.0, leg_json["distance"]))
@@ -155,26 +133,31 @@ def route_response(roads: RoadIndex, request: Request, snapped_points: list[Snap
         "duration": to_json(duration if roads.has_seconds else None), "distance": to_json(distance),
     }
     if request.values[OVERVIEW] != "false":
-        whole["geometry"] = overview(request, snapped_points, geometries, budget)
-    found = {"code": '"Ok"', "routes": join_array([join_object(whole)])}
-    if request.values[SKIP_WAYPOINTS] == "false":
-        found["waypoints"] = to_json([make_waypoint(request, snapped) for snapped in snapped_points])
-    return join_object(found)
+        whole["geometry"] = overview(request, points, geometries, budget)
+    return join_object({"code": '"Ok"', "routes": join_array([join_object(whole)]), **waypoints(request, waypoints=points)})
+
+
+def find_legs(engine: Engine, points: Sequence[SnappedPoint]) -> list[Leg]:
+    """The legs of a route by these points. Raises RequestError if a leg has no path."""
+    legs: list[Leg] = []
+    for start, end in itertools.pairwise(points):
+        leg = find_leg(engine.queries, engine.roads, start, end)
+        if leg is None:
+            raise RequestError(400, "NoRoute", f"there is no route from place {len(legs)} to place {len(legs) + 1}")
+        legs.append(leg)
+    return legs
 
 
 def leg_response(
-    roads: RoadIndex, request: Request, start: SnappedPoint, end: SnappedPoint, leg: Leg, geometry: LegGeometry | None
-) -> RouteLeg:
+    roads: RoadIndex, request: Request, ends: tuple[SnappedPoint, SnappedPoint], leg: Leg, geometry: LegGeometry | None
+) -> Json:
     """An OSRM route leg; `geometry` is None for a leg that stays at its point."""
     totals = leg_totals(roads, leg) if geometry is None else geometry.figures(0, len(leg.arcs))
     names = request.values[ANNOTATIONS]
-    response: RouteLeg = {
-        "summary": "", "steps": [],
-        "weight": totals["weight"], "duration": totals["duration"], "distance": totals["distance"],
-    }
+    response: Json = {"summary": "", "steps": [], **totals}
     if request.values[STEPS] == "true":
-        encode = functools.partial(encode_geometries, format_=request.values[GEOMETRIES])
-        response["steps"] = build_steps(roads, geometry, (start.lon, start.lat), (end.lon, end.lat), encode)
+        start, end = ((each.lon, each.lat) for each in ends)
+        response["steps"] = build_steps(roads, geometry, start, end, request.values[GEOMETRIES])
         response["summary"] = ", ".join(list(dict.fromkeys(step["name"] for step in response["steps"] if step["name"]))[:2])
     if names:
         response["annotation"] = {name: [] for name in names} if geometry is None else annotate(geometry, names)
@@ -182,10 +165,10 @@ def leg_response(
 
 
 def overview(
-    request: Request, snapped_points: list[SnappedPoint], geometries: list[LegGeometry | None], budget: Budget
+    request: Request, points: Sequence[SnappedPoint], geometries: Sequence[LegGeometry | None], budget: Budget
 ) -> str:
     """The line of the whole route as JSON, simplified by default."""
-    lines = leg_lines(geometries, [(snapped.lon, snapped.lat) for snapped in snapped_points])
+    lines = leg_lines(geometries, [(snapped.lon, snapped.lat) for snapped in points])
     if request.values[OVERVIEW] == "simplified":
         lines = simplify_lines(lines, budget)
     line = join_lines(lines)
@@ -193,21 +176,3 @@ def overview(
         return to_json(encode_geometries([line], request.values[GEOMETRIES])[0])
     parts = (to_json(line[begin : begin + 1000])[1:-1] for begin in range(0, len(line), 1000))
     return join_object({"type": '"LineString"', "coordinates": join_array(parts)})
-
-
-def table(engine: Engine, request: Request) -> str:
-    """Tables of durations, distances or weights, null for pairs without a path. Raises RequestError for too many cells."""
-    sources, destinations = request.values[SOURCES], request.values[DESTINATIONS]
-    if len(sources) * len(destinations) > engine.max_cells:
-        message = f"a table may have {engine.max_cells} cells (--max-table-cells), and this one would have more"
-        raise RequestError(400, "TooBig", message)
-    options = TableOptions.from_values(request.values, engine.roads, request.places)
-    options.refuse_if_too_many(len(sources) * len(destinations))
-    snapped_points = snap_places(engine.roads, request)
-    starts, stops = [snapped_points[place] for place in sources], [snapped_points[place] for place in destinations]
-    make_table = table_of_weights if options.wants_weights_only else table_by_routes
-    found = make_table(engine.queries, engine.roads, options, starts, stops)
-    if request.values[SKIP_WAYPOINTS] == "false":
-        found["sources"] = to_json([make_waypoint(request, snapped) for snapped in starts])
-        found["destinations"] = to_json([make_waypoint(request, snapped) for snapped in stops])
-    return join_object({"code": '"Ok"', **found})

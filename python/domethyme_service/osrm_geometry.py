@@ -13,10 +13,13 @@ from domethyme.network.polyline import Line, encode_polylines, points_array
 from domethyme.network.snapping import segment_metres
 
 from .budget import Budget
-from .osrm_types import Geometry
+from .json_text import Json
+
+# A polyline, or GeoJSON.
+Geometry = str | Json
 
 
-def leg_lines(geometries: "Sequence[LegGeometry | None]", ends: list[Point]) -> list[Line]:
+def leg_lines(geometries: Sequence[LegGeometry | None], ends: list[Point]) -> list[Line]:
     """The line of each leg, from a place to the next."""
     inner = ([] if geometry is None else geometry.line(0, len(geometry.arcs)) for geometry in geometries)
     return [[list(begin), *some, list(end)] for begin, some, end in zip(ends, inner, ends[1:])]
@@ -49,8 +52,8 @@ def annotate(geometry: LegGeometry, names: list[str]) -> dict[str, list[float | 
     divided in proportion to metres; for each point the OpenStreetMap id of its node, 0 for none, as between junctions.
     Durations and speeds are None if the network has no seconds."""
     found: dict[str, list[float | None]] = {name: [] for name in names}
-    computed = [name for name in names if name != "nodes"]
-    for arc_index, steps in segments_by_arc(geometry):
+    segments, computed = segments_by_arc(geometry), [name for name in names if name != "nodes"]
+    for arc_index, steps in enumerate(segments):
         total, totals = sum(steps), geometry.figures(arc_index, arc_index + 1)
         duration = totals["duration"]
         for metres in steps:
@@ -64,28 +67,24 @@ def annotate(geometry: LegGeometry, names: list[str]) -> dict[str, list[float | 
                 value = values[name]
                 found[name].append(None if value is None else round(value, 3))
     if "nodes" in found:
-        found["nodes"] = [*osm_node_ids(geometry)]
+        found["nodes"] = [*osm_node_ids(geometry, segments)]
     return found
 
 
-def osm_node_ids(geometry: LegGeometry) -> list[float]:
+def osm_node_ids(geometry: LegGeometry, segments: list[list[float]]) -> list[float]:
     """The OpenStreetMap id of each point of the line, one more than segments; 0 for none."""
     roads, arrays = geometry.roads, geometry.roads.arrays
-    counts = [len(steps) for _, steps in segments_by_arc(geometry)]
     starts, last = arrays.arc_from[geometry.arcs].tolist(), int(arrays.arc_to[geometry.arcs[-1]])
-    found = [id_ for node, count in zip(starts, counts) for id_ in [roads.osm_id(node), *[0] * (count - 1)]]
+    found = [id_ for node, steps in zip(starts, segments) for id_ in [roads.osm_id(node), *[0] * (len(steps) - 1)]]
     found[0] *= geometry.leg.begin == 0.0
     return [*found, roads.osm_id(last) * (geometry.leg.end == 1.0)]
 
 
-def segments_by_arc(geometry: LegGeometry) -> list[tuple[int, list[float]]]:
-    """Each arc's position in the leg, with the metres of its segments; of an arc of no length they are equal, above 0."""
-    found = []
-    for arc_index, (low, high) in enumerate(itertools.pairwise(geometry.begins.tolist())):
-        line = [(lon / UNITS, lat / UNITS) for lon, lat in geometry.points[low:high].tolist()]
-        metres = segment_metres(line)
-        found.append((arc_index, metres if sum(metres) else [1.0] * len(metres)))
-    return found
+def segments_by_arc(geometry: LegGeometry) -> list[list[float]]:
+    """The metres of the segments of each arc; of an arc of no length they are equal, above 0."""
+    points = [(lon / UNITS, lat / UNITS) for lon, lat in geometry.points.tolist()]
+    arcs = [segment_metres(points[low:high]) for low, high in itertools.pairwise(geometry.begins.tolist())]
+    return [metres if sum(metres) else [1.0] * len(metres) for metres in arcs]
 
 
 def simplified(points: Floats, tolerance: float, budget: Budget) -> Floats:

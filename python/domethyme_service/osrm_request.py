@@ -1,5 +1,5 @@
-"""Parses a request of OSRM's API: its places, and the values of its parameters (endpoints). An unsupported parameter that
-would change the answer is an error, never ignored."""
+"""Parses a request of OSRM's API, or of an isochrone: its places, and the values of its parameters (endpoints). An
+unsupported parameter that would change the answer is an error, never ignored."""
 import re
 import urllib.parse
 from collections.abc import Mapping
@@ -29,17 +29,21 @@ class Request(NamedTuple):
 
 
 def parse_request(path: str, query: Mapping[str, str], default_radius: float) -> Request:
-    """The request of a path `/SERVICE/v1/PROFILE/PLACES`, percent-encoded. `default_radius` are the metres to a road of a
-    place without a radius. Raises RequestError."""
-    words = path.split("/", 4)
-    if words[1] not in SERVICES:
-        raise RequestError(400, "InvalidService", f"the service {words[1]} isn't supported")
+    """The request of a path `/SERVICE/v1/PROFILE/PLACES`, percent-encoded; that of an isochrone may have a PROFILE of two
+    words. `default_radius` are the metres to a road of a place without a radius. Raises RequestError."""
+    service = path.split("/")[1]
+    if service not in MAX_PLACES:
+        raise RequestError(400, "InvalidService", f"the service {service} isn't there")
+    is_isochrone = service == "isochrone"
+    words = path.split("/", -1 if is_isochrone else 4)
+    form = "/isochrone/v1/PROFILE/PLACE" if is_isochrone else "/SERVICE/v1/PROFILE/PLACES"
     if words[2] != "v1":
-        raise RequestError(400, "InvalidVersion", "the path is /SERVICE/v1/PROFILE/PLACES")
-    if len(words) != 5 or not PROFILE.fullmatch(words[3]):
-        raise RequestError(400, "InvalidUrl", "the path is /SERVICE/v1/PROFILE/PLACES")
-    places = parse_coordinates(words[4], words[1])
-    return Request(words[1], places, BY_NAME[f"/{words[1]}"].values(query, Context(len(places), default_radius)))
+        raise RequestError(400, "InvalidVersion", f"the path is {form}")
+    if len(words) not in (5, 5 + is_isochrone) or not all(map(PROFILE.fullmatch, words[3:-1])):
+        hint = ", and PROFILE has a word or two" if is_isochrone else ""
+        raise RequestError(400, "InvalidUrl", f"the path is {form}{hint}")
+    places = parse_coordinates(words[-1], service)
+    return Request(service, places, BY_NAME[f"/{service}"].values(query, Context(len(places), default_radius)))
 
 
 def parse_coordinates(text: str, service: str) -> list[Point]:

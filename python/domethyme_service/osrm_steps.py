@@ -2,8 +2,7 @@
 at a roundabout, until after its exit. Types are depart, turn, new name, continue, roundabout and arrive."""
 import bisect
 import itertools
-from collections.abc import Callable
-from typing import NamedTuple, cast
+from collections.abc import Sequence
 
 import numpy as np
 from numpy.typing import NDArray
@@ -14,7 +13,8 @@ from domethyme.network.net_file import TEXTS
 from domethyme.network.polyline import Line
 from domethyme.network.snapping import RoadIndex
 
-from .osrm_types import Coordinates, Geometry, Maneuver, Step
+from .json_text import Json
+from .osrm_geometry import Geometry, encode_geometries
 
 MIN_TURN_DEGREES = 45
 # The least degrees of each of MODIFIERS but the first, which has its words for turns to the left, and to the right.
@@ -23,31 +23,6 @@ MODIFIERS = [("straight", f"slight {side}", side, f"sharp {side}", "uturn") for 
 MIN_JUNCTION_DEGREE = 3
 # The columns of arc_texts that steps have.
 NAME_COLUMNS = [TEXTS.index(name) for name in ("name", "ref", "destination")]
-# Encodes lines as geometries.
-Encoder = Callable[[list[Line]], list[Geometry]]
-
-
-class Names(NamedTuple):
-    """The names of a step's road."""
-
-    name: str
-    ref: str = ""
-    destinations: str = ""
-
-
-class TurnInstruction(NamedTuple):
-    """The type and the modifier of a maneuver, and the exit of a roundabout."""
-
-    kind: str
-    modifier: str | None = None
-    exit: int | None = None
-
-    def to_maneuver(self, location: Coordinates, before: int, after: int) -> Maneuver:
-        """The maneuver at a location, with the bearings before and after it."""
-        optional = {"modifier": self.modifier, "exit": self.exit}
-        known = {name: value for name, value in optional.items() if value is not None}
-        rest = {"location": location, "bearing_before": before, "bearing_after": after}
-        return cast(Maneuver, {"type": self.kind, **known, **rest})
 
 
 class StepBuilder:
@@ -75,7 +50,7 @@ class StepBuilder:
         """The line of each step."""
         return [self.geometry.line(begin, end) for begin, end in itertools.pairwise(self.step_begins)]
 
-    def steps(self, lines: list[Line], shapes: list[Geometry]) -> list[Step]:
+    def steps(self, lines: list[Line], shapes: list[Geometry]) -> list[Json]:
         """The steps without the arrival, from their lines and encoded geometries."""
         found = []
         for begin, end, line, shape in zip(self.step_begins, self.step_begins[1:], lines, shapes):
@@ -83,24 +58,26 @@ class StepBuilder:
             named = begin
             if begin and self.is_on_roundabout[begin]:
                 named = next((arc for arc in range(begin, end) if not self.is_on_roundabout[arc]), begin)
-            names = Names(*[self.roads.texts[number] for number in self.arc_texts[named]])
+            names = [self.roads.texts[number] for number in self.arc_texts[named]]
             before = self.last_bearings[begin - 1] if begin else 0
-            maneuver = self.instruction(begin, end, named).to_maneuver(line[0], before, self.first_bearings[begin])
+            maneuver = make_maneuver(self.turn(begin, end, named), line[0], before, self.first_bearings[begin])
             found.append(make_step(maneuver, names, self.geometry.figures(begin, end), shape))
         return found
 
-    def instruction(self, begin: int, end: int, named: int) -> TurnInstruction:
-        """The maneuver of the step of arcs `begin` to `end`, whose name is that of arc `named`."""
+    def turn(self, begin: int, end: int, named: int) -> Json:
+        """The type and the modifier of the maneuver of arcs `begin` to `end`, which have the name of arc `named`; and the
+        exit of a roundabout."""
         if not begin:
-            return TurnInstruction("depart")
+            return {"type": "depart"}
+        angle = (self.first_bearings[named] - self.last_bearings[begin - 1] + 180) % 360 - 180
+        modifier = MODIFIERS[angle > 0][bisect.bisect(MODIFIER_LIMITS, abs(angle))]
         if self.is_on_roundabout[begin]:
-            angle = turn_angle(self.last_bearings[begin - 1], self.first_bearings[named])
             is_left = named > begin or not self.is_on_roundabout[end - 1]
-            return TurnInstruction("roundabout", turn_modifier(angle), self.exit_number(begin, named) if is_left else None)
-        angle = turn_angle(self.last_bearings[begin - 1], self.first_bearings[begin])
+            number = {"exit": self.exit_number(begin, named)} if is_left else {}
+            return {"type": "roundabout", "modifier": modifier, **number}
         is_same = self.arc_texts[begin - 1][0] == self.arc_texts[begin][0]
         kind = "continue" if is_same else "turn" if abs(angle) > MIN_TURN_DEGREES else "new name"
-        return TurnInstruction(kind, turn_modifier(angle))
+        return {"type": kind, "modifier": modifier}
 
     def exit_number(self, begin: int, named: int) -> int:
         """Which exit arc `named` takes out of the roundabout that arc `begin` enters, from 1."""
@@ -119,46 +96,37 @@ def mark_roundabout_steps(is_new: NDArray[np.bool_], is_on_roundabout: NDArray[n
     is_new[leaves] = False
 
 
-def build_steps(roads: RoadIndex, geometry: LegGeometry | None, start: Point, end: Point, encode: Encoder) -> list[Step]:
-    """The steps of a leg; `geometry` is None for a leg that stays at its point."""
+def build_steps(roads: RoadIndex, geometry: LegGeometry | None, start: Point, end: Point, format_: str) -> list[Json]:
+    """The steps of a leg, with geometries as `format_`; `geometry` is None for a leg that stays at its point."""
     nothing = make_totals(roads, 0, 0.0, 0.0)
     builder = None if geometry is None else StepBuilder(geometry)
     lines = [[list(start)] * 2] if builder is None else builder.lines()
-    *shapes, at_end = encode([*lines, [list(end)] * 2])
+    *shapes, at_end = encode_geometries([*lines, [list(end)] * 2], format_)
     if builder is None:
-        depart = TurnInstruction("depart").to_maneuver(list(start), 0, 0)
-        found, before = [make_step(depart, Names(""), nothing, shapes[0])], 0
+        depart = make_maneuver({"type": "depart"}, list(start), 0, 0)
+        found, before = [make_step(depart, ("", "", ""), nothing, shapes[0])], 0
     else:
         found, before = builder.steps(lines, shapes), builder.last_bearings[-1]
-    arrive = TurnInstruction("arrive").to_maneuver(list(end), before, 0)
-    return [*found, make_step(arrive, Names(found[-1]["name"]), nothing, at_end)]
+    arrive = make_maneuver({"type": "arrive"}, list(end), before, 0)
+    return [*found, make_step(arrive, (found[-1]["name"], "", ""), nothing, at_end)]
 
 
-def turn_angle(before: int, after: int) -> int:
-    """The angle between two bearings, from -180 to 180; positive to the right."""
-    return (after - before + 180) % 360 - 180
+def make_maneuver(turn: Json, location: list[float], before: int, after: int) -> Json:
+    """A maneuver, with the bearings before and after it."""
+    return {**turn, "location": location, "bearing_before": before, "bearing_after": after}
 
 
-def turn_modifier(angle: int) -> str:
-    return MODIFIERS[angle > 0][bisect.bisect(MODIFIER_LIMITS, abs(angle))]
-
-
-def make_step(maneuver: Maneuver, names: Names, totals: Figures, geometry: Geometry) -> Step:
-    """An OSRM step, with the intersection at its start. Semicolons between refs and destinations become "; " and ", "; empty
-    ones are left out."""
-    found: Step = {
-        "maneuver": maneuver,
-        "name": names.name,
-        "mode": "driving",
-        "driving_side": "right",
-        "weight": totals["weight"],
-        "duration": totals["duration"],
-        "distance": totals["distance"],
-        "geometry": geometry,
-        "intersections": [{"location": maneuver["location"], "bearings": [maneuver["bearing_after"]], "entry": [True], "out": 0}],
+def make_step(maneuver: Json, names: Sequence[str], totals: Figures, geometry: Geometry) -> Json:
+    """An OSRM step, with the intersection at its start. `names` are its name, refs and destinations: semicolons between
+    refs and destinations become "; " and ", "; empty ones are left out."""
+    name, ref, destinations = names
+    junction = {"location": maneuver["location"], "bearings": [maneuver["bearing_after"]], "entry": [True], "out": 0}
+    found: Json = {
+        "maneuver": maneuver, "name": name, "mode": "driving", "driving_side": "right", **totals,
+        "geometry": geometry, "intersections": [junction],
     }
-    if names.ref:
-        found["ref"] = "; ".join(part.strip() for part in names.ref.split(";"))
-    if names.destinations:
-        found["destinations"] = ", ".join(part.strip() for part in names.destinations.split(";"))
+    if ref:
+        found["ref"] = "; ".join(part.strip() for part in ref.split(";"))
+    if destinations:
+        found["destinations"] = ", ".join(part.strip() for part in destinations.split(";"))
     return found

@@ -1,23 +1,20 @@
 """Tables of durations and distances between points on roads. Weights are from the library's tables between nodes, which are
 proved (domethyme.network.leg_tables). Other values are sums along routes, with a query for each cell."""
 from collections.abc import Iterator, Sequence
-from typing import NamedTuple, cast
-
-import numpy as np
-from numpy.typing import NDArray
+from typing import cast
 
 from domethyme.network.geo import Point, metres_between
 from domethyme.network.leg_geometry import UNITS_PER_OUTPUT_UNIT, leg_totals
-from domethyme.network.leg_tables import weight_rows
+from domethyme.network.leg_tables import Ints, weight_rows
 from domethyme.network.legs import find_leg
-from domethyme.network.snapping import RoadIndex, SnappedPoint
+from domethyme.network.snapping import SnappedPoint
 from domethyme.protocol import NO_PATH
 
 from .endpoints import DESTINATIONS, FALLBACK_COORDINATE, FALLBACK_SPEED, SCALE_FACTOR, SOURCES, TABLE_ANNOTATIONS
 from .errors import RequestError, not_implemented
-from .json_text import join_array, to_json
-from .parameters import Values
-from .queries import Queries
+from .json_text import join_array, join_object, to_json
+from .osrm import Engine, snap_places, waypoints
+from .osrm_request import Request
 
 # Cells of a table that needs routes.
 MAX_ROUTED_CELLS = 10_000
@@ -26,51 +23,38 @@ NODE_CELLS = 1 << 16
 Row = list[float | None]
 
 
-class TableOptions(NamedTuple):
-    """The options of a table: the names of its values, the unit of weights, the requested places by row and by column, the
-    factor of durations, and the speed and the places for cells without a path."""
-
-    names: list[str]
-    unit: str
-    sources: list[Point]
-    destinations: list[Point]
-    scale: float | None
-    fallback: float | None
-    fallback_is_snapped: bool
-
-    @classmethod
-    def from_values(cls, values: Values, roads: RoadIndex, places: Sequence[Point]) -> "TableOptions":
-        """The options from the values of parameters. Raises RequestError for durations if the network has none."""
-        if "duration" in values[TABLE_ANNOTATIONS] and not roads.has_seconds:
-            raise not_implemented("this network has no seconds, so no durations: ask annotations=weight or distance")
-        sources, destinations = ([places[number] for number in values[side]] for side in (SOURCES, DESTINATIONS))
-        is_snapped = values[FALLBACK_COORDINATE] == "snapped"
-        scale, fallback = values.get(SCALE_FACTOR), values.get(FALLBACK_SPEED)
-        return cls(values[TABLE_ANNOTATIONS], roads.unit, sources, destinations, scale, fallback, is_snapped)
-
-    @property
-    def wants_weights_only(self) -> bool:
-        """Whether the weight is the only value."""
-        return set(self.names) <= {self.unit, "weight"}
-
-    def refuse_if_too_many(self, cells: int) -> None:
-        """Raises RequestError if the table needs too many routes."""
-        if cells > MAX_ROUTED_CELLS and not self.wants_weights_only:
-            why = f"unless it is of annotations={self.unit} or weight alone"
-            raise RequestError(400, "TooBig", f"a table may have {MAX_ROUTED_CELLS} cells, {why}")
+def table(engine: Engine, request: Request) -> str:
+    """Tables of durations, distances or weights, null for pairs without a path. Raises RequestError for too many cells, and
+    for durations if the network has none."""
+    values, roads = request.values, engine.roads
+    sources, destinations, names = values[SOURCES], values[DESTINATIONS], values[TABLE_ANNOTATIONS]
+    needs_routes, cells = not {roads.unit, "weight"}.issuperset(names), len(sources) * len(destinations)
+    if cells > engine.max_cells:
+        message = f"a table may have {engine.max_cells} cells (--table-cells), and this one would have more"
+        raise RequestError(400, "TooBig", message)
+    if "duration" in names and not roads.has_seconds:
+        raise not_implemented("this network has no seconds, so no durations: ask annotations=weight or distance")
+    if needs_routes and cells > MAX_ROUTED_CELLS:
+        why = f"unless it is of annotations={roads.unit} or weight alone"
+        raise RequestError(400, "TooBig", f"a table may have {MAX_ROUTED_CELLS} cells, {why}")
+    points = snap_places(roads, request)
+    starts, ends = ([points[number] for number in side] for side in (sources, destinations))
+    rows = (routed_rows if needs_routes else rows_of_weights)(engine, names, starts, ends)
+    members = table_members(request, roads.unit, points, rows)
+    return join_object({"code": '"Ok"', **members, **waypoints(request, sources=starts, destinations=ends)})
 
 
-def table_of_weights(
-    queries: Queries, roads: RoadIndex, options: TableOptions, starts: Sequence[SnappedPoint], ends: Sequence[SnappedPoint]
-) -> dict[str, str]:
-    """The members of the answer, for weights alone."""
-    unit = UNITS_PER_OUTPUT_UNIT.get(options.unit, 1)
-    some_rows = weight_rows(queries.table, roads, starts, ends, NODE_CELLS)
-    rows = (row_of(weights, unit) for some in some_rows for weights in some)
-    return table_json(options, starts, ends, (dict.fromkeys(options.names, row) for row in rows))
+def rows_of_weights(
+    engine: Engine, names: list[str], starts: Sequence[SnappedPoint], ends: Sequence[SnappedPoint]
+) -> Iterator[dict[str, Row]]:
+    """The rows of a table by the names of its values, all of which are weights."""
+    unit = UNITS_PER_OUTPUT_UNIT.get(engine.roads.unit, 1)
+    for some in weight_rows(engine.queries.table, engine.roads, starts, ends, NODE_CELLS):
+        for weights in some:
+            yield dict.fromkeys(names, row_of(weights, unit))
 
 
-def row_of(weights: NDArray[np.int64], unit: int) -> Row:
+def row_of(weights: Ints, unit: int) -> Row:
     """A row of weights in another unit, None for no path."""
     found = (weights / unit).astype(object)
     found[weights == NO_PATH] = None
@@ -78,57 +62,46 @@ def row_of(weights: NDArray[np.int64], unit: int) -> Row:
     return row
 
 
-def table_json(
-    options: TableOptions, starts: Sequence[SnappedPoint], ends: Sequence[SnappedPoint], rows: Iterator[dict[str, Row]]
+def routed_rows(
+    engine: Engine, names: list[str], starts: Sequence[SnappedPoint], ends: Sequence[SnappedPoint]
+) -> Iterator[dict[str, Row]]:
+    """The same from a route for each cell."""
+    for start in starts:
+        legs = (find_leg(engine.queries, engine.roads, start, end) for end in ends)
+        totals = [{} if leg is None else cast(dict[str, float | None], leg_totals(engine.roads, leg)) for leg in legs]
+        yield {name: [each.get(name) for each in totals] for name in names}
+
+
+def table_members(
+    request: Request, unit: str, points: list[SnappedPoint], rows: Iterator[dict[str, Row]]
 ) -> dict[str, str]:
-    """The members of the answer, from rows of the values by name."""
-    texts: dict[str, list[str]] = {name: [] for name in options.names}
-    fallback_cells: list[list[int]] = []
-    for number, figures in enumerate(rows):
-        if options.fallback is not None and any(None in row for row in figures.values()):
-            figures = {name: list(row) for name, row in figures.items()}
-            fallback_cells += fill_fallback(options, starts, ends, number, figures, options.fallback)
-        if options.scale is not None and "duration" in figures:
-            scaled = [None if value is None else round(value * options.scale, 3) for value in figures["duration"]]
-            figures = figures | {"duration": scaled}
-        for name in options.names:
-            texts[name].append(to_json(figures[name]))
+    """The members of the answer, from the rows of the values by name."""
+    values = request.values
+    sources, scale, speed = values[SOURCES], values.get(SCALE_FACTOR), values.get(FALLBACK_SPEED)
+    is_snapped = values[FALLBACK_COORDINATE] == "snapped"
+    places = [(point.lon, point.lat) for point in points] if is_snapped else request.places
+    ends = [places[number] for number in values[DESTINATIONS]]
+    texts: dict[str, list[str]] = {name: [] for name in values[TABLE_ANNOTATIONS]}
+    fallback_cells: list[tuple[int, int]] = []
+    for number, (source, figures) in enumerate(zip(sources, rows)):
+        if speed is not None:
+            columns = fill_fallback(figures, unit, speed, places[source], ends)
+            fallback_cells += [(number, column) for column in columns]
+        if scale is not None and "duration" in figures:
+            figures["duration"] = [None if value is None else round(value * scale, 3) for value in figures["duration"]]
+        for name, row in figures.items():
+            texts[name].append(to_json(row))
     found = {f"{name}s": join_array(texts[name]) for name in ("duration", "distance", "weight") if name in texts}
-    if options.fallback is not None:
-        found["fallback_speed_cells"] = to_json(fallback_cells)
-    return found
+    return found if speed is None else {**found, "fallback_speed_cells": to_json(fallback_cells)}
 
 
-def fill_fallback(
-    options: TableOptions, starts: Sequence[SnappedPoint], ends: Sequence[SnappedPoint], number: int,
-    figures: dict[str, Row], speed: float,
-) -> list[list[int]]:
-    """Fills cells without a route by the great-circle distance, and that over `speed`, in metres a second; returns their [row,
-    column]. A weight that is neither time nor distance stays None."""
-    found = []
-    for column in range(len(ends)):
-        if any(row[column] is None for row in figures.values()):
-            start, end = starts[number], ends[column]
-            snapped = (start.lon, start.lat), (end.lon, end.lat)
-            requested = options.sources[number], options.destinations[column]
-            start_point, end_point = snapped if options.fallback_is_snapped else requested
-            direct_metres = metres_between(*start_point, *end_point)
-            duration, distance = round(direct_metres / speed, 3), round(direct_metres, 2)
-            guesses: dict[str, float | None] = {"duration": duration, "distance": distance}
-            for name, row in figures.items():
-                row[column] = guesses.get(options.unit if name == "weight" else name)
-            found.append([number, column])
-    return found
-
-
-def table_by_routes(
-    queries: Queries, roads: RoadIndex, options: TableOptions, starts: Sequence[SnappedPoint], ends: Sequence[SnappedPoint]
-) -> dict[str, str]:
-    """The members of the answer, from a route for each cell."""
-    def totals(start: SnappedPoint, end: SnappedPoint) -> dict[str, float | None]:
-        leg = find_leg(queries, roads, start, end)
-        return {} if leg is None else cast(dict[str, float | None], leg_totals(roads, leg))
-
-    rows = ([totals(start, end) for end in ends] for start in starts)
-    columns = ({name: [each.get(name) for each in row] for name in options.names} for row in rows)
-    return table_json(options, starts, ends, columns)
+def fill_fallback(figures: dict[str, Row], unit: str, speed: float, start: Point, ends: list[Point]) -> list[int]:
+    """Fills cells of a row without a route by the great-circle distance, and that over `speed`, in metres a second; returns
+    their columns. A weight that is neither time nor distance stays None."""
+    columns = [column for column in range(len(ends)) if any(row[column] is None for row in figures.values())]
+    for column in columns:
+        metres = metres_between(*start, *ends[column])
+        guesses = {"duration": round(metres / speed, 3), "distance": round(metres, 2)}
+        for name, row in figures.items():
+            row[column] = guesses.get(unit if name == "weight" else name)
+    return columns

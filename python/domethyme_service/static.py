@@ -2,8 +2,6 @@
 another file. Their Content-Security-Policy lets the page load only them, and send requests to this service alone."""
 import pathlib
 
-from .errors import RequestError
-
 FOLDER = pathlib.Path(__file__).resolve().parent / "page"
 MEDIA_TYPES = {
     ".html": "text/html; charset=utf-8",
@@ -29,8 +27,3 @@ def read_page_files() -> dict[str, tuple[str, bytes]]:
 
 
 PAGE_FILES = read_page_files()
-
-
-def no_network_error() -> RequestError:
-    """A request that needs a network, to a service without one."""
-    return RequestError(400, "InvalidService", "the service has no network: start it with --network")

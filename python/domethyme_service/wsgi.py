@@ -10,12 +10,11 @@ import logging
 import re
 import urllib.parse
 from collections.abc import Callable, Iterable, Mapping
-from typing import Any, NamedTuple
+from typing import Any, NamedTuple, TypeVar
 
 from domethyme import DomethymeError
-from domethyme.network.snapping import RoadIndex
 
-from . import isochrone, node_queries, osrm
+from . import isochrone, node_queries, osrm, osrm_tables
 from .access import AccessPolicy, check_content_type
 from .dataset import Dataset
 from .endpoints import FROM, FROM_KEY, OSRM_SERVICES, TO, TO_KEY, Endpoint, find_endpoint
@@ -25,9 +24,9 @@ from .metrics import SharedMetrics
 from .osrm_request import parse_request
 from .parameters import Context, Values
 from .queries import Queries
-from .static import CACHE_ONE_DAY, HEADERS, NO_CACHE, PAGE_FILES, no_network_error
-from .tiles import Tiles
+from .static import CACHE_ONE_DAY, HEADERS, NO_CACHE, PAGE_FILES
 
+T = TypeVar("T")
 MAX_BODY, MAX_FIELDS = 4 << 20, 50
 # Targets of requests, and lengths of bodies.
 TARGET = re.compile(r"/[!-~]{0,65535}|https?://[!-~]{1,65528}")
@@ -36,6 +35,8 @@ JSON = "application/json; charset=utf-8"
 LINES = "application/x-ndjson; charset=utf-8"
 METRICS = "text/plain; version=0.0.4; charset=utf-8"
 STATUS_LINES = {status.value: f"{status.value} {status.phrase}" for status in http.HTTPStatus}
+# What answers requests with places, by service.
+ANSWERS = {"route": osrm.route, "nearest": osrm.nearest, "table": osrm_tables.table, "isochrone": isochrone.answer}
 Environ = dict[str, Any]
 StartResponse = Callable[..., object]
 log = logging.getLogger("domethyme_service")
@@ -51,11 +52,17 @@ class Options(NamedTuple):
 
 
 class Response(NamedTuple):
-    """A response. The body is a list of one part, or an iterator of blocks."""
+    """A response. The body is complete, or in blocks; `kind` is its media type, "" if there is no body."""
 
-    status: int
-    headers: dict[str, str]
-    body: Iterable[bytes]
+    body: str | bytes | Iterable[bytes]
+    kind: str = JSON
+    headers: Mapping[str, str] = {}
+    status: int = 200
+
+
+# The answer to a CORS preflight.
+ALLOWED = {"Access-Control-Allow-Methods": "GET, POST", "Access-Control-Allow-Headers": "Content-Type"}
+PREFLIGHT = Response([b""], "", {**ALLOWED, "Access-Control-Max-Age": "7200"}, 204)
 
 
 class Call(NamedTuple):
@@ -76,7 +83,8 @@ class Service:
 
     def __init__(self, dataset: Dataset, options: Options, metrics: SharedMetrics) -> None:
         self.dataset, self.options, self.metrics = dataset, options, metrics
-        self.queries = Queries(dataset.router, dataset.links, metrics, dataset.keys)
+        self.queries = queries = Queries(dataset.router, dataset.links, metrics, dataset.keys)
+        self.engine = None if dataset.roads is None else osrm.Engine(queries, dataset.roads, options.max_table_cells)
         self.headers = {"X-Content-Type-Options": "nosniff", **options.access.headers}
 
     def __call__(self, environ: Environ, start_response: StartResponse) -> Iterable[bytes]:
@@ -93,14 +101,23 @@ class Service:
         except Exception:
             log.exception("error while answering")
             return self.error_response(environ, start_response, RequestError(500, "InternalError", "an error inside"))
-        return send(environ, start_response, response)
+        return self.send(environ, start_response, response)
 
     def error_response(self, environ: Environ, start_response: StartResponse, error: RequestError) -> Iterable[bytes]:
         """Answers with an error, and stores it in `environ`."""
         environ["domethyme.error"] = error
         more = {"Retry-After": "1"} if error.status == 503 else {}
-        response = self.make_response(error.status, to_json({"code": error.code, "message": error.message}), JSON, more)
-        return send(environ, start_response, response)
+        response = Response(to_json({"code": error.code, "message": error.message}), JSON, more, error.status)
+        return self.send(environ, start_response, response)
+
+    def send(self, environ: Environ, start_response: StartResponse, response: Response) -> Iterable[bytes]:
+        """Starts a response, and returns its body, which is empty for HEAD."""
+        headers, body = {"Content-Type": response.kind} if response.kind else {}, response.body
+        if isinstance(body, (str, bytes)):
+            whole = body if isinstance(body, bytes) else body.encode("utf-8", "replace")
+            headers["Content-Length"], body = str(len(whole)), [whole]
+        start_response(STATUS_LINES[response.status], [*{**headers, **self.headers, **response.headers}.items()])
+        return [] if environ["REQUEST_METHOD"] == "HEAD" else body
 
     def respond(self, environ: Environ) -> Response:
         """The response to a request. Raises RequestError, and a DomethymeError if a file is damaged."""
@@ -110,50 +127,39 @@ class Service:
         self.options.access.check(host, local_address(environ), environ, endpoint.name == "/")
         method = environ["REQUEST_METHOD"]
         if method == "OPTIONS" and "HTTP_ACCESS_CONTROL_REQUEST_METHOD" in environ and self.options.access.headers:
-            return self.preflight()
+            return PREFLIGHT
         if method != endpoint.method and not (method == "HEAD" and endpoint.method == "GET"):
             raise RequestError(405, "MethodNotAllowed", f"the method of this path is {endpoint.method}")
         if endpoint.method == "GET" and (has_body(environ) or "HTTP_CONTENT_ENCODING" in environ):
             raise invalid_query("a GET has no body")
         return HANDLERS[endpoint.name](self, Call(endpoint, path, query, environ))
 
-    def preflight(self) -> Response:
-        """The answer to a CORS preflight."""
-        allowed = {"Access-Control-Allow-Methods": "GET, POST", "Access-Control-Allow-Headers": "Content-Type"}
-        return Response(204, {**self.headers, **allowed, "Access-Control-Max-Age": "7200"}, [b""])
-
     def page_file(self, call: Call) -> Response:
         """A file of the page."""
         kind, text = PAGE_FILES[call.path]
-        return self.make_response(200, text, kind, HEADERS)
+        return Response(text, kind, HEADERS)
 
     def map_about(self, call: Call) -> Response:
-        tiles = self.require_tiles()
+        tiles = needed(self.dataset.tiles)
         call.values()
-        return self.make_response(200, tiles.about_json, JSON, NO_CACHE)
+        return Response(tiles.about_json, headers=NO_CACHE)
 
     def map_roads(self, call: Call) -> Response:
-        tiles = self.require_tiles()
+        tiles = needed(self.dataset.tiles)
         call.values()
-        return self.make_response(200, tiles.read(call.path), JSON, CACHE_ONE_DAY)
+        return Response(tiles.read(call.path), headers=CACHE_ONE_DAY)
 
-    def osrm(self, call: Call) -> Response:
-        """Answers a request of OSRM's API."""
+    def places(self, call: Call) -> Response:
+        """Answers a request of OSRM's API, or for what is reached, as Mapbox's API has it."""
         request = parse_request(call.path, call.query, self.options.default_radius)
-        engine = osrm.Engine(self.queries, self.require_roads(), self.options.max_table_cells)
-        return self.make_response(200, osrm.answer(engine, request), JSON)
-
-    def isochrone(self, call: Call) -> Response:
-        """What is reached, as Mapbox's API has it."""
-        request = isochrone.parse_request(call.path, call.query, self.options.default_radius)
-        return self.make_response(200, isochrone.answer(self.queries, self.require_roads(), request), JSON)
+        return Response(ANSWERS[request.service](needed(self.engine), request))
 
     def pair(self, call: Call) -> Response:
         """The route or length of a pair of nodes."""
         values = call.values(Context(nodes=self.queries.nodes))
         answer = node_queries.route_answer if call.endpoint.name == "/nodes/route" else node_queries.length_answer
         ends = (node_queries.find_node(self.queries, values, *each) for each in ((FROM, FROM_KEY), (TO, TO_KEY)))
-        return self.make_response(200, answer(self.queries, *ends), JSON)
+        return Response(answer(self.queries, *ends))
 
     def batch(self, call: Call) -> Response:
         """Reads the whole body, since a client may send all of it before it reads, and answers in blocks. An error before the
@@ -163,40 +169,22 @@ class Service:
         body = read_body(call.environ)
         blocks = node_queries.batch_answer(self.queries, call.endpoint.name == "/nodes/routes", body)
         first = next(blocks, b"")
-        return Response(200, {"Content-Type": LINES, **self.headers}, itertools.chain([first], blocks))
+        return Response(itertools.chain([first], blocks), LINES)
 
     def health(self, _call: Call) -> Response:
         """Reports that requests are answered."""
-        found = {"status": "ok", "nodes": self.queries.nodes, "links": self.queries.links}
-        return self.make_response(200, to_json(found), JSON)
+        return Response(to_json({"status": "ok", "nodes": self.queries.nodes, "links": self.queries.links}))
 
     def show_metrics(self, _call: Call) -> Response:
         """The metrics of the whole service."""
-        return self.make_response(200, self.metrics.text(self.queries.nodes), METRICS)
-
-    def make_response(self, status: int, text: str | bytes, kind: str, more: Mapping[str, str] | None = None) -> Response:
-        """A response with a complete body."""
-        body = text if isinstance(text, bytes) else text.encode("utf-8", "replace")
-        headers = {"Content-Type": kind, "Content-Length": str(len(body)), **self.headers, **(more or {})}
-        return Response(status, headers, [body])
-
-    def require_roads(self) -> RoadIndex:
-        """The network. Raises RequestError if the service has none."""
-        if self.dataset.roads is None:
-            raise no_network_error()
-        return self.dataset.roads
-
-    def require_tiles(self) -> Tiles:
-        """The tiles of the network. Raises RequestError if the service has none."""
-        if self.dataset.tiles is None:
-            raise no_network_error()
-        return self.dataset.tiles
+        return Response(self.metrics.text(self.queries.nodes), METRICS)
 
 
-def send(environ: Environ, start_response: StartResponse, response: Response) -> Iterable[bytes]:
-    """Starts a response, and returns its body, which is empty for HEAD."""
-    start_response(STATUS_LINES[response.status], list(response.headers.items()))
-    return [] if environ["REQUEST_METHOD"] == "HEAD" else response.body
+def needed(part: T | None) -> T:
+    """A part of the network. Raises RequestError if the service has none."""
+    if part is None:
+        raise RequestError(400, "InvalidService", "the service has no network: start it with --network")
+    return part
 
 
 def parse_target(environ: Environ) -> tuple[str | None, str, dict[str, str]]:
@@ -244,16 +232,14 @@ def read_body(environ: Environ) -> bytes:
     """The body of a batch. Raises RequestError if it is longer than MAX_BODY, compressed, or incomplete."""
     if environ.get("HTTP_CONTENT_ENCODING", "identity").lower() != "identity":
         raise RequestError(415, "InvalidQuery", "the body may not be compressed")
-    length = environ.get("CONTENT_LENGTH")
-    if length is not None and int(length) > MAX_BODY:
-        raise RequestError(413, "TooBig", f"the body may have {MAX_BODY} bytes")
+    length = int(environ.get("CONTENT_LENGTH", 0))
     try:
-        body: bytes = environ["wsgi.input"].read(MAX_BODY + 1)
+        body: bytes = b"" if length > MAX_BODY else environ["wsgi.input"].read(MAX_BODY + 1)
     except Exception:  # (gunicorn's errors of chunked bodies have no common class)
         raise malformed() from None
-    if len(body) > MAX_BODY:
+    if max(length, len(body)) > MAX_BODY:
         raise RequestError(413, "TooBig", f"the body may have {MAX_BODY} bytes")
-    if length is not None and len(body) < int(length):
+    if len(body) < length:
         raise invalid_query("the body has not come whole")
     return body
 
@@ -264,8 +250,7 @@ HANDLERS: dict[str, Callable[[Service, Call], Response]] = {
     "/map/files": Service.page_file,
     "/map/about": Service.map_about,
     "/map/roads": Service.map_roads,
-    **{f"/{service}": Service.osrm for service in OSRM_SERVICES},
-    "/isochrone": Service.isochrone,
+    **{f"/{service}": Service.places for service in (*OSRM_SERVICES, "isochrone")},
     "/nodes/route": Service.pair,
     "/nodes/length": Service.pair,
     "/nodes/routes": Service.batch,
