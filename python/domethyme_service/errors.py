@@ -1,4 +1,5 @@
 """Errors that become HTTP error responses, and the error of a service that can't start."""
+from .json_text import to_json
 
 
 class RequestError(Exception):
@@ -8,6 +9,11 @@ class RequestError(Exception):
     def __init__(self, status: int, code: str, message: str) -> None:
         super().__init__(message)
         self.status, self.code, self.message = status, code, message
+        self.headers = {"Retry-After": "1"} if status == 503 else {}
+
+    def json(self, **more: object) -> str:
+        """The body of the response."""
+        return to_json(dict[str, object](code=self.code, message=self.message, **more))
 
 
 class StartupError(Exception):
@@ -32,8 +38,3 @@ def not_implemented(message: str) -> RequestError:
 def malformed() -> RequestError:
     """A request that isn't valid HTTP (RFC 9112)."""
     return RequestError(400, "InvalidUrl", "the request cannot be read")
-
-
-def timeout_error(seconds: float) -> RequestError:
-    """An answer that took too long."""
-    return RequestError(504, "Timeout", f"the answer took more than {seconds:g} s")

@@ -26,7 +26,7 @@ from .errors import StartupError
 from .metrics import SharedMetrics
 from .slots import Slots
 from .worker import Worker
-from .wsgi import Environ, Options, Service
+from .wsgi import Options, Service
 
 # Seconds after which gunicorn kills a worker that doesn't report, more than an answer may take; and for the service to end.
 TIMEOUT, GRACEFUL_SECONDS = 30, 30
@@ -80,16 +80,14 @@ class Application(BaseApplication):  # type: ignore[misc] # (gunicorn has no typ
         for name, value in vars(self.cfg.parser().parse_args(self.cfg.get_cmd_args_from_env())).items():
             if value is not None and name != "args":
                 self.cfg.set(name, value)
-        hooks = {hook.__name__: hook for hook in (pre_fork, post_fork, pre_request, post_request, child_exit, when_ready)}
-        for name, value in {**FIXED_SETTINGS, **hooks, "bind": self.setup.bind, "workers": self.workers}.items():
+        hooks = {hook.__name__: hook for hook in (pre_fork, post_fork, pre_request, child_exit, when_ready)}
+        own = {**hooks, "post_request": Worker.record, "bind": self.setup.bind, "workers": self.workers}
+        for name, value in {**FIXED_SETTINGS, **own}.items():
             self.cfg.set(name, value)
 
-    def load(self) -> Service:
+    def load(self, paths: DatasetPaths | None = None) -> Service:
         """Opens the files. Raises StartupError or a DomethymeError."""
-        return self.open_service(self.setup.paths)
-
-    def open_service(self, paths: DatasetPaths) -> Service:
-        return Service(open_dataset(paths), self.setup.options, self.metrics)
+        return Service(open_dataset(paths or self.setup.paths), self.setup.options, self.metrics)
 
     def run(self) -> None:
         """Runs the service; ends the process. Raises StartupError or a DomethymeError if it can't start."""
@@ -97,18 +95,12 @@ class Application(BaseApplication):  # type: ignore[misc] # (gunicorn has no typ
         Arbiter(self).run()
 
 
-class Trial(NamedTuple):
-    """A child that opens the files, and the pipe to which it writes `ready STAMP`, or the error."""
-
-    process: int
-    pipe: int
-
-
 class Arbiter(gunicorn.arbiter.Arbiter):  # type: ignore[misc] # (gunicorn has no types)
     """gunicorn's arbiter, except that it drops no signal, and that it reloads files after a child has opened them."""
 
     app: Application
-    trial: Trial | None = None
+    # The pipe to which a child that opens the files writes `ready STAMP`, or the error.
+    trial: int | None = None
     wants_reload = is_opening = False
     # Unfinished reloads, and the workers of replaced files: a reload is finished when none of these accepts connections.
     pending_reloads, old_workers = 0, list[Worker]()
@@ -131,12 +123,10 @@ class Arbiter(gunicorn.arbiter.Arbiter):  # type: ignore[misc] # (gunicorn has n
         if self.trial is not None:
             self.wants_reload = True
             return
-        reads, writes = os.pipe()
-        process = os.fork()
-        if not process:
+        self.trial, writes = os.pipe()
+        if not os.fork():
             run_in_child(lambda: os.write(writes, self.trial_report()))
         os.close(writes)
-        self.trial = Trial(process, reads)
 
     def handle_usr2(self) -> None:
         log.error("SIGUSR2 is not supported: SIGHUP reads the files again, and a restart takes another version")
@@ -150,7 +140,7 @@ class Arbiter(gunicorn.arbiter.Arbiter):  # type: ignore[misc] # (gunicorn has n
 
     def manage_workers(self) -> None:
         """Checks on the workers, a trial, and an unfinished reload."""
-        if self.trial is not None and select.select([self.trial.pipe], [], [], 0)[0]:
+        if self.trial is not None and select.select([self.trial], [], [], 0)[0]:
             self.end_trial(self.trial)
         super().manage_workers()
         self.old_workers = [worker for worker in self.old_workers if worker.pid in self.WORKERS]
@@ -159,10 +149,10 @@ class Arbiter(gunicorn.arbiter.Arbiter):  # type: ignore[misc] # (gunicorn has n
             self.pending_reloads = 0
             log.info("reloaded, %d nodes", self.app.callable.queries.nodes)
 
-    def end_trial(self, trial: Trial) -> None:
+    def end_trial(self, trial: int) -> None:
         """Reloads the files if the child has opened them, or logs its error."""
-        report = os.read(trial.pipe, 1 << 16).decode("utf-8", "replace")
-        os.close(trial.pipe)
+        with open(trial, "rb", buffering=0) as pipe:
+            report = pipe.read(1 << 16).decode("utf-8", "replace")
         self.trial = None
         if report.startswith("ready "):
             self.reload_files(report)
@@ -176,7 +166,7 @@ class Arbiter(gunicorn.arbiter.Arbiter):  # type: ignore[misc] # (gunicorn has n
         """Opens the files, which a child has checked against the graph, and replaces the workers."""
         self.is_opening = True
         try:
-            service = self.app.open_service(self.app.setup.paths._replace(graph=None))
+            service = self.app.load(self.app.setup.paths._replace(graph=None))
             if ready_message(service) != report:
                 raise StartupError(f"{self.app.setup.paths.hierarchy}: has changed since it was tried")
         except Exception as fault:
@@ -234,11 +224,6 @@ def child_exit(arbiter: Arbiter, worker: Worker) -> None:
 
 def pre_request(_worker: Worker, _request: object) -> None:
     """Does nothing: gunicorn's default logs the path."""
-
-
-def post_request(worker: Worker, _request: object, environ: Environ, response: Any) -> None:
-    """In the worker: an answer was written, or broken off."""
-    worker.record(environ, response)
 
 
 def when_ready(arbiter: Arbiter) -> None:

@@ -146,7 +146,4 @@ def object_without_duplicates(members: list[tuple[str, object]]) -> dict[str, ob
 
 def answer_line(pair: Pair | RequestError, answers: Iterator[bytes], number: int) -> bytes:
     """One output line: the next answer, or the error of an invalid input line, by its number from 1."""
-    if not isinstance(pair, RequestError):
-        return next(answers) + b"\n"
-    found = {"code": pair.code, "message": pair.message, "line": number}
-    return json.dumps(found, separators=(",", ":")).encode() + b"\n"
+    return (pair.json(line=number).encode() if isinstance(pair, RequestError) else next(answers)) + b"\n"

@@ -20,7 +20,7 @@ from gunicorn.http import RequestParser
 from gunicorn.http.errors import NoMoreData
 from gunicorn.workers.sync import SyncWorker
 
-from .errors import RequestError, malformed, timeout_error
+from .errors import RequestError, malformed
 from .metrics import Row
 from .slots import Slots
 from .wsgi import JSON, STATUS_LINES, Environ, Service, StartResponse
@@ -31,8 +31,8 @@ HEAD_SECONDS, ANSWER_SECONDS, LONG_SECONDS = 10.0, 10.0, 25.0
 SLOT_SECONDS, SLOT_POLL_SECONDS = 5.0, 0.05
 # Seconds for connections to send their heads when the worker ends, and to close after an answer.
 DRAIN_SECONDS, LINGER_SECONDS = 1.0, 2.0
-# Milliseconds to wait for the head of a new connection before others are served.
-FIRST_WAIT_MILLISECONDS = 2
+# Seconds to wait for the head of a new connection before others are served.
+FIRST_WAIT_SECONDS = 0.002
 # Bytes of a head and of its first line; and of a body, a path (25 places have some 500) and a target of a request that isn't
 # a long one.
 MAX_HEAD, MAX_LINE, SHORT_BODY, SHORT_PATH, SHORT_TARGET = 1 << 17, 65_600, 2048, 512, 4096
@@ -104,7 +104,7 @@ class Worker(SyncWorker):  # type: ignore[misc] # (gunicorn has no types)
         self.awaiting_head: dict[int, Connection] = {}
         self.lingering: dict[int, Connection] = {}
         self.queue: collections.deque[Connection] = collections.deque()
-        self.seconds, self.started, self.alarm_is_set = ANSWER_SECONDS, 0.0, False
+        self.seconds = self.started = 0.0
         super().init_process()
 
     def init_signals(self) -> None:
@@ -112,7 +112,7 @@ class Worker(SyncWorker):  # type: ignore[misc] # (gunicorn has no types)
         signal.signal(signal.SIGALRM, self.handle_alarm)
 
     def handle_alarm(self, _number: int, _frame: object) -> None:
-        if self.alarm_is_set:
+        if self.seconds:
             raise AnswerTimeout
 
     def load_wsgi(self) -> None:
@@ -153,11 +153,10 @@ class Worker(SyncWorker):  # type: ignore[misc] # (gunicorn has no types)
             log.error("can't accept connections: %s", error.strerror)
             time.sleep(1.0)
             return False
-        client.setblocking(True)
         connection = Connection(client, address, time.monotonic() + HEAD_SECONDS)
-        if (head := peek_head(client)) is HeadState.PARTIAL:
-            wait_readable(client)
-            head = peek_head(client)
+        client.settimeout(FIRST_WAIT_SECONDS)
+        head = peek_head(client)
+        client.setblocking(True)
         if head is HeadState.PARTIAL:
             self.awaiting_head[client.fileno()] = connection
             self.epoll.register(client, select.EPOLLIN | select.EPOLLRDHUP | select.EPOLLET)
@@ -209,7 +208,7 @@ class Worker(SyncWorker):  # type: ignore[misc] # (gunicorn has no types)
         except Exception:  # (gunicorn's errors of heads have no common class)
             return self.reject(connection, malformed())
         until = time.monotonic() + SLOT_SECONDS
-        connection = Connection(connection.client, connection.address, until, request, is_long(request))
+        connection = connection._replace(deadline=until, request=request, is_long=is_long(request))
         if connection.is_long and (self.queue or not self.slots.acquire()):
             self.queue.append(connection)
         else:
@@ -220,7 +219,7 @@ class Worker(SyncWorker):  # type: ignore[misc] # (gunicorn has no types)
         client, request = connection.client, connection.request
         self.started = time.monotonic()
         is_slow = connection.is_long or request.path.startswith(("/table/", "/nodes/routes", "/nodes/lengths"))
-        self.start_alarm(LONG_SECONDS if is_slow else ANSWER_SECONDS)
+        self.set_alarm(LONG_SECONDS if is_slow else ANSWER_SECONDS)
         try:
             sender = BufferedHead(client)
             self.handle_request(self.sockets[0], request, sender, connection.address)
@@ -229,10 +228,11 @@ class Worker(SyncWorker):  # type: ignore[misc] # (gunicorn has no types)
             pass
         except AnswerTimeout:
             self.end_after_alarm()
-        except Exception as error:
-            self.handle_error(request, client, connection.address, error)
+        except Exception:  # (nothing was sent)
+            log.exception("error while answering")
+            send_error(client, RequestError(500, "InternalError", "an error inside"))
         finally:
-            self.stop_alarm()
+            self.set_alarm(0.0)
             self.slots.release()
             client.close() if request.method in ("GET", "HEAD") and not connection.is_long else self.linger(connection)
 
@@ -244,7 +244,8 @@ class Worker(SyncWorker):  # type: ignore[misc] # (gunicorn has no types)
             blocks = self.service(environ, lambda *head: heads.append(head))
         except AnswerTimeout:
             self.end_after_alarm()
-            blocks = self.service.error_response(environ, lambda *head: heads.append(head), timeout_error(self.seconds))
+            error = RequestError(504, "Timeout", f"the answer took more than {self.seconds:g} s")
+            blocks = self.service.error_response(environ, lambda *head: heads.append(head), error)
         start_response(*heads[-1])
         return blocks if isinstance(blocks, list) else self.restart_alarm_per_block(blocks)
 
@@ -252,25 +253,17 @@ class Worker(SyncWorker):  # type: ignore[misc] # (gunicorn has no types)
         """The blocks of an answer, each with the time limit of an answer."""
         for block in blocks:
             self.notify()
-            self.start_alarm(self.seconds)
+            self.set_alarm(self.seconds)
             yield block
 
-    def start_alarm(self, seconds: float) -> None:
-        self.seconds, self.alarm_is_set = seconds, True
+    def set_alarm(self, seconds: float) -> None:
+        """Sets the time limit of an answer; 0 for none."""
+        self.seconds = seconds
         signal.setitimer(signal.ITIMER_REAL, seconds)
-
-    def stop_alarm(self) -> None:
-        self.alarm_is_set = False
-        signal.setitimer(signal.ITIMER_REAL, 0)
 
     def end_after_alarm(self) -> None:
         self.row.requests_cancelled_total += 1
         self.alive = False
-
-    def handle_error(self, request: Any, client: socket.socket, address: Any, error: Exception) -> None:
-        """Answers an internal error of which nothing was sent."""
-        log.error("error while answering", exc_info=error)
-        send_error(client, RequestError(500, "InternalError", "an error inside"))
 
     def reject(self, connection: Connection, error: RequestError) -> None:
         """Sends an error in place of an answer, discards what has arrived, and closes."""
@@ -289,8 +282,8 @@ class Worker(SyncWorker):  # type: ignore[misc] # (gunicorn has no types)
         except OSError:
             connection.client.close()
 
-    def record(self, environ: Environ, response: Any) -> None:
-        """Counts and logs an answer."""
+    def record(self, _request: object, environ: Environ, response: Any) -> None:
+        """In gunicorn's hook post_request: counts and logs an answer that was written, or broken off."""
         seconds, endpoint = time.monotonic() - self.started, environ.get("domethyme.endpoint", "other")
         status = response.status_code if response is not None and response.status else 500
         self.row.count(endpoint, status, seconds)
@@ -308,18 +301,11 @@ class Worker(SyncWorker):  # type: ignore[misc] # (gunicorn has no types)
         access_log.info(json.dumps(line))
 
 
-def wait_readable(client: socket.socket) -> None:
-    """Waits FIRST_WAIT_MILLISECONDS for data."""
-    coming = select.poll()
-    coming.register(client, select.POLLIN)
-    coming.poll(FIRST_WAIT_MILLISECONDS)
-
-
 def peek_head(client: socket.socket) -> HeadState:
     """What has arrived of a request, which isn't consumed."""
     try:
         received = client.recv(MAX_HEAD, socket.MSG_PEEK | socket.MSG_DONTWAIT)
-    except BlockingIOError:
+    except (BlockingIOError, TimeoutError):
         return HeadState.PARTIAL
     except OSError:
         return HeadState.CLOSED
@@ -359,11 +345,11 @@ def is_long(request: Any) -> bool:
 
 def send_error(client: socket.socket, error: RequestError) -> None:
     """Sends a complete error response."""
-    body = json.dumps({"code": error.code, "message": error.message}, separators=(",", ":")).encode()
-    more = "Retry-After: 1\r\n" if error.status == 503 else ""
-    fields = f"Content-Type: {JSON}\r\nContent-Length: {len(body)}\r\nConnection: close\r\n{more}\r\n"
+    body = error.json()
+    headers = {"Content-Type": JSON, "Content-Length": len(body), "Connection": "close", **error.headers}
+    lines = [f"HTTP/1.1 {STATUS_LINES[error.status]}", *(f"{name}: {value}" for name, value in headers.items())]
     with contextlib.suppress(OSError):
-        client.send(f"HTTP/1.1 {STATUS_LINES[error.status]}\r\n{fields}".encode() + body)
+        client.send("\r\n".join([*lines, "", body]).encode())
 
 
 def discard(client: socket.socket) -> bool:

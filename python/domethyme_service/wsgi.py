@@ -106,9 +106,7 @@ class Service:
     def error_response(self, environ: Environ, start_response: StartResponse, error: RequestError) -> Iterable[bytes]:
         """Answers with an error, and stores it in `environ`."""
         environ["domethyme.error"] = error
-        more = {"Retry-After": "1"} if error.status == 503 else {}
-        response = Response(to_json({"code": error.code, "message": error.message}), JSON, more, error.status)
-        return self.send(environ, start_response, response)
+        return self.send(environ, start_response, Response(error.json(), JSON, error.headers, error.status))
 
     def send(self, environ: Environ, start_response: StartResponse, response: Response) -> Iterable[bytes]:
         """Starts a response, and returns its body, which is empty for HEAD."""
