@@ -141,7 +141,7 @@ def find_legs(engine: Engine, points: Sequence[SnappedPoint]) -> list[Leg]:
     """The legs of a route by these points. Raises RequestError if a leg has no path."""
     legs: list[Leg] = []
     for start, end in itertools.pairwise(points):
-        leg = find_leg(engine.queries, engine.roads, start, end)
+        leg = find_leg(engine.queries.between, engine.roads, start, end)
         if leg is None:
             raise RequestError(400, "NoRoute", f"there is no route from place {len(legs)} to place {len(legs) + 1}")
         legs.append(leg)

@@ -67,7 +67,7 @@ def routed_rows(
 ) -> Iterator[dict[str, Row]]:
     """The same from a route for each cell."""
     for start in starts:
-        legs = (find_leg(engine.queries, engine.roads, start, end) for end in ends)
+        legs = (find_leg(engine.queries.between, engine.roads, start, end) for end in ends)
         totals = [{} if leg is None else cast(dict[str, float | None], leg_totals(engine.roads, leg)) for leg in legs]
         yield {name: [each.get(name) for each in totals] for name in names}
 

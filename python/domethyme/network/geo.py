@@ -1,11 +1,4 @@
-"""Places on the earth and lines of them, as texts and as GeoJSON. Needs nothing but Python's own library.
-
-    parse_linestring(wkt, path, row), format_linestring(points)    [(lon, lat), ..] and back
-    split_at_antimeridian(line)    the parts of a line that may cross the 180th meridian
-    to_geojson_geometry(line), to_multilinestring(line)            such a line as GeoJSON, and as WKT
-    metres_between(lon, lat, lon, lat)    along the great circle, on a sphere of EARTH_RADIUS metres
-    bearing(point, point)          the direction from a point to a near one
-"""
+"""Places on the earth and lines of them, as texts and as GeoJSON. Needs nothing but Python's own library."""
 import itertools
 import math
 from collections.abc import Iterable, Sequence

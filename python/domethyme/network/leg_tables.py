@@ -12,7 +12,7 @@ import numpy as np
 from numpy.typing import NDArray
 
 from ..protocol import NO_PATH
-from .legs import is_same_node, leg_on_one_arc
+from .legs import leg_without_nodes
 from .snapping import RoadIndex, SnappedPoint
 
 Ints = NDArray[np.int64]
@@ -42,16 +42,18 @@ def weight_rows(
 ) -> Iterator[Ints]:
     """The least weights from each start to each end, NO_PATH for no path, some rows at a time, for which `ask` is called once. Of
     nodes it is asked for `cells` lengths or one row; memory is a few times as many numbers, and some for each end."""
-    entries, columns = Ends.of([end.entries for end in ends]), columns_by_place(ends)
+    entries, columns = Ends.of([end.entries for end in ends]), collections.defaultdict(list)
+    for column, end in enumerate(ends):
+        columns[place_key(end)].append(column)
     at_a_time = max(1, min(MAX_ROWS, cells // max(1, len(entries.nodes))))
     for begin in range(0, len(starts), at_a_time):
         some = starts[begin : begin + at_a_time]
         rows = least_by_nodes(ask, Ends.of([start.exits for start in some]), entries, (len(some), len(ends)))
         for row, start in zip(rows, some):
             for column in columns.get(place_key(start), ()):
-                weight = weight_without_nodes(roads, start, ends[column])
-                if weight is not None and not 0 <= row[column] <= weight:
-                    row[column] = weight
+                leg = leg_without_nodes(roads, start, ends[column])
+                if leg is not None and not 0 <= row[column] <= leg.weight:
+                    row[column] = leg.weight
         yield rows
 
 
@@ -72,22 +74,6 @@ def least_by_nodes(ask: NodeTable, exits: Ends, entries: Ends, shape: tuple[int,
     return found
 
 
-def columns_by_place(ends: Sequence[SnappedPoint]) -> dict[tuple[int, ...] | int, list[int]]:
-    """The columns of the points at each node, and on each edge."""
-    columns = collections.defaultdict(list)
-    for column, end in enumerate(ends):
-        columns[place_key(end)].append(column)
-    return columns
-
-
 def place_key(point: SnappedPoint) -> tuple[int, ...] | int:
     """The nodes that a point is, or its edge."""
     return point.copies or point.edge
-
-
-def weight_without_nodes(roads: RoadIndex, start: SnappedPoint, end: SnappedPoint) -> int | None:
-    """The weight of the way that stays at a node or on one arc; None for none."""
-    if is_same_node(start, end):
-        return 0
-    straight = leg_on_one_arc(roads, start, end)
-    return None if straight is None else straight.weight

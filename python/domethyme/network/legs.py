@@ -4,7 +4,8 @@ Both points split arcs of the graph. A shortest path stays on one arc, or it lea
 arc, enters the second's by the start of one, and is a shortest path of the graph between. So the shortest of these is
 shortest in the graph with the split arcs.
 """
-from typing import NamedTuple, Protocol
+from collections.abc import Callable
+from typing import NamedTuple
 
 from ..errors import NetworkError
 from ..protocol import RouteReply
@@ -12,14 +13,8 @@ from .snapping import NO_ARC, RoadIndex, SnappedPoint
 
 # Candidate nodes of a snapped point: node -> (weight, arc) of the part of the arc between.
 SnapEnds = dict[int, tuple[int, int]]
-
-
-class Questions(Protocol):
-    """Answers queries for shortest paths between nodes, numbered from 1."""
-
-    def between(self, exits: SnapEnds, entries: SnapEnds) -> RouteReply | None:
-        """A shortest path from one of several nodes to one of several, with the weights of both ends added; None if there is
-        none."""
+# A shortest path from one of several nodes, from 1, to one of several, with the weights of both ends added; or None.
+Between = Callable[[SnapEnds, SnapEnds], RouteReply | None]
 
 
 class Leg(NamedTuple):
@@ -36,11 +31,11 @@ class Leg(NamedTuple):
 EMPTY_LEG = Leg(0, [], [], 0.0, 1.0)
 
 
-def find_leg(queries: Questions, roads: RoadIndex, start: SnappedPoint, end: SnappedPoint) -> Leg | None:
+def find_leg(ask: Between, roads: RoadIndex, start: SnappedPoint, end: SnappedPoint) -> Leg | None:
     """The leg between two points; None if there is no path. Raises NetworkError."""
     if is_same_node(start, end):
         return EMPTY_LEG
-    return choose_leg(roads, start, end, queries.between(start.exits, end.entries))
+    return choose_leg(roads, start, end, ask(start.exits, end.entries))
 
 
 def is_same_node(start: SnappedPoint, end: SnappedPoint) -> bool:
@@ -50,16 +45,16 @@ def is_same_node(start: SnappedPoint, end: SnappedPoint) -> bool:
 
 def choose_leg(roads: RoadIndex, start: SnappedPoint, end: SnappedPoint, route: RouteReply | None) -> Leg | None:
     """The leg, given the shortest path between the points' nodes, or None; None if there is no path."""
-    straight = leg_on_one_arc(roads, start, end)
+    straight = leg_without_nodes(roads, start, end)
     if route is None or straight is not None and straight.weight <= route.length:
         return straight
     return leg_via_route(roads, start, end, route)
 
 
-def leg_on_one_arc(roads: RoadIndex, start: SnappedPoint, end: SnappedPoint) -> Leg | None:
-    """The leg on one arc, if both points are on it in this order."""
+def leg_without_nodes(roads: RoadIndex, start: SnappedPoint, end: SnappedPoint) -> Leg | None:
+    """The leg that stays at a node, or on one arc, if both points are on it in this order."""
     if start.copies or end.copies or start.edge != end.edge:
-        return None
+        return EMPTY_LEG if is_same_node(start, end) else None
     found: list[Leg] = []
     for number, arc in roads.edge(start.edge).arcs.items():
         begin, stop = roads.arc_fraction(arc, start.fraction), roads.arc_fraction(arc, end.fraction)
