@@ -4,11 +4,11 @@ import re
 from collections.abc import Mapping
 from typing import Any, NamedTuple
 
-from .errors import RequestError
+from .errors import RequestError, invalid_query
 from .parameters import (
-    Choice, Context, Parameter, Values, annotations, contours, ignored, node, number_range, parse_alternatives,
-    parse_bearing, parse_colors, parse_continue_straight, parse_indices, parse_number, parse_parameters, parse_positive,
-    parse_radius, parse_text, per_place, unsupported
+    INDEX, METRES, Choice, Context, Parameter, Values, annotations, contours, ignored, node, number_range,
+    parse_alternatives, parse_bearing, parse_colors, parse_continue_straight, parse_indices, parse_number, parse_radius,
+    parse_text, per_place, unsupported
 )
 from .static import PAGE_FILES
 
@@ -22,8 +22,10 @@ BEARINGS = Parameter(
     per_place(parse_bearing, "there has to be a bearing for each place, or nothing between semicolons"),
     "are DEGREES,RANGE, from 0 to 360 and from 0 to 180", "",
 )
-FALLBACK_SPEED = Parameter("fallback_speed", "a number above 0", parse_positive, "is a number above 0")
-SCALE_FACTOR = Parameter("scale_factor", "a number above 0", parse_positive, "is a number above 0")
+FALLBACK_SPEED, SCALE_FACTOR = [
+    Parameter(name, "a number above 0", parse_number(METRES, float, lambda number: number > 0), "is a number above 0")
+    for name in ("fallback_speed", "scale_factor")
+]
 FALLBACK_COORDINATE = Choice("fallback_coordinate", "input", "snapped")
 GENERATE_HINTS, SKIP_WAYPOINTS = Choice("generate_hints", "true", "false"), Choice("skip_waypoints", "false", "true")
 OVERVIEW = Choice("overview", "simplified", "full", "false")
@@ -31,7 +33,9 @@ GEOMETRIES = Choice("geometries", "polyline", "polyline6", "geojson")
 STEPS, POLYGONS = Choice("steps", "false", "true"), Choice("polygons", "false", "true")
 ANNOTATIONS = annotations(("duration", "weight", "distance", "datasources", "speed", "nodes"), "false")
 TABLE_ANNOTATIONS = annotations(("duration", "distance", "weight"), "duration", is_list_only=True)
-NUMBER = Parameter("number", "1 to 100; 1 without it", parse_number, "is from 1 to 100", "1")
+NUMBER = Parameter(
+    "number", "1 to 100; 1 without it", parse_number(INDEX, int, lambda number: 1 <= number <= 100), "is from 1 to 100", "1"
+)
 SOURCES, DESTINATIONS = [
     Parameter(name, "`all`, or numbers of places, from 0", parse_indices, "are numbers of places, from 0", "all")
     for name in ("sources", "destinations")
@@ -77,8 +81,15 @@ class Endpoint(NamedTuple):
     method: str = "GET"
 
     def values(self, query: Mapping[str, str], context: Context = Context()) -> Values:
-        """The values of its parameters. Raises RequestError."""
-        return Values({}) if self.parameters is None else parse_parameters(self.parameters, query, context, self.unknown)
+        """The values of its parameters. Raises RequestError for an unknown parameter, and for an invalid value."""
+        if self.parameters is None:
+            return Values({})
+        names = {parameter.name for parameter in self.parameters}
+        for name in query:
+            if name not in names:
+                raise invalid_query(self.unknown.format(name))
+        texts = ((parameter, query.get(parameter.name, parameter.default)) for parameter in self.parameters)
+        return Values({parameter.name: parameter.value(text, context) for parameter, text in texts if text is not None})
 
 
 def osrm_endpoint(service: str, path: str, answer: str, *parameters: Parameter[Any]) -> Endpoint:

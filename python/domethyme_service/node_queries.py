@@ -10,7 +10,7 @@ from domethyme.protocol import NO_PATH, RouteReply
 
 from .errors import RequestError, invalid_query, invalid_value
 from .parameters import Parameter, Values, parse_node
-from .queries import NodeKeys, Pair, Queries
+from .queries import Pair, Queries
 
 MAX_LINE_BYTES = 256
 # Lines of a block, and bytes of a body that are split into lines at once.
@@ -60,7 +60,8 @@ def batch_answer(queries: Queries, has_routes: bool, body: bytes) -> Iterator[by
     too many end the answer. Raises RequestError if a query fails."""
     first, errors = 1, 0
     for lines in split_blocks(body):
-        rows = parse_block(lines, queries.nodes, queries.keys)
+        rows: Sequence[Pair | RequestError] | None = parse_pairs_fast(lines, queries.nodes)
+        rows = rows or [parse_pair(line, queries) for line in lines]
         error_rows = [row for row, pair in enumerate(rows) if isinstance(pair, RequestError)]
         errors += len(error_rows)
         if is_last := errors > MAX_ERRORS:
@@ -73,7 +74,11 @@ def batch_answer(queries: Queries, has_routes: bool, body: bytes) -> Iterator[by
         else:
             bodies = list(map(length_json, pairs, queries.lengths(pairs)))
         answers = map(queries.keys.add_keys, bodies, pairs)
-        yield b"".join(answer_line(pair, answers, number) for number, pair in enumerate(rows, first))
+        texts = [
+            row.json(line=number).encode() if isinstance(row, RequestError) else next(answers)
+            for number, row in enumerate(rows, first)
+        ]
+        yield b"\n".join([*texts, b""])
         first += len(lines)
         if is_last:
             return
@@ -90,13 +95,6 @@ def split_blocks(body: bytes) -> Iterator[list[bytes]]:
         for start in range(0, len(lines), BLOCK_LINES):
             yield lines[start : start + BLOCK_LINES]
         begin = end
-
-
-def parse_block(lines: list[bytes], nodes: int, keys: NodeKeys) -> Sequence[Pair | RequestError]:
-    """The pair of each line, or its error."""
-    if (pairs := parse_pairs_fast(lines, nodes)) is not None:
-        return pairs
-    return [parse_pair(line, nodes, keys) for line in lines]
 
 
 def parse_pairs_fast(lines: list[bytes], nodes: int) -> list[Pair] | None:
@@ -119,8 +117,9 @@ def parse_pairs_fast(lines: list[bytes], nodes: int) -> list[Pair] | None:
     return pairs if is_good and all(1 <= one <= nodes and 1 <= two <= nodes for one, two in pairs) else None
 
 
-def parse_pair(line: bytes, nodes: int, keys: NodeKeys) -> Pair | RequestError:
+def parse_pair(line: bytes, queries: Queries) -> Pair | RequestError:
     """The pair of a line, or its error."""
+    keys, nodes = queries.keys, queries.nodes
     try:
         if len(line) > MAX_LINE_BYTES:
             raise invalid_value(f"a line has at most {MAX_LINE_BYTES} bytes")
@@ -142,8 +141,3 @@ def object_without_duplicates(members: list[tuple[str, object]]) -> dict[str, ob
     if len(found) < len(members):
         raise invalid_query("a name is there twice")
     return found
-
-
-def answer_line(pair: Pair | RequestError, answers: Iterator[bytes], number: int) -> bytes:
-    """One output line: the next answer, or the error of an invalid input line, by its number from 1."""
-    return (pair.json(line=number).encode() if isinstance(pair, RequestError) else next(answers)) + b"\n"

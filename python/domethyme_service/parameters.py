@@ -63,19 +63,6 @@ class Values:
         return cast("T | None", self._values.get(parameter.name))
 
 
-def parse_parameters(
-    parameters: Sequence[Parameter[object]], query: Mapping[str, str], context: Context, unknown: str
-) -> Values:
-    """The values of all parameters. Raises RequestError for an invalid value, and with the message `unknown` for an unknown
-    parameter."""
-    names = {parameter.name for parameter in parameters}
-    for name in query:
-        if name not in names:
-            raise invalid_query(unknown.format(name))
-    texts = ((parameter, query.get(parameter.name, parameter.default)) for parameter in parameters)
-    return Values({parameter.name: parameter.value(text, context) for parameter, text in texts if text is not None})
-
-
 class Choice(Parameter[str]):
     """One of `words`; the first is the default. Words of `unsupported` are rejected with `message`."""
 
@@ -108,10 +95,7 @@ def unsupported(name: str, allowed: str = "") -> Parameter[None]:
 
 def number_range(name: str, high: float, accepted: str) -> Parameter[float]:
     """A number from 0 to `high`, 0 without the parameter."""
-    def parse(text: str, _context: Context) -> float:
-        require(NUMBER.fullmatch(text) and float(text) <= high)
-        return float(text)
-
+    parse = parse_number(NUMBER, float, lambda number: number <= high)
     return Parameter(name, f"{accepted}; 0 without it", parse, f"is a number from 0 to {high:,g}", "0")
 
 
@@ -155,6 +139,15 @@ def require(is_valid: object) -> None:
         raise ValueError
 
 
+def parse_number(pattern: re.Pattern[str], convert: Callable[[str], T], is_valid: Callable[[T], bool]) -> Parse[T]:
+    """Parses a number of this form, if it is a valid one."""
+    def parse(text: str, _context: Context) -> T:
+        require(pattern.fullmatch(text) and is_valid(convert(text)))
+        return convert(text)
+
+    return parse
+
+
 def per_place(parse: Parse[T], missing: str) -> Parse[list[T]]:
     """Parses a value for each place; an empty text has an empty word for each. `missing` is the message for another number
     of values."""
@@ -186,11 +179,6 @@ def parse_bearing(word: str, _context: Context) -> tuple[int, int] | None:
     return int(degrees), int(deviation)
 
 
-def parse_positive(text: str, _context: Context) -> float:
-    require(METRES.fullmatch(text) and float(text) > 0)
-    return float(text)
-
-
 def parse_colors(text: str, _context: Context) -> list[str]:
     words = text.split(",")
     require(all(map(COLOR.fullmatch, words)))
@@ -207,11 +195,6 @@ def parse_continue_straight(text: str, context: Context) -> None:
     require(text in ("default", "true", "false"))
     if text == "true" and context.places > 2:
         raise not_implemented("continue_straight=true isn't there for more than two places")
-
-
-def parse_number(text: str, _context: Context) -> int:
-    require(INDEX.fullmatch(text) and 1 <= int(text) <= 100)
-    return int(text)
 
 
 def parse_indices(text: str, context: Context) -> list[int]:
