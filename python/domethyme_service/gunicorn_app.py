@@ -12,7 +12,6 @@ import select
 import signal
 import socket
 import time
-from collections.abc import Callable
 from typing import Any, NamedTuple, NoReturn
 
 import gunicorn
@@ -80,9 +79,10 @@ class Application(BaseApplication):  # type: ignore[misc] # (gunicorn has no typ
         for name, value in vars(self.cfg.parser().parse_args(self.cfg.get_cmd_args_from_env())).items():
             if value is not None and name != "args":
                 self.cfg.set(name, value)
-        hooks = {hook.__name__: hook for hook in (pre_fork, post_fork, pre_request, child_exit, when_ready)}
-        own = {**hooks, "post_request": Worker.record, "bind": self.setup.bind, "workers": self.workers}
-        for name, value in {**FIXED_SETTINGS, **own}.items():
+        # (gunicorn's default of pre_request logs the path)
+        hooks = {"pre_request": lambda _worker, _request: None, "post_request": Worker.record}
+        hooks |= {hook.__name__: hook for hook in (pre_fork, post_fork, child_exit, when_ready)}
+        for name, value in {**FIXED_SETTINGS, **hooks, "bind": self.setup.bind, "workers": self.workers}.items():
             self.cfg.set(name, value)
 
     def load(self, paths: DatasetPaths | None = None) -> Service:
@@ -106,8 +106,14 @@ class Arbiter(gunicorn.arbiter.Arbiter):  # type: ignore[misc] # (gunicorn has n
     pending_reloads, old_workers = 0, list[Worker]()
 
     def setup(self, app: Application) -> None:
+        """Prepares the memory for the fork, too: returns free memory to the system (malloc_trim), excludes all objects from
+        garbage collection, and limits malloc to one arena."""
         super().setup(app)
-        prepare_memory()
+        gc.collect()
+        gc.freeze()
+        libc = ctypes.CDLL(None)
+        libc.mallopt(ARENA_MAX, 1)
+        libc.malloc_trim(0)
 
     def signal(self, sig: int, frame: object) -> None:
         """Queues a signal for the main loop, one of each kind. A signal to end interrupts the opening of files."""
@@ -125,18 +131,11 @@ class Arbiter(gunicorn.arbiter.Arbiter):  # type: ignore[misc] # (gunicorn has n
             return
         self.trial, writes = os.pipe()
         if not os.fork():
-            run_in_child(lambda: os.write(writes, self.trial_report()))
+            run_trial(self.app, writes)
         os.close(writes)
 
     def handle_usr2(self) -> None:
         log.error("SIGUSR2 is not supported: SIGHUP reads the files again, and a restart takes another version")
-
-    def trial_report(self) -> bytes:
-        """Opens the files, in the child; returns its report."""
-        try:
-            return ready_message(self.app.load()).encode()
-        except Exception as fault:
-            return failure_reason(fault).encode("utf-8", "replace")[:4000]
 
     def manage_workers(self) -> None:
         """Checks on the workers, a trial, and an unfinished reload."""
@@ -222,17 +221,13 @@ def child_exit(arbiter: Arbiter, worker: Worker) -> None:
         log.error("worker %s has ended: another one is started", worker.pid)
 
 
-def pre_request(_worker: Worker, _request: object) -> None:
-    """Does nothing: gunicorn's default logs the path."""
-
-
 def when_ready(arbiter: Arbiter) -> None:
     """The service listens: logs that, and notifies systemd."""
     own = arbiter.app.metrics.own
     own.process = os.getpid()
     record_load(arbiter.app.metrics)
     log.info("listens at %s, %d nodes", format_address(arbiter.LISTENERS[0]), arbiter.app.callable.queries.nodes)
-    notify_systemd(arbiter.app.notify_socket, "READY=1")
+    notify_systemd(arbiter.app.notify_socket)
 
 
 def record_load(metrics: SharedMetrics) -> None:
@@ -251,25 +246,19 @@ def failure_reason(error: Exception) -> str:
     return " ".join(f"{kind}{error}".split())
 
 
-def run_in_child(work: Callable[[], object]) -> NoReturn:
-    """Runs `work` in this forked process and ends it; it ends with the arbiter, too."""
+def run_trial(app: Application, pipe: int) -> NoReturn:
+    """Opens the files in this forked process, writes a report to a pipe, and ends; it ends with the arbiter, too."""
     try:
         for number in (signal.SIGHUP, signal.SIGINT, signal.SIGTERM, signal.SIGCHLD):
             signal.signal(number, signal.SIG_IGN if number == signal.SIGHUP else signal.SIG_DFL)
         end_with_parent()
-        work()
+        try:
+            report = ready_message(app.load())
+        except Exception as fault:
+            report = failure_reason(fault)
+        os.write(pipe, report.encode("utf-8", "replace")[:4000])
     finally:
         os._exit(0)
-
-
-def prepare_memory() -> None:
-    """Prepares the memory of this process for the fork: returns free memory to the system (malloc_trim), excludes all objects
-    from garbage collection, and limits malloc to one arena."""
-    gc.collect()
-    gc.freeze()
-    libc = ctypes.CDLL(None)
-    libc.mallopt(ARENA_MAX, 1)
-    libc.malloc_trim(0)
 
 
 def format_address(listener: Any) -> str:
@@ -280,9 +269,9 @@ def format_address(listener: Any) -> str:
     return f"http://{f'[{name[0]}]' if ':' in name[0] else name[0]}:{name[1]}/"
 
 
-def notify_systemd(name: str, text: str) -> None:
-    """Sends a line to systemd's notification socket, if there is one, without blocking."""
+def notify_systemd(name: str) -> None:
+    """Tells systemd's notification socket, if there is one, that the service is ready, without blocking."""
     if name[:1] in ("/", "@"):
         with contextlib.suppress(OSError), socket.socket(socket.AF_UNIX, socket.SOCK_DGRAM) as stream:
             stream.setblocking(False)
-            stream.sendto(text.encode(), "\0" + name[1:] if name[0] == "@" else name)
+            stream.sendto(b"READY=1", "\0" + name[1:] if name[0] == "@" else name)

@@ -1,6 +1,7 @@
 """The roads of the page's map, in square tiles of the Mercator projection, as web maps have them: at zoom z the world is 2**z
 tiles wide. Levels of detail keep tiles small: each class of roads has a least zoom (zoom_levels), and segments that coincide
 on the tile's grid are drawn once."""
+import bisect
 import functools
 import itertools
 import json
@@ -59,12 +60,12 @@ class Tiles:
         """A tile as JSON: for each class its lines, as the coordinates of the first point and then the steps to the others, in
         units of 1/EXTENT of the tile's width; and the name of each line."""
         self.arrays.file.check_unchanged()
-        shown = [kind for kind in range(len(ROAD_CLASSES)) if zoom >= self.arrays.about[f"shown_{kind}"]]
         found: list[dict[str, Any]] = []
-        for kind in shown:
-            segments, edges = self._segments(kind, zoom, x, y)
-            if len(segments):
-                found.append({"kind": kind, **self._lines(segments, edges, zoom, x, y)})
+        for kind in range(len(ROAD_CLASSES)):
+            if zoom >= self.arrays.about[f"shown_{kind}"]:
+                segments, edges = self._segments(kind, zoom, x, y)
+                if len(segments):
+                    found.append({"kind": kind, **self._lines(segments, edges, zoom, x, y)})
         return json.dumps({"roads": found}, separators=(",", ":"), ensure_ascii=False).encode("utf-8", "replace")
 
     def _segments(self, kind: int, zoom: int, x: int, y: int) -> tuple[Ints, Ints]:
@@ -81,12 +82,9 @@ class Tiles:
         return above[is_inside], edges[is_inside]
 
     def _lower_bound(self, kind: int, code: int) -> int:
-        """The first segment of a class whose code is at least this one (bisection: `step_codes` is mapped)."""
-        low, high = self.arrays.step_begin[kind : kind + 2].tolist()
-        while low < high:
-            middle = (low + high) // 2
-            low, high = (middle + 1, high) if self.arrays.step_codes[middle] < code else (low, middle)
-        return int(low)
+        """The first segment of a class whose code is at least this one."""
+        rows = range(*self.arrays.step_begin[kind : kind + 2].tolist())
+        return rows.start + bisect.bisect_left(rows, code, key=self.arrays.step_codes.__getitem__)
 
     def _to_tile_grid(self, segments: Ints, zoom: int, x: int, y: int) -> tuple[Ints, Ints]:
         """Both ends of segments, in units of the tile's grid."""
