@@ -8,7 +8,6 @@ Exit status: 0; 1 if it can't start, with one line on standard error; 2 for inva
 """
 import argparse
 import errno
-import functools
 import ipaddress
 import logging
 import os
@@ -16,8 +15,10 @@ import platform
 import socket
 import stat
 import sys
-from collections.abc import Sequence
+from collections.abc import Callable, Sequence
 from typing import Any
+
+from gunicorn import systemd
 
 from domethyme import DomethymeError, find_program
 
@@ -40,8 +41,6 @@ PROBE_SUFFIX = ".probe"
 BACKLOG = 1024
 # Bytes that the kernel buffers of a client: a worker peeks at the complete head of a request before it reads it.
 RECEIVE_BUFFER = 1 << 18
-# The first descriptor of systemd's socket activation (SD_LISTEN_FDS_START).
-FIRST_SYSTEMD_DESCRIPTOR = 3
 REMOVED_OPTIONS = {
     "--connections": "worker_connections of nginx",
     "--client-connections": f"limit_conn in {NGINX}",
@@ -90,15 +89,14 @@ def argument_parser() -> argparse.ArgumentParser:
     return parser
 
 
-def int_between(low: int, high: int) -> "functools.partial[int]":
-    return functools.partial(bounded_int, low, high)
+def int_between(low: int, high: int) -> Callable[[str], int]:
+    """Parses an integer argument."""
+    def parse(text: str) -> int:
+        if not text.isascii() or not text.isdigit() or not low <= int(text[:12]) <= high:
+            raise argparse.ArgumentTypeError(f"has to be from {low} to {high}")
+        return int(text)
 
-
-def bounded_int(low: int, high: int, text: str) -> int:
-    """The integer of an argument."""
-    if not text.isascii() or not text.isdigit() or not low <= int(text[:12]) <= high:
-        raise argparse.ArgumentTypeError(f"has to be from {low} to {high}")
-    return int(text)
+    return parse
 
 
 def parse_origin(text: str) -> str:
@@ -122,14 +120,13 @@ def configure_logging(access: bool) -> None:
 def open_sockets(args: argparse.Namespace) -> tuple[list[str], bool]:
     """Opens the sockets to listen on. Returns gunicorn's `bind`, empty if systemd passes the sockets, and whether there is
     one for probes. Raises StartupError for an address that other machines can reach."""
-    if os.environ.get("LISTEN_PID") == str(os.getpid()):
-        inherited = [FIRST_SYSTEMD_DESCRIPTOR + number for number in range(int(os.environ.get("LISTEN_FDS", "1")))]
-        for number in inherited:
-            with socket.socket(fileno=os.dup(number)) as listening:
+    if count := systemd.listen_fds(unset_environment=False):
+        for number in range(count):
+            with socket.socket(fileno=os.dup(systemd.SD_LISTEN_FDS_START + number)) as listening:
                 name = listening.getsockname()
             if isinstance(name, tuple):
                 check_loopback(name[0])
-        return [], len(inherited) > 1
+        return [], count > 1
     if args.bind is None:
         return [listen_tcp(args.host, args.port)], False
     kind, _, path = args.bind.partition(":")
