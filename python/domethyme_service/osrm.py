@@ -2,7 +2,7 @@
 `weight`, between the points of roads that are nearest to the places, as the library proves."""
 import base64
 import itertools
-from collections.abc import Iterator, Sequence
+from collections.abc import Iterable, Sequence
 from typing import NamedTuple
 
 from domethyme.network.bearings import BearingRange, nearest_with_bearing
@@ -39,13 +39,10 @@ def nearest(engine: Engine, request: Request) -> str:
     points = snap_candidates(roads, request, 0, request.values[NUMBER])
     if not points:
         raise no_segment_error(roads, request, 0)
-    found = [{**make_waypoint(request, snapped), "nodes": edge_osm_ids(roads, snapped)} for snapped in points]
+    arcs = [next(iter(roads.edge(snapped.edge).arcs.values())) for snapped in points]
+    ids = [[roads.osm_id(arc.start), roads.osm_id(arc.end)] for arc in arcs]
+    found = [{**make_waypoint(request, snapped), "nodes": nodes} for snapped, nodes in zip(points, ids)]
     return to_json({"code": "Ok", "waypoints": found})
-
-
-def edge_osm_ids(roads: RoadIndex, snapped: SnappedPoint) -> list[int]:
-    arc = next(iter(roads.edge(snapped.edge).arcs.values()))
-    return [roads.osm_id(node) for node in (arc.start, arc.end)]
 
 
 def snap_candidates(roads: RoadIndex, request: Request, number: int, count: int) -> list[SnappedPoint]:
@@ -60,23 +57,19 @@ def snap_candidates(roads: RoadIndex, request: Request, number: int, count: int)
 
 def snap_places(roads: RoadIndex, request: Request) -> list[SnappedPoint]:
     """The nearest point of a road to each place. Raises RequestError if there is none within a place's radius."""
+    places, radiuses, bearings = request.places, request.values[RADIUSES], request.values[BEARINGS]
+    points: Iterable[SnappedPoint | None]
+    if any(bearings):
+        points = (next(iter(snap_candidates(roads, request, number, 1)), None) for number in range(len(places)))
+    else:
+        parts = (places[begin : begin + SNAP_BATCH] for begin in range(0, len(places), SNAP_BATCH))
+        points = itertools.chain.from_iterable(map(roads.nearest_batch, parts))
     found: list[SnappedPoint] = []
-    for snapped in snap_each(roads, request):
-        if snapped is None or snapped.metres > request.values[RADIUSES][len(found)]:
+    for snapped, max_metres in zip(points, radiuses):
+        if snapped is None or snapped.metres > max_metres:
             raise no_segment_error(roads, request, len(found))
         found.append(snapped)
     return found
-
-
-def snap_each(roads: RoadIndex, request: Request) -> Iterator[SnappedPoint | None]:
-    """The nearest point to each place, within its bearing; None if there is none."""
-    bearings = request.values[BEARINGS]
-    if any(bearings):
-        for number in range(len(request.places)):
-            yield next(iter(snap_candidates(roads, request, number, 1)), None)
-    else:
-        for begin in range(0, len(request.places), SNAP_BATCH):
-            yield from roads.nearest_batch(request.places[begin : begin + SNAP_BATCH])
 
 
 def is_near_network(roads: RoadIndex, lon: float, lat: float) -> bool:
@@ -152,9 +145,8 @@ def leg_response(
     roads: RoadIndex, request: Request, ends: tuple[SnappedPoint, SnappedPoint], leg: Leg, geometry: LegGeometry | None
 ) -> Json:
     """An OSRM route leg; `geometry` is None for a leg that stays at its point."""
-    totals = leg_totals(roads, leg) if geometry is None else geometry.figures(0, len(leg.arcs))
     names = request.values[ANNOTATIONS]
-    response: Json = {"summary": "", "steps": [], **totals}
+    response: Json = {"summary": "", "steps": [], **leg_totals(roads, leg)}
     if request.values[STEPS] == "true":
         start, end = ((each.lon, each.lat) for each in ends)
         response["steps"] = build_steps(roads, geometry, start, end, request.values[GEOMETRIES])

@@ -5,7 +5,7 @@ from typing import cast
 
 from domethyme.network.geo import Point, metres_between
 from domethyme.network.leg_geometry import UNITS_PER_OUTPUT_UNIT, leg_totals
-from domethyme.network.leg_tables import Ints, weight_rows
+from domethyme.network.leg_tables import weight_rows
 from domethyme.network.legs import find_leg
 from domethyme.network.snapping import SnappedPoint
 from domethyme.protocol import NO_PATH
@@ -51,15 +51,9 @@ def rows_of_weights(
     unit = UNITS_PER_OUTPUT_UNIT.get(engine.roads.unit, 1)
     for some in weight_rows(engine.queries.table, engine.roads, starts, ends, NODE_CELLS):
         for weights in some:
-            yield dict.fromkeys(names, row_of(weights, unit))
-
-
-def row_of(weights: Ints, unit: int) -> Row:
-    """A row of weights in another unit, None for no path."""
-    found = (weights / unit).astype(object)
-    found[weights == NO_PATH] = None
-    row: Row = found.tolist()
-    return row
+            row = (weights / unit).astype(object)
+            row[weights == NO_PATH] = None
+            yield dict.fromkeys(names, row.tolist())
 
 
 def routed_rows(

@@ -72,17 +72,18 @@ class BufferedHead:
     worker is killed before the body, nothing was sent, so nginx can repeat the request."""
 
     def __init__(self, client: socket.socket) -> None:
-        self._client, self._head, self._has_sent = client, b"", False
+        self._client = client
+        self._head: bytes | None = None
 
     def __getattr__(self, name: str) -> Any:
         return getattr(self._client, name)
 
     def sendall(self, data: bytes) -> None:
-        if self._has_sent:
-            self._client.sendall(self._head + data if self._head else data)
-            self._head = b""
+        if self._head is None:
+            self._head = data
         else:
-            self._head, self._has_sent = data, True
+            self._client.sendall(self._head + data)
+            self._head = b""
 
     def flush(self) -> None:
         """Sends the head of an answer without a body."""
