@@ -20,8 +20,7 @@ WRONG_ORIGIN = "a page of another origin asks: --cors names one that may"
 
 
 class AccessPolicy(NamedTuple):
-    """The hosts that are allowed besides the address of the connection, `*` for any; and the allowed origin, `*` for any, or
-    none."""
+    """The hosts that are allowed besides the connection's address, and the allowed origin or none; `*` is any."""
 
     hosts: frozenset[str]
     origin: str

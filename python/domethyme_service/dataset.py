@@ -38,8 +38,7 @@ class DatasetPaths(NamedTuple):
 
 
 class Dataset(NamedTuple):
-    """The open files. `links` is the number of the hierarchy's links, `keys` are the keys of the network's nodes, `stamp` is of
-    the hierarchy's file."""
+    """The open files: `links` of the hierarchy, the `stamp` of its file, and the `keys` of the network's nodes."""
 
     router: Router
     links: int

@@ -3,8 +3,7 @@ from .json_text import to_json
 
 
 class RequestError(Exception):
-    """The response `{"code": .., "message": ..}`. `status` is the HTTP status, 400 to 505; `code` is OSRM's, such as
-    InvalidQuery, or one of this service."""
+    """The response `{"code": .., "message": ..}`, with a status of 400 to 505. Codes are OSRM's, or of this service."""
 
     def __init__(self, status: int, code: str, message: str) -> None:
         super().__init__(message)

@@ -49,8 +49,7 @@ METRICS = (
 
 
 class Row(ctypes.Structure):
-    """The metrics of one process by name; and by endpoint its answers by status, by bucket of their times, and the sum of
-    their times."""
+    """The metrics of one process; and by endpoint its answers by status, by bucket of times, and the sum of times."""
 
     _fields_ = [
         *((name, ctypes.c_double) for name in ("process", *(metric.name for metric in METRICS))),

@@ -10,11 +10,10 @@ from domethyme.network.leg_geometry import LegGeometry, leg_geometry, leg_totals
 from domethyme.network.legs import Leg, find_leg
 from domethyme.network.snapping import RoadIndex, SnappedPoint
 
-from .budget import Budget
 from .endpoints import ANNOTATIONS, BEARINGS, GENERATE_HINTS, GEOMETRIES, NUMBER, OVERVIEW, RADIUSES, SKIP_WAYPOINTS, STEPS
 from .errors import RequestError
 from .json_text import Json, join_array, join_object, to_json
-from .osrm_geometry import annotate, encode_geometries, join_lines, leg_lines, simplify_lines
+from .osrm_geometry import Budget, annotate, encode_geometries, join_lines, leg_lines, simplify_lines
 from .osrm_request import Request
 from .osrm_steps import build_steps
 from .queries import Queries

@@ -12,11 +12,34 @@ from domethyme.network.network import Floats
 from domethyme.network.polyline import Line, encode_polylines, points_array
 from domethyme.network.snapping import segment_metres
 
-from .budget import Budget
+from .errors import RequestError
 from .json_text import Json
 
+# Points of the lines of an answer, and points that may be examined to simplify its line.
+MAX_POINTS, MAX_EXAMINED = 4_000_000, 80_000_000
 # A polyline, or GeoJSON.
 Geometry = str | Json
+
+
+class Budget:
+    """What is left of the points of an answer, so that none is larger than a process can hold."""
+
+    def __init__(self) -> None:
+        self.points, self.examined = MAX_POINTS, MAX_EXAMINED
+
+    def spend(self, points: int) -> None:
+        """Subtracts points of the answer. Raises RequestError if fewer are left."""
+        self.points -= points
+        if self.points < 0:
+            message = f"the answer has more than {MAX_POINTS} points: ask for fewer places, or overview=false"
+            raise RequestError(400, "TooBig", message)
+
+    def examine(self, points: int) -> None:
+        """Subtracts examined points. Raises RequestError if fewer are left."""
+        self.examined -= points
+        if self.examined < 0:
+            message = "the line of the route takes too long to simplify: ask for overview=full or false"
+            raise RequestError(400, "TooBig", message)
 
 
 def leg_lines(geometries: Sequence[LegGeometry | None], ends: list[Point]) -> list[Line]:
@@ -88,8 +111,7 @@ def segments_by_arc(geometry: LegGeometry) -> list[list[float]]:
 
 
 def simplified(points: Floats, tolerance: float, budget: Budget) -> Floats:
-    """A line of shape (count, 2) without points that are within `tolerance`, in degrees of latitude, of what is left
-    (Douglas, Peucker 1973)."""
+    """A line without points within `tolerance`, in degrees of latitude, of what is left (Douglas, Peucker 1973)."""
     flat: list[complex] = (points[:, 0] * math.cos(math.radians(points[0, 1])) + 1j * points[:, 1]).tolist()
     is_kept = np.zeros(len(points), dtype=bool)
     is_kept[[0, -1]] = True

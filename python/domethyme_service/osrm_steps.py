@@ -65,8 +65,7 @@ class StepBuilder:
         return found
 
     def turn(self, begin: int, end: int, named: int) -> Json:
-        """The type and the modifier of the maneuver of arcs `begin` to `end`, which have the name of arc `named`; and the
-        exit of a roundabout."""
+        """The type, the modifier and the exit of the maneuver before arcs `begin` to `end`, named after arc `named`."""
         if not begin:
             return {"type": "depart"}
         angle = (self.first_bearings[named] - self.last_bearings[begin - 1] + 180) % 360 - 180

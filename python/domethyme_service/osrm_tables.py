@@ -24,8 +24,7 @@ Row = list[float | None]
 
 
 def table(engine: Engine, request: Request) -> str:
-    """Tables of durations, distances or weights, null for pairs without a path. Raises RequestError for too many cells, and
-    for durations if the network has none."""
+    """Tables of durations, distances or weights, null for pairs without a path. Raises RequestError."""
     values, roads = request.values, engine.roads
     sources, destinations, names = values[SOURCES], values[DESTINATIONS], values[TABLE_ANNOTATIONS]
     needs_routes, cells = not {roads.unit, "weight"}.issuperset(names), len(sources) * len(destinations)

@@ -18,8 +18,7 @@ MAX_CONTOURS = 4
 
 
 class Context(NamedTuple):
-    """What values depend on: the request's number of places, the default of the greatest metres from a place to a road, and
-    the number of nodes."""
+    """What values depend on: the number of places, the default of the metres to a road, and the number of nodes."""
 
     places: int = 0
     default_radius: float = 0.0
@@ -149,8 +148,7 @@ def parse_number(pattern: re.Pattern[str], convert: Callable[[str], T], is_valid
 
 
 def per_place(parse: Parse[T], missing: str) -> Parse[list[T]]:
-    """Parses a value for each place; an empty text has an empty word for each. `missing` is the message for another number
-    of values."""
+    """Parses a value for each place, or an empty word for each; `missing` is the message for another number of values."""
     def parse_all(text: str, context: Context) -> list[T]:
         found = [parse(word, context) for word in (text.split(";") if text else [""] * context.places)]
         if len(found) != context.places:

@@ -79,8 +79,7 @@ class Queries:
 
     @query_errors()
     def reach(self, starts: Sequence[tuple[int, int]], limit: int) -> Ints:
-        """The least length of each node from the nearest of several, which are numbered from 0 here, each with what is added
-        there; NO_PATH above the limit."""
+        """The least length of each node from the nearest of several, from 0, each with what is added there; or NO_PATH."""
         self._metrics.own.queries_total += 1
         try:
             return batch.reach(self.router, starts, limit)

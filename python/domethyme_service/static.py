@@ -16,14 +16,7 @@ POLICY = (
 HEADERS = {"Content-Security-Policy": POLICY, "Referrer-Policy": "no-referrer", "Cache-Control": "no-cache"}
 CACHE_ONE_DAY = {"Cache-Control": "public, max-age=86400"}
 NO_CACHE = {"Cache-Control": "no-cache"}
-
-
-def read_page_files() -> dict[str, tuple[str, bytes]]:
-    """The media type and the bytes of each file of the page, by its path."""
-    files = [file for file in sorted(FOLDER.iterdir()) if file.suffix in MEDIA_TYPES]
-    found = {f"/map/{file.name}": (MEDIA_TYPES[file.suffix], file.read_bytes()) for file in files}
-    found["/"] = found.pop("/map/index.html")
-    return found
-
-
-PAGE_FILES = read_page_files()
+FILES = [file for file in sorted(FOLDER.iterdir()) if file.suffix in MEDIA_TYPES]
+# The media type and the bytes of each file, by its path.
+PAGE_FILES = {f"/map/{file.name}": (MEDIA_TYPES[file.suffix], file.read_bytes()) for file in FILES}
+PAGE_FILES["/"] = PAGE_FILES.pop("/map/index.html")

@@ -123,8 +123,7 @@ class Tiles:
         return {"lines": lines, "names": names_used, "name": [name_index[number] for number in numbers]}
 
     def _visible_segments(self, segments: Ints, zoom: int, x: int, y: int) -> tuple[Ints, Ints, Ints]:
-        """Both ends of the segments that have a length on the tile's grid, and their indices; below MIN_NAME_ZOOM without
-        duplicates."""
+        """Both ends of segments with a length on the tile's grid, and their indices; below MIN_NAME_ZOOM no duplicates."""
         begins, ends = self._to_tile_grid(segments, zoom, x, y)
         kept = np.flatnonzero((begins != ends).any(axis=1))
         if zoom < MIN_NAME_ZOOM:

@@ -50,15 +50,13 @@ class AnswerTimeout(BaseException):
 
 
 class HeadState(enum.Enum):
-    """What has arrived of a request: the head and a short body, a part of them, nothing because the client has closed, or an
-    invalid head."""
+    """What has arrived: the head and a short body, a part of them, nothing (the client has closed), an invalid head."""
 
     WHOLE, PARTIAL, CLOSED, MALFORMED = range(4)
 
 
 class Connection(NamedTuple):
-    """A connection: its socket, the client's address, how long it may wait, its request once the head was read, and whether
-    that is a long one."""
+    """A socket, the client's address, until when it may wait, its request once it was read, whether that is a long one."""
 
     client: socket.socket
     address: Any
@@ -92,8 +90,7 @@ class BufferedHead:
 
 
 class Worker(SyncWorker):  # type: ignore[misc] # (gunicorn has no types)
-    """A worker. Before the fork the arbiter sets `row`, its metrics, `slots`, which all workers share, and whether the access
-    log has paths."""
+    """A worker. Before the fork the arbiter sets its metrics, the slots of all, and whether the access log has paths."""
 
     row: Row
     slots: Slots
@@ -238,8 +235,7 @@ class Worker(SyncWorker):  # type: ignore[misc] # (gunicorn has no types)
             client.close() if request.method in ("GET", "HEAD") and not connection.is_long else self.linger(connection)
 
     def answer(self, environ: Environ, start_response: StartResponse) -> Iterable[bytes]:
-        """The WSGI application: the service, and 504 for an answer that takes too long. Then the worker ends, since resources of
-        the interrupted answer may be lost."""
+        """The WSGI application. An answer that takes too long is 504, and ends the worker: resources may be lost."""
         heads: list[tuple[object, ...]] = []
         try:
             blocks = self.service(environ, lambda *head: heads.append(head))
@@ -274,8 +270,7 @@ class Worker(SyncWorker):  # type: ignore[misc] # (gunicorn has no types)
         connection.client.close() if connection.request is None else self.linger(connection)
 
     def linger(self, connection: Connection) -> None:
-        """Closes a connection after its client has, or some seconds later: closing it with unread data would reset it, and the
-        answer might be lost."""
+        """Closes a connection after its client has, or some seconds later: with unread data it would be reset."""
         try:
             connection.client.shutdown(socket.SHUT_WR)
             self.lingering[connection.client.fileno()] = connection._replace(deadline=time.monotonic() + LINGER_SECONDS)
@@ -314,8 +309,7 @@ def peek_head(client: socket.socket) -> HeadState:
 
 
 def classify_head(received: bytes) -> HeadState:
-    """What `received` is of a request. Malformed is what RFC 9112 lets a server reject: a control character, a CR or an LF
-    alone, and a folded line."""
+    """What was received. RFC 9112 lets a server reject a control character, a CR or an LF alone, and a folded line."""
     end = received.find(b"\r\n\r\n")
     head = received.removesuffix(b"\r") if end < 0 else received[: end + 4]
     lines = head.count(b"\r\n")
@@ -336,8 +330,7 @@ def classify_head(received: bytes) -> HeadState:
 
 
 def is_long(request: Any) -> bool:
-    """Whether a request may take seconds, by its head: for contours, with many places, or with a body that is long or of unknown
-    length."""
+    """Whether a request may take seconds: for contours, with many places, or a body that is long or of unknown length."""
     if len(request.path) > SHORT_PATH or len(request.uri) > SHORT_TARGET or request.path.startswith("/isochrone/"):
         return True
     lengths = [value for name, value in request.headers if name in ("CONTENT-LENGTH", "TRANSFER-ENCODING")]

@@ -43,8 +43,7 @@ log = logging.getLogger("domethyme_service")
 
 
 class Options(NamedTuple):
-    """Options of a service: which requests are allowed, the default of the greatest metres to a road, and the cells of a
-    table."""
+    """Which requests are allowed, the default of the greatest metres to a road, and a table's greatest number of cells."""
 
     access: AccessPolicy
     default_radius: float = 1000.0
@@ -186,8 +185,7 @@ def needed(part: T | None) -> T:
 
 
 def parse_target(environ: Environ) -> tuple[str | None, str, dict[str, str]]:
-    """The host, the path and the parameters of a request. Raises RequestError if it isn't HTTP/1.0 or 1.1, or a parameter
-    is repeated."""
+    """The host, the path and the parameters of a request. Raises RequestError."""
     target, host = environ["RAW_URI"], environ.get("HTTP_HOST")
     length, coding = environ.get("CONTENT_LENGTH") or "0", environ.get("HTTP_TRANSFER_ENCODING", "chunked")
     if not TARGET.fullmatch(target) or not LENGTH.fullmatch(length) or coding.lower() != "chunked" or "," in (host or ""):

@@ -23,9 +23,8 @@ import domethyme
 from domethyme.network.column_file import HEAD
 from domethyme.network.net_file import UNITS, load_network
 from domethyme_service import access, endpoints, osrm_request, parameters, worker, wsgi
-from domethyme_service.budget import Budget
 from domethyme_service.errors import RequestError
-from domethyme_service.osrm_geometry import simplified
+from domethyme_service.osrm_geometry import Budget, simplified
 
 PATH = "/nodes/length?from=1&to=2"
 HIGH = "0.0003,0.00001;0.0077,-0.00002"

@@ -21,8 +21,7 @@ class BearingRange(NamedTuple):
 def nearest_with_bearing(
     roads: RoadIndex, place: Point, count: int, bearing_range: BearingRange, max_metres: float
 ) -> list[SnappedPoint]:
-    """The `count` nearest points of roads whose direction there is in the range, up to `max_metres` metres away. Routes begin
-    and end there in that direction alone."""
+    """The nearest points, within these metres, of roads whose direction is in the range. Routes keep to it there."""
     limit = FIRST_CANDIDATES
     while True:
         snapped_points = roads.nearest(place, limit)

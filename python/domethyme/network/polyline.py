@@ -19,8 +19,7 @@ def points_array(points: Iterable[list[float]]) -> Floats:
 
 
 def encode_polylines(lines: Sequence[Line], digits: int) -> list[str]:
-    """The polylines of lines of points (lon, lat), with this many decimal digits. Many short lines take little longer than one
-    of all their points."""
+    """The polylines of lines with so many decimal digits. Many short lines take little longer than one of all points."""
     whole = np.rint(points_array(itertools.chain.from_iterable(lines))[:, ::-1] * 10**digits).astype(np.int64)
     counts = [len(line) for line in lines]
     ends = np.cumsum(counts)
