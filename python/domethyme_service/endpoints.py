@@ -123,7 +123,8 @@ ENDPOINTS = (
     Endpoint("/metrics", "/metrics", "the text format 0.0.4 of Prometheus", None),
 )
 BY_NAME = {endpoint.name: endpoint for endpoint in ENDPOINTS}
-OSRM_SERVICES = {endpoint.name[1:] for endpoint in ENDPOINTS if endpoint.parameters and endpoint.parameters[0] is RADIUSES}
+# The names of the endpoints whose paths have places.
+WITH_PLACES = {endpoint.name for endpoint in ENDPOINTS if RADIUSES in (endpoint.parameters or ())}
 BY_PATH = {
     **{path: BY_NAME["/map/files"] for path in PAGE_FILES},
     **{endpoint.path: endpoint for endpoint in ENDPOINTS if endpoint.path and not re.search("[A-Z]", endpoint.path)},
@@ -136,7 +137,7 @@ def find_endpoint(path: str) -> Endpoint:
     if found := BY_PATH.get(path):
         return found
     words = path.split("/", 2)
-    if len(words) == 3 and words[1] in (*OSRM_SERVICES, "isochrone"):
+    if len(words) == 3 and f"/{words[1]}" in WITH_PLACES:
         return BY_NAME[f"/{words[1]}"]
     if TILE.fullmatch(path):
         return BY_NAME["/map/roads"]
@@ -145,14 +146,8 @@ def find_endpoint(path: str) -> Endpoint:
 
 def endpoint_list() -> list[str]:
     """The lines of the list of endpoints in docs/SERVICE.md."""
-    shown = [endpoint for endpoint in ENDPOINTS if endpoint.path]
-    return [f"- `{endpoint.method} {endpoint.path}{required_query(endpoint)}`: {endpoint.answer}" for endpoint in shown]
-
-
-def required_query(endpoint: Endpoint) -> str:
-    """The required part of a query."""
-    needed = [parameter.name for parameter in endpoint.parameters or () if parameter in (FROM, TO)]
-    return "?" * bool(needed) + "&".join(f"{name}=NODE" for name in needed)
+    shown = [(each, "?from=NODE&to=NODE" if FROM in (each.parameters or ()) else "") for each in ENDPOINTS if each.path]
+    return [f"- `{endpoint.method} {endpoint.path}{query}`: {endpoint.answer}" for endpoint, query in shown]
 
 
 def parameter_list() -> list[str]:

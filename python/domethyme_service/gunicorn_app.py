@@ -179,7 +179,12 @@ class Arbiter(gunicorn.arbiter.Arbiter):  # type: ignore[misc] # (gunicorn has n
         self.app.callable, self.app.generation = service, self.app.generation + 1
         del service
         self.reload()
-        record_load(self.app.metrics)
+        self.record_load()
+
+    def record_load(self) -> None:
+        """Stores when the files that are served were opened."""
+        own = self.app.metrics.own
+        own.last_reload_failed, own.last_reload_timestamp_seconds = 0, time.time()
 
     def refuse_reload(self, why: str) -> None:
         log.error("reload refused: %s", why)
@@ -223,16 +228,10 @@ def child_exit(arbiter: Arbiter, worker: Worker) -> None:
 
 def when_ready(arbiter: Arbiter) -> None:
     """The service listens: logs that, and notifies systemd."""
-    own = arbiter.app.metrics.own
-    own.process = os.getpid()
-    record_load(arbiter.app.metrics)
+    arbiter.app.metrics.own.process = os.getpid()
+    arbiter.record_load()
     log.info("listens at %s, %d nodes", format_address(arbiter.LISTENERS[0]), arbiter.app.callable.queries.nodes)
     notify_systemd(arbiter.app.notify_socket)
-
-
-def record_load(metrics: SharedMetrics) -> None:
-    """Stores when the files that are served were opened."""
-    metrics.own.last_reload_failed, metrics.own.last_reload_timestamp_seconds = 0, time.time()
 
 
 def ready_message(service: Service) -> str:

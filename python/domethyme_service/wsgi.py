@@ -17,7 +17,7 @@ from domethyme import DomethymeError
 from . import isochrone, node_queries, osrm, osrm_tables
 from .access import AccessPolicy, check_content_type
 from .dataset import Dataset
-from .endpoints import FROM, FROM_KEY, OSRM_SERVICES, TO, TO_KEY, Endpoint, find_endpoint
+from .endpoints import FROM, FROM_KEY, TO, TO_KEY, WITH_PLACES, Endpoint, find_endpoint
 from .errors import RequestError, invalid_query, malformed
 from .json_text import to_json
 from .metrics import SharedMetrics
@@ -121,13 +121,15 @@ class Service:
         host, path, query = parse_target(environ)
         endpoint = find_endpoint(path)
         environ["domethyme.endpoint"] = endpoint.name
-        self.options.access.check(host, local_address(environ), environ, endpoint.name == "/")
+        local = environ.get("SERVER_NAME") if environ.get("REMOTE_ADDR") else environ.get("HTTP_X_LOCAL_ADDRESS", "")
+        self.options.access.check(host, str(local), environ, endpoint.name == "/")
         method = environ["REQUEST_METHOD"]
         if method == "OPTIONS" and "HTTP_ACCESS_CONTROL_REQUEST_METHOD" in environ and self.options.access.headers:
             return PREFLIGHT
         if method != endpoint.method and not (method == "HEAD" and endpoint.method == "GET"):
             raise RequestError(405, "MethodNotAllowed", f"the method of this path is {endpoint.method}")
-        if endpoint.method == "GET" and (has_body(environ) or "HTTP_CONTENT_ENCODING" in environ):
+        has_body = environ.get("CONTENT_LENGTH", "0").strip("0") or "HTTP_TRANSFER_ENCODING" in environ
+        if endpoint.method == "GET" and (has_body or "HTTP_CONTENT_ENCODING" in environ):
             raise invalid_query("a GET has no body")
         return HANDLERS[endpoint.name](self, Call(endpoint, path, query, environ))
 
@@ -136,14 +138,12 @@ class Service:
         kind, text = PAGE_FILES[call.path]
         return Response(text, kind, HEADERS)
 
-    def map_about(self, call: Call) -> Response:
+    def map(self, call: Call) -> Response:
+        """A tile of the page's map, or what there is to know of all."""
         tiles = needed(self.dataset.tiles)
         call.values()
-        return Response(tiles.about_json, headers=NO_CACHE)
-
-    def map_roads(self, call: Call) -> Response:
-        tiles = needed(self.dataset.tiles)
-        call.values()
+        if call.endpoint.name == "/map/about":
+            return Response(tiles.about_json, headers=NO_CACHE)
         return Response(tiles.read(call.path), headers=CACHE_ONE_DAY)
 
     def places(self, call: Call) -> Response:
@@ -215,15 +215,6 @@ def parse_query(query: str) -> list[tuple[str, str]]:
     return [(name, value) for name, _, value in (field.partition("=") for field in query.split("&") if field)]
 
 
-def local_address(environ: Environ) -> str:
-    """The address of this end of the connection, or of nginx's."""
-    return str(environ.get("SERVER_NAME") if environ.get("REMOTE_ADDR") else environ.get("HTTP_X_LOCAL_ADDRESS", ""))
-
-
-def has_body(environ: Environ) -> bool:
-    return environ.get("CONTENT_LENGTH", "0").strip("0") != "" or "HTTP_TRANSFER_ENCODING" in environ
-
-
 def read_body(environ: Environ) -> bytes:
     """The body of a batch. Raises RequestError if it is longer than MAX_BODY, compressed, or incomplete."""
     if environ.get("HTTP_CONTENT_ENCODING", "identity").lower() != "identity":
@@ -244,9 +235,9 @@ def read_body(environ: Environ) -> bytes:
 HANDLERS: dict[str, Callable[[Service, Call], Response]] = {
     "/": Service.page_file,
     "/map/files": Service.page_file,
-    "/map/about": Service.map_about,
-    "/map/roads": Service.map_roads,
-    **{f"/{service}": Service.places for service in (*OSRM_SERVICES, "isochrone")},
+    "/map/about": Service.map,
+    "/map/roads": Service.map,
+    **dict.fromkeys(WITH_PLACES, Service.places),
     "/nodes/route": Service.pair,
     "/nodes/length": Service.pair,
     "/nodes/routes": Service.batch,
