@@ -13,8 +13,6 @@ from domethyme.network.snapping import RoadIndex
 from domethyme.router import Router
 
 from .errors import StartupError
-from .queries import NodeKeys
-from .tiles import Tiles
 
 # The operation of prctl for the signal at the parent's end (PR_SET_PDEATHSIG in sys/prctl.h).
 PARENT_SIGNAL = 1
@@ -38,13 +36,11 @@ class DatasetPaths(NamedTuple):
 
 
 class Dataset(NamedTuple):
-    """The open files: `links` of the hierarchy, the `stamp` of its file, and the `keys` of the network's nodes."""
+    """The open files, the number of the hierarchy's links, and the state of its file."""
 
     router: Router
     links: int
     roads: RoadIndex | None
-    tiles: Tiles | None
-    keys: NodeKeys
     stamp: Stamp
 
 
@@ -62,8 +58,7 @@ def open_dataset(paths: DatasetPaths) -> Dataset:
             belonging.compare(number, paths.hierarchy, roads.arrays, paths.compare_all)
         if file_stamp(number) != stamp:
             raise StartupError(f"{paths.hierarchy}: has changed while it was read")
-    tiles = None if roads is None else Tiles(roads.arrays)
-    return Dataset(router, links, roads, tiles, NodeKeys(() if roads is None else roads.arrays.keys()), stamp)
+    return Dataset(router, links, roads, stamp)
 
 
 def end_with_parent(number: int = signal.SIGKILL) -> None:

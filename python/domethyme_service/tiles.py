@@ -107,7 +107,9 @@ class Tiles:
         if zoom < MIN_NAME_ZOOM:
             once = unique_segments(begins, ends)
             begins, ends, kept = begins[once], ends[once], kept[once]
-        names = self._names(edges[kept])
+        # (the name of an edge is that of one of its arcs)
+        arcs = self.arrays.edge_arcs[np.minimum(self.arrays.edge_first[edges[kept]], len(self.arrays.edge_arcs) - 1)]
+        names: Ints = self.arrays.arc_texts[arcs, NAME_COLUMN]
         is_new = np.ones(len(kept), dtype=bool)
         is_new[1:] = (begins[1:] != ends[:-1]).any(axis=1) | (names[1:] != names[:-1])
         starts = np.flatnonzero(is_new).tolist()
@@ -129,12 +131,6 @@ class Tiles:
         if zoom < MIN_NAME_ZOOM:
             kept = kept[unique_segments(begins[kept], ends[kept])]
         return begins[kept], ends[kept], kept
-
-    def _names(self, edges: Ints) -> Ints:
-        """The number of the text with the name of each edge, that of one of its arcs."""
-        arcs = self.arrays.edge_arcs[np.minimum(self.arrays.edge_first[edges], len(self.arrays.edge_arcs) - 1)]
-        found: Ints = self.arrays.arc_texts[arcs, NAME_COLUMN]
-        return found
 
 
 def unique_segments(begins: Ints, ends: Ints) -> Ints:

@@ -23,8 +23,9 @@ from .json_text import to_json
 from .metrics import SharedMetrics
 from .osrm_request import parse_request
 from .parameters import Context, Values
-from .queries import Queries
+from .queries import NodeKeys, Queries
 from .static import CACHE_ONE_DAY, HEADERS, NO_CACHE, PAGE_FILES
+from .tiles import Tiles
 
 T = TypeVar("T")
 MAX_BODY, MAX_FIELDS = 4 << 20, 50
@@ -82,8 +83,10 @@ class Service:
 
     def __init__(self, dataset: Dataset, options: Options, metrics: SharedMetrics) -> None:
         self.dataset, self.options, self.metrics = dataset, options, metrics
-        self.queries = queries = Queries(dataset.router, dataset.links, metrics, dataset.keys)
-        self.engine = None if dataset.roads is None else osrm.Engine(queries, dataset.roads, options.max_table_cells)
+        roads, keys = dataset.roads, NodeKeys(() if dataset.roads is None else dataset.roads.arrays.keys())
+        self.queries = Queries(dataset.router, dataset.links, metrics, keys)
+        self.engine = None if roads is None else osrm.Engine(self.queries, roads, options.max_table_cells)
+        self.tiles = None if roads is None else Tiles(roads.arrays)
         self.headers = {"X-Content-Type-Options": "nosniff", **options.access.headers}
 
     def __call__(self, environ: Environ, start_response: StartResponse) -> Iterable[bytes]:
@@ -140,7 +143,7 @@ class Service:
 
     def map(self, call: Call) -> Response:
         """A tile of the page's map, or what there is to know of all."""
-        tiles = needed(self.dataset.tiles)
+        tiles = needed(self.tiles)
         call.values()
         if call.endpoint.name == "/map/about":
             return Response(tiles.about_json, headers=NO_CACHE)

@@ -35,9 +35,8 @@ def great_circle_metres(begins: Floats, ends: Floats) -> Floats:
     return EARTH_RADIUS * angles(begins, ends)
 
 
-def interpolate(begins: Floats, ends: Floats, shares: Floats, whole: Floats | None = None) -> Floats:
-    """The points at shares, from 0 to 1, of the ways from points to others; `whole` are the angles between, if known."""
-    whole = angles(begins, ends) if whole is None else whole
+def interpolate(begins: Floats, ends: Floats, shares: Floats, whole: Floats) -> Floats:
+    """The points at shares, from 0 to 1, of the ways from points to others; `whole` are the angles between."""
     least = np.maximum(np.sin(whole), 1e-300)
     before = np.where(whole > 0, np.sin((1 - shares) * whole) / least, 1 - shares)
     behind = np.where(whole > 0, np.sin(shares * whole) / least, shares)
