@@ -11,9 +11,9 @@ import errno
 import ipaddress
 import logging
 import os
+import pathlib
 import platform
 import socket
-import stat
 import sys
 from collections.abc import Callable, Sequence
 from typing import Any
@@ -109,9 +109,7 @@ def parse_origin(text: str) -> str:
 def configure_logging(access: bool) -> None:
     """Sends the access log to standard error; other lines go where gunicorn's do."""
     access_log = logging.getLogger("domethyme_service.access")
-    handler = logging.StreamHandler()
-    handler.setFormatter(logging.Formatter("%(message)s"))
-    access_log.addHandler(handler)
+    access_log.addHandler(logging.StreamHandler())
     access_log.propagate = False
     access_log.setLevel(logging.INFO if access else logging.WARNING)
     logging.getLogger("domethyme_service").setLevel(logging.INFO)
@@ -151,7 +149,7 @@ def listen_unix(path: str) -> str:
     of its own, which the systemd unit doesn't allow.) Raises StartupError."""
     before = os.umask(0o117)
     try:
-        if os.path.exists(path) and stat.S_ISSOCK(os.stat(path).st_mode):
+        if pathlib.Path(path).is_socket():
             os.unlink(path)
         return listen(socket.AF_UNIX, path)
     except OSError as error:
@@ -197,5 +195,4 @@ def main(words: Sequence[str] | None = None) -> None:
     try:
         run(args)
     except (StartupError, DomethymeError, OSError) as fault:
-        print(f"domethyme-serve: {fault}", file=sys.stderr)
-        sys.exit(1)
+        sys.exit(f"domethyme-serve: {fault}")

@@ -6,9 +6,9 @@ from typing import Any, NamedTuple
 
 from .errors import RequestError, invalid_query
 from .parameters import (
-    INDEX, METRES, Choice, Context, Parameter, Values, annotations, contours, ignored, node, number_range,
+    INDEX, METRES, Choice, Context, Parameter, Values, annotations, contours, ignored, key, node, number_range,
     parse_alternatives, parse_bearing, parse_colors, parse_continue_straight, parse_indices, parse_number, parse_radius,
-    parse_text, per_place, unsupported
+    per_place, unsupported
 )
 from .static import PAGE_FILES
 
@@ -56,10 +56,7 @@ CONTOURS_COLORS = Parameter(
 )
 GENERALIZE = number_range("generalize", 1e6, "metres by which contours are simplified")
 DENOISE = number_range("denoise", 1, "0 to 1: parts and holes smaller than this share of the largest part go")
-FROM, TO = node("from"), node("to")
-FROM_KEY, TO_KEY = [
-    Parameter(name, "the key of a node, where the network has keys", parse_text) for name in ("from_key", "to_key")
-]
+FROM, TO, FROM_KEY, TO_KEY = node("from"), node("to"), key("from_key"), key("to_key")
 
 # The parameters of all of OSRM's services.
 COMMON: tuple[Parameter[Any], ...] = (

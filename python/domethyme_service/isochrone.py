@@ -21,9 +21,8 @@ MAX_REACHED = 4_000_000
 
 def answer(engine: Engine, request: Request) -> str:
     """The answer to a request. Raises RequestError."""
-    roads, values = engine.roads, request.values
-    contours, colors = values.get(CONTOURS_MINUTES) or values.get(CONTOURS_METERS) or [], values.get(CONTOURS_COLORS) or []
-    weight_limits = parse_limits(values, roads.unit)
+    roads, values, colors = engine.roads, request.values, request.values.get(CONTOURS_COLORS) or []
+    contours, weight_limits = parse_limits(values, roads.unit)
     if colors and len(colors) != len(contours):
         raise invalid_value("contours_colors has to have a colour for each contour")
 
@@ -39,8 +38,8 @@ def answer(engine: Engine, request: Request) -> str:
     return to_json(features(reach, contours, METRICS[roads.unit][0], style))
 
 
-def parse_limits(values: Values, unit: str) -> list[int]:
-    """The contours in the unit of weights. Raises RequestError."""
+def parse_limits(values: Values, unit: str) -> tuple[list[float], list[int]]:
+    """The contours, and the same in the unit of weights. Raises RequestError."""
     minutes, metres = values.get(CONTOURS_MINUTES) or [], values.get(CONTOURS_METERS) or []
     if bool(minutes) == bool(metres):
         raise invalid_query("there has to be one of contours_minutes and contours_meters")
@@ -51,4 +50,4 @@ def parse_limits(values: Values, unit: str) -> list[int]:
     found = limits(unit, minutes, metres)
     if any(low == limit for low, limit in itertools.pairwise(found)):
         raise invalid_value(f"{name} have to differ by more")
-    return found
+    return minutes or metres, found

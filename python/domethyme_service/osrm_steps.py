@@ -10,7 +10,6 @@ from numpy.typing import NDArray
 from domethyme.network.geo import Point
 from domethyme.network.leg_geometry import Figures, LegGeometry, make_totals
 from domethyme.network.net_file import TEXTS
-from domethyme.network.polyline import Line
 from domethyme.network.snapping import RoadIndex
 
 from .json_text import Json
@@ -41,19 +40,16 @@ class StepBuilder:
         if is_on_roundabout.any():
             mark_roundabout_steps(is_new, is_on_roundabout)
         self.step_begins: list[int] = [0, *(np.flatnonzero(is_new) + 1).tolist(), len(geometry.arcs)]
+        self.lines = [geometry.line(begin, end) for begin, end in itertools.pairwise(self.step_begins)]
         self.arc_texts: list[list[int]] = texts.tolist()
         self.is_on_roundabout: list[bool] = is_on_roundabout.tolist()
         self.first_bearings: list[int] = first.tolist()
         self.last_bearings: list[int] = last.tolist()
 
-    def lines(self) -> list[Line]:
-        """The line of each step."""
-        return [self.geometry.line(begin, end) for begin, end in itertools.pairwise(self.step_begins)]
-
-    def steps(self, lines: list[Line], shapes: list[Geometry]) -> list[Json]:
-        """The steps without the arrival, from their lines and encoded geometries."""
+    def steps(self, shapes: list[Geometry]) -> list[Json]:
+        """The steps without the arrival, from the encoded geometries of their lines."""
         found = []
-        for begin, end, line, shape in zip(self.step_begins, self.step_begins[1:], lines, shapes):
+        for begin, end, line, shape in zip(self.step_begins, self.step_begins[1:], self.lines, shapes):
             # (a step that enters a roundabout is named after the first arc behind it)
             named = begin
             if begin and self.is_on_roundabout[begin]:
@@ -99,13 +95,12 @@ def build_steps(roads: RoadIndex, geometry: LegGeometry | None, start: Point, en
     """The steps of a leg, with geometries as `format_`; `geometry` is None for a leg that stays at its point."""
     nothing = make_totals(roads, 0, 0.0, 0.0)
     builder = None if geometry is None else StepBuilder(geometry)
-    lines = [[list(start)] * 2] if builder is None else builder.lines()
-    *shapes, at_end = encode_geometries([*lines, [list(end)] * 2], format_)
+    *shapes, at_end = encode_geometries([*(builder.lines if builder else [[list(start)] * 2]), [list(end)] * 2], format_)
     if builder is None:
         depart = make_maneuver({"type": "depart"}, list(start), 0, 0)
         found, before = [make_step(depart, ("", "", ""), nothing, shapes[0])], 0
     else:
-        found, before = builder.steps(lines, shapes), builder.last_bearings[-1]
+        found, before = builder.steps(shapes), builder.last_bearings[-1]
     arrive = make_maneuver({"type": "arrive"}, list(end), before, 0)
     return [*found, make_step(arrive, (found[-1]["name"], "", ""), nothing, at_end)]
 

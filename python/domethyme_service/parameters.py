@@ -80,7 +80,7 @@ class Choice(Parameter[str]):
 
 def ignored(name: str) -> Parameter[str]:
     """Any text, without effect."""
-    return Parameter(name, "any, not used", parse_text)
+    return Parameter(name, "any, not used", lambda text, _context: text)
 
 
 def unsupported(name: str, allowed: str = "") -> Parameter[None]:
@@ -128,8 +128,12 @@ def annotations(known: Sequence[str], default: str, is_list_only: bool = False) 
 
 def node(name: str) -> Parameter[int]:
     """A node by its number."""
-    accepted = "a node, from 1 to the number of nodes"
-    return Parameter(name, accepted, lambda text, context: parse_node(text, name, context.nodes))
+    return Parameter(name, "", lambda text, context: parse_node(text, name, context.nodes))
+
+
+def key(name: str) -> Parameter[str]:
+    """The key of a node, where the network has keys."""
+    return Parameter(name, "", lambda text, _context: text)
 
 
 def require(is_valid: object) -> None:
@@ -156,10 +160,6 @@ def per_place(parse: Parse[T], missing: str) -> Parse[list[T]]:
         return found
 
     return parse_all
-
-
-def parse_text(text: str, _context: Context) -> str:
-    return text
 
 
 def parse_radius(word: str, context: Context) -> float:
