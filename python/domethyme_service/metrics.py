@@ -81,9 +81,9 @@ class SharedMetrics:
         processes = [int(row.process) for row in self.rows if row.process]
         sums.nodes, sums.resident_memory_bytes = nodes, max(map(resident_bytes, processes), default=0)
         labels = ",".join(f'{name}="{version}"' for name, version in self.versions.items())
-        build = format_header("build_info", "gauge", "1, with the versions as labels.")
-        parts = format_requests(sums), format_histogram(sums), format_unlabelled(sums), build
-        return "\n".join([*itertools.chain(*parts), f"domethyme_build_info{{{labels}}} 1", ""])
+        header = format_header("build_info", "gauge", "1, with the versions as labels.")
+        lines = [*format_requests(sums), *format_histogram(sums), *format_unlabelled(sums), header]
+        return "\n".join([*lines, f"domethyme_build_info{{{labels}}} 1", ""])
 
 
 def resident_bytes(process: int) -> int:
@@ -94,14 +94,13 @@ def resident_bytes(process: int) -> int:
         return 0
 
 
-def format_header(name: str, kind: str, text: str) -> Iterator[str]:
+def format_header(name: str, kind: str, text: str) -> str:
     """The HELP and TYPE lines of a metric."""
-    yield f"# HELP domethyme_{name} {text}"
-    yield f"# TYPE domethyme_{name} {kind}"
+    return f"# HELP domethyme_{name} {text}\n# TYPE domethyme_{name} {kind}"
 
 
 def format_requests(sums: Row) -> Iterator[str]:
-    yield from format_header("requests_total", "counter", "Requests that were answered, by endpoint and status.")
+    yield format_header("requests_total", "counter", "Requests that were answered, by endpoint and status.")
     for name, counts in zip(ENDPOINT_NAMES, sums.requests):
         for status, count in zip(STATUSES, counts):
             if count:
@@ -109,7 +108,7 @@ def format_requests(sums: Row) -> Iterator[str]:
 
 
 def format_histogram(sums: Row) -> Iterator[str]:
-    yield from format_header("request_seconds", "histogram", "Seconds until a request was answered, by endpoint.")
+    yield format_header("request_seconds", "histogram", "Seconds until a request was answered, by endpoint.")
     for name, counts, seconds in zip(ENDPOINT_NAMES, sums.buckets, sums.seconds):
         label, totals = f'endpoint="{name}"', list(itertools.accumulate(counts))
         if totals[-1]:
@@ -124,5 +123,5 @@ def format_unlabelled(sums: Row) -> Iterator[str]:
     for name, kind, text, old_name in METRICS:
         for shown, shown_text in ((name, text), (old_name, f"The same as domethyme_{name}, for one version.")):
             if shown:
-                yield from format_header(shown, kind, shown_text)
+                yield format_header(shown, kind, shown_text)
                 yield f"domethyme_{shown} {getattr(sums, name):.15g}"

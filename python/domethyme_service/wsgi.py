@@ -22,7 +22,7 @@ from .errors import RequestError, invalid_query, malformed
 from .json_text import to_json
 from .metrics import SharedMetrics
 from .osrm_request import parse_request
-from .parameters import Context, Values
+from .parameters import Context
 from .queries import NodeKeys, Queries
 from .static import CACHE_ONE_DAY, HEADERS, NO_CACHE, PAGE_FILES
 from .tiles import Tiles
@@ -72,10 +72,6 @@ class Call(NamedTuple):
     path: str
     query: Mapping[str, str]
     environ: Environ
-
-    def values(self, context: Context = Context()) -> Values:
-        """The values of the parameters. Raises RequestError."""
-        return self.endpoint.values(self.query, context)
 
 
 class Service:
@@ -144,7 +140,7 @@ class Service:
     def map(self, call: Call) -> Response:
         """A tile of the page's map, or what there is to know of all."""
         tiles = needed(self.tiles)
-        call.values()
+        call.endpoint.values(call.query)
         if call.endpoint.name == "/map/about":
             return Response(tiles.about_json, headers=NO_CACHE)
         return Response(tiles.read(call.path), headers=CACHE_ONE_DAY)
@@ -156,7 +152,7 @@ class Service:
 
     def pair(self, call: Call) -> Response:
         """The route or length of a pair of nodes."""
-        values = call.values(Context(nodes=self.queries.nodes))
+        values = call.endpoint.values(call.query, Context(nodes=self.queries.nodes))
         answer = node_queries.route_answer if call.endpoint.name == "/nodes/route" else node_queries.length_answer
         ends = (node_queries.find_node(self.queries, values, *each) for each in ((FROM, FROM_KEY), (TO, TO_KEY)))
         return Response(answer(self.queries, *ends))
@@ -164,7 +160,7 @@ class Service:
     def batch(self, call: Call) -> Response:
         """Reads the whole body, since a client may send all of it before it reads, and answers in blocks. An error before the
         first block is an error response; after it the connection is broken."""
-        call.values()
+        call.endpoint.values(call.query)
         check_content_type(call.environ.get("CONTENT_TYPE", ""))
         body = read_body(call.environ)
         blocks = node_queries.batch_answer(self.queries, call.endpoint.name == "/nodes/routes", body)

@@ -24,8 +24,7 @@ def encode_polylines(lines: Sequence[Line], digits: int) -> list[str]:
     counts = [len(line) for line in lines]
     ends = np.cumsum(counts)
     begins = ends - counts
-    steps = whole.copy()
-    steps[1:] -= whole[:-1]
+    steps = np.diff(whole, axis=0, prepend=0)
     steps[begins] = whole[begins]
     values = steps.ravel()
     rest = np.where(values < 0, ~(values << 1), values << 1)[:, None] >> SHIFTS
