@@ -15,8 +15,6 @@ HOST = re.compile(r"(\[[0-9A-Fa-f:.]{2,45}\]|[0-9A-Za-z._~-]{1,253})(?::[0-9]{0,
 BATCH_TYPES = ("application/x-ndjson", "application/ndjson", "application/jsonl", "application/json")
 ANY_ORIGIN, NO_ORIGIN = "*", "none"
 ORIGIN = re.compile(r"[a-z][a-z0-9+.-]*://[^/?#\s]+")
-WRONG_HOST = "this service isn't for the host {}: --allowed-host names others"
-WRONG_ORIGIN = "a page of another origin asks: --cors names one that may"
 
 
 class AccessPolicy(NamedTuple):
@@ -33,15 +31,17 @@ class AccessPolicy(NamedTuple):
         """Raises RequestError if a request isn't allowed. `host` is its Host, None for HTTP/1.0 without one; `local` the
         address of this end of the connection; `environ` WSGI's. Navigation from other sites to the page is allowed."""
         if host is not None and not self.allows_host(host, local):
-            raise RequestError(421, "InvalidHost", WRONG_HOST.format(host[:100]))
+            message = f"this service isn't for the host {host[:100]}: --allowed-host names others"
+            raise RequestError(421, "InvalidHost", message)
         site: str = environ.get("HTTP_SEC_FETCH_SITE", "none")
         origin: str | None = environ.get("HTTP_ORIGIN")
         if self.origin == ANY_ORIGIN or self.origin != NO_ORIGIN and origin == self.origin:
             return
-        if site not in ("none", "same-origin") and not (is_page and environ.get("HTTP_SEC_FETCH_MODE") == "navigate"):
-            raise RequestError(403, "Forbidden", WRONG_ORIGIN)
-        if origin is not None and site != "same-origin" and origin.partition("://")[2].lower() != (host or "").lower():
-            raise RequestError(403, "Forbidden", WRONG_ORIGIN)
+        is_navigation = is_page and environ.get("HTTP_SEC_FETCH_MODE") == "navigate"
+        is_cross_site = site not in ("none", "same-origin") and not is_navigation
+        is_other = origin is not None and origin.partition("://")[2].lower() != (host or "").lower()
+        if is_cross_site or site != "same-origin" and is_other:
+            raise RequestError(403, "Forbidden", "a page of another origin asks: --cors names one that may")
 
     def allows_host(self, host: str, local: str) -> bool:
         """Whether a host is an allowed name, or the address of this end of the connection."""

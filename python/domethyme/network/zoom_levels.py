@@ -41,7 +41,7 @@ class Levels(NamedTuple):
 
 
 def road_class(highway: str) -> int:
-    """The number in KINDS of a class of road; a slip road is of the kind of the road that it leads to."""
+    """The number in ROAD_CLASSES of a class of road; a slip road is of the kind of the road that it leads to."""
     plain = highway.removesuffix("_link")
     return next((kind for kind, names in enumerate(ROAD_CLASSES) if plain in names), len(ROAD_CLASSES) - 1)
 
