@@ -37,7 +37,7 @@ LINES = "application/x-ndjson; charset=utf-8"
 METRICS = "text/plain; version=0.0.4; charset=utf-8"
 STATUS_LINES = {status.value: f"{status.value} {status.phrase}" for status in http.HTTPStatus}
 # What answers requests with places, by service.
-ANSWERS = {"route": osrm.route, "nearest": osrm.nearest, "table": osrm_tables.table, "isochrone": isochrone.answer}
+BY_SERVICE = {"route": osrm.route, "nearest": osrm.nearest, "table": osrm_tables.table, "isochrone": isochrone.answer}
 Environ = dict[str, Any]
 StartResponse = Callable[..., object]
 log = logging.getLogger("domethyme_service")
@@ -148,7 +148,7 @@ class Service:
     def places(self, call: Call) -> Response:
         """Answers a request of OSRM's API, or for what is reached, as Mapbox's API has it."""
         request = parse_request(call.path, call.query, self.options.default_radius)
-        return Response(ANSWERS[request.service](needed(self.engine), request))
+        return Response(BY_SERVICE[request.service](needed(self.engine), request))
 
     def pair(self, call: Call) -> Response:
         """The route or length of a pair of nodes."""
