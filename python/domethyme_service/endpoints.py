@@ -122,10 +122,8 @@ ENDPOINTS = (
 BY_NAME = {endpoint.name: endpoint for endpoint in ENDPOINTS}
 # The names of the endpoints whose paths have places.
 WITH_PLACES = {endpoint.name for endpoint in ENDPOINTS if RADIUSES in (endpoint.parameters or ())}
-BY_PATH = {
-    **{path: BY_NAME["/map/files"] for path in PAGE_FILES},
-    **{endpoint.path: endpoint for endpoint in ENDPOINTS if endpoint.path and not re.search("[A-Z]", endpoint.path)},
-}
+BY_PATH = dict.fromkeys(PAGE_FILES, BY_NAME["/map/files"])
+BY_PATH |= {endpoint.path: endpoint for endpoint in ENDPOINTS if endpoint.path == endpoint.name}
 TILE = re.compile(r"/map/roads/([0-9]{1,2})/([0-9]{1,6})/([0-9]{1,6})")
 
 

@@ -5,7 +5,7 @@ from collections.abc import Sequence
 
 import numpy as np
 
-from domethyme.network.grid import Ints
+from domethyme.network.groups import Ints
 from domethyme.network.isochrones import METRICS, Shape, Style, features, limits, reach_from
 
 from .endpoints import CONTOURS_COLORS, CONTOURS_METERS, CONTOURS_MINUTES, DENOISE, GENERALIZE, POLYGONS

@@ -7,7 +7,7 @@ from collections.abc import Iterator, Sequence
 import numpy as np
 
 from domethyme import DomethymeError, LibraryNotFound, batch
-from domethyme.network.leg_tables import Ints
+from domethyme.network.groups import Ints
 from domethyme.network.legs import SnapEnds
 from domethyme.protocol import RouteReply
 from domethyme.router import Router

@@ -5,10 +5,9 @@ import itertools
 from typing import TypedDict
 
 import numpy as np
-from numpy.typing import NDArray
 
 from .geo import bearing
-from .groups import expand, offsets
+from .groups import Ints, expand, offsets
 from .indexes import wrapped_difference
 from .legs import Leg
 from .net_file import UNITS
@@ -16,11 +15,8 @@ from .network import Floats
 from .snapping import RoadIndex
 
 MICRODEGREES = 1_000_000
-
 # How many units of weights are a second, or a metre, of an answer.
 UNITS_PER_OUTPUT_UNIT = {"duration": 1000, "distance": 100}
-
-Ints = NDArray[np.int64]
 
 
 class Figures(TypedDict):

@@ -9,13 +9,12 @@ from collections.abc import Callable, Iterator, Sequence
 from typing import NamedTuple
 
 import numpy as np
-from numpy.typing import NDArray
 
 from ..protocol import NO_PATH
+from .groups import Ints
 from .legs import leg_without_nodes
 from .snapping import RoadIndex, SnappedPoint
 
-Ints = NDArray[np.int64]
 # The lengths from each of some nodes, from 0, to each of others, NO_PATH for no path: a new array with a row for each of the first.
 NodeTable = Callable[[Ints, Ints], Ints]
 # No length is as great, nor its sum with the weights of two arcs, and that sum has no wrap.
