@@ -33,9 +33,8 @@ class LegGeometry:
     def __init__(self, roads: RoadIndex, leg: Leg) -> None:
         self.roads, self.leg, arrays = roads, leg, roads.arrays
         self.arcs: Ints = np.array(leg.arcs, dtype=np.int64)
-        self.edges = arrays.arc_edge[self.arcs]
-        is_along = arrays.arc_along[self.arcs]
-        first, behind = arrays.edge_begin[self.edges], arrays.edge_begin[self.edges + 1]
+        edges, is_along = arrays.arc_edge[self.arcs], arrays.arc_along[self.arcs]
+        first, behind = arrays.edge_begin[edges], arrays.edge_begin[edges + 1]
         owner, position = expand(behind - first)
         rows = np.where(is_along, first, behind - 1)[owner] + position * np.where(is_along, 1, -1)[owner]
         self.begins: Ints = offsets(behind - first)
@@ -58,8 +57,7 @@ class LegGeometry:
     def _rounded_points(self) -> tuple[list[list[float]], list[int], list[int]]:
         """The points to six digits, without repeated ones, and the indices of the first and the last of each arc."""
         shown = (self.points + UNITS // MICRODEGREES // 2) // (UNITS // MICRODEGREES)
-        is_other = np.ones(len(shown), dtype=bool)
-        is_other[1:] = (shown[1:, 0] != shown[:-1, 0]) | (shown[1:, 1] != shown[:-1, 1])
+        is_other = np.append(True, (shown[1:] != shown[:-1]).any(axis=1))
         index, points = is_other.cumsum() - 1, (shown[is_other] / MICRODEGREES).tolist()
         return points, index[self.begins[:-1]].tolist(), index[self.begins[1:] - 1].tolist()
 
