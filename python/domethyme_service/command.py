@@ -8,6 +8,7 @@ Exit status: 0; 1 if it can't start, with one line on standard error; 2 for inva
 """
 import argparse
 import errno
+import functools
 import ipaddress
 import logging
 import os
@@ -16,7 +17,7 @@ import platform
 import socket
 import sys
 from collections.abc import Callable, Sequence
-from typing import Any
+from typing import Any, NoReturn
 
 from gunicorn import systemd
 
@@ -48,15 +49,6 @@ REMOVED_OPTIONS = {
 }
 
 
-class RemovedOption(argparse.Action):
-    """Rejects an option that was removed, and names what replaces it."""
-
-    def __call__(
-        self, parser: argparse.ArgumentParser, _args: argparse.Namespace, _values: Any, option: str | None = None
-    ) -> None:
-        parser.error(f"{option} is no longer an option: use {REMOVED_OPTIONS[option or '']}")
-
-
 def argument_parser() -> argparse.ArgumentParser:
     """The arguments of the command. The second name of an option is its old one."""
     parser = argparse.ArgumentParser(
@@ -84,9 +76,14 @@ def argument_parser() -> argparse.ArgumentParser:
     add("--cors", metavar="ORIGIN", type=parse_origin, default="none", help="the origin whose pages may ask, * for any (none)")
     add("--access-log", action="store_true", help="a line of JSON on standard error for each request")
     add("--log-places", action="store_true", help="with the path and the caller's address in it")
-    for name in REMOVED_OPTIONS:
-        add(name, action=RemovedOption, nargs=1, help=argparse.SUPPRESS)
+    for name, substitute in REMOVED_OPTIONS.items():
+        refuse = functools.partial(refuse_option, parser, f"{name} is no longer an option: use {substitute}")
+        add(name, type=refuse, nargs=1, help=argparse.SUPPRESS)
     return parser
+
+
+def refuse_option(parser: argparse.ArgumentParser, message: str, _text: str) -> NoReturn:
+    parser.error(message)
 
 
 def int_between(low: int, high: int) -> Callable[[str], int]:

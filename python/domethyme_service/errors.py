@@ -1,4 +1,6 @@
 """Errors that become HTTP error responses, and the error of a service that can't start."""
+import functools
+
 from .json_text import to_json
 
 
@@ -19,21 +21,9 @@ class StartupError(Exception):
     """The service can't start, or can't reload its files. Its text is one line."""
 
 
-def invalid_query(message: str) -> RequestError:
-    """An unknown parameter, or a request of the wrong shape."""
-    return RequestError(400, "InvalidQuery", message)
-
-
-def invalid_value(message: str) -> RequestError:
-    """An invalid value of a parameter."""
-    return RequestError(400, "InvalidValue", message)
-
-
-def not_implemented(message: str) -> RequestError:
-    """An OSRM parameter that would change the answer, and that this service doesn't support."""
-    return RequestError(400, "NotImplemented", message)
-
-
-def malformed() -> RequestError:
-    """A request that isn't valid HTTP (RFC 9112)."""
-    return RequestError(400, "InvalidUrl", "the request cannot be read")
+# An unknown parameter, or a request of the wrong shape; an invalid value of a parameter; an OSRM parameter that would change
+# the answer, and that this service doesn't support; and a request that isn't valid HTTP (RFC 9112).
+invalid_query = functools.partial(RequestError, 400, "InvalidQuery")
+invalid_value = functools.partial(RequestError, 400, "InvalidValue")
+not_implemented = functools.partial(RequestError, 400, "NotImplemented")
+malformed = functools.partial(RequestError, 400, "InvalidUrl", "the request cannot be read")

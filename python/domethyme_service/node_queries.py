@@ -1,8 +1,5 @@
 """Routes and lengths between nodes by number, from 1, as in files: of one pair, or of a batch of pairs as NDJSON.
-
-A batch is answered in blocks of BLOCK_LINES lines. A block of valid lines is parsed by one call of `json`, any other line by
-line.
-"""
+A block of valid lines is parsed by one call of `json`, any other line by line."""
 import json
 from collections.abc import Iterator, Sequence
 
