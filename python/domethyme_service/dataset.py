@@ -14,8 +14,7 @@ from domethyme.router import Router
 
 from .errors import StartupError
 
-# The operation of prctl for the signal at the parent's end (PR_SET_PDEATHSIG in sys/prctl.h).
-PARENT_SIGNAL = 1
+PR_SET_PDEATHSIG = 1  # (sys/prctl.h)
 # Network files up to this many bytes are verified completely at startup, in a quarter of a second; the blocks of larger ones
 # when they are first read.
 EAGER_VERIFY_BYTES = 1 << 28
@@ -62,8 +61,8 @@ def open_dataset(paths: DatasetPaths) -> Dataset:
 
 
 def end_with_parent(number: int = signal.SIGKILL) -> None:
-    """Has the kernel send a signal to this process when its parent ends (PR_SET_PDEATHSIG)."""
-    ctypes.CDLL(None).prctl(PARENT_SIGNAL, int(number))
+    """Has the kernel send a signal to this process when its parent ends."""
+    ctypes.CDLL(None).prctl(PR_SET_PDEATHSIG, int(number))
 
 
 def file_stamp(file: int) -> Stamp:

@@ -31,8 +31,7 @@ from .wsgi import Options, Service
 TIMEOUT, GRACEFUL_SECONDS = 30, 30
 # Generations of workers, one for each load of the files, that can have rows of metrics at once.
 MAX_GENERATIONS = 8
-# mallopt's parameter for the number of arenas (M_ARENA_MAX in malloc.h).
-ARENA_MAX = -8
+M_ARENA_MAX = -8  # (malloc.h)
 END_SIGNALS = (signal.SIGTERM, signal.SIGINT, signal.SIGQUIT)
 FIXED_SETTINGS = {
     "worker_class": "domethyme_service.worker.Worker", "preload_app": True, "threads": 1, "timeout": TIMEOUT,
@@ -112,7 +111,7 @@ class Arbiter(gunicorn.arbiter.Arbiter):  # type: ignore[misc] # (gunicorn has n
         gc.collect()
         gc.freeze()
         libc = ctypes.CDLL(None)
-        libc.mallopt(ARENA_MAX, 1)
+        libc.mallopt(M_ARENA_MAX, 1)
         libc.malloc_trim(0)
 
     def signal(self, sig: int, frame: object) -> None:

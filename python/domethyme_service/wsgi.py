@@ -89,17 +89,16 @@ class Service:
         """Answers a request."""
         environ["domethyme.endpoint"] = "other"
         try:
-            response = self.respond(environ)
+            return self.send(environ, start_response, self.respond(environ))
         except RequestError as error:
             return self.error_response(environ, start_response, error)
         except DomethymeError as error:
             log.error("%s", error.message)
             message = "a file of the service can't be read: its log says why"
-            return self.error_response(environ, start_response, RequestError(500, "InternalError", message))
         except Exception:
             log.exception("error while answering")
-            return self.error_response(environ, start_response, RequestError(500, "InternalError", "an error inside"))
-        return self.send(environ, start_response, response)
+            message = "an error inside"
+        return self.error_response(environ, start_response, RequestError(500, "InternalError", message))
 
     def error_response(self, environ: Environ, start_response: StartResponse, error: RequestError) -> Iterable[bytes]:
         """Answers with an error, and stores it in `environ`."""
