@@ -18,8 +18,6 @@ PR_SET_PDEATHSIG = 1  # (sys/prctl.h)
 # Network files up to this many bytes are verified completely at startup, in a quarter of a second; the blocks of larger ones
 # when they are first read.
 EAGER_VERIFY_BYTES = 1 << 28
-# The state of a file: device, inode, size, and modification time in nanoseconds.
-Stamp = tuple[int, int, int, int]
 
 
 class DatasetPaths(NamedTuple):
@@ -40,7 +38,7 @@ class Dataset(NamedTuple):
     router: Router
     links: int
     roads: RoadIndex | None
-    stamp: Stamp
+    stamp: tuple[int, ...]
 
 
 def open_dataset(paths: DatasetPaths) -> Dataset:
@@ -65,8 +63,8 @@ def end_with_parent(number: int = signal.SIGKILL) -> None:
     ctypes.CDLL(None).prctl(PR_SET_PDEATHSIG, int(number))
 
 
-def file_stamp(file: int) -> Stamp:
-    """The state of an open file."""
+def file_stamp(file: int) -> tuple[int, ...]:
+    """The state of an open file: device, inode, size, and modification time in nanoseconds."""
     found = os.fstat(file)
     return found.st_dev, found.st_ino, found.st_size, found.st_mtime_ns
 

@@ -15,7 +15,6 @@ from .parameters import Context, Values
 DEGREES = re.compile(r"[-+]?(?:[0-9]{1,3}(?:\.[0-9]{0,20})?|\.[0-9]{1,20})(?:[eE][-+]?[0-9]{1,2})?")
 PROFILE = re.compile("[A-Za-z0-9_.-]{1,64}")
 POLYLINE = re.compile(r"polyline(6?)\((.*)\)", re.DOTALL)
-SERVICES = ("route", "nearest", "table")
 # Places of a request of each service.
 MAX_PLACES = {"route": 500, "nearest": 1, "table": 2000, "isochrone": 1}
 

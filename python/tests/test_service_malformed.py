@@ -21,11 +21,11 @@ from domethyme_service.dataset import DatasetPaths, open_dataset
 from domethyme_service.errors import malformed
 from domethyme_service.gunicorn_app import FIXED_SETTINGS
 from domethyme_service.metrics import SharedMetrics
-from domethyme_service.osrm_request import SERVICES
 from domethyme_service.parameters import Choice
 from domethyme_service.worker import MAX_HEAD, HeadState, classify_head
 from domethyme_service.wsgi import Options, Service
 
+SERVICES = ("route", "nearest", "table")
 # The names of the parameters of all services, and of each; unsupported ones; and words by name.
 COMMON = [each.name for each in endpoints.COMMON]
 OWN = {service: endpoints.BY_NAME[f"/{service}"].parameters[len(COMMON) :] for service in SERVICES}
