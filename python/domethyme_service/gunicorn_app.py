@@ -12,7 +12,7 @@ import select
 import signal
 import socket
 import time
-from typing import Any, NamedTuple, NoReturn
+from typing import NamedTuple, NoReturn
 
 import gunicorn
 import gunicorn.arbiter
@@ -229,7 +229,9 @@ def when_ready(arbiter: Arbiter) -> None:
     """The service listens: logs that, and notifies systemd."""
     arbiter.app.metrics.own.process = os.getpid()
     arbiter.record_load()
-    log.info("listens at %s, %d nodes", format_address(arbiter.LISTENERS[0]), arbiter.app.callable.queries.nodes)
+    address = str(arbiter.LISTENERS[0])
+    url = f"{address}/" if address.startswith("http") else address
+    log.info("listens at %s, %d nodes", url, arbiter.app.callable.queries.nodes)
     notify_systemd(arbiter.app.notify_socket)
 
 
@@ -257,14 +259,6 @@ def run_trial(app: Application, pipe: int) -> NoReturn:
         os.write(pipe, report.encode("utf-8", "replace")[:4000])
     finally:
         os._exit(0)
-
-
-def format_address(listener: Any) -> str:
-    """The URL of a socket, or `unix:PATH`."""
-    name = listener.getsockname()
-    if isinstance(name, (str, bytes)):
-        return f"unix:{os.fsdecode(name)}"
-    return f"http://{f'[{name[0]}]' if ':' in name[0] else name[0]}:{name[1]}/"
 
 
 def notify_systemd(name: str) -> None:

@@ -1,5 +1,7 @@
 """Routes and lengths between nodes by number, from 1, as in files: of one pair, or of a batch of pairs as NDJSON.
 A block of valid lines is parsed by one call of `json`, any other line by line."""
+import io
+import itertools
 import json
 from collections.abc import Iterator, Sequence
 
@@ -10,8 +12,7 @@ from .parameters import Parameter, Values, parse_node
 from .queries import Pair, Queries
 
 MAX_LINE_BYTES = 256
-# Lines of a block, and bytes of a body that are split into lines at once.
-BLOCK_LINES, SPLIT_BYTES = 256, 1 << 14
+BLOCK_LINES = 256
 # Lines with an error that are reported: the next one ends the answer.
 MAX_ERRORS = 1000
 
@@ -83,15 +84,10 @@ def batch_answer(queries: Queries, has_routes: bool, body: bytes) -> Iterator[by
 
 def split_blocks(body: bytes) -> Iterator[list[bytes]]:
     """The lines of a body without their line feeds, up to BLOCK_LINES at once. Blanks after the last line feed are no line."""
-    begin = 0
-    while begin < len(body):
-        end = body.find(b"\n", begin + SPLIT_BYTES) + 1 or len(body)
-        lines = body[begin:end].split(b"\n")
-        if not lines[-1].strip():
-            lines.pop()
-        for start in range(0, len(lines), BLOCK_LINES):
-            yield lines[start : start + BLOCK_LINES]
-        begin = end
+    end = body.rfind(b"\n") + 1
+    lines = io.BytesIO(body if body[end:].strip() else body[:end])
+    while block := list(itertools.islice(lines, BLOCK_LINES)):
+        yield [line.removesuffix(b"\n") for line in block]
 
 
 def parse_pairs_fast(lines: list[bytes], nodes: int) -> list[Pair] | None:
