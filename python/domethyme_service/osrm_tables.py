@@ -27,7 +27,8 @@ def table(engine: Engine, request: Request) -> str:
     """Tables of durations, distances or weights, null for pairs without a path. Raises RequestError."""
     values, roads = request.values, engine.roads
     sources, destinations, names = values[SOURCES], values[DESTINATIONS], values[TABLE_ANNOTATIONS]
-    needs_routes, cells = not {roads.unit, "weight"}.issuperset(names), len(sources) * len(destinations)
+    needs_routes = not {roads.unit, "weight"}.issuperset(names)
+    cells = len(sources) * len(destinations)
     if cells > engine.max_cells:
         message = f"a table may have {engine.max_cells} cells (--table-cells), and this one would have more"
         raise RequestError(400, "TooBig", message)
