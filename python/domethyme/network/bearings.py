@@ -4,8 +4,8 @@ from typing import NamedTuple
 from .geo import Point, bearing
 from .snapping import Arc, RoadIndex, SnappedPoint
 
-# How many of the nearest edges are examined, at first and at most.
-FIRST_CANDIDATES, MAX_CANDIDATES = 8, 4096
+# How many of the nearest edges are examined, until enough have a road in the direction.
+CANDIDATES = (8, 64, 512, 4096)
 
 
 class BearingRange(NamedTuple):
@@ -22,15 +22,14 @@ def nearest_with_bearing(
     roads: RoadIndex, place: Point, count: int, bearing_range: BearingRange, max_metres: float
 ) -> list[SnappedPoint]:
     """The nearest points, within these metres, of roads whose direction is in the range. Routes keep to it there."""
-    limit = FIRST_CANDIDATES
-    while True:
+    found: list[SnappedPoint] = []
+    for limit in CANDIDATES:
         snapped_points = roads.nearest(place, limit)
         restricted = (restrict_to_bearing(roads, snapped, bearing_range) for snapped in snapped_points)
         found = [snapped for snapped in restricted if snapped is not None]
-        is_last = len(snapped_points) < limit or limit >= MAX_CANDIDATES or snapped_points[-1].metres > max_metres
-        if len(found) >= count or is_last:
-            return found[:count]
-        limit *= 8
+        if len(found) >= count or len(snapped_points) < limit or snapped_points[-1].metres > max_metres:
+            break
+    return found[:count]
 
 
 def restrict_to_bearing(roads: RoadIndex, snapped: SnappedPoint, bearing_range: BearingRange) -> SnappedPoint | None:
