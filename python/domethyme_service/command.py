@@ -13,7 +13,6 @@ import ipaddress
 import logging
 import os
 import pathlib
-import platform
 import socket
 import sys
 from collections.abc import Callable, Sequence
@@ -23,7 +22,6 @@ from gunicorn import systemd
 
 from domethyme import DomethymeError, find_program
 
-from . import VERSION
 from .access import ORIGIN, AccessPolicy
 from .dataset import DatasetPaths
 from .errors import StartupError
@@ -181,8 +179,7 @@ def run(args: argparse.Namespace) -> None:
     paths = DatasetPaths(args.hierarchy, args.network, args.verify, program, args.compare_all)
     options = Options(AccessPolicy.from_options(args.allowed_host, args.cors), args.default_radius, args.max_table_cells)
     bind, has_probe = open_sockets(args)
-    setup = Setup(paths, options, bind, max(args.workers, MIN_WORKERS), has_probe, args.log_places)
-    Application(setup, {"version": VERSION, "python": platform.python_version()}).run()
+    Application(Setup(paths, options, bind, max(args.workers, MIN_WORKERS), has_probe, args.log_places)).run()
 
 
 def main(words: Sequence[str] | None = None) -> None:

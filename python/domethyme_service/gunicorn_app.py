@@ -8,6 +8,7 @@ import ctypes
 import gc
 import logging
 import os
+import platform
 import select
 import signal
 import socket
@@ -20,6 +21,7 @@ from gunicorn.app.base import BaseApplication
 
 from domethyme import DomethymeError
 
+from . import VERSION
 from .dataset import DatasetPaths, end_with_parent, open_dataset
 from .errors import StartupError
 from .metrics import SharedMetrics
@@ -60,10 +62,11 @@ class Setup(NamedTuple):
 class Application(BaseApplication):  # type: ignore[misc] # (gunicorn has no types)
     """gunicorn's application."""
 
-    def __init__(self, setup: Setup, versions: dict[str, str]) -> None:
+    def __init__(self, setup: Setup) -> None:
         self.setup = setup
         self.workers = setup.workers + setup.has_probe
-        self.metrics = SharedMetrics(1 + MAX_GENERATIONS * self.workers, {**versions, "gunicorn": gunicorn.__version__})
+        versions = {"version": VERSION, "python": platform.python_version(), "gunicorn": gunicorn.__version__}
+        self.metrics = SharedMetrics(1 + MAX_GENERATIONS * self.workers, versions)
         self.slots = Slots(setup.workers // 2)
         self.generation = 0
         # (gunicorn would block on a socket that nobody reads)

@@ -72,7 +72,9 @@ class Tiles:
         """The segments of a class whose middles are in the tile, in the order of their lines, and their edges."""
         if zoom <= CODE_ZOOM:
             code = int(spread_bits(np.array([x]))[0] | spread_bits(np.array([y]))[0] << 1)
-            low, high = (self._lower_bound(kind, each << 2 * (CODE_ZOOM - zoom)) for each in (code, code + 1))
+            rows, shift = range(*self.arrays.step_begin[kind : kind + 2].tolist()), 2 * (CODE_ZOOM - zoom)
+            code_of = self.arrays.step_codes.__getitem__
+            low, high = (rows.start + bisect.bisect_left(rows, each << shift, key=code_of) for each in (code, code + 1))
             segments, edges = self.arrays.step_points[low:high], self.arrays.step_edges[low:high]
             order = np.argsort(segments, kind="stable")
             return segments[order], edges[order]
@@ -80,11 +82,6 @@ class Tiles:
         plane = to_mercator(segment_middles(self.arrays.points, above)) * (1 << zoom)
         is_inside = (plane.astype(np.int64) == (x, y)).all(axis=1)
         return above[is_inside], edges[is_inside]
-
-    def _lower_bound(self, kind: int, code: int) -> int:
-        """The first segment of a class whose code is at least this one."""
-        rows = range(*self.arrays.step_begin[kind : kind + 2].tolist())
-        return rows.start + bisect.bisect_left(rows, code, key=self.arrays.step_codes.__getitem__)
 
     def _to_tile_grid(self, segments: Ints, zoom: int, x: int, y: int) -> tuple[Ints, Ints]:
         """Both ends of segments, in units of the tile's grid."""
