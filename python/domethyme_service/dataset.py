@@ -21,7 +21,7 @@ EAGER_VERIFY_BYTES = 1 << 28
 
 
 class DatasetPaths(NamedTuple):
-    """Where a dataset is read from: the hierarchy's file, the prefix of its network's, the graph that it is checked against,
+    """Where a dataset is read from: the hierarchy's file, the prefix of its network's, the graph it is checked against,
     and the program that does it; and whether all links are compared with the network, however many there are."""
 
     hierarchy: str
