@@ -83,7 +83,7 @@ class Application(BaseApplication):  # type: ignore[misc] # (gunicorn has no typ
                 self.cfg.set(name, value)
         # (gunicorn's default of pre_request logs the path)
         hooks = {"pre_request": lambda _worker, _request: None, "post_request": Worker.record}
-        hooks |= {hook.__name__: hook for hook in (pre_fork, post_fork, child_exit, when_ready)}
+        hooks |= {hook.__name__: hook for hook in (pre_fork, child_exit, when_ready)}
         for name, value in {**FIXED_SETTINGS, **hooks, "bind": self.setup.bind, "workers": self.workers}.items():
             self.cfg.set(name, value)
 
@@ -211,13 +211,6 @@ def pre_fork(arbiter: Arbiter, worker: Worker) -> None:
     if app.setup.has_probe:
         worker.is_probe = not any(other.is_probe and other.generation == app.generation for other in others)
         worker.sockets = [arbiter.LISTENERS[worker.is_probe]]
-
-
-def post_fork(arbiter: Arbiter, worker: Worker) -> None:
-    """In the worker: has it end with the arbiter, and count in its own row."""
-    end_with_parent(signal.SIGTERM)
-    worker.row.process = os.getpid()
-    arbiter.app.metrics.own = worker.row
 
 
 def child_exit(arbiter: Arbiter, worker: Worker) -> None:

@@ -20,6 +20,7 @@ from gunicorn.http import RequestParser
 from gunicorn.http.errors import NoMoreData
 from gunicorn.workers.sync import SyncWorker
 
+from .dataset import end_with_parent
 from .errors import RequestError, malformed
 from .metrics import Row
 from .slots import Slots
@@ -99,6 +100,9 @@ class Worker(SyncWorker):  # type: ignore[misc] # (gunicorn has no types)
     generation, is_probe, is_stopping = 0, False, False
 
     def init_process(self) -> None:
+        """In the new process: has it end with the arbiter, and count in its own row."""
+        end_with_parent(signal.SIGTERM)
+        self.row.process, self.app.metrics.own = os.getpid(), self.row
         self.awaiting_head: dict[int, Connection] = {}
         self.lingering: dict[int, Connection] = {}
         self.queue: collections.deque[Connection] = collections.deque()
