@@ -21,7 +21,7 @@ class BearingRange(NamedTuple):
 def nearest_with_bearing(
     roads: RoadIndex, place: Point, count: int, bearing_range: BearingRange, max_metres: float
 ) -> list[SnappedPoint]:
-    """The nearest points, within these metres, of roads whose direction is in the range. Routes keep to it there."""
+    """The `count` nearest points of roads with a direction in the range, in which routes begin and end; up to `max_metres`."""
     found: list[SnappedPoint] = []
     for limit in CANDIDATES:
         snapped_points = roads.nearest(place, limit)
