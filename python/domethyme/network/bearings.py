@@ -21,7 +21,7 @@ class BearingRange(NamedTuple):
 def nearest_with_bearing(
     roads: RoadIndex, place: Point, count: int, bearing_range: BearingRange, max_metres: float
 ) -> list[SnappedPoint]:
-    """The `count` nearest points, up to `max_metres`, of roads with a direction in the range: routes begin and end in it."""
+    """The `count` nearest points, up to `max_metres`, of roads with a direction in the range, which routes keep to."""
     found: list[SnappedPoint] = []
     for limit in CANDIDATES:
         snapped_points = roads.nearest(place, limit)
