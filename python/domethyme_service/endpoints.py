@@ -6,7 +6,7 @@ from typing import Any, NamedTuple
 
 from .errors import RequestError, invalid_query
 from .parameters import (
-    INDEX, METRES, Choice, Context, Parameter, Values, annotations, contours, ignored, key, node, number_range,
+    INDEX, METRES, Context, Parameter, Values, annotations, choice, contours, ignored, key, node, number_range,
     parse_alternatives, parse_bearing, parse_colors, parse_continue_straight, parse_indices, parse_number, parse_radius,
     per_place, unsupported
 )
@@ -26,11 +26,11 @@ FALLBACK_SPEED, SCALE_FACTOR = [
     Parameter(name, "a number above 0", parse_number(METRES, float, lambda number: number > 0), "is a number above 0")
     for name in ("fallback_speed", "scale_factor")
 ]
-FALLBACK_COORDINATE = Choice("fallback_coordinate", "input", "snapped")
-GENERATE_HINTS, SKIP_WAYPOINTS = Choice("generate_hints", "true", "false"), Choice("skip_waypoints", "false", "true")
-OVERVIEW = Choice("overview", "simplified", "full", "false")
-GEOMETRIES = Choice("geometries", "polyline", "polyline6", "geojson")
-STEPS, POLYGONS = Choice("steps", "false", "true"), Choice("polygons", "false", "true")
+FALLBACK_COORDINATE = choice("fallback_coordinate", "input", "snapped")
+GENERATE_HINTS, SKIP_WAYPOINTS = choice("generate_hints", "true", "false"), choice("skip_waypoints", "false", "true")
+OVERVIEW = choice("overview", "simplified", "full", "false")
+GEOMETRIES = choice("geometries", "polyline", "polyline6", "geojson")
+STEPS, POLYGONS = choice("steps", "false", "true"), choice("polygons", "false", "true")
 ANNOTATIONS = annotations(("duration", "weight", "distance", "datasources", "speed", "nodes"), "false")
 TABLE_ANNOTATIONS = annotations(("duration", "distance", "weight"), "duration", is_list_only=True)
 NUMBER = Parameter(
@@ -61,8 +61,8 @@ FROM, TO, FROM_KEY, TO_KEY = node("from"), node("to"), key("from_key"), key("to_
 # The parameters of all of OSRM's services.
 COMMON: tuple[Parameter[Any], ...] = (
     RADIUSES, ignored("hints"), GENERATE_HINTS, SKIP_WAYPOINTS, BEARINGS, unsupported("approaches", "unrestricted"),
-    unsupported("exclude"), Choice("snapping", "default", unsupported=["any"], message=UNSUPPORTED_VALUES),
-    Choice("format", "json", unsupported=["flatbuffers"], message=UNSUPPORTED_VALUES),
+    unsupported("exclude"), choice("snapping", "default", rejected=["any"], message=UNSUPPORTED_VALUES),
+    choice("format", "json", rejected=["flatbuffers"], message=UNSUPPORTED_VALUES),
 )
 
 
@@ -107,7 +107,7 @@ ENDPOINTS = (
                   FALLBACK_SPEED, FALLBACK_COORDINATE, SCALE_FACTOR, TABLE_ANNOTATIONS, SOURCES, DESTINATIONS),
     Endpoint("/isochrone", "/isochrone/v1/PROFILE/PLACE", "what is reached within minutes or metres, as GeoJSON",
              (CONTOURS_MINUTES, CONTOURS_METERS, CONTOURS_COLORS, POLYGONS, GENERALIZE, DENOISE, RADIUSES, BEARINGS,
-              ignored("access_token"), Choice("reverse", "false", unsupported=["true"], message="reverse=true isn't there"),
+              ignored("access_token"), choice("reverse", "false", rejected=["true"], message="reverse=true isn't there"),
               unsupported("exclude"), unsupported("depart_at")), "isochrone has no parameter {!r}"),
     *(osrm_endpoint(service, "", "") for service in ("match", "trip", "tile")),
     Endpoint("/nodes/route", "/nodes/route", "a route between nodes by their numbers, from 1", (FROM, TO, FROM_KEY, TO_KEY)),

@@ -62,20 +62,16 @@ class Values:
         return cast("T | None", self._values.get(parameter.name))
 
 
-class Choice(Parameter[str]):
-    """One of `words`; the first is the default. Words of `unsupported` are rejected with `message`."""
-
-    def __init__(self, name: str, *words: str, unsupported: Sequence[str] = (), message: str = "") -> None:
-        self.words, self.unsupported, self.message = words, unsupported, message
-        accepted, rejected = (", ".join(f"`{word}`" for word in some) for some in (words, unsupported))
-        invalid = f"has to be one of {', '.join((*words, *unsupported))}"
-        super().__init__(name, accepted, self.parse_word, invalid, words[0], rejected)
-
-    def parse_word(self, text: str, _context: Context) -> str:
-        if text in self.unsupported:
-            raise not_implemented(self.message)
-        require(text in self.words)
+def choice(name: str, *words: str, rejected: Sequence[str] = (), message: str = "") -> Parameter[str]:
+    """One of `words`; the first is the default. Words of `rejected` are refused with `message`."""
+    def parse(text: str, _context: Context) -> str:
+        if text in rejected:
+            raise not_implemented(message)
+        require(text in words)
         return text
+
+    lists = [", ".join(f"`{word}`" for word in some) for some in (words, rejected)]
+    return Parameter(name, lists[0], parse, f"has to be one of {', '.join((*words, *rejected))}", words[0], lists[1])
 
 
 def ignored(name: str) -> Parameter[str]:

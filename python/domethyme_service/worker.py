@@ -317,9 +317,9 @@ def classify_head(received: bytes) -> HeadState:
     end = received.find(b"\r\n\r\n")
     head = received.removesuffix(b"\r") if end < 0 else received[: end + 4]
     lines = head.count(b"\r\n")
-    if not head.count(b"\r") == lines == head.count(b"\n") or len(head.translate(None, CONTROL_CHARACTERS)) < len(head):
-        return HeadState.MALFORMED
-    if b"\n " in head or b"\n\t" in head:
+    has_control = len(head.translate(None, CONTROL_CHARACTERS)) < len(head)
+    is_folded = b"\n " in head or b"\n\t" in head
+    if has_control or is_folded or not head.count(b"\r") == lines == head.count(b"\n"):
         return HeadState.MALFORMED
     if end < 0:
         is_too_long = len(received) == MAX_HEAD or not lines and len(received) > MAX_LINE
@@ -353,11 +353,8 @@ def send_error(client: socket.socket, error: RequestError) -> None:
 def discard(client: socket.socket) -> bool:
     """Discards what has arrived, at most 4 MiB; returns whether more may arrive."""
     try:
-        for _ in range(64):
-            if not client.recv(1 << 16, socket.MSG_DONTWAIT):
-                return False
+        return all(client.recv(1 << 16, socket.MSG_DONTWAIT) for _ in range(64))
     except BlockingIOError:
-        pass
+        return True
     except OSError:
         return False
-    return True

@@ -21,7 +21,6 @@ from domethyme_service.dataset import DatasetPaths, open_dataset
 from domethyme_service.errors import malformed
 from domethyme_service.gunicorn_app import FIXED_SETTINGS
 from domethyme_service.metrics import SharedMetrics
-from domethyme_service.parameters import Choice
 from domethyme_service.worker import MAX_HEAD, HeadState, classify_head
 from domethyme_service.wsgi import Options, Service
 
@@ -31,7 +30,8 @@ COMMON = [each.name for each in endpoints.COMMON]
 OWN = {service: endpoints.BY_NAME[f"/{service}"].parameters[len(COMMON) :] for service in SERVICES}
 KNOWN = {service: [each.name for each in some] for service, some in OWN.items()}
 ALL = [*endpoints.COMMON, *itertools.chain(*OWN.values())]
-WORDS = {each.name: (*each.words, *getattr(each, "unsupported", ())) for each in ALL if isinstance(each, Choice)}
+ONE_OF = "has to be one of "
+WORDS = {each.name: each.invalid.removeprefix(ONE_OF).split(", ") for each in ALL if each.invalid.startswith(ONE_OF)}
 OF_TABLES = ("fallback_coordinate",)
 
 SEED, COUNT, FEW = 17, 10_000, 100

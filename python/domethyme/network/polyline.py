@@ -30,8 +30,7 @@ def encode_polylines(lines: Sequence[Line], digits: int) -> list[str]:
     rest = np.where(values < 0, ~(values << 1), values << 1)[:, None] >> SHIFTS
     is_character = rest > 0
     is_character[:, 0] = True
-    has_more = np.zeros_like(is_character)
-    has_more[:, :-1] = rest[:, 1:] > 0
+    has_more = np.pad(rest[:, 1:] > 0, ((0, 0), (0, 1)))
     characters = (rest & 0x1F) + 63 + 0x20 * has_more
     text = characters[is_character].astype(np.uint8).tobytes().decode("ascii")
     cuts = np.cumsum(is_character.sum(axis=1))[2 * ends - 1].tolist()
