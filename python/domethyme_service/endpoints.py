@@ -12,7 +12,7 @@ from .parameters import (
 )
 from .static import PAGE_FILES
 
-UNSUPPORTED_VALUES = "snapping=any and flatbuffers aren't there"
+UNSUPPORTED_VALUES = "snapping=any and flatbuffers aren't supported"
 RADIUSES = Parameter(
     "radiuses", "for each place metres, `unlimited`, or nothing for that of `--default-radius`",
     per_place(parse_radius, "there has to be a radius for each place"), "are metres, or unlimited", "",
@@ -107,7 +107,7 @@ ENDPOINTS = (
                   FALLBACK_SPEED, FALLBACK_COORDINATE, SCALE_FACTOR, TABLE_ANNOTATIONS, SOURCES, DESTINATIONS),
     Endpoint("/isochrone", "/isochrone/v1/PROFILE/PLACE", "what is reached within minutes or metres, as GeoJSON",
              (CONTOURS_MINUTES, CONTOURS_METERS, CONTOURS_COLORS, POLYGONS, GENERALIZE, DENOISE, RADIUSES, BEARINGS,
-              ignored("access_token"), choice("reverse", "false", rejected=["true"], message="reverse=true isn't there"),
+              ignored("access_token"), choice("reverse", "false", rejected=["true"], message="reverse=true isn't supported"),
               unsupported("exclude"), unsupported("depart_at")), "isochrone has no parameter {!r}"),
     *(osrm_endpoint(service, "", "") for service in ("match", "trip", "tile")),
     Endpoint("/nodes/route", "/nodes/route", "a route between nodes by their numbers, from 1", (FROM, TO, FROM_KEY, TO_KEY)),

@@ -32,7 +32,7 @@ def parse_request(path: str, query: Mapping[str, str], default_radius: float) ->
     words. `default_radius` are the metres to a road of a place without a radius. Raises RequestError."""
     service = path.split("/")[1]
     if service not in MAX_PLACES:
-        raise RequestError(400, "InvalidService", f"the service {service} isn't there")
+        raise RequestError(400, "InvalidService", f"the service {service} isn't supported")
     is_isochrone = service == "isochrone"
     words = path.split("/", -1 if is_isochrone else 4)
     form = "/isochrone/v1/PROFILE/PLACE" if is_isochrone else "/SERVICE/v1/PROFILE/PLACES"

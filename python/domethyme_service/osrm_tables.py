@@ -30,7 +30,7 @@ def table(engine: Engine, request: Request) -> str:
     needs_routes = not {roads.unit, "weight"}.issuperset(names)
     cells = len(sources) * len(destinations)
     if cells > engine.max_cells:
-        message = f"a table may have {engine.max_cells} cells (--table-cells), and this one would have more"
+        message = f"a table may have {engine.max_cells} cells (--max-table-cells), and this one would have more"
         raise RequestError(400, "TooBig", message)
     if "duration" in names and not roads.has_seconds:
         raise not_implemented("this network has no seconds, so no durations: ask annotations=weight or distance")

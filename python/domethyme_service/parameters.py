@@ -83,7 +83,7 @@ def unsupported(name: str, allowed: str = "") -> Parameter[None]:
     """An unsupported parameter: only an empty value is accepted, or a list of the word `allowed`, which changes nothing."""
     def parse(text: str, _context: Context) -> None:
         if not {"", allowed}.issuperset(text.split(";") if allowed else [text]):
-            raise not_implemented(f"{name} isn't there")
+            raise not_implemented(f"{name} isn't supported")
 
     return Parameter(name, f"`{allowed}`" if allowed else "", parse, rejected="all others" if allowed else "all")
 
@@ -188,7 +188,7 @@ def parse_continue_straight(text: str, context: Context) -> None:
     """Whether U-turns at intermediate places are forbidden, which the service doesn't support."""
     require(text in ("default", "true", "false"))
     if text == "true" and context.places > 2:
-        raise not_implemented("continue_straight=true isn't there for more than two places")
+        raise not_implemented("continue_straight=true isn't supported for more than two places")
 
 
 def parse_indices(text: str, context: Context) -> list[int]:
