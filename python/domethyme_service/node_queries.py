@@ -18,12 +18,12 @@ MAX_ERRORS = 1000
 
 
 def route_answer(queries: Queries, source: int, target: int) -> bytes:
-    """The route of a pair of nodes as JSON: `length`, `arcs` and `nodes` are null if there is no path. Raises RequestError."""
+    """The route of a pair of nodes as JSON: `length`, `arcs` and `nodes` are null if there is no path."""
     return queries.keys.add_keys(route_json((source, target), queries.route(source, target)), (source, target))
 
 
 def length_answer(queries: Queries, source: int, target: int) -> bytes:
-    """The length of a pair's shortest path as JSON, null if there is no path. Raises RequestError."""
+    """The length of a pair's shortest path as JSON, null if there is no path."""
     length = queries.length(source, target)
     return queries.keys.add_keys(length_json((source, target), NO_PATH if length is None else length), (source, target))
 
@@ -55,7 +55,7 @@ def length_json(pair: Pair, length: int) -> bytes:
 
 def batch_answer(queries: Queries, has_routes: bool, body: bytes) -> Iterator[bytes]:
     """The answers to lines `{"from": S, "to": T}`, in order, in a part for each block. An error is reported in its line, and
-    too many end the answer. Raises RequestError if a query fails."""
+    too many end the answer."""
     first, errors = 1, 0
     for lines in split_blocks(body):
         rows: Sequence[Pair | RequestError] | None = parse_pairs_fast(lines, queries.nodes)

@@ -1,23 +1,19 @@
 """Queries to the hierarchy in the memory of this process (domethyme.router), whose answers the library proves. Nodes are
 numbered from 1, as in files."""
-import functools
 import json
-from collections.abc import Callable, Sequence
-from typing import ParamSpec, TypeVar
+from collections.abc import Sequence
 
 import numpy as np
 
-from domethyme import DomethymeError, LibraryNotFound, batch
+from domethyme import LibraryNotFound, batch
 from domethyme.network.groups import Ints
 from domethyme.network.legs import SnapEnds
 from domethyme.protocol import RouteReply
 from domethyme.router import Router
 
-from .errors import RequestError, invalid_value, not_implemented
+from .errors import invalid_value, not_implemented
 from .metrics import SharedMetrics
 
-P = ParamSpec("P")
-T = TypeVar("T")
 Pair = tuple[int, int]
 
 
@@ -43,27 +39,14 @@ class NodeKeys:
         return b'%b,"from_key":%b,"to_key":%b}' % (answer[:-1], *(self._json_keys[node - 1] for node in pair))
 
 
-def refusing(query: Callable[P, T]) -> Callable[P, T]:
-    """A query that raises RequestError for an error of the library."""
-    @functools.wraps(query)
-    def refused(*args: P.args, **kwargs: P.kwargs) -> T:
-        try:
-            return query(*args, **kwargs)
-        except DomethymeError as error:
-            raise RequestError(500, "InternalError", error.message) from error
-
-    return refused
-
-
 class Queries:
     """A router whose queries are counted. `nodes` and `links` are the hierarchy's numbers of them, `keys` the network's.
 
-    All methods raise RequestError if memory runs out, or the file is of no graph."""
+    All methods raise OutOfMemory, and HierarchyError if the file is of no graph."""
 
     def __init__(self, router: Router, links: int, metrics: SharedMetrics, keys: NodeKeys = NodeKeys()) -> None:
         self.router, self.nodes, self.links, self._metrics, self.keys = router, router.nodes, links, metrics, keys
 
-    @refusing
     def length(self, source: int, target: int) -> int | None:
         """The length of a shortest path, None if there is no path."""
         self._metrics.own.queries_total += 1
@@ -73,7 +56,6 @@ class Queries:
         """A shortest path, None if there is none."""
         return self.between({source: (0, 0)}, {target: (0, 0)})
 
-    @refusing
     def between(self, exits: SnapEnds, entries: SnapEnds) -> RouteReply | None:
         """A shortest path from one of several nodes to one of several, with the weights of both ends added; or None."""
         self._metrics.own.queries_total += 1
@@ -83,7 +65,6 @@ class Queries:
             return None
         return RouteReply(found.source + 1, found.target + 1, found.length, tuple([node + 1 for node in found.nodes]))
 
-    @refusing
     def reach(self, starts: Sequence[tuple[int, int]], limit: int) -> Ints:
         """The least length of each node from the nearest of several, from 0, each with what is added there; or NO_PATH."""
         self._metrics.own.queries_total += 1
@@ -92,14 +73,12 @@ class Queries:
         except LibraryNotFound as error:
             raise not_implemented("the service's library is too old for isochrones") from error
 
-    @refusing
     def lengths(self, pairs: Sequence[Pair]) -> list[int]:
         """The length of a shortest path of each pair, NO_PATH if there is none."""
         found: list[int] = batch.lengths(self.router, np.array(pairs, np.int64).reshape(-1, 2) - 1).tolist()
         self._metrics.own.queries_total += len(pairs)
         return found
 
-    @refusing
     def table(self, sources: Ints, targets: Ints) -> Ints:
         """The length of a shortest path from each source to each target, NO_PATH if there is none: a new array with a row
         for each source. Here nodes are numbered from 0. More rows to the same targets take less time. A row is a query."""

@@ -12,7 +12,7 @@ import urllib.parse
 from collections.abc import Callable, Iterable, Mapping
 from typing import Any, NamedTuple, TypeVar
 
-from domethyme import DomethymeError
+from domethyme import DomethymeError, HierarchyError, LibraryError, OutOfMemory
 
 from . import isochrone, node_queries, osrm, osrm_tables
 from .access import AccessPolicy, check_content_type
@@ -92,6 +92,8 @@ class Service:
             return self.send(environ, start_response, self.respond(environ))
         except RequestError as error:
             return self.error_response(environ, start_response, error)
+        except (HierarchyError, LibraryError, OutOfMemory) as error:  # (of a query)
+            message = error.message
         except DomethymeError as error:
             log.error("%s", error.message)
             message = "a file of the service can't be read: its log says why"
@@ -115,7 +117,7 @@ class Service:
         return [] if environ["REQUEST_METHOD"] == "HEAD" else body
 
     def respond(self, environ: Environ) -> Response:
-        """The response to a request. Raises RequestError, and a DomethymeError if a file is damaged."""
+        """The response to a request. Raises RequestError, and a DomethymeError if a query fails or a file is damaged."""
         host, path, query = parse_target(environ)
         endpoint = find_endpoint(path)
         environ["domethyme.endpoint"] = endpoint.name
