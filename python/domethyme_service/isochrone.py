@@ -15,7 +15,7 @@ from .osrm import Engine, snap_places
 from .osrm_request import Request
 from .parameters import Values
 
-# Nodes that may be reached. With four contours a million took 200 MB and 8 seconds of a busy processor, half of it for the nodes.
+# Nodes that may be reached. To draw four contours of a million took up to 140 MB and 5 seconds (bench/contours.py).
 MAX_REACHED = 4_000_000
 
 
