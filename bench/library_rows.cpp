@@ -1,52 +1,86 @@
-// The library's table of the nodes that rows.cpp takes: the first call with its selection, and another by the kept one.
+// What the library takes for a table, or for what is reached from a node. In each of the rounds a first call makes a selection, and
+// KEPT more use it.
 //
-//     library_rows HIER KIND SOURCES TARGETS
+//     library_rows HIER KIND SOURCES TARGETS ROUNDS KEPT THREADS
 //
-// It prints milliseconds of the processor for the one call and for the other, and a sum of the lengths.
+// KIND is random, near or all, and the nodes those of rows.cpp (rows.hpp); or reach, from the first of the sources, with TARGETS
+// as the limit or 0 for none. With several THREADS each has a handle of its own and a part of the sources. It prints the medians
+// of milliseconds for the one and for the other, of the processor with one thread and else of the clock, a sum of the lengths,
+// and how many there are.
 #include "domethyme.h"
 #include "rows.hpp"
 
 #include <cstdio>
 #include <cstdlib>
-#include <ctime>
+#include <thread>
 #include <vector>
 
-// Milliseconds of the processor.
-static double now() {
-    timespec time;
-    clock_gettime(CLOCK_PROCESS_CPUTIME_ID, &time);
-    return static_cast<double>(time.tv_sec) * 1e3 + static_cast<double>(time.tv_nsec) / 1e6;
-}
+struct Table {
+    bool is_reach;
+    std::uint64_t limit;
+    Nodes nodes;
+    std::vector<std::uint64_t> cells;
+    std::vector<domethyme> handles;
+
+    std::size_t width() const { return cells.size() / nodes.sources.size(); }
+
+    // Asks for a thread's part of the rows.
+    void ask(std::size_t thread) {
+        std::size_t first = thread * nodes.sources.size() / handles.size(), last = (thread + 1) * nodes.sources.size() / handles.size();
+        std::uint64_t *rows = cells.data() + first * width();
+        std::uint32_t code;
+        if (is_reach) {
+            domethyme_seed start = {};
+            start.node = nodes.sources[0];
+            code = domethyme_reach(&handles[thread], &start, 1, limit, rows, width());
+        } else {
+            code = domethyme_table(&handles[thread], nodes.sources.data() + first, last - first, nodes.targets.data(), nodes.targets.size(), rows, (last - first) * width());
+        }
+        if (code != DOMETHYME_OK) std::exit(1);
+    }
+
+    void ask_all() {
+        if (handles.size() == 1) return ask(0);
+        std::vector<std::thread> threads;
+        for (std::size_t thread = 0; thread < handles.size(); thread++) threads.emplace_back(&Table::ask, this, thread);
+        for (std::thread &each : threads) each.join();
+    }
+};
 
 int main(int count, char **words) {
-    if (count != 5) {
-        std::fprintf(stderr, "usage: library_rows HIER KIND SOURCES TARGETS\n");
+    if (count != 8) {
+        std::fprintf(stderr, "usage: library_rows HIER KIND SOURCES TARGETS ROUNDS KEPT THREADS\n");
         return 2;
     }
-    std::FILE *file = std::fopen(words[1], "rb");
-    if (file == nullptr) {
-        std::perror(words[1]);
-        return 2;
-    }
-    std::fseek(file, 0, SEEK_END);
-    std::vector<std::uint8_t> bytes(static_cast<std::size_t>(std::ftell(file)));
-    std::rewind(file);
-    if (std::fread(bytes.data(), 1, bytes.size(), file) != bytes.size()) return 2;
-    std::fclose(file);
+    std::vector<unsigned char> bytes = bytes_of(words[1]);
     domethyme handle = DOMETHYME_CLOSED;
     std::uint32_t nodes = 0;
     if (domethyme_open(&handle, bytes.data(), bytes.size()) != DOMETHYME_OK || domethyme_nodes(&handle, &nodes) != DOMETHYME_OK) return 2;
-    Nodes table = nodes_for(words[2], nodes, std::strtoul(words[3], nullptr, 10), std::strtoul(words[4], nullptr, 10));
-    std::vector<std::uint64_t> cells(table.sources.size() * table.targets.size());
-    double taken[2];
-    for (double &each : taken) {
-        double begun = now();
-        if (domethyme_table(&handle, table.sources.data(), table.sources.size(), table.targets.data(), table.targets.size(), cells.data(), cells.size()) != DOMETHYME_OK) return 1;
-        each = now() - begun;
+    std::size_t sources = std::strtoul(words[3], nullptr, 10), targets = std::strtoul(words[4], nullptr, 10);
+    Table table;
+    table.is_reach = std::strcmp(words[2], "reach") == 0;
+    table.limit = targets > 0 ? targets : DOMETHYME_NO_LENGTH;
+    table.nodes = nodes_for(table.is_reach ? "all" : words[2], nodes, sources, targets);
+    table.cells.resize((table.is_reach ? 1 : sources) * table.nodes.targets.size());
+    table.handles.assign(std::strtoul(words[7], nullptr, 10), DOMETHYME_CLOSED);
+    for (domethyme &each : table.handles)
+        if (domethyme_beside(&handle, &each) != DOMETHYME_OK) return 2;
+    std::vector<double> first, later;
+    bool is_alone = table.handles.size() == 1;
+    for (int rounds = std::atoi(words[5]), kept = std::atoi(words[6]); rounds > 0; rounds--) {
+        for (domethyme &each : table.handles) domethyme_table(&each, nullptr, 0, nullptr, 0, nullptr, 0);
+        double begun = milliseconds(is_alone);
+        for (int call = 0; call <= kept; call++) {
+            table.ask_all();
+            double ended = milliseconds(is_alone);
+            (call == 0 ? first : later).push_back(ended - begun);
+            begun = ended;
+        }
     }
-    std::uint64_t sum = 0;
-    for (std::uint64_t cell : cells) sum = sum * 31 + cell;
-    std::printf("%.3f %.3f %016llx\n", taken[0], taken[1], static_cast<unsigned long long>(sum));
+    std::size_t known = 0;
+    for (std::uint64_t cell : table.cells) known += cell != DOMETHYME_NO_LENGTH;
+    std::printf("%.3f %.3f %016llx %zu\n", median(first), median(later), sum_of(table.cells), known);
+    for (domethyme &each : table.handles) domethyme_close(&each);
     domethyme_close(&handle);
     return 0;
 }

@@ -26,7 +26,7 @@ import time
 import typing
 
 from kit import counted, networks
-from kit.program import PROGRAM, ROOT, need_compiled, need_program
+from kit.program import PROGRAM, linked, need_compiled, need_program
 
 import domethyme
 
@@ -41,17 +41,6 @@ def made(folder: pathlib.Path, nodes: int) -> tuple[pathlib.Path, list[tuple[int
     subprocess.run([PROGRAM, "prepare", "--order", "depth", graph, file], check=True)
     lines = [line.split() for line in pairs.read_text().splitlines() if line.startswith("q")]
     return file, [(int(line[1]), int(line[2])) for line in lines]
-
-
-def library(folder: pathlib.Path) -> pathlib.Path:
-    """library_speed.c, compiled against the library."""
-    target, kept = folder / "library_speed", ROOT / "out/library"
-    if not (kept / "libdomethyme.so.1").exists():
-        subprocess.run([ROOT / "packaging/build-library"], check=True)
-    words = ["gcc", "-O2", "-pthread", f"-I{kept}", f"-I{ROOT}/tests/library_programs", ROOT / "bench/library_speed.c", "-o", target,
-             f"-L{kept}", "-ldomethyme", f"-Wl,-rpath,{kept}"]
-    subprocess.run(list(map(str, words)), check=True)
-    return target
 
 
 def processor(words: list[typing.Any], given: str = "") -> tuple[float, str]:
@@ -76,7 +65,7 @@ class Network:
 
     def __init__(self, folder: pathlib.Path, nodes: int, threads: int) -> None:
         self.file, self.pairs = made(folder, nodes)
-        self.program, self.threads = library(folder), threads
+        self.program, self.threads = linked(folder, "library_speed.c"), threads
         self.texts = {}
         for name, pairs in {"all": self.pairs, "none": []}.items():
             self.texts[name] = folder / f"{name}.pairs"

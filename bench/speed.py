@@ -1,7 +1,7 @@
 #!/usr/bin/env python3
 """Measures all that docs/SPEED.md shows, in one go, and has its tables and pictures written (speed_page.py).
 
-    bench/speed.py [--sparse N ..] [--nodes N ..] [--rounds ROUNDS] [--kept FOLDER] [--only WORD] [--no-python] [--page] [--anew]
+    bench/speed.py [--sparse N ..] [--nodes N ..] [--rounds ROUNDS] [--kept FOLDER] [--only WORD ..] [--no-python] [--page] [--anew]
 
 By default in 5 rounds, and kept in out/speed. The networks are sparse ones with the figures of the challenge's (make_sparse.cpp),
 of 264,346 and 1,000,000 nodes (above 300,000 by `depth` alone, and above a million, which scale.py measures, in one round); those
@@ -17,6 +17,9 @@ each round each job of each network has its turn once, so that a machine that is
              optimised program that does the same
   search     20 of the pairs without a hierarchy: in C++ (plain_search.cpp), by Boost; up to 65,536 nodes in Python by igraph
              (python_search.py), and up to 10,000 by NetworkX and in PostgreSQL by pgRouting (pgrouting_search.py)
+  table      from 1,000,000 nodes down to 200,000, tables by the library (library_rows.cpp) and by an RPHAST in C++ (rows.cpp):
+             the first call, which selects, and a later one; what is reached from a node; tables and pairs by 1 and 4 threads
+  counted    once, up to 300,000 nodes: instructions of preparing, routes and tables, by cachegrind
   read       the graph's text alone: `answer` with a text of pairs that is refused, and read_graph.cpp
   answer     100 pairs, up to 10,000 nodes
 
@@ -24,7 +27,7 @@ A job that takes less than a second has three turns in a row, of which the middl
 waits until other programs leave the machine alone, for `--wait` seconds at most; if they don't, a line says so, and the run goes
 on. Each run is a line of runs.csv in the folder, and what was measured isn't measured again. Rerun the same command to resume an
 interrupted run, or with more rounds to add them. Figures of another program, another machine or other networks are refused;
-`--anew` drops them. With `--only` those jobs alone whose names have the word, as `route depth`. Seconds are of the wall clock and
+`--anew` drops them. With `--only` those jobs alone whose names have one of the words, as "route depth". Seconds are of the wall clock and
 of the processors; memory is the greatest resident size; `others` is how many processors other programs kept busy meanwhile; the
 loads are those of the last minute, before and after the run.
 
@@ -46,6 +49,7 @@ import os
 import pathlib
 import platform
 import random
+import re
 import shutil
 import subprocess
 import sys
@@ -56,7 +60,7 @@ import speed_page
 from kit import counted, networks
 from kit.answers import are_answers, costs_in, least_arcs_of
 from kit.hierarchy_file import links_in
-from kit.program import PROGRAM, ROOT, Runs, compiled, need_compiled, need_program
+from kit.program import PROGRAM, ROOT, Runs, compiled, linked, need_compiled, need_program
 
 NODES = [10_000, 65_536]
 SPARSE = [264_346, 1_000_000]
@@ -66,6 +70,13 @@ WORKERS = {"edges": [1, 4], "neighbours": [1], "depth": [1, 4]}
 RANDOM, NEAR, STEPS, FEW, CHECKED = 10_000, 40_000, 20, 20, 100
 PAIRS = {"random": RANDOM, "near": NEAR, "few": FEW}
 MOST_ANSWERED, MOST_ORDERS, MOST_WHOLE = 10_000, 300_000, 1_000_000
+LEAST_TABLES = 200_000
+# Of each table the kind of its nodes (rows.hpp), sources, targets, and how many rows rows.cpp works out together.
+TABLES = {"100 x 100, random": ("random", 100, 100, 8), "100 x 100, near": ("near", 100, 100, 8),
+          "1,000 x 1,000, random": ("random", 1000, 1000, 8), "1,000 x 1,000, near": ("near", 1000, 1000, 8),
+          "1 to all": ("all", 1, 1, 1), "16 to all": ("all", 16, 1, 4)}
+MEDIANS = ("table", "reach", "threads", "counted")  # jobs whose programs take medians, and those that count
+REACHED = {"all": 0, "near": 10_000}  # the limit, or 0 for none
 SEED = 1
 OTHERS = {"igraph": 65_536, "networkx": 10_000, "pgrouting": 10_000}  # up to how many nodes each searches
 PYTHON = "/usr/bin/python3"
@@ -144,7 +155,8 @@ class Bench:
 
     def __init__(self, options, folder):
         self.options, self.folder, self.runs = options, folder, Runs(folder)
-        self.programs = {name: need_compiled(folder, name) for name in ["route", "hierarchy", "plain_search", "read_graph"]}
+        self.programs = {name: need_compiled(folder, name) for name in ["route", "hierarchy", "plain_search", "read_graph", "rows"]}
+        self.programs |= {source.partition(".")[0]: linked(folder, source) for source in ["library_rows.cpp", "library_speed.c"]}
         self.boost = compiled(folder, "boost_search")
         self.others = [] if options.no_python else [kind for kind in OTHERS if is_there(kind)]
         missing = ([] if self.boost else ["Boost"]) + [kind for kind in OTHERS if kind not in self.others]
@@ -206,6 +218,10 @@ class Bench:
             for name in ["plain", *(["boost"] if self.boost else []), *self.others]:
                 if name == "plain" or network.count <= OTHERS.get(name, MOST_WHOLE):
                     jobs[f"search {name} {kind}"] = self.search(network, name, kind)
+        if network.count >= LEAST_TABLES:
+            jobs |= self.tables(network)
+        if not is_large and shutil.which("valgrind"):
+            jobs |= self.counted(network)
         jobs["read"] = self.reading(network, [PROGRAM, "answer", network.graph, network.pairs("bad")], 5)
         jobs["read.cpp"] = self.reading(network, [self.programs["read_graph"], network.graph], 0)
         if network.count <= MOST_ANSWERED:
@@ -215,6 +231,77 @@ class Bench:
     def reading(self, network, words, wanted):
         def go():
             taken = self.runs.taken(words, wanted=wanted)
+            return taken.wall, taken
+
+        return go
+
+    def tables(self, network):
+        """By the library, and by rows.cpp: the first call, and a later one by the kept selection."""
+        jobs = {}
+        for name in TABLES:
+            for program in ["table", "table.cpp"]:
+                for at, call in enumerate(["first", "kept"]):
+                    jobs[f"{program} {name} {call}"] = self.ask_table(network, self.asking(network, program, name, 5, 1), name, at)
+        rows = [self.programs["library_rows"], self.prepared(network, "depth")]
+        for name, limit in REACHED.items():
+            for at, call in enumerate(["first", "kept"]):
+                jobs[f"reach {name} {call}"] = self.ask_table(network, [*rows, "reach", 1, limit, 5, 1, 1], f"reach {name}", at)
+        for threads in (1, 4):
+            words = [*rows, *TABLES["1,000 x 1,000, random"][:3], 5, 0, threads]
+            jobs[f"threads table {threads}"] = self.ask_table(network, words, "1,000 x 1,000, random", 0)
+            jobs[f"threads pairs {threads}"] = self.by_threads(network, threads)
+        return jobs
+
+    def asking(self, network, program, name, rounds, kept):
+        """The words that ask for a table in so many rounds, with so many calls by the kept selection in each."""
+        *nodes, together = TABLES[name]
+        asked = [self.prepared(network, "depth"), *nodes, rounds, kept]
+        return [self.programs["rows"], *asked, together] if program == "table.cpp" else [self.programs["library_rows"], *asked, 1]
+
+    def ask_table(self, network, words, name, at):
+        def go():
+            found = self.folder / "found"
+            taken = self.runs.taken(words, found)
+            said = found.read_text().split()
+            if network.facts.setdefault("tables", {}).setdefault(name, said[2]) != said[2]:
+                sys.exit(f"{network.name}: the lengths of the table {name} differ")
+            if "reach" in words:
+                network.facts.setdefault("reached", {})[name] = int(said[3])
+            return float(said[at]) / 1000, taken
+
+        return go
+
+    def by_threads(self, network, threads):
+        """The wall time of all random pairs' routes by each of some threads, divided by their number."""
+        def go():
+            lines, found = self.folder / "lines", self.folder / "found"
+            asked = [line.split() for line in network.pairs("random").read_text().splitlines()[1:]]
+            lines.write_text("".join(f"{start} {end}\n" for _, start, end in asked))
+            taken = self.runs.taken([self.programs["library_speed"], self.prepared(network, "depth"), lines, threads], found)
+            return float(found.read_text().split()[2]) * len(asked) / 1e9, taken
+
+        return go
+
+    def counted(self, network):
+        """Instructions of what has a ratio."""
+        graph, file, none = network.graph, self.prepared(network, "depth"), network.pairs("none")
+        words = {"prepare depth 1": [PROGRAM, "prepare", "--workers", 1, "--order", "depth", graph, network.file("depth", 4)],
+                 "textbook": [self.programs["hierarchy"], graph, none]}
+        for kind in ["none", "random"]:
+            words[f"route depth {kind}"] = [PROGRAM, "route", file, network.pairs(kind)]
+            words[f"route.cpp depth {kind}"] = [self.programs["route"], file, network.pairs(kind)]
+        if network.count >= LEAST_TABLES:
+            for program in ["table", "table.cpp"]:
+                for name in TABLES:
+                    for calls, asked in enumerate([(0, 0), (1, 0), (1, 1)]):
+                        words[f"{program} {name} {calls}"] = self.asking(network, program, name, *asked)
+        return {f"counted {job}": self.instructions(network, job, asked) for job, asked in words.items()}
+
+    def instructions(self, network, job, words):
+        def go():
+            taken = self.runs.taken([shutil.which("valgrind"), "--tool=cachegrind", "--cache-sim=no", "--cachegrind-out-file=/dev/null", *words])
+            count = re.search(r"I\s+refs:\s+([\d,]+)", taken.said)[1]
+            network.facts.setdefault("instructions", {})[job] = int(count.replace(",", ""))
             return taken.wall, taken
 
         return go
@@ -400,8 +487,9 @@ def all_networks(options, folder):
 
 
 def is_left(bench, network, job, number):
-    """Whether a job has its turn in a round: those of a large network have one in the first round alone."""
-    return (network.name, job, number) not in bench.done and not (number > 1 and network.count > MOST_WHOLE)
+    """Whether a job has its turn in a round: those of a large network have one in the first round alone, and what counts."""
+    is_once = network.count > MOST_WHOLE or job.startswith("counted")
+    return (network.name, job, number) not in bench.done and not (number > 1 and is_once)
 
 
 def main():
@@ -411,7 +499,7 @@ def main():
     words.add_argument("--rounds", type=counted.positive, default=5)
     words.add_argument("--wait", type=int, default=60, help="seconds to wait for a quiet machine before a round of a network")
     words.add_argument("--kept", type=pathlib.Path, default=ROOT / "out/speed")
-    words.add_argument("--only", default="")
+    words.add_argument("--only", metavar="WORD", nargs="+", default=[""])
     words.add_argument("--no-python", action="store_true", help="without igraph, NetworkX and pgRouting")
     words.add_argument("--no-others", action="store_true", help="without the hard network and the map")
     words.add_argument("--page", action="store_true", help="writes the tables and pictures at the end")
@@ -428,7 +516,7 @@ def main():
         bench.enter(network)
     for number in range(1, options.rounds + 1):
         for network in made:
-            jobs = {job: go for job, go in bench.jobs(network).items() if options.only in job}
+            jobs = {job: go for job, go in bench.jobs(network).items() if any(word in job for word in options.only)}
             tried = tried or bool(jobs)
             left = {job: go for job, go in jobs.items() if is_left(bench, network, job, number)}
             if left:
@@ -436,11 +524,11 @@ def main():
             for job, go in left.items():
                 print(f"round {number}, {network.name}: {job}", file=sys.stderr, flush=True)
                 before, others = os.getloadavg()[0], Others()
-                seconds, taken = middle(go)
+                seconds, taken = go() if job.startswith(MEDIANS) else middle(go)
                 bench.note(network, job, number, before, others.processors(), seconds, taken)
                 bench.save()
     if not tried:
-        words.error(f"no job has {options.only!r} in its name")
+        words.error(f"no job has {' or '.join(options.only)} in its name")
     measured = speed_page.Measured(bench.table, bench.facts)
     print("\n\n".join(made(measured) for made in speed_page.TABLES.values()))
     if options.page:

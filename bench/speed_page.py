@@ -31,6 +31,7 @@ NOT_MEASURED = "not measured"
 KINDS = ["random", "near"]
 IN_CPP = {"plain": "Dijkstra", "boost": "Boost"}
 OTHERS = {"igraph": "igraph", "networkx": "NetworkX", "pgrouting": "pgRouting"}
+SMALL = 10_000
 SHOWN = "sparse-"  # the networks of README and the picture
 
 # The figures of a job's rounds by their numbers.
@@ -73,6 +74,17 @@ class Measured:
         """What a pair takes by a search without a hierarchy."""
         return {each: time / self.counts["few"] for each, time in self.rounds(network, f"search {name} {kind}").items()}
 
+    def instructions(self, network: str, ours: str, theirs: str, less: str = "") -> str:
+        """The ratio of the instructions of two jobs, each less those of the same job with `less` for its last word."""
+        found = self.networks[network].get("instructions", {})
+        counts = []
+        for job in [ours, theirs]:
+            without = f"{job.rpartition(' ')[0]} {less}"
+            if job not in found or (less and without not in found):
+                return NOT_MEASURED
+            counts.append(found[job] - (found[without] if less else 0))
+        return f"{counts[0] / counts[1]:.2f}"
+
     def asked(self) -> list[tuple[str, str]]:
         """The networks with each kind of pairs that they were asked for."""
         return [(name, kind) for name in self.networks for kind in KINDS if self.pair(name, "depth", kind)]
@@ -80,6 +92,10 @@ class Measured:
     def shown(self) -> list[str]:
         """The networks of README and the picture, or all where there are none of that kind."""
         return [name for name in self.networks if name.startswith(SHOWN)] or list(self.networks)
+
+    def large(self) -> list[str]:
+        """The networks of most tables: without those for Python and pgRouting, or all where there are no others."""
+        return [name for name in self.networks if self.nodes(name) > SMALL] or list(self.networks)
 
     def nodes(self, network: str) -> int:
         return int(self.networks[network]["nodes"])
@@ -115,7 +131,7 @@ def ratio(ours: Rounds, theirs: Rounds) -> str:
 
 
 def table(heads: typing.Iterable[str], rows: typing.Iterable[typing.Iterable[str]]) -> str:
-    lines = [f"| {' | '.join(row)} |" for row in [heads, *rows]]
+    lines = [f"|{'|'.join(row)}|" for row in [heads, *rows]]
     return "\n".join([lines[0], "|" + "---|" * (lines[0].count("|") - 1), *lines[1:]])
 
 
@@ -124,8 +140,9 @@ def filled(text: str) -> str:
 
 
 def machine(measured: Measured) -> str:
-    first, last = (f(row["when"] for row in measured.rows)[:16].replace("T", " ") for f in (min, max))
-    loads, others = ([float(row[head]) for row in measured.rows] for head in ("load", "others"))
+    timed = [row for row in measured.rows if not row["job"].startswith("counted")]
+    first, last = (f(row["when"] for row in timed)[:16].replace("T", " ") for f in (min, max))
+    loads, others = ([float(row[head]) for row in timed] for head in ("load", "others"))
     return filled(
         f"The machine has {measured.about['machine']}; {measured.about['system']}. The program is "
         f"`{measured.about['version']}`. It was measured from {first} to {last} (UTC), one program at a time. "
@@ -139,7 +156,7 @@ def preparing(measured: Measured) -> str:
     heads = ["Nodes", "`depth`, 1 worker", "4 workers", "4 / 1", "memory", "links an arc"]
     heads += ["`edges`, 4 workers", "links an arc"]
     rows = []
-    for name in measured.networks:
+    for name in measured.large():
         one, four = (measured.rounds(name, f"prepare depth {workers}") for workers in (1, 4))
         cells = [written(median(one)), written(median(four)), ratio(four, one)]
         cells += [measured.memory(name, "prepare depth 4"), measured.links(name, "depth")]
@@ -149,36 +166,74 @@ def preparing(measured: Measured) -> str:
 
 
 def beside(measured: Measured) -> str:
-    heads = ["Nodes", "`prepare`", "memory", "reference", "memory", "`prepare` / reference"]
+    heads = ["Nodes", "`prepare`", "memory", "reference", "memory", "`prepare` / reference", "instructions"]
     heads += ["`check`", "memory"]
     jobs, rows = ["prepare depth 1", "textbook", "check depth"], []
-    for name in measured.networks:
+    for name in measured.large():
         ours, theirs, checked = (measured.rounds(name, job, "processor") for job in jobs)
         times = [written(median(each)) for each in (ours, theirs, checked)]
         memory = [measured.memory(name, job) for job in jobs]
-        cells = [times[0], memory[0], times[1], memory[1], ratio(ours, theirs), times[2], memory[2]]
+        cells = [times[0], memory[0], times[1], memory[1], ratio(ours, theirs)]
+        cells += [measured.instructions(name, *jobs[:2]), times[2], memory[2]]
         rows.append([measured.title(name), *cells])
     return table(heads, rows)
 
 
 def loading(measured: Measured) -> str:
     jobs, rows = ["route depth none", "route.cpp depth none"], []
-    for name in measured.networks:
+    for name in measured.large():
         ours, theirs = (measured.rounds(name, job) for job in jobs)
-        cells = [written(median(ours)), written(median(theirs)), ratio(ours, theirs), measured.memory(name, jobs[0])]
-        rows.append([measured.title(name), *cells])
-    return table(["Nodes", "`route`", "C++", "ratio", "memory"], rows)
+        cells = [written(median(ours)), written(median(theirs)), ratio(ours, theirs), measured.instructions(name, *jobs)]
+        rows.append([measured.title(name), *cells, measured.memory(name, jobs[0])])
+    return table(["Nodes", "`route`", "C++", "ratio", "instructions", "memory"], rows)
 
 
 def pairs(measured: Measured) -> str:
-    """A row for each network. Near pairs have no ratio, since loading takes longer than all pairs of a run."""
-    heads = ["Nodes", "random", "C++", "ratio", *IN_CPP.values(), "near", "C++", IN_CPP["plain"]]
+    heads = ["Nodes", "random", "C++", "ratio", "instructions", *IN_CPP.values(), "near", "C++", "ratio", IN_CPP["plain"]]
     rows = []
-    for name in measured.networks:
+    for name in measured.large():
         random, near = ([measured.pair(name, "depth", kind, program) for program in ("route", "route.cpp")] for kind in KINDS)
         searched = [measured.searched(name, each, "random") for each in IN_CPP]
         times = [written(median(each)) for each in [*random, *searched, *near, measured.searched(name, "plain", "near")]]
-        rows.append([measured.title(name), *times[:2], ratio(*random), *times[2:]])
+        counted = measured.instructions(name, "route depth random", "route.cpp depth random", "none")
+        rows.append([measured.title(name), *times[:2], ratio(*random), counted, *times[2:6], ratio(*near), times[6]])
+    return table(heads, rows)
+
+
+def tables(measured: Measured) -> str:
+    """A row for each table: the first call and a later one, by the library and by rows.cpp."""
+    heads = ["Nodes, table", "first call", "C++", "ratio", "instructions", "a later one", "C++", "ratio", "instructions"]
+    rows = []
+    for name, facts in measured.networks.items():
+        for asked in facts.get("tables", {}):
+            cells = []
+            for call, calls in [("first", 1), ("kept", 2)]:
+                jobs = [f"{program} {asked}" for program in ["table", "table.cpp"]]
+                ours, theirs = (measured.rounds(name, f"{job} {call}") for job in jobs)
+                counted = measured.instructions(name, *(f"{job} {calls}" for job in jobs), str(calls - 1))
+                cells += [written(median(ours)), written(median(theirs)), ratio(ours, theirs), counted]
+            if measured.rounds(name, f"table {asked} first"):
+                rows.append([f"{measured.nodes(name):,}, {asked}", *cells])
+    return table(heads, rows)
+
+
+def reached(measured: Measured) -> str:
+    """What is reached in the largest network that is shown."""
+    rows, name = [], max(measured.shown(), key=measured.nodes)
+    for asked, count in measured.networks[name].get("reached", {}).items():
+        times = [measured.time(name, f"{asked} {call}") for call in ["first", "kept"]]
+        rows.append([f"{measured.nodes(name):,}", f"{count:,}", *times])
+    return table(["Nodes", "of them reached", "first call", "a later one"], rows)
+
+
+def threads(measured: Measured) -> str:
+    rows = []
+    for name in measured.networks:
+        one, four = ([measured.rounds(name, f"threads {each} {count}") for each in ["pairs", "table"]] for count in (1, 4))
+        if all([*one, *four]):
+            cells = [cell for ours, theirs in zip(one, four) for cell in (written(median(ours)), written(median(theirs)), ratio(theirs, ours))]
+            rows.append([f"{measured.nodes(name):,}", *cells])
+    heads = ["Nodes", "10,000 routes, 1 thread", "4 threads", "4 / 1", "a table, 1 thread", "4 threads", "4 / 1"]
     return table(heads, rows)
 
 
@@ -208,7 +263,7 @@ def figures(measured: Measured) -> str:
 
 
 TABLES = {"figures": figures, "machine": machine, "prepare": preparing, "beside": beside, "loading": loading,
-          "pairs": pairs, "slower": slower}
+          "pairs": pairs, "slower": slower, "tables": tables, "reached": reached, "threads": threads}
 
 
 def summary(measured: Measured) -> str:

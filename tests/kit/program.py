@@ -15,6 +15,9 @@ ROOT = pathlib.Path(__file__).resolve().parents[2]
 # The proved program: the one that is built here, or that the environment variable ROUTECLI names.
 PROGRAM = pathlib.Path(os.environ.get("ROUTECLI") or ROOT / "crates/routecli/out/routecli").resolve()
 
+# The library, likewise, with the environment variable DOMETHYME_LIBRARY.
+LIBRARY = pathlib.Path(os.environ.get("DOMETHYME_LIBRARY") or ROOT / "out/library/libdomethyme.so.1").resolve()
+
 
 def need_program() -> None:
     if not PROGRAM.exists():
@@ -37,6 +40,17 @@ def need_compiled(folder: Path, name: str) -> pathlib.Path:
     target = compiled(folder, name)
     if target is None:
         sys.exit(f"bench/{name}.cpp can't be compiled, which needs g++")
+    return target
+
+
+def linked(folder: Path, source: str) -> pathlib.Path:
+    """The program of bench/SOURCE over the library, which is built where it isn't there, compiled into the folder."""
+    if not LIBRARY.exists():
+        subprocess.run([ROOT / "packaging/build-library"], check=True)
+    target = pathlib.Path(folder) / pathlib.Path(source).stem
+    words = ["g++", "-std=c++17"] if source.endswith(".cpp") else ["gcc"]
+    words += ["-O3", "-pthread", f"-I{ROOT}/packaging/library", f"-I{ROOT}/tests/library_programs", "-o", str(target)]
+    subprocess.run([*words, str(ROOT / "bench" / source), str(LIBRARY), f"-Wl,-rpath,{LIBRARY.parent}"], check=True)
     return target
 
 
