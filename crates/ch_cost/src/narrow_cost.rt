@@ -1,5 +1,5 @@
 ghost use Rattle.std.specs.Prelude.{◌≡◌, ◌<◌, ◌^◌};
-ghost use Rattle.ch_cost.specs.Cost.{same, of_weight, arcs_of};
+ghost use Rattle.ch_cost.specs.Cost.{same, of_walk, of_weight, arcs_of};
 ghost use Rattle.ch_cost.specs.Cost.Laws.{same-laws, same-partial};
 
 use crate::cost::Cost;
@@ -45,6 +45,13 @@ impl NarrowCost {
             high: (length >> 32) as u32,
             few: cost.arcs() as u32,
         }
+    }
+
+    /// Returns the cost of a walk of this length and of this many arcs, as they are written in a file.
+    pub fn of_walk(length: u64, arcs: u32) -> NarrowCost
+        ensures { result ≡ of_walk length arcs }
+    {
+        NarrowCost::of(Cost::of_walk(length, u64::from(arcs)))
     }
 
     /// Returns the cost of one arc of this weight.
