@@ -81,7 +81,7 @@ fn has_link(hierarchy: &Hierarchy, from: u32, to: u32, entry: &Entry) -> bool
 fn is_same(link: &Link, entry: &Entry) -> bool
     ensures { IsTrue result → (link.now.cost ≡ entry.now.cost) × (link.now.middle ≡ entry.now.middle) }
 {
-    (link.cost == entry.cost.cost()) & (link.middle == entry.middle.node())
+    (link.cost == entry.cost) & (link.middle == entry.middle)
 }
 
 /// Looks whether each link is an arc of the rows. Fails at the first that isn't.

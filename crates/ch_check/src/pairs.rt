@@ -145,7 +145,8 @@ fn is_wanted(hierarchy: &Hierarchy, pair: &Shortcut, via: u32) -> bool {
     let Some(id) = hierarchy.find(pair.from, pair.to) else {
         return false;
     };
-    let link = hierarchy.links()[id.0];
-    let cost = pair.cost.cost();
-    link.cost.is_below(cost) || (link.cost == cost && link.middle == Some(via))
+    let link = &hierarchy.links()[id.0];
+    let cost = link.cost.cost();
+    let wanted = pair.cost.cost();
+    cost.is_below(wanted) || (cost == wanted && link.middle.node() == Some(via))
 }

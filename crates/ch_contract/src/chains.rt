@@ -139,7 +139,7 @@ fn link_out(node: u32, entry: &Entry) -> Link
     Link {
         from: node,
         to: entry.other,
-        cost: entry.cost.cost(),
-        middle: entry.middle.node(),
+        cost: entry.cost,
+        middle: entry.middle,
     }
 }

@@ -1,5 +1,6 @@
 pub mod Walk
 pub mod Graph
+pub mod Middle
 pub mod Limits
 pub mod LeastArcs
 pub mod Hierarchy

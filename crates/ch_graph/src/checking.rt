@@ -114,7 +114,7 @@ fn first_bad_link(version: Version, ranks: &[u32], links: &[Link], bound: Cost) 
     ensures none { IfNone result (All (IsLinkWellMade (hierarchy_of version ranks.now links.now bound)) links.now) }
 {
     'links: for place in 0..links.len() {
-        if !is_link_well_made(version, ranks, links, bound, links[place]) {
+        if !is_link_well_made(version, ranks, links, bound, &links[place]) {
             return Some(place);
         }
     }
@@ -127,28 +127,28 @@ fn is_link_well_made(
     ranks: &[u32],
     links: &[Link],
     bound: Cost,
-    link: Link,
+    link: &Link,
 ) -> bool
     requires { AllPairs ComesBefore links.now }
-    ensures { IsTrue result ↔ IsLinkWellMade (hierarchy_of version ranks.now links.now bound) link }
+    ensures { IsTrue result ↔ IsLinkWellMade (hierarchy_of version ranks.now links.now bound) link.now }
 {
     is_allowed(version, ranks.len(), bound, link) & has_halves(ranks, links, link)
 }
 
 // Whether a link is between two different ones of this many nodes, and its cost counts what the version wants and is within
 // the bound.
-fn is_allowed(version: Version, nodes: usize, bound: Cost, link: Link) -> bool
-    ensures { IsTrue result ↔ IsAllowed version nodes bound link }
+fn is_allowed(version: Version, nodes: usize, bound: Cost, link: &Link) -> bool
+    ensures { IsTrue result ↔ IsAllowed version nodes bound link.now }
 {
     let from = link.from as usize;
     let to = link.to as usize;
     let has_ends = (from < nodes) & (to < nodes) & (from != to);
-    has_ends & counts(version, link) & link.cost.is_within(bound)
+    has_ends & counts(version, link) & link.cost.cost().is_within(bound)
 }
 
 // Whether a link's cost counts what the version wants.
-fn counts(version: Version, link: Link) -> bool
-    ensures { IsTrue result ↔ Counts version link }
+fn counts(version: Version, link: &Link) -> bool
+    ensures { IsTrue result ↔ Counts version link.now }
 {
     match version {
         Version::One => counts_weight(link),
@@ -157,34 +157,35 @@ fn counts(version: Version, link: Link) -> bool
 }
 
 // Whether a link weighs something and counts no arcs.
-fn counts_weight(link: Link) -> bool
-    ensures { IsTrue result ↔ CountsWeight link }
+fn counts_weight(link: &Link) -> bool
+    ensures { IsTrue result ↔ CountsWeight link.now }
 {
-    (link.cost.length() > 0) & (link.cost.arcs() == 0)
+    let cost = link.cost.cost();
+    (cost.length() > 0) & (cost.arcs() == 0)
 }
 
 // Whether a link counts some arcs, and exactly one where it has no middle.
-fn counts_arcs(link: Link) -> bool
-    ensures { IsTrue result ↔ CountsArcs link }
+fn counts_arcs(link: &Link) -> bool
+    ensures { IsTrue result ↔ CountsArcs link.now }
 {
-    let arcs = link.cost.arcs();
-    (arcs > 0) & (link.middle.is_some() | (arcs == 1))
+    let arcs = link.cost.cost().arcs();
+    (arcs > 0) & (link.middle.node().is_some() | (arcs == 1))
 }
 
 // Whether a link has halves where it has a middle.
-fn has_halves(ranks: &[u32], links: &[Link], link: Link) -> bool
+fn has_halves(ranks: &[u32], links: &[Link], link: &Link) -> bool
     requires { AllPairs ComesBefore links.now }
-    ensures { IsTrue result ↔ ((m : ℕ) → link.middle ≡ Some m → IsLow ranks.now link m × HaveSum links.now link m) }
+    ensures { IsTrue result ↔ ((m : ℕ) → link.now.middle ≡ Some m → IsLow ranks.now link.now m × HaveSum links.now link.now m) }
 {
-    let Some(middle) = link.middle else {
+    let Some(middle) = link.middle.node() else {
         return true;
     };
     is_low(ranks, link, middle) & have_sum(links, link, middle)
 }
 
 // Whether a middle ranks below both ends of a link.
-fn is_low(ranks: &[u32], link: Link, middle: u32) -> bool
-    ensures { IsTrue result ↔ IsLow ranks.now link middle }
+fn is_low(ranks: &[u32], link: &Link, middle: u32) -> bool
+    ensures { IsTrue result ↔ IsLow ranks.now link.now middle }
 {
     let rank = rank_of(ranks, middle);
     (rank < rank_of(ranks, link.from)) & (rank < rank_of(ranks, link.to))
@@ -198,9 +199,9 @@ fn rank_of(ranks: &[u32], node: u32) -> u32
 }
 
 // Whether two links meet at a middle of a link and cost together what it costs.
-fn have_sum(links: &[Link], link: Link, middle: u32) -> bool
+fn have_sum(links: &[Link], link: &Link, middle: u32) -> bool
     requires { AllPairs ComesBefore links.now }
-    ensures { IsTrue result ↔ HaveSum links.now link middle }
+    ensures { IsTrue result ↔ HaveSum links.now link.now middle }
 {
     let Some(first) = find_link(links, link.from, middle) else {
         return false;
@@ -208,7 +209,9 @@ fn have_sum(links: &[Link], link: Link, middle: u32) -> bool
     let Some(second) = find_link(links, middle, link.to) else {
         return false;
     };
-    is_sum(link.cost, links[first.0].cost, links[second.0].cost)
+    let one = &links[first.0];
+    let two = &links[second.0];
+    is_sum(link.cost.cost(), one.cost.cost(), two.cost.cost())
 }
 
 // Whether a cost is the sum of two, which may be of any size.

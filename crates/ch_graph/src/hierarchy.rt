@@ -26,7 +26,7 @@ pub struct LinkId(pub usize);
 /// arcs of a graph and shortcuts for two links by way of a node of lower rank.
 ///
 /// Every hierarchy is well made, so that a file can hold it. Whether it is right for a graph is said where it is
-/// made. It holds 4 bytes a node and 32 a link, with an index 8 bytes a node and 8 a link more, and no call takes memory
+/// made. It holds 4 bytes a node and 24 a link, with an index 8 bytes a node and 8 a link more, and no call takes memory
 /// but [`Hierarchy::checked`] and [`Hierarchy::checked_v1`] while they run, and [`Hierarchy::into_indexed`].
 #[derive(Drop)]
 pub struct Hierarchy {
@@ -232,7 +232,7 @@ impl Hierarchy {
         ensures { (d : Link) → ArePartsOf self.now.links (slice_index_or self.now.links id.0 d) result }
     {
         let link = self.links[id.0];
-        let Some(middle) = link.middle else {
+        let Some(middle) = link.middle.node() else {
             return Parts::Arc(link.to);
         };
         let Some(first) = self.find(link.from, middle) else {

@@ -1,7 +1,6 @@
 pub mod ByWeight
 pub mod Contraction
 pub mod Members
-pub mod Middle
 pub mod Moving
 pub mod Orders
 pub mod Rows

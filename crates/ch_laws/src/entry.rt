@@ -1,5 +1,5 @@
-use crate::middle::Middle;
 use ch_cost::NarrowCost;
+use ch_graph::Middle;
 
 /// An entry of a row: an arc between the row's node and another. It takes 20 bytes.
 #[derive(Clone, Copy, Debug, PartialEq, Eq)]

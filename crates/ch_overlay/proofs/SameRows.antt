@@ -9,7 +9,7 @@ use Rattle.ch_cost.specs.declared.cost.Cost.{Cost}
 use Rattle.ch_cost.specs.Cost.{same}
 use Rattle.ch_cost.specs.Cost.Laws.{equal-from_same, same-from_equal}
 use Rattle.ch_laws.specs.declared.entry.Entry.{Entry}
-use Rattle.ch_laws.specs.Middle.{same_middles, same_middles-Decides}
+use Rattle.ch_graph.specs.Middle.{same_middles, same_middles-Decides}
 use Rattle.ch_laws.specs.Rows.{Row}
 
 cost_decides : (a b : Cost) → Decides (same a b) (a ≡ b)

@@ -14,8 +14,8 @@ pub enum Side {
 
 impl Side {
     /// Returns the end where the side comes to a link.
-    pub fn foot(self, link: Link) -> u32
-        ensures { result ≡ foot_of self link }
+    pub fn foot(self, link: &Link) -> u32
+        ensures { result ≡ foot_of self link.now }
     {
         match self {
             Side::Rise => link.from,
@@ -24,8 +24,8 @@ impl Side {
     }
 
     /// Returns the end where it leaves the link.
-    pub fn head(self, link: Link) -> u32
-        ensures { result ≡ head_of self link }
+    pub fn head(self, link: &Link) -> u32
+        ensures { result ≡ head_of self link.now }
     {
         match self {
             Side::Rise => link.to,

@@ -76,7 +76,7 @@ impl UpwardSteps {
         ensures room { HasRoom hierarchy.now self.new.first self.new.links }
     {
         let step = step_along(hierarchy, side, at);
-        let foot = hierarchy.rank(side.foot(link_at(hierarchy, at))) as usize;
+        let foot = hierarchy.rank(side.foot(&link_at(hierarchy, at))) as usize;
         let place = self.first.get(foot) - 1;
         self.first.set(foot, place);
         self.links.set(place, at);
@@ -140,8 +140,8 @@ fn step_along(hierarchy: &Hierarchy, side: Side, at: usize) -> UpwardStep
 {
     let link = link_at(hierarchy, at);
     UpwardStep {
-        head: hierarchy.rank(side.head(link)),
-        cost: ShortCost::of(link.cost),
+        head: hierarchy.rank(side.head(&link)),
+        cost: ShortCost::of(link.cost.cost()),
     }
 }
 
@@ -164,5 +164,5 @@ fn link_cost(hierarchy: &Hierarchy, upward: &UpwardSteps, place: usize) -> Cost
     requires link_in { slice_index upward.now.links.items place < length hierarchy.now.links }
     ensures { result ≡ cost_at hierarchy.now (slice_index upward.now.links.items place) }
 {
-    link_at(hierarchy, upward.links.get(place)).cost
+    link_at(hierarchy, upward.links.get(place)).cost.cost()
 }

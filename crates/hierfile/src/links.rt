@@ -14,8 +14,8 @@ ghost use Rattle.hierfile.specs.Reading.{Reads, ReadsValue, Refuses};
 use crate::error::HierError;
 use crate::guesses::Guesses;
 use crate::input::Input;
-use ch_cost::Cost;
-use ch_graph::{Link, LinkHalves, LinkId, LinkIndex, Parts, Version};
+use ch_cost::{Cost, NarrowCost};
+use ch_graph::{Link, LinkHalves, LinkId, LinkIndex, Middle, Parts, Version};
 use counted_io::StepRead;
 use std::alloc::Global;
 
@@ -42,7 +42,7 @@ pub fn read_links<R: StepRead>(
     'links: for _ in 0..count {
         let link = read_link(input, reader, version)?;
         let earlier = links.last().copied();
-        test_link(version, ranks, bound, earlier, link)?;
+        test_link(version, ranks, bound, earlier, &link)?;
         links.push(link)?;
     }
     Ok(links)
@@ -86,7 +86,7 @@ fn waiting_link(input: &mut Input, version: Version) -> Link
     Link {
         from,
         to,
-        cost: Cost::of_walk(weight, u64::from(arcs)),
+        cost: NarrowCost::of_walk(weight, arcs),
         middle: middle_of(middle),
     }
 }
@@ -105,14 +105,14 @@ fn waiting_arcs(input: &mut Input, version: Version) -> u32
 }
 
 // The middle that this number represents.
-fn middle_of(number: u32) -> Option<u32>
+fn middle_of(number: u32) -> Middle
     ensures number { middle_number result ≡ number }
     ensures node { IfSome result (λ m. m < 2 ^ 32 - 1) }
 {
     if number == NO_MIDDLE {
-        None
+        Middle::NONE
     } else {
-        Some(number)
+        Middle::at(number)
     }
 }
 
@@ -123,9 +123,9 @@ fn test_link(
     ranks: &[u32],
     bound: Cost,
     earlier: Option<Link>,
-    link: Link,
+    link: &Link,
 ) -> Result<(), HierError>
-    ensures told { Tells result (link_fault version ranks.now bound earlier link) }
+    ensures told { Tells result (link_fault version ranks.now bound earlier link.now) }
 {
     let nodes = ranks.len();
     if link.from as usize >= nodes || link.to as usize >= nodes || link.from == link.to {
@@ -137,32 +137,34 @@ fn test_link(
     if !has_weight(version, bound, link) {
         return Err(HierError::LinkWeight);
     }
-    test_middle(ranks, link.from, link.to, link.middle)
+    test_middle(ranks, link.from, link.to, link.middle.node())
 }
 
 // Whether a link's cost is within the bound, and counts what the version wants.
 #[tactic(auto, unfolding(crate::specs::Fault::has_weight))]
-fn has_weight(version: Version, bound: Cost, link: Link) -> bool
-    ensures { result ≡ has_weight version bound link }
+fn has_weight(version: Version, bound: Cost, link: &Link) -> bool
+    ensures { result ≡ has_weight version bound link.now }
 {
-    let (length, arcs) = (link.cost.length(), link.cost.arcs());
+    let cost = link.cost.cost();
+    let (length, arcs) = (cost.length(), cost.arcs());
     (length <= bound.length()) & (arcs <= bound.arcs()) & does_count(version, link)
 }
 
 // Whether a link's cost counts what the version wants.
-fn does_count(version: Version, link: Link) -> bool
-    ensures { result ≡ does_count version link }
+fn does_count(version: Version, link: &Link) -> bool
+    ensures { result ≡ does_count version link.now }
 {
-    let (length, arcs) = (link.cost.length(), link.cost.arcs());
+    let cost = link.cost.cost();
+    let (length, arcs) = (cost.length(), cost.arcs());
     match version {
         Version::One => (length > 0) & (arcs == 0),
-        Version::Two => (arcs > 0) & (link.middle.is_some() | (arcs == 1)),
+        Version::Two => (arcs > 0) & (link.middle.node().is_some() | (arcs == 1)),
     }
 }
 
 // Whether a link comes after the one before it, if there is one.
-fn is_in_order(earlier: Option<Link>, link: Link) -> bool
-    ensures { result ≡ is_in_order earlier link }
+fn is_in_order(earlier: Option<Link>, link: &Link) -> bool
+    ensures { result ≡ is_in_order earlier link.now }
 {
     match earlier {
         None => true,
@@ -212,7 +214,7 @@ pub fn find_halves(
     let mut guesses = Guesses::new(alloc, nodes)?;
     'links: for place in 0..links.len() {
         guesses.note_links_beside(links, place);
-        let parts = parts_of(links, index, &guesses, links[place])?;
+        let parts = parts_of(links, index, &guesses, &links[place])?;
         halves.keep(LinkId(place), parts)?;
     }
     Ok(halves)
@@ -224,14 +226,14 @@ fn parts_of(
     links: &[Link],
     index: &LinkIndex,
     guesses: &Guesses,
-    link: Link,
+    link: &Link,
 ) -> Result<Parts, HierError>
     requires sorted { AllPairs ComesBefore links.now }
     requires index { IsIndexOf links.now index.now }
-    ensures parts { IfOk result (ArePartsOf links.now link) }
-    ensures told { Tells result (half_fault links.now link) }
+    ensures parts { IfOk result (ArePartsOf links.now link.now) }
+    ensures told { Tells result (half_fault links.now link.now) }
 {
-    let Some(middle) = link.middle else {
+    let Some(middle) = link.middle.node() else {
         return Ok(Parts::Arc(link.to));
     };
     let Some(first) = find_by(links, index, guesses, link.from, middle) else {
@@ -240,7 +242,9 @@ fn parts_of(
     let Some(second) = index.find(links, middle, link.to) else {
         return Err(HierError::HalfMissing);
     };
-    if is_sum(link.cost, links[first.0].cost, links[second.0].cost) {
+    let one = &links[first.0];
+    let two = &links[second.0];
+    if is_sum(link.cost.cost(), one.cost.cost(), two.cost.cost()) {
         Ok(Parts::Shortcut(first, second))
     } else {
         Err(HierError::HalfSum)

@@ -44,7 +44,7 @@ struct Head {
 /// bytes that were tested so far have no fault but that they may end too early, the halves of links aside, which are tested
 /// when all links have come and there is room for them. All bytes that came were tested, but for at most 64 KiB that were
 /// read ahead. Memory is taken as bytes come in, beside a buffer of 64 KiB: 4 bytes for each rank, and one for each node
-/// when a sixteenth of the ranks has come, about 40 for each link, and then, when all links have come, 8 bytes for each node
+/// when a sixteenth of the ranks has come, about 30 for each link, and then, when all links have come, 8 bytes for each node
 /// and for each link, and 4 more for each node while halves are looked for. What the file announces takes none. Linear in
 /// the bytes, but for a binary search for each link with a middle, among the links that leave the middle, or two where there
 /// are more than 2^32 links, and one for each of the first ranks, among those before it.

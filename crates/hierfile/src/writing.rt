@@ -69,20 +69,21 @@ fn write_links<W: StepWrite>(links: &[Link], sink: &mut Sink, writer: &mut W)
         if sink.has_failed() {
             return;
         }
-        write_link(*link, sink, writer);
+        write_link(link, sink, writer);
     }
 }
 
 // Writes one link, as version 2 has it.
-fn write_link<W: StepWrite>(link: Link, sink: &mut Sink, writer: &mut W)
-    requires { IsWritable Two link }
-    ensures { Puts W.step W.contents sink.old sink.new writer.old writer.new (link_bytes Two link) }
+fn write_link<W: StepWrite>(link: &Link, sink: &mut Sink, writer: &mut W)
+    requires { IsWritable Two link.now }
+    ensures { Puts W.step W.contents sink.old sink.new writer.old writer.new (link_bytes Two link.now) }
 {
     write_word(link.from, sink, writer);
     write_word(link.to, sink, writer);
-    write_long(link.cost.length(), sink, writer);
-    write_word(link.cost.arcs() as u32, sink, writer);
-    write_word(number_of(link.middle), sink, writer);
+    let cost = link.cost.cost();
+    write_long(cost.length(), sink, writer);
+    write_word(cost.arcs() as u32, sink, writer);
+    write_word(number_of(link.middle.node()), sink, writer);
 }
 
 // Writes a number of four bytes.

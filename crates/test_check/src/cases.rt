@@ -1,7 +1,7 @@
 //! What a check returns for a graph and a hierarchy, and whether the pair at which it ended refutes the hierarchy.
 use ch_check::{CheckError, Watch, check, check_watched, is_refuted_by};
-use ch_cost::Cost;
-use ch_graph::{Graph, Hierarchy, Link, Road};
+use ch_cost::{Cost, NarrowCost};
+use ch_graph::{Graph, Hierarchy, Link, Middle, Road};
 use std::alloc::{AllocError, Global};
 use std::sync::atomic::{AtomicU32, Ordering};
 use std::test::Fail;
@@ -10,7 +10,7 @@ use std::test::Fail;
 pub type Line = (u32, u32, u32);
 
 /// A link: its ends, its length and its arcs, and its middle.
-pub type Linked = (u32, u32, (u64, u64), Option<u32>);
+pub type Linked = (u32, u32, (u64, u32), Option<u32>);
 
 /// A graph, a hierarchy, and what is to come of a check.
 #[derive(Clone, Copy)]
@@ -181,14 +181,21 @@ fn roads_of(alloc: Global, lines: &[Line]) -> Result<Vec<Road>, AllocError> {
     Ok(roads)
 }
 
+fn middle_of(node: Option<u32>) -> Middle {
+    match node {
+        Some(node) if node < u32::MAX => Middle::at(node),
+        _ => Middle::NONE,
+    }
+}
+
 fn links_of(alloc: Global, linked: &[Linked]) -> Result<Vec<Link>, AllocError> {
     let mut links = Vec::new(alloc);
     for (from, to, (length, arcs), middle) in linked {
         links.push(Link {
             from: *from,
             to: *to,
-            cost: Cost::of_walk(*length, *arcs),
-            middle: *middle,
+            cost: NarrowCost::of_walk(*length, *arcs),
+            middle: middle_of(*middle),
         })?;
     }
     Ok(links)

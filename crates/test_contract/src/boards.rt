@@ -443,7 +443,7 @@ pub fn are_links(links: &[Link], expected: &[Linked]) -> bool {
     let mut holds = links.len() == expected.len();
     for (link, (from, to, numbers, middle)) in links.iter().zip(expected) {
         holds &= (link.from == *from) & (link.to == *to);
-        holds &= (link.cost == cost_of(*numbers)) & (link.middle == *middle);
+        holds &= (link.cost.cost() == cost_of(*numbers)) & (link.middle.node() == *middle);
     }
     holds
 }

@@ -213,8 +213,8 @@ fn has_numbers(hierarchy: &Hierarchy) -> bool {
         & (hierarchy.version() == 2)
         & (hierarchy.bound() == Cost::of_walk(6, 2))
         & (links.len() == 3)
-        & (last.cost == Cost::of_walk(5, 2))
-        & (last.middle == Some(0))
+        & (last.cost.cost() == Cost::of_walk(5, 2))
+        & (last.middle.node() == Some(0))
 }
 
 /// Whether the row is read with its numbers.

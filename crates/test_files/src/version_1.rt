@@ -5,8 +5,8 @@ use crate::files::{
     BY_WAY_OF_0, Change, GREATEST, MAGIC, ROW, are_each_refused, are_refused, are_refused_for,
     cascade, hierarchy_of, is_cut,
 };
-use ch_cost::Cost;
-use ch_graph::{Hierarchy, Link};
+use ch_cost::{Cost, NarrowCost};
+use ch_graph::{Hierarchy, Link, Middle};
 use ch_query::Search;
 use hierfile::HierError;
 use std::alloc::{AllocError, Global};
@@ -92,12 +92,11 @@ pub(crate) const HEAVY_1: [u32; 45] = [
 ];
 
 /// A link of version 1, with no middle or one.
-fn link(from: u32, to: u32, weight: u64, middle: Option<u32>) -> Link {
-    let cost = Cost::of_walk(weight, 0);
+fn link(from: u32, to: u32, weight: u64, middle: Middle) -> Link {
     Link {
         from,
         to,
-        cost,
+        cost: NarrowCost::of_walk(weight, 0),
         middle,
     }
 }
@@ -125,12 +124,12 @@ fn is_read_as(
 #[test]
 fn reads_numbers(rt: HostRuntime) -> Result<(), AllocError> {
     let row = [
-        link(0, 2, 3, None),
-        link(1, 0, 2, None),
-        link(1, 2, 5, Some(0)),
+        link(0, 2, 3, Middle::NONE),
+        link(1, 0, 2, Middle::NONE),
+        link(1, 2, 5, Middle::at(0)),
     ];
     assert!(rt; is_read_as(rt.alloc(), &NO_NODE, &[], 0)?);
-    assert!(rt; is_read_as(rt.alloc(), &ONE_ARC_1, &[link(0, 1, 7, None)], 7)?);
+    assert!(rt; is_read_as(rt.alloc(), &ONE_ARC_1, &[link(0, 1, 7, Middle::NONE)], 7)?);
     assert!(rt; is_read_as(rt.alloc(), &ROW_1, &row, 6)?);
     Ok(())
 }

@@ -2,14 +2,14 @@
 ghost use Rattle.std.specs.Prelude.{◌≡◌, IfOk};
 
 use crate::costs::{Numbers, cost_of};
-use ch_cost::Cost;
-use ch_graph::{Hierarchy, HierarchyError, Link, LinkId};
+use ch_cost::{Cost, NarrowCost};
+use ch_graph::{Hierarchy, HierarchyError, Link, LinkId, Middle};
 use ch_unpack::{UnpackError, unpack};
 use std::alloc::{AllocError, Global};
 use std::test::Fail;
 
 /// A link by its ends, what it costs and its middle.
-pub type Given = (u32, u32, Numbers, Option<u32>);
+pub type Given = (u32, u32, (u64, u32), Option<u32>);
 
 /// The link of a row of three nodes that leaves the first.
 const UP: Given = (0, 2, (3, 1), None);
@@ -72,14 +72,22 @@ pub const DRAWN: &[Given] = &[
 /// The greatest length of a bound of three nodes.
 const GREATEST: u64 = 8_589_934_590;
 
+/// The middle that is this node, if there is one.
+pub fn middle_of(node: Option<u32>) -> Middle {
+    match node {
+        Some(node) if node < u32::MAX => Middle::at(node),
+        _ => Middle::NONE,
+    }
+}
+
 fn links_of(alloc: Global, links: &[Given]) -> Result<Vec<Link>, AllocError> {
     let mut made = Vec::new(alloc);
-    for (from, to, numbers, middle) in links {
+    for (from, to, (length, arcs), middle) in links {
         made.push(Link {
             from: *from,
             to: *to,
-            cost: cost_of(*numbers),
-            middle: *middle,
+            cost: NarrowCost::of_walk(*length, *arcs),
+            middle: middle_of(*middle),
         })?;
     }
     Ok(made)
@@ -297,7 +305,7 @@ const REFUSED: &[Refused] = &[
         HierarchyError::BadLink(1),
     ),
     (
-        (2, &[0, 1, 2], &[(0, 1, (3, u64::MAX), None)], (6, 2)),
+        (2, &[0, 1, 2], &[(0, 1, (3, u32::MAX), None)], (6, 2)),
         HierarchyError::BadLink(0),
     ),
     (
@@ -419,14 +427,18 @@ fn tells_of_too_many_nodes(rt: HostRuntime) -> Result<(), Fail> {
 }
 
 /// Of 38 nodes, each of the rank of its number, the links of each two: of the length that two to the lesser number is, by
-/// way of the node before the lesser. In version 2 a link has as many arcs as it is long.
+/// way of the node before the lesser. In version 2 a link has as many arcs as it is long, or 2^32 - 1.
 fn cascade(alloc: Global, version: u8) -> Result<Vec<Given>, AllocError> {
     let mut links = Vec::new(alloc);
     for from in 0..38u32 {
         for to in 0..38u32 {
             let least = from.min(to);
             let length = 1u64.wrapping_shl(least);
-            let arcs = if version == 1 { 0 } else { length };
+            let arcs = if version == 1 {
+                0
+            } else {
+                u32::try_from(length).unwrap_or(u32::MAX)
+            };
             if from != to {
                 links.push((from, to, (length, arcs), least.checked_sub(1)))?;
             }

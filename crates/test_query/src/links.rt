@@ -3,8 +3,8 @@ ghost use Rattle.ch_cost.specs.Cost.{of_weight};
 ghost use Rattle.ch_graph.specs.Hierarchy.{ComesBefore};
 ghost use Rattle.ch_graph.specs.LinkIndex.{IsIndexOf};
 
-use ch_cost::Cost;
-use ch_graph::{Hierarchy, Link, LinkHalves, LinkId, LinkIndex, Parts};
+use ch_cost::{Cost, NarrowCost};
+use ch_graph::{Hierarchy, Link, LinkHalves, LinkId, LinkIndex, Middle, Parts};
 use std::alloc::{AllocError, Global};
 use std::test::Fail;
 
@@ -14,8 +14,8 @@ fn link(from: u32, to: u32) -> Link
     Link {
         from,
         to,
-        cost: Cost::of_weight(7),
-        middle: None,
+        cost: NarrowCost::of_weight(7),
+        middle: Middle::NONE,
     }
 }
 

@@ -4,8 +4,8 @@ ghost use Rattle.std.specs.Prelude.{◌≡◌, IfOk};
 
 mod routers;
 
-use ch_cost::Cost;
-use ch_graph::{Graph, Hierarchy, HierarchyError, Link, LinkId, Road};
+use ch_cost::{Cost, NarrowCost};
+use ch_graph::{Graph, Hierarchy, HierarchyError, Link, LinkId, Middle, Road};
 use std::alloc::{AllocError, Global};
 use std::test::Fail;
 
@@ -40,8 +40,8 @@ fn two_nodes(alloc: Global) -> Result<Result<Hierarchy, HierarchyError>, AllocEr
     let link = Link {
         from: 0,
         to: 1,
-        cost: Cost::of_weight(7),
-        middle: None,
+        cost: NarrowCost::of_weight(7),
+        middle: Middle::NONE,
     };
     let ranks = vec![in alloc; 0u32, 1]?;
     let links = vec![in alloc; link]?;

@@ -103,7 +103,7 @@ fn cost_along(hierarchy: &Hierarchy, from: u32, links: &[LinkId], to: u32) -> Op
         if link.from != node {
             return None;
         }
-        cost = cost.checked_plus(link.cost)?;
+        cost = cost.checked_plus(link.cost.cost())?;
         node = link.to;
     }
     (node == to).then_some(cost)

@@ -3,9 +3,9 @@ ghost use Rattle.std.specs.Prelude.{◌≡◌, [], All, IfOk};
 use crate::kit::{Lists, TWO, graph_of};
 use crate::stations::comes_to;
 use ch_contract::{Contraction, Facts};
-use ch_cost::Cost;
+use ch_cost::NarrowCost;
 use ch_estimate::{EdgeDifference, Estimator, Lease, Leases, Note};
-use ch_graph::{Graph, Hierarchy, Link};
+use ch_graph::{Graph, Hierarchy, Link, Middle};
 use ch_workers::{Built, Gate, Point, build};
 use std::alloc::{AllocError, Global};
 use std::sync::atomic::{AtomicU64, Ordering};
@@ -126,8 +126,8 @@ fn link(from: u32, to: u32) -> Link {
     Link {
         from,
         to,
-        cost: Cost::of_weight(7),
-        middle: None,
+        cost: NarrowCost::of_weight(7),
+        middle: Middle::NONE,
     }
 }
 

@@ -81,7 +81,9 @@ fn take(costs: &mut [Option<Cost>], link: Link) {
     let Some(Some(before)) = costs.get(link.from as usize).copied() else {
         return;
     };
-    let by_link = before.checked_plus(link.cost).unwrap_or(Cost::GREATEST);
+    let by_link = before
+        .checked_plus(link.cost.cost())
+        .unwrap_or(Cost::GREATEST);
     if let Some(cost) = costs.get_mut(link.to as usize) {
         *cost = Some(cost.map_or(by_link, |known| known.min(by_link)));
     }

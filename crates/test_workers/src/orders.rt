@@ -18,8 +18,8 @@ fn are_links(hierarchy: &Hierarchy, expected: &[Given]) -> bool {
     let links = hierarchy.links();
     let mut holds = links.len() == expected.len();
     'links: for (link, (from, to, length, arcs, middle)) in links.iter().zip(expected) {
-        holds &= (link.from == *from) & (link.to == *to) & (link.middle == *middle);
-        holds &= link.cost == Cost::of_walk(*length, *arcs);
+        holds &= (link.from == *from) & (link.to == *to) & (link.middle.node() == *middle);
+        holds &= link.cost.cost() == Cost::of_walk(*length, *arcs);
     }
     holds
 }

@@ -7,4 +7,4 @@ use Rattle.ch_query.proofs.place.link_at.Goals as goal
 pub returns : goal.returns
 returns c =
     let within : c.args.at < length c.links.result.now = subst (λ (ls : List Link). c.args.at < length ls) (sym c.links.ensures.links) c.requires in
-    get_or_default c.links.result.now c.args.at _ (record { from = 0; to = 0; cost = zero_cost; middle = None }) within ∙ ap (λ (ls : List Link). get_or ls c.args.at (record { from = 0; to = 0; cost = zero_cost; middle = None })) c.links.ensures.links
+    c.index-links-at.is ∙ get_or_default c.links.result.now c.args.at _ (record { from = 0; to = 0; cost = zero_cost; middle = None }) within ∙ ap (λ (ls : List Link). get_or ls c.args.at (record { from = 0; to = 0; cost = zero_cost; middle = None })) c.links.ensures.links

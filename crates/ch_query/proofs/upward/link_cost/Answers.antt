@@ -4,4 +4,4 @@ use Rattle.ch_query.specs.Climb.{cost_at}
 use Rattle.ch_query.proofs.upward.link_cost.Goals as goal
 
 pub returns : goal.returns
-returns c = ap (λ (l : Link). l.cost) c.link_at.ensures ∙ ap (λ k. cost_at c.args.hierarchy.now k) c.get.ensures
+returns c = c.cost.ensures ∙ ap (λ (l : Link). l.cost) c.link_at.ensures ∙ ap (λ k. cost_at c.args.hierarchy.now k) c.get.ensures

@@ -53,14 +53,14 @@ returns-clause-taken c =
     let weight = c.waiting_long-weight.ensures.taken in
     let arcs = c.waiting_arcs-arcs.ensures.taken in
     let middle = c.waiting_word-middle.ensures.taken in
-    rw (c.of_walk.ensures, c.from.ensures, length_of-of_walk c.waiting_long-weight.result c.waiting_arcs-arcs.result, arcs_of-of_walk c.waiting_long-weight.result c.waiting_arcs-arcs.result, c.middle_of.ensures.number)
+    rw (c.of_walk.ensures, length_of-of_walk c.waiting_long-weight.result c.waiting_arcs-arcs.result, arcs_of-of_walk c.waiting_long-weight.result c.waiting_arcs-arcs.result, c.middle_of.ensures.number)
     (parts_then _ _ _ _ _ (parts_then _ _ _ _ _ (parts_then _ _ _ _ _ (parts_then _ _ _ _ _ from to) weight) arcs) middle)
 
 pub returns-clause-writable : goal.returns-clause-writable
 returns-clause-writable c = record {
   from = omega arith;
   to = omega arith;
-  cost = rw (c.of_walk.ensures, c.from.ensures, length_of-of_walk c.waiting_long-weight.result c.waiting_arcs-arcs.result) (omega arith);
-  arcs = rw (c.of_walk.ensures, c.from.ensures, arcs_of-of_walk c.waiting_long-weight.result c.waiting_arcs-arcs.result) c.waiting_arcs-arcs.ensures.told;
+  cost = rw (c.of_walk.ensures, length_of-of_walk c.waiting_long-weight.result c.waiting_arcs-arcs.result) (omega arith);
+  arcs = rw (c.of_walk.ensures, arcs_of-of_walk c.waiting_long-weight.result c.waiting_arcs-arcs.result) c.waiting_arcs-arcs.ensures.told;
   middle = c.middle_of.ensures.node;
 }

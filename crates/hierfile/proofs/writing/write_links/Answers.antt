@@ -1,4 +1,4 @@
-use Rattle.std.proofs.Common.{length, ◌<◌, sym, arith}
+use Rattle.std.proofs.Common.{length, ◌<◌, ap, sym, arith}
 use Rattle.counted_io.specs.Sinks.Laws.{puts_as, puts_failed, puts_nothing, puts_then}
 use Rattle.ch_graph.specs.declared.version.Version.TheVariants.{Two}
 use Rattle.hierfile.specs.Spelling.{link_bytes}
@@ -11,7 +11,7 @@ links-init g c = puts_nothing _ _
 pub links-preserved : goal.links-preserved
 links-preserved g c =
     let within : c.links.link-index < length c.args.links.now = omega arith in
-    puts_as (spelled-more (link_bytes Two) c.args.links.now c.links.link-index _ within) (puts_then c.links.invariant c.write_link.ensures)
+    puts_as (spelled-more (link_bytes Two) c.args.links.now c.links.link-index _ within) (puts_then c.links.invariant (puts_as (ap (link_bytes Two) c.link-item.is) c.write_link.ensures))
 
 pub returns-then-has_failed : goal.returns-then-has_failed
 returns-then-has_failed g c = puts_as (spelled-rest (link_bytes Two) c.args.links.now c.links.link-index) (puts_then c.links.invariant (puts_failed _ _ _ (sym c.if-has_failed.ensures)))

@@ -1,6 +1,6 @@
 use Rattle.std.proofs.Common.{◌≡◌, ◌↔◌, ◌&&◌, IsTrue, sym, subst}
 use Rattle.std.specs.Bool.{Decides}
-use Rattle.ch_laws.specs.Middle.{same_middles-Decides}
+use Rattle.ch_graph.specs.Middle.{same_middles-Decides}
 use Rattle.ch_laws.specs.Rows.{Row}
 use Rattle.ch_overlay.proofs.SameRows.{entries_decide, row_decides}
 use Rattle.ch_overlay.proofs.row.Row.is_same.Goals as goal

@@ -1,9 +1,9 @@
 ghost use Rattle.std.specs.Prelude.{◌≡◌, ◌-◌, ◌<◌, ◌^◌, Some};
-ghost use Rattle.ch_laws.specs.Middle.{same_middles, same_middles-laws, same_middles-partial};
+ghost use Rattle.ch_graph.specs.Middle.{same_middles, same_middles-laws, same_middles-partial};
 
 use std::marker::Model;
 
-/// The node where the two halves of an entry meet, or `None`: an `Option<u32>` in 4 bytes, since no node has the number
+/// The node where the two halves of a link or of an entry meet, or `None`: an `Option<u32>` in 4 bytes, since no node has the number
 /// 2^32 - 1.
 #[derive(Clone, Copy, Debug)]
 pub struct Middle {
@@ -13,7 +13,7 @@ pub struct Middle {
 
 impl Model for Middle {
     ghost use Rattle.std.specs.Prelude.{Option, ℕ};
-    ghost use Rattle.ch_laws.specs.Middle.{inside_of, node_in, number_of};
+    ghost use Rattle.ch_graph.specs.Middle.{inside_of, node_in, number_of};
 
     ghost Value = { Option ℕ };
 

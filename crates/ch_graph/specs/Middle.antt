@@ -5,7 +5,7 @@ use Rattle.std.specs.Cmp.{IsEquivalence, IsPartialEquivalence, decided, unsigned
 use Rattle.std.specs.Option.{option_eq}
 use Rattle.std.proofs.Common.{arith, ap}
 use Rattle.std.proofs.lemmas.Bool.Decides.{nat_tests}
-use Rattle.ch_laws.specs.declared.middle.Middle.TheInside.{Inside}
+use Rattle.ch_graph.specs.declared.middle.Middle.TheInside.{Inside}
 
 -- none is represented by the greatest of four bytes, and a node by its own number
 abbrev pub number_of : Option ℕ → ℕ
