@@ -3,6 +3,7 @@ pub mod Overlay
 pub mod Opening
 pub mod Placing
 pub mod Change
+pub mod Prepared
 pub mod Source
 pub mod Finding
 pub mod Records

@@ -1,4 +1,4 @@
-ghost use Rattle.std.specs.Prelude.{◌≡◌, ◌+◌, ◌<◌, List, IfOk, All, AllPairs, length, map, slice_index};
+ghost use Rattle.std.specs.Prelude.{◌≡◌, ◌+◌, ◌<◌, ◌∷◌, List, Some, IfOk, All, AllPairs, length, map, slice_index};
 ghost use Rattle.std.specs.List.{zip};
 ghost use Rattle.std.specs.Arc.{arc_value};
 ghost use Rattle.ch_laws.specs.declared.shortcut.Shortcut.{Shortcut};
@@ -6,18 +6,18 @@ ghost use Rattle.ch_laws.specs.Contraction.{IsPlan, contracted};
 ghost use Rattle.ch_overlay.specs.Opening.{AreLeast, AreOpening};
 ghost use Rattle.ch_overlay.specs.Overlay.{IsOverlay, IsStartOverlay, row_at, state_of};
 ghost use Rattle.ch_overlay.specs.Records.{AreSoundRows, ChangesAreSound};
+ghost use Rattle.ch_overlay.specs.Prepared.{Fits};
 ghost use Rattle.ch_overlay.specs.Change.{AreRenewed, IsChange, IsOf, changed_nodes, puts};
 
 use crate::change::{Change, put_rows, put_versions};
 use crate::least::least_arcs;
 use crate::opening::{first_versions, rows_of, shared, shared_rows};
-use crate::placed::{in_entries, out_entries};
-use crate::planned::{push_changed, ranked_row};
+use crate::prepared::{Prepared, prepare, ranked_row};
 use crate::row::Row;
 use ch_cost::Cost;
 use ch_graph::{Graph, Road};
 use ch_laws::{
-    Middle, Shortcut, rows_are_the_state, rows_of_alive_nodes_show_what_remains,
+    Shortcut, rows_are_the_state, rows_of_alive_nodes_show_what_remains,
     rows_of_least_arcs_are_the_start, updated_rows_are_the_next,
 };
 use std::alloc::{AllocError, Global};
@@ -170,25 +170,27 @@ impl Overlay {
         ensures node { IfOk result (λ change. change.node ≡ node) }
         ensures change { IfOk result (λ change. IsChange self.now shortcuts.now change) }
     {
-        rows_of_alive_nodes_show_what_remains();
         let alloc = *self.rows.allocator();
         let row = self.row(node);
-        let middle = Middle::at(node);
-        let out = out_entries(alloc, middle, shortcuts)?;
-        let inn = in_entries(alloc, middle, shortcuts)?;
-        let neighbours = row.others(alloc)?;
+        let nodes = row.named(alloc)?;
+        let near = near_rows(alloc, self.rows.as_slice(), nodes.as_slice())?;
+        let prepared = prepare(alloc, node, row, near.as_slice(), shortcuts)?;
+        self.plan_by(prepared)
+    }
+
+    /// Returns the change of rows that were made before: the node gets its rank, the number of nodes that are contracted.
+    /// Nothing changes yet. It is the change of [`Overlay::plan`] where the rows fit, and takes memory for one row.
+    pub fn plan_by(&self, prepared: Prepared) -> Result<Change, AllocError>
+        ensures node { IfOk result (λ change. change.node ≡ prepared.node) }
+        ensures rows { IfOk result (λ change. change.rows ≡ (prepared.node, record prepared.row { rank = Some (length self.now.order) }) ∷ prepared.others) }
+        ensures change { IfOk result (λ change. (put : List Shortcut) → Fits self.now put prepared → IsChange self.now put change) }
+    {
+        rows_of_alive_nodes_show_what_remains();
+        let alloc = *self.rows.allocator();
+        let Prepared { node, row, others } = prepared;
         let ranked = ranked_row(alloc, row, self.contracted())?;
-        let mut rows = Vec::with_capacity(alloc, neighbours.len() + 1)?;
-        rows.push((node, ranked))?;
-        push_changed(
-            alloc,
-            &mut rows,
-            self.rows.as_slice(),
-            node,
-            neighbours.as_slice(),
-            &out,
-            &inn,
-        )?;
+        let mut rows = others;
+        rows.insert(0, (node, ranked))?;
         Ok(Change { node, rows })
     }
 
@@ -225,4 +227,21 @@ pub fn changes_are_sound()
 {
     updated_rows_are_the_next();
     rows_are_the_state();
+}
+
+/// The rows of these nodes, each with its node.
+fn near_rows<'a>(
+    alloc: Global,
+    rows: &'a [Arc<Row>],
+    nodes: &[u32],
+) -> Result<Vec<(u32, &'a Row)>, AllocError>
+    requires { All (λ x. x < length rows.now) nodes.now }
+    ensures { IfOk result (λ near. map (λ a. (a.0, a.1.now)) near.items ≡ map (λ x. (x, row_at (map arc_value rows.now) x)) nodes.now) }
+{
+    let mut near = Vec::with_capacity(alloc, nodes.len())?;
+    for node in nodes {
+        let row: &Row = &rows[*node as usize];
+        near.push((*node, row))?;
+    }
+    Ok(near)
 }

@@ -3,6 +3,7 @@ ghost use Rattle.ch_laws.specs.declared.entry.Entry.{Entry};
 ghost use Rattle.ch_laws.specs.Rows.{Rises};
 ghost use Rattle.ch_overlay.specs.Merging.{merged};
 ghost use Rattle.ch_overlay.specs.Overlay.{no_arcs};
+ghost use Rattle.ch_overlay.specs.Prepared.{AreNamed};
 
 use crate::merge::Merge;
 use ch_laws::Entry;
@@ -66,14 +67,14 @@ impl Row {
             & (self.inn.as_slice() == other.inn.as_slice())
     }
 
-    /// The row with its entries and this rank.
-    pub(crate) fn ranked(&self, alloc: Global, rank: u32) -> Result<Row, AllocError>
-        ensures { IfOk result (λ row. row ≡ record self.now { rank = Some rank }) }
+    /// The same row, in memory of its own.
+    pub(crate) fn copied(&self, alloc: Global) -> Result<Row, AllocError>
+        ensures { IfOk result (λ row. row ≡ self.now) }
     {
         Ok(Row {
             out: Vec::from_slice(alloc, &self.out)?,
             inn: Vec::from_slice(alloc, &self.inn)?,
-            rank: Some(rank),
+            rank: self.rank,
         })
     }
 
@@ -99,9 +100,12 @@ impl Row {
         })
     }
 
-    /// The nodes of its entries in either direction, rising, each once.
-    pub(crate) fn others(&self, alloc: Global) -> Result<Vec<u32>, AllocError>
-        ensures { IfOk result (λ nodes. nodes.items ≡ map (λ e. e.other) (merged self.now.out self.now.inn)) }
+    /// Returns the nodes that it has entries for, in either direction, each once, by rising number. Both lists rise. Takes
+    /// memory for them, and time by the number of entries.
+    pub fn named(&self, alloc: Global) -> Result<Vec<u32>, AllocError>
+        requires out_rises { Rises self.now.out }
+        requires inn_rises { Rises self.now.inn }
+        ensures { IfOk result (λ nodes. AreNamed self.now nodes.items) }
     {
         let most = self.out.len().saturating_add(self.inn.len());
         let mut nodes = Vec::with_capacity(alloc, most)?;
