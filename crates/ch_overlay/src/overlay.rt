@@ -175,7 +175,8 @@ impl Overlay {
         let nodes = row.named(alloc)?;
         let near = near_rows(alloc, self.rows.as_slice(), nodes.as_slice())?;
         let prepared = prepare(alloc, node, row, near.as_slice(), shortcuts)?;
-        self.plan_by(prepared)
+        let change = self.plan_by(prepared)?;
+        Ok(change)
     }
 
     /// Returns the change of rows that were made before: the node gets its rank, the number of nodes that are contracted.
@@ -236,7 +237,8 @@ fn near_rows<'a>(
     nodes: &[u32],
 ) -> Result<Vec<(u32, &'a Row)>, AllocError>
     requires { All (λ x. x < length rows.now) nodes.now }
-    ensures { IfOk result (λ near. map (λ a. (a.0, a.1.now)) near.items ≡ map (λ x. (x, row_at (map arc_value rows.now) x)) nodes.now) }
+    ensures nodes { IfOk result (λ near. map (λ a. a.0) near.items ≡ nodes.now) }
+    ensures rows { IfOk result (λ near. All (λ a. a.1.now ≡ row_at (map arc_value rows.now) a.0) near.items) }
 {
     let mut near = Vec::with_capacity(alloc, nodes.len())?;
     for node in nodes {

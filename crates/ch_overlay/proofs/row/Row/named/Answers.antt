@@ -1,13 +1,15 @@
 use Rattle.std.specs.Vec.{vec_len, vec_capacity}
-use Rattle.std.proofs.Common.{rules, ◌+◌, ◌≤◌, ℕ, length, ◌≡◌, ◌∙◌, ap, List, ◌++◌, subst, map, OnOk}
+use Rattle.std.proofs.Common.{rules, ◌+◌, ◌≤◌, ℕ, length, ◌≡◌, ◌∙◌, ap, List, ◌++◌, subst, sym, map, OnOk}
 use Rattle.ch_laws.specs.declared.entry.Entry.{Entry}
 use Rattle.ch_laws.specs.Rows.{Row}
 use Rattle.ch_overlay.specs.Merging.{merged}
+use Rattle.ch_overlay.specs.Prepared.{AreNamed}
+use Rattle.ch_overlay.proofs.Neighbours.{others_named}
 use Rattle.ch_overlay.specs.declared.merge.Merge.{Merge}
 use Rattle.std.proofs.lemmas.Iterator.{YieldsList-from_map}
 use Rattle.std.proofs.lemmas.Iterator.Adapters.{items_from_extend}
 use Rattle.std.proofs.lemmas.Iterator.Consumers.{YieldsList-from_first}
-use Rattle.ch_overlay.proofs.row.Row.others.Goals as goal
+use Rattle.ch_overlay.proofs.row.Row.named.Goals as goal
 
 pub returns : goal.returns
 returns c =
@@ -24,4 +26,4 @@ returns c =
     (λ r. OnOk r ((c.extend.new.self.items ≡ c.in_ok-nodes.nodes.items ++ all)
     × (vec_len c.extend.new.self ≡ vec_len c.in_ok-nodes.nodes + length all)
     × (vec_capacity c.in_ok-nodes.nodes ≤ vec_capacity c.extend.new.self))) c.in_ok-extend.was got in
-    known.0 ∙ ap (λ (xs : List ℕ). xs ++ all) c.in_ok-nodes.ensures.items
+    subst (AreNamed c.args.self.now) (sym (known.0 ∙ ap (λ (xs : List ℕ). xs ++ all) c.in_ok-nodes.ensures.items)) (others_named c.args.self.now c.requires.out_rises c.requires.inn_rises)
