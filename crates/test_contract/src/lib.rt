@@ -12,6 +12,8 @@ mod networks;
 #[cfg(test)]
 mod overlays;
 #[cfg(test)]
+mod prepared;
+#[cfg(test)]
 mod proposals;
 #[cfg(test)]
 mod races;

@@ -8,7 +8,7 @@ use std::sync::Arc;
 use std::test::Fail;
 
 /// The entries of a row: the other node of each, and its weight.
-type Entries = &'static [(u32, u32)];
+pub type Entries = &'static [(u32, u32)];
 
 /// The rows in which a graph begins: of each node, by its number, the arcs out of it and into it.
 #[derive(Clone, Copy)]
@@ -42,13 +42,13 @@ const OPENINGS: &[Opening] = &[
 ];
 
 /// Node 1 leads to node 2 itself, and by way of node 0.
-const DIRECT: &[Line] = &[(1, 0, 2), (0, 2, 3), (1, 2, 4)];
+pub const DIRECT: &[Line] = &[(1, 0, 2), (0, 2, 3), (1, 2, 4)];
 
 /// A new row: its node, its arcs out and in, and its rank.
-type Changed = (u32, Entries, Entries, Option<u32>);
+pub type Changed = (u32, Entries, Entries, Option<u32>);
 
 /// The new rows when node 0 is contracted without a shortcut.
-const CHANGED: &[Changed] = &[
+pub const CHANGED: &[Changed] = &[
     (0, &[(2, 3)], &[(1, 2)], Some(0)),
     (1, &[(2, 4)], &[], None),
     (2, &[], &[(1, 4)], None),
@@ -125,7 +125,7 @@ fn opening_rows(rt: HostRuntime) -> Result<(), Fail> {
 }
 
 /// Whether the rows are these.
-fn are_changed(rows: &[(u32, Arc<Row>)], expected: &[Changed]) -> bool {
+pub fn are_changed(rows: &[(u32, Arc<Row>)], expected: &[Changed]) -> bool {
     let mut holds = rows.len() == expected.len();
     for ((at, row), (node, out, inn, rank)) in rows.iter().zip(expected) {
         holds &= (at == node) & is_row(row, out, inn, *rank);
