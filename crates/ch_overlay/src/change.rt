@@ -7,7 +7,8 @@ use crate::row::Row;
 use std::marker::Model;
 use std::sync::Arc;
 
-/// The new rows of one contraction, made by [`Overlay::plan`](crate::Overlay::plan).
+/// The new rows of one contraction, made by [`Overlay::plan`](crate::Overlay::plan) or
+/// [`Overlay::plan_by`](crate::Overlay::plan_by).
 #[derive(Drop)]
 pub struct Change {
     pub(crate) node: u32,
