@@ -1,5 +1,5 @@
 -- Which rows of a proposal are current, and the results that follow from this.
-use Rattle.std.proofs.Common.{ℕ, ◌≡◌, ◌≢◌, ◌<◌, ◌↔◌, Bool, true, false, List, [], ◌∷◌, ◌++◌, Option, Some, None, Result, Ok, Err, is_some, is_none, IsTrue, length, Contains, get_or, drop, ap, sym, subst, refl, ◌∙◌, inl, inr}
+use Rattle.std.proofs.Common.{ℕ, ◌≡◌, ◌≢◌, ◌<◌, ◌↔◌, Bool, true, false, not, List, [], ◌∷◌, ◌++◌, Option, Some, None, Result, Ok, Err, is_some, is_none, IfNone, IfSome, IsTrue, length, Contains, get_or, drop, ap, sym, subst, refl, ◌∙◌, inl, inr}
 use Rattle.std.proofs.lemmas.Bool.{cases_Bool, false≢true}
 use Rattle.std.proofs.lemmas.List.Elements.{All-contains, All-head, All-tail, Contains-append_right}
 use Rattle.ch_laws.specs.Contraction.{IsAlive}
@@ -52,6 +52,14 @@ module _ (l : Ledger) where
   none_first rows node seen now current first =
       let among : Contains rows first.row = subst (λ (rs : List Seen). Contains rs first.row) (sym first.among) (Contains-append_right first.before (first.row ∷ first.after) first.row (contains_first first.row first.after)) in
       All-contains (λ (r : Seen). IsOld l r → ⊥) rows first.row current among first.old
+
+  -- a search for the first shows which it is
+  pub current_by : {A : Type 0} (o : Option A) (node seen now : A → ℕ) (b : Bool) (rows : List Seen) → is_some o ≡ not b → IfNone o (NoneIsOld l rows)
+      → IfSome o (λ a. IsFirstOld l rows (node a) (seen a) (now a)) → IsTrue b ↔ NoneIsOld l rows
+  current_by None node seen now true rows is none some = (λ _. none, λ _. refl)
+  current_by None node seen now false rows is none some = absurd (false≢true is)
+  current_by (Some a) node seen now true rows is none some = absurd (false≢true (sym is))
+  current_by (Some a) node seen now false rows is none some = (λ yes. absurd (false≢true yes), λ current. absurd (none_first rows (node a) (seen a) (now a) current some))
 
   module _ (p : Proposal) where
     -- what is up to date isn't refused

@@ -21,3 +21,4 @@ pub mod ShownRows
 pub mod Lawful
 pub mod InBook
 pub mod Options
+pub mod Answered

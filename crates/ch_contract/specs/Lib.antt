@@ -7,5 +7,6 @@ pub mod Chains
 pub mod Listed
 pub mod Proposal
 pub mod Commit
+pub mod Ready
 pub mod Names
 pub mod Drafts

@@ -80,6 +80,13 @@ fn first_old(ledger: &Ledger, rows: &[Seen]) -> Option<Old>
     None
 }
 
+/// Whether none of these rows has another version now.
+pub(crate) fn are_current(ledger: &Ledger, rows: &[Seen]) -> bool
+    ensures { IsTrue result ↔ NoneIsOld ledger.now rows.now }
+{
+    first_old(ledger, rows).is_none()
+}
+
 /// The version that the ledger has now, where it is another than the one that was seen.
 fn newer(ledger: &Ledger, seen: &Seen) -> Option<u64>
     ensures { SomeIff result (IsOld ledger.now seen.now) (version_now ledger.now seen.now.node) }

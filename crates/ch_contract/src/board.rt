@@ -1,4 +1,4 @@
-ghost use Rattle.std.specs.Prelude.{◌≡◌, ◌<◌, ◌≤◌, ◌↔◌, ℕ, [], IfOk, IfErr, IsErrOf, IsTrue, OnErr, All, length, map, slice_index};
+ghost use Rattle.std.specs.Prelude.{◌≡◌, ◌<◌, ◌≤◌, ◌↔◌, ℕ, [], IfOk, IfErr, IfSome, IsErrOf, IsTrue, OnErr, All, length, map, slice_index};
 ghost use Rattle.ch_graph.specs.Limits.{bound_of};
 ghost use Rattle.ch_graph.specs.Hierarchy.{IsRight};
 ghost use Rattle.ch_laws.specs.Contraction.{IsStart, IsAlive, IsMade};
@@ -10,24 +10,26 @@ ghost use Rattle.ch_contract.specs.declared.error.CommitError.TheVariants as com
 ghost use Rattle.ch_contract.specs.Ledger.{IsLedger, IsLog, IsNode, AreLawful, IsContracted, version_now, versions_now};
 ghost use Rattle.ch_rowbook.specs.declared.error.BookError.TheVariants as books;
 ghost use Rattle.ch_contract.specs.Board.{IsRefusedAPlace};
-ghost use Rattle.ch_contract.specs.Commit.{IsContractedYet, NoneIsOld, Agrees, IsStale};
+ghost use Rattle.ch_contract.specs.Commit.{IsContractedYet, NoneIsOld, IsRowOf, Agrees, IsStale};
 ghost use Rattle.ch_contract.specs.Finish.{HasNodesLeft};
+ghost use Rattle.ch_contract.specs.Ready.{IsReadyFor, FitsLedger};
 ghost use Rattle.ch_contract.specs.Sweep.{IsSwept, IsPartlySwept, IsVisited};
 
-use crate::accepting::{agreement_is_lawful, refusal};
+use crate::accepting::{agreement_is_lawful, are_current, refusal};
 use crate::contraction::{Contraction, Receipt};
 use crate::error::{CommitError, FinishError, ProposeError, SweepError};
 use crate::finish::hierarchy_of;
 use crate::ledger::Ledger;
 use crate::proposal::Proposal;
 use crate::proposing::propose_with;
+use crate::ready::Ready;
 use crate::scratch::Scratch;
 use crate::shown::shown;
 use crate::site::Site;
 use ch_cost::Cost;
 use ch_graph::{Graph, Hierarchy};
 use ch_laws::bounds_fit;
-use ch_overlay::{Overlay, RowSource, SeeError, Seen, Shortcut, changes_are_sound};
+use ch_overlay::{Overlay, Prepared, RowSource, SeeError, Seen, Shortcut, changes_are_sound};
 use ch_rowbook::{Blank, BookError, Laid, Pen, Reader, open};
 use std::alloc::{AllocError, Global};
 use std::marker::Model;
@@ -178,7 +180,7 @@ impl<S: Site> Board<S> {
         ensures stale { (node seen now front : ℕ) → (result ≡ Err (commits.Stale node seen now front)) ↔ IsStale self.old proposal node seen now front }
         ensures slot { result ≡ Err commits.Slot → IsRefusedAPlace S.book self.old proposal.node proposal.shortcuts }
     {
-        self.accept(rt, &proposal)
+        self.accept(rt, &proposal, None)
     }
 
     /// Commits a proposal, as [`Board::commit`] does, and gives a reader of the board's book the versions as they are
@@ -201,7 +203,35 @@ impl<S: Site> Board<S> {
         ensures stale { (node seen now front : ℕ) → (result ≡ Err (commits.Stale node seen now front)) ↔ IsStale self.old proposal.now node seen now front }
         ensures slot { result ≡ Err commits.Slot → IsRefusedAPlace S.book self.old proposal.now.node proposal.now.shortcuts }
     {
-        match self.accept(rt, proposal) {
+        self.commit_ready(rt, proposal, None, reader)
+    }
+
+    /// Commits a proposal, as [`Board::commit_and_see`] does, with the new rows that [`make_ready`](crate::make_ready) made
+    /// for it before, if there are some. What it promises is the same with them and without.
+    ///
+    /// Where a row that was read for them beside the proposal has changed since, the new rows are made here. Where they still
+    /// fit, one row is made: the node's, which gets its rank.
+    pub fn commit_ready<R: Wait>(
+        &mut self,
+        rt: &R,
+        proposal: &Proposal,
+        ready: Option<Ready>,
+        reader: &mut Reader<S>,
+    ) -> Result<Receipt, CommitError>
+        requires of_book { All (IsOfBook S.book) proposal.now.rests_on }
+        requires bound { proposal.now.bound ≡ S.book.bound }
+        requires ready { IfSome ready (IsReadyFor proposal.now) }
+        requires beside { IfSome ready (λ r. All (IsOfBook S.book) r.beside) }
+        ensures ok { IfOk result (λ receipt. IsContracted self.old proposal.now.node proposal.now.shortcuts receipt self.new) }
+        ensures err { OnErr result (self.new ≡ self.old) }
+        ensures seen { IfOk result (λ _. (x : ℕ) → IsNode self.new x → slice_index reader.new x ≡ version_now self.new x) }
+        ensures unseen { OnErr result (reader.new ≡ reader.old) }
+        ensures risen { IsBelow reader.old reader.new }
+        ensures contracted { (result ≡ Err commits.Contracted) ↔ IsContractedYet self.old proposal.now }
+        ensures stale { (node seen now front : ℕ) → (result ≡ Err (commits.Stale node seen now front)) ↔ IsStale self.old proposal.now node seen now front }
+        ensures slot { result ≡ Err commits.Slot → IsRefusedAPlace S.book self.old proposal.now.node proposal.now.shortcuts }
+    {
+        match self.accept(rt, proposal, ready) {
             Ok(receipt) => {
                 self.pen.tell(reader);
                 Ok(receipt)
@@ -211,9 +241,16 @@ impl<S: Site> Board<S> {
     }
 
     /// Contracts the node of a proposal that isn't refused by version numbers.
-    fn accept<R: Wait>(&mut self, rt: &R, proposal: &Proposal) -> Result<Receipt, CommitError>
+    fn accept<R: Wait>(
+        &mut self,
+        rt: &R,
+        proposal: &Proposal,
+        ready: Option<Ready>,
+    ) -> Result<Receipt, CommitError>
         requires of_book { All (IsOfBook S.book) proposal.now.rests_on }
         requires bound { proposal.now.bound ≡ S.book.bound }
+        requires ready { IfSome ready (IsReadyFor proposal.now) }
+        requires beside { IfSome ready (λ r. All (IsOfBook S.book) r.beside) }
         ensures ok { IfOk result (λ receipt. IsContracted self.old proposal.now.node proposal.now.shortcuts receipt self.new) }
         ensures err { OnErr result (self.new ≡ self.old) }
         ensures contracted { (result ≡ Err commits.Contracted) ↔ IsContractedYet self.old proposal.now }
@@ -225,7 +262,8 @@ impl<S: Site> Board<S> {
             return Err(refused);
         }
         self.agree(proposal);
-        match self.contract(rt, proposal.node(), proposal.shortcuts()) {
+        let prepared = self.fitting(proposal, ready);
+        match self.contract(rt, proposal.node(), proposal.shortcuts(), prepared) {
             Ok(handed) => Ok(handed),
             Err(BookError::OutOfMemory) => Err(CommitError::OutOfMemory),
             Err(BookError::Slot) => Err(CommitError::Slot),
@@ -242,20 +280,48 @@ impl<S: Site> Board<S> {
         ensures holds { IsLedger self.now }
     {
         self.ledger.holds();
-        let rows = proposal.rests_on();
+        self.agree_all(proposal.rests_on());
+    }
+
+    /// Rows of the book whose versions are current are the board's.
+    fn agree_all(&self, rows: &[Seen])
+        requires of_book { All (IsOfBook S.book) rows.now }
+        requires current { NoneIsOld self.now rows.now }
+        ensures { All (IsRowOf self.now) rows.now }
+    {
         'rows: for seen in rows {
             self.pen.agrees(seen);
         }
     }
 
-    /// Contracts a node and puts these shortcuts in. The new rows are laid, and then shown.
+    /// The new rows that were made before, where the rows that were read for them beside the proposal are current. Those that
+    /// the proposal rests on are.
+    fn fitting(&self, proposal: &Proposal, ready: Option<Ready>) -> Option<Prepared>
+        requires agrees { Agrees self.now proposal.now }
+        requires lawful { AreLawful self.now proposal.now.node proposal.now.shortcuts }
+        requires ready { IfSome ready (IsReadyFor proposal.now) }
+        requires beside { IfSome ready (λ r. All (IsOfBook S.book) r.beside) }
+        ensures { IfSome result (FitsLedger self.now proposal.now.node proposal.now.shortcuts) }
+    {
+        let Ready { prepared, beside } = ready?;
+        if !are_current(&self.ledger, beside.as_slice()) {
+            return None;
+        }
+        self.agree_all(beside.as_slice());
+        Some(prepared)
+    }
+
+    /// Contracts a node and puts these shortcuts in, by new rows that were made before if there are some. They are laid, and
+    /// then shown.
     fn contract<R: Wait>(
         &mut self,
         rt: &R,
         node: u32,
         shortcuts: &[Shortcut],
+        prepared: Option<Prepared>,
     ) -> Result<Receipt, BookError>
-        requires { AreLawful self.old node shortcuts.now }
+        requires lawful { AreLawful self.old node shortcuts.now }
+        requires fits { IfSome prepared (FitsLedger self.old node shortcuts.now) }
         ensures ok { IfOk result (λ receipt. IsContracted self.old node shortcuts.now receipt self.new) }
         ensures err { OnErr result (self.new ≡ self.old) }
         ensures slot { result ≡ Err books.Slot → IsRefusedAPlace S.book self.old node shortcuts.now }
@@ -263,7 +329,7 @@ impl<S: Site> Board<S> {
         self.ledger.holds();
         changes_are_sound();
         let alloc = self.ledger.allocator();
-        let planned = self.ledger.plan(node, shortcuts)?;
+        let planned = self.ledger.planned(node, shortcuts, prepared)?;
         let room: Vec<u64> = Vec::with_capacity(alloc, planned.rows().len())?;
         let laid = self.pen.lay_all(rt, alloc, planned.rows())?;
         let versions = versions_of(room, laid.as_slice())?;

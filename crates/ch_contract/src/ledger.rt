@@ -1,22 +1,24 @@
-ghost use Rattle.std.specs.Prelude.{◌≡◌, ◌+◌, ◌<◌, ◌^◌, ℕ, List, ◌↔◌, IfOk, IsFalse, IsTrue, All, length, map, drop};
+ghost use Rattle.std.specs.Prelude.{◌≡◌, ◌+◌, ◌<◌, ◌^◌, ℕ, List, ◌↔◌, IfOk, IfSome, IsFalse, IsTrue, All, length, map, drop};
 ghost use Rattle.std.specs.List.{zip, range_with_len};
 ghost use Rattle.std.specs.Arc.{arc_value};
 ghost use Rattle.ch_laws.specs.declared.shortcut.Shortcut.{Shortcut};
-ghost use Rattle.ch_laws.specs.Contraction.{IsOver};
+ghost use Rattle.ch_laws.specs.Contraction.{IsOver, IsPlan};
 ghost use Rattle.ch_overlay.specs.Overlay.{IsStartOverlay, state_of};
-ghost use Rattle.ch_overlay.specs.Change.{puts, changed_nodes};
+ghost use Rattle.ch_overlay.specs.Change.{IsChange, puts, changed_nodes};
+ghost use Rattle.ch_overlay.specs.Prepared.{Fits};
 ghost use Rattle.ch_contract.specs.Ledger.{IsLedger, IsStartLedger, IsLog, AreLawful, IsContracted, versions_now};
 ghost use Rattle.ch_contract.specs.Ledger as ledgers;
 ghost use Rattle.ch_contract.specs.Finish.{HasNodesLeft, IsFinish, IsMaking};
 ghost use Rattle.ch_contract.specs.Planned.{IsPlanned, WasPlanned, AreNewVersions};
 ghost use Rattle.ch_contract.specs.Planned as plans;
+ghost use Rattle.ch_contract.specs.Ready.{FitsLedger};
 
 use crate::contraction::{Contraction, Receipt};
 use crate::error::FinishError;
 use crate::finish::{Finished, plain_hierarchy_by_two, plain_hierarchy_of};
 use ch_graph::{Graph, Hierarchy};
 use ch_laws::{plan_is_lawful, reached_goes_on};
-use ch_overlay::{Change, Overlay, Row, Shortcut};
+use ch_overlay::{Change, Overlay, Prepared, Row, Shortcut};
 use std::alloc::{AllocError, Global};
 use std::marker::Model;
 use std::sync::Arc;
@@ -211,8 +213,22 @@ impl Ledger {
         requires { AreLawful self.now node shortcuts.now }
         ensures { IfOk result (λ planned. IsPlanned self.now node shortcuts.now planned) }
     {
+        self.planned(node, shortcuts, None)
+    }
+
+    /// The same contraction, by new rows that were made before if there are some.
+    pub(crate) fn planned(
+        &self,
+        node: u32,
+        shortcuts: &[Shortcut],
+        prepared: Option<Prepared>,
+    ) -> Result<Planned, AllocError>
+        requires lawful { AreLawful self.now node shortcuts.now }
+        requires fits { IfSome prepared (FitsLedger self.now node shortcuts.now) }
+        ensures { IfOk result (λ planned. IsPlanned self.now node shortcuts.now planned) }
+    {
         let rank = self.overlay.nodes() - self.overlay.alive();
-        let change = self.overlay.plan(node, shortcuts)?;
+        let change = change_of(&self.overlay, node, shortcuts, prepared)?;
         let neighbours = neighbours_in(self.alloc, change.rows())?;
         let entry = Contraction {
             node,
@@ -257,6 +273,25 @@ pub fn versions_from(alloc: Global, first: u64, count: usize) -> Result<Vec<u64>
         versions.push(first + i)?;
     }
     Ok(versions)
+}
+
+/// The change that contracts a node and puts these shortcuts in, by new rows that were made before if there are some.
+fn change_of(
+    overlay: &Overlay,
+    node: u32,
+    shortcuts: &[Shortcut],
+    prepared: Option<Prepared>,
+) -> Result<Change, AllocError>
+    requires plan { IsPlan overlay.now.bound (state_of overlay.now) node shortcuts.now }
+    requires node { IfSome prepared (λ p. p.node ≡ node) }
+    requires fits { IfSome prepared (Fits overlay.now shortcuts.now) }
+    ensures node { IfOk result (λ change. change.node ≡ node) }
+    ensures change { IfOk result (λ change. IsChange overlay.now shortcuts.now change) }
+{
+    match prepared {
+        Some(prepared) => overlay.plan_by(prepared),
+        None => overlay.plan(node, shortcuts),
+    }
 }
 
 /// The nodes of the rows behind the first.

@@ -3,7 +3,8 @@
 //! Builds on `ch_overlay`, whose rows it changes, on the book of `ch_rowbook`, on the searches of `ch_witness`, and on the
 //! laws of `ch_laws`. Its main types:
 //!
-//! - [`Proposal`], a contraction that was worked out by rows.
+//! - [`Proposal`], a contraction that was worked out by rows, and [`Ready`], the new rows that it leads to, which may be made
+//!   before it is committed.
 //! - [`Ledger`], a graph, the rows that its contractions so far lead to, and the log of these contractions.
 //! - [`Board`], a ledger whose rows are in a book of `ch_rowbook`, whose readers propose without a lock. A board contracts
 //!   a node by a proposal, [`Board::commit`], as long as the versions of the rows that the proposal rests on are current.
@@ -36,6 +37,7 @@ mod ledger;
 mod parts;
 mod proposal;
 mod proposing;
+mod ready;
 mod scratch;
 mod shown;
 mod site;
@@ -50,6 +52,7 @@ pub use finish::Finished;
 pub use ledger::{Ledger, Planned, versions_from};
 pub use proposal::Proposal;
 pub use proposing::{propose, propose_with};
+pub use ready::{Ready, make_ready};
 pub use scratch::Scratch;
 pub use site::Site;
 pub use verdict::Verdict;

@@ -104,7 +104,7 @@ impl Proposal {
     }
 
     /// The row that was read of the node.
-    fn own(&self) -> &Row
+    pub(crate) fn own(&self) -> &Row
         ensures read { row_of self.now.rests_on self.now.node ≡ Some result.now }
         ensures node { self.now.node < 2 ^ 25 }
         ensures out_rises { Rises result.now.out }

@@ -75,10 +75,7 @@ invariant_of-self-2 g c =
     still_in_book g.S.Site.graph g.S.Book.book l c.self.inside.pen c.self.invariant new after c.holds.ensures c.holds-2.ensures done.contracts.graph (ap (λ (s : State). s.nodes) done.state) rows versions
 
 pub enter-receipt-requires-clause-planned : goal.enter-receipt-requires-clause-planned
-enter-receipt-requires-clause-planned c = grind (arith, common_steps) steps 600000
-
-pub plan-requires : goal.plan-requires
-plan-requires c = grind (arith, common_steps) steps 200000
+enter-receipt-requires-clause-planned g c = (c.args.node, c.args.shortcuts.now, c.in_ok-planned.ensures)
 
 pub returns-clause-err : goal.returns-clause-err
 returns-clause-err c = grind (arith, common_steps) steps 200000

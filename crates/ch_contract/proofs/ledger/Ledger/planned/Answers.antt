@@ -4,7 +4,7 @@ use Rattle.std.proofs.lemmas.Grind.{common_steps}
 use Rattle.ch_contract.specs.Ledger.{Ledger, AreLawful}
 use Rattle.ch_contract.specs.Planned.{Planned, IsPlanned}
 use Rattle.ch_contract.proofs.Contracting.{nodes_behind_first}
-use Rattle.ch_contract.proofs.ledger.Ledger.plan.Goals as goal
+use Rattle.ch_contract.proofs.ledger.Ledger.planned.Goals as goal
 
 pub returns : goal.returns
 returns c =
@@ -12,7 +12,7 @@ returns c =
     let rank_is : c.nodes.result - c.alive.result ≡ length c.self.inside.overlay.order = omega (arith, c.nodes.ensures.count, c.alive.ensures) in
     let planned : Planned = record { change = c.in_ok-change.change; entry = record { node = c.args.node; rank = c.nodes.result - c.alive.result; neighbours = c.in_ok-neighbours.neighbours.items; shortcuts = length c.args.shortcuts.now } } in
     let is : IsPlanned ledger c.args.node c.args.shortcuts.now planned = record {
-      lawful = subst (λ (l : Ledger). AreLawful l c.args.node c.args.shortcuts.now) (sym c.self.view_is) c.requires;
+      lawful = subst (λ (l : Ledger). AreLawful l c.args.node c.args.shortcuts.now) (sym c.self.view_is) c.requires.lawful;
       change = c.in_ok-change.ensures.change;
       of_node = c.in_ok-change.ensures.node;
       entry_node = refl;
@@ -25,5 +25,5 @@ returns c =
 pub neighbours_in-requires : goal.neighbours_in-requires
 neighbours_in-requires c = grind (arith, common_steps) steps 200000
 
-pub plan-requires : goal.plan-requires
-plan-requires c = grind (arith, common_steps) steps 200000
+pub change_of-requires-clause-plan : goal.change_of-requires-clause-plan
+change_of-requires-clause-plan c = grind (arith, common_steps) steps 200000

@@ -3,7 +3,7 @@ use Rattle.std.proofs.lemmas.Grind.{common_steps}
 use Rattle.ch_contract.specs.declared.contraction.Receipt.{Receipt}
 use Rattle.ch_contract.specs.declared.error.CommitError.TheVariants as commits
 use Rattle.ch_contract.proofs.Current.{done-apart, same_refusal}
-use Rattle.ch_contract.proofs.board.Board.commit_and_see.Goals as goal
+use Rattle.ch_contract.proofs.board.Board.commit_ready.Goals as goal
 
 pub returns-in-Ok-clause-stale : goal.returns-in-Ok-clause-stale
 returns-in-Ok-clause-stale g c node seen now front = (λ e. absurd (cc), λ stale. absurd (done-apart _ _ _ ((c.in-Ok.ensures.stale node seen now front).1 stale)))
