@@ -1,9 +1,10 @@
-ghost use Rattle.std.specs.Prelude.{◌≡◌, ◌+◌, ◌*◌, ◌/◌, ◌≤◌, ◌<◌, ◌^◌, All, AllPairs, IfOk, IsTrue, max, min};
+ghost use Rattle.std.specs.Prelude.{◌≡◌, ◌+◌, ◌*◌, ◌/◌, ◌≤◌, ◌<◌, ◌^◌, All, AllPairs, IfOk, IfSome, IsTrue, max, min};
 ghost use Rattle.ch_rowbook.specs.Books.{IsOfBook};
+ghost use Rattle.ch_contract.specs.Ready.{IsReadyFor};
 
 use crate::good_options::CrewOptions;
 use crate::listener::Listener;
-use ch_contract::{Board, CommitError, Contraction, Facts, Proposal, Receipt, Site};
+use ch_contract::{Board, CommitError, Contraction, Facts, Proposal, Ready, Receipt, Site};
 use ch_estimate::Estimator;
 use ch_multiqueue::MultiQueue;
 use ch_rowbook::Reader;
@@ -122,19 +123,22 @@ impl<S: Site> Shared<S> {
         self.board.lock(rt)
     }
 
-    /// Commits a proposal that was made by a reader of the board's book, and lets this reader see what changed, under
-    /// one hold of the board's lock.
+    /// Commits a proposal that was made by a reader of the board's book, with its new rows where they are ready, and lets
+    /// this reader see what changed, under one hold of the board's lock.
     pub(crate) fn commit<R: Wait>(
         &self,
         rt: &R,
         proposal: &Proposal,
+        ready: Option<Ready>,
         reader: &mut Reader<S>,
     ) -> Result<Receipt, CommitError>
         requires of_book { All (IsOfBook S.book) proposal.now.rests_on }
         requires bound { proposal.now.bound ≡ S.book.bound }
+        requires ready { IfSome ready (IsReadyFor proposal.now) }
+        requires beside { IfSome ready (λ r. All (IsOfBook S.book) r.beside) }
     {
         let mut hold = self.hold(rt);
-        let committed = hold.board.commit_and_see(rt, proposal, reader);
+        let committed = hold.board.commit_ready(rt, proposal, ready, reader);
         let log = hold.board.log();
         if let Some(last) = log.last() {
             self.widest

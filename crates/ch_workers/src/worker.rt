@@ -1,14 +1,17 @@
 ghost use Rattle.std.specs.Prelude.{◌≡◌, ◌<◌, All, IfOk, IfSome};
 ghost use Rattle.ch_rowbook.specs.Books.{IsOfBook};
+ghost use Rattle.ch_contract.specs.Ready.{IsReadyFor};
 
 use crate::gate::{Gate, Point};
 use crate::listeners::Listeners;
 use crate::shared::{Shared, weight};
 use ch_contract::{
-    CommitError, Contraction, Proposal, ProposeError, Receipt, Scratch, Site, propose_with,
+    CommitError, Contraction, Proposal, ProposeError, Ready, Receipt, Scratch, Site, make_ready,
+    propose_with,
 };
 use ch_estimate::Estimator;
 use ch_multiqueue::{Item, Pass};
+use ch_overlay::SeeError;
 use ch_rowbook::Reader;
 use std::alloc::AllocError;
 use std::sync::Wait;
@@ -228,8 +231,8 @@ impl<E: Estimator> Worker<E> {
         Ok(true)
     }
 
-    /// Commits a proposal and keeps the receipt, or puts the item back where a row has changed. Returns whether it was
-    /// committed. Where that ends the stint of its estimator, it goes on with the next.
+    /// Commits a proposal, whose new rows are made first, and keeps the receipt, or puts the item back where a row has
+    /// changed. Returns whether it was committed. Where that ends the stint of its estimator, it goes on with the next.
     fn commit<S: Site, G: Gate, R: Wait>(
         &mut self,
         rt: &R,
@@ -243,7 +246,8 @@ impl<E: Estimator> Worker<E> {
         requires bound { proposal.now.bound ≡ S.book.bound }
     {
         self.receipts.reserve(1)?;
-        match shared.commit(rt, proposal, reader) {
+        let ready = ready_for(shared, reader, proposal)?;
+        match shared.commit(rt, proposal, ready, reader) {
             Ok(receipt) => {
                 self.receipts.push_reserved(receipt);
                 self.deferred = 0;
@@ -259,5 +263,21 @@ impl<E: Estimator> Worker<E> {
             Err(CommitError::Contracted) => Ok(false),
             Err(CommitError::OutOfMemory | CommitError::Slot) => Err(Refused),
         }
+    }
+}
+
+/// Makes the new rows of a proposal, as far as the reader has the old ones. It takes no lock.
+fn ready_for<S: Site>(
+    shared: &Shared<S>,
+    reader: &mut Reader<S>,
+    proposal: &Proposal,
+) -> Result<Option<Ready>, Refused>
+    ensures ready { IfOk result (λ found. IfSome found (IsReadyFor proposal.now)) }
+    ensures beside { IfOk result (λ found. IfSome found (λ r. All (IsOfBook S.book) r.beside)) }
+{
+    match make_ready(shared.alloc, reader, proposal) {
+        Ok(ready) => Ok(Some(ready)),
+        Err(SeeError::OutOfMemory) => Err(Refused),
+        Err(SeeError::Unseen) => Ok(None),
     }
 }
