@@ -20,6 +20,8 @@ mod races;
 #[cfg(test)]
 mod readers;
 #[cfg(test)]
+mod ready;
+#[cfg(test)]
 mod refused;
 #[cfg(test)]
 mod searches;

@@ -16,6 +16,9 @@ pub const MOST: u32 = u32::MAX;
 /// The row of three nodes: 1, 0, 2.
 pub const ROW: &[Line] = &[(1, 0, 2), (0, 2, 3)];
 
+/// The row of three nodes, and node 3 behind it.
+pub const ONWARD: &[Line] = &[(1, 0, 2), (0, 2, 3), (2, 3, 1)];
+
 /// Two ways from 2 to 3 that cost the same, over 0 and over 1.
 pub const TIE: &[Line] = &[(2, 0, 1), (0, 3, 1), (2, 1, 1), (1, 3, 1)];
 

@@ -18,7 +18,7 @@ use std::test::Fail;
 pub type Entries = &'static [(u32, Numbers, Option<u32>)];
 
 /// A row of the book: its version, its arcs out of the node and into it, and the node's rank.
-type Version = (u64, Entries, Entries, Option<u32>);
+pub type Version = (u64, Entries, Entries, Option<u32>);
 
 /// The rows of the row of three nodes, by their nodes.
 const OPENING: &[Version] = &[
@@ -61,7 +61,11 @@ fn is_of(seen: &Seen, node: u32, (version, out, inn, rank): &Version) -> bool {
 }
 
 /// Whether a reader finds this row of the node.
-fn finds_row<S: Site>(reader: &mut Reader<S>, node: u32, row: &Version) -> Result<bool, SeeError> {
+pub fn finds_row<S: Site>(
+    reader: &mut Reader<S>,
+    node: u32,
+    row: &Version,
+) -> Result<bool, SeeError> {
     Ok(is_of(&reader.read(node)?, node, row))
 }
 

@@ -4,9 +4,10 @@
 //! A call that runs out of memory leaves its value as it was, is made again, and has to give what it gives with ample
 //! memory. What is used up by a refused call, as a graph, ends the test with that error, and so does a growth of what the
 //! test sets up.
-ghost use Rattle.std.specs.Prelude.{◌≡◌, [], IfOk, length};
+ghost use Rattle.std.specs.Prelude.{◌≡◌, [], All, IfOk, length};
 ghost use Rattle.ch_graph.specs.Limits.{bound_of};
 ghost use Rattle.ch_rowbook.specs.Blanks.{name_of};
+ghost use Rattle.ch_contract.specs.Ready.{IsReadyFor};
 
 use crate::boards::{Linked, are_links, finished};
 use crate::networks::{Line, ROW, TIE, graph_of, with_blank, with_book};
@@ -15,8 +16,8 @@ use crate::readers::are;
 use crate::searches::is_one_way;
 use crate::shelf::{Lead, Shelf};
 use ch_contract::{
-    Board, CommitError, FinishError, Ledger, Proposal, ProposeError, Receipt, Site, SweepError,
-    propose,
+    Board, CommitError, FinishError, Ledger, Proposal, ProposeError, Ready, Receipt, Site,
+    SweepError, make_ready, propose,
 };
 use ch_cost::Cost;
 use ch_graph::{Graph, Hierarchy};
@@ -215,6 +216,38 @@ fn seen_again<S: Site, R: Wait>(
     }
     let proposal = propose(alloc, reader, node, SETTLE)?;
     Ok(board.commit_and_see(rt, &proposal, reader)?)
+}
+
+/// The new rows of a proposal.
+fn ready_rows<S: RowSource>(
+    alloc: Global,
+    source: &mut S,
+    proposal: &Proposal,
+) -> Result<Ready, SeeError>
+    ensures ready { IfOk result (IsReadyFor proposal.now) }
+    ensures bears { IfOk result (λ r. All S.bears r.beside) }
+{
+    match make_ready(alloc, source, proposal) {
+        Err(SeeError::OutOfMemory) => make_ready(alloc, source, proposal),
+        answer => answer,
+    }
+}
+
+/// Commits a node as [`committed_and_seen`] does, with new rows that are made before.
+fn committed_ready<S: Site, R: Wait>(
+    rt: &R,
+    alloc: Global,
+    board: &mut Board<S>,
+    reader: &mut Reader<S>,
+    node: u32,
+) -> Result<Receipt, Fail> {
+    let before = board.log().len();
+    let proposal = propose(alloc, reader, node, SETTLE)?;
+    let ready = ready_rows(alloc, reader, &proposal)?;
+    match board.commit_ready(rt, &proposal, Some(ready), reader) {
+        Err(CommitError::OutOfMemory) => seen_again(rt, alloc, board, reader, node, before),
+        answer => Ok(answer?),
+    }
 }
 
 /// Contracts the nodes that are left: whether a receipt is returned for each.
@@ -437,5 +470,40 @@ fn commit_and_readers(rt: HostRuntime) -> Result<(), Fail> {
     let alloc = rt.alloc();
     let (blank, graph) = with_blank(alloc, graph_of(alloc, 3, ROW)?)?;
     assert!(rt; are_found::<Brand, HostRuntime>(&rt, alloc, blank, graph)?);
+    Ok(())
+}
+
+/// Whether a reader of the row of three nodes finds what a commit of node 0 changes, with rows that were made before.
+fn finds_ready_row<S: Site, R: Wait>(
+    rt: &R,
+    alloc: Global,
+    board: &mut Board<S>,
+    reader: &mut Reader<S>,
+) -> Result<bool, Fail> {
+    let receipt = committed_ready(rt, alloc, board, reader, 0)?;
+    Ok(finds_later_row(reader)? & (receipt == Receipt { node: 0, rank: 0 }))
+}
+
+/// The same, of a board of this graph, which has to be the row of three nodes.
+fn is_ready<S: Site, R: Wait>(
+    rt: &R,
+    alloc: Global,
+    blank: Blank,
+    graph: Graph,
+) -> Result<bool, Fail>
+    requires of_graph { S.graph ≡ graph }
+    requires of_book { S.book ≡ name_of blank }
+    requires nodes { blank.nodes ≡ graph.nodes }
+    requires bound { blank.bound ≡ bound_of graph }
+{
+    let (mut board, mut reader): (Board<S>, Reader<S>) = Board::new(rt, alloc, blank, graph)?;
+    finds_ready_row(rt, alloc, &mut board, &mut reader)
+}
+
+#[test]
+fn commit_of_ready_rows(rt: HostRuntime) -> Result<(), Fail> {
+    let alloc = rt.alloc();
+    let (blank, graph) = with_blank(alloc, graph_of(alloc, 3, ROW)?)?;
+    assert!(rt; is_ready::<Brand, HostRuntime>(&rt, alloc, blank, graph)?);
     Ok(())
 }
