@@ -1,43 +1,37 @@
 -- Ranks are marked and listed, from the lowest up.
-use Rattle.std.proofs.Common.{ℕ, ◌≡◌, ◌+◌, ◌-◌, ◌<◌, ◌≤◌, List, [], ◌∷◌, ◌++◌, length, get_or, slice_index, take, set, drop, All, Contains, ap, refl, sym, subst, ◌∙◌, inl, inr, arith}
+use Rattle.std.proofs.Common.{ℕ, ◌≡◌, ◌+◌, ◌-◌, ◌<◌, ◌≤◌, List, [], ◌∷◌, ◌++◌, length, get_or, map, take, set, drop, All, Contains, ap, refl, sym, subst, ◌∙◌, inl, inr, arith}
 use Rattle.std.proofs.lemmas.Bool.{cases_eq, cases_lt}
-use Rattle.std.proofs.lemmas.List.{get_or_default, get_or-map, get_or-drop, get_or_push, get_or_append_left, get_or-set_same, get_or-set_other, length-append, length-drop, length-map, length-set, take_all, take_more}
-use Rattle.std.proofs.lemmas.List.Elements.{All-push, Contains-push, Contains-append_left, Contains-push_cases}
+use Rattle.std.proofs.lemmas.List.{get_or_past, get_or-drop, get_or_push, get_or_append_left, get_or-set_same, get_or-set_other, length-append, length-drop, length-set, take_all, take_more}
+use Rattle.std.proofs.lemmas.List.Elements.{All-append, All-map, All-push, Contains-push, Contains-append_left}
 use Rattle.std.proofs.lemmas.List.Quantifiers.{all_pairs_push}
 use Rattle.memchr.specs.Find.{Nowhere, Passes, is_byte}
 use Rattle.ch_graph.specs.Hierarchy.{Hierarchy, rank_of}
 use Rattle.ch_query.specs.declared.fall.Fall.{Fall}
-use Rattle.ch_query.specs.Ways.{fall_along, AreFallsTo}
+use Rattle.ch_query.specs.Ways.{AreFallsTo}
 use Rattle.ch_table.specs.Selection.{AreRanksAbove}
 use Rattle.ch_table.specs.Laying.{IsMarked, AreMarkedWith, AreListedTo}
 
--- one of the falls to a rank is in each list of these
-same_falls : (h : Hierarchy) (r : ℕ) (falls others : List Fall) → AreFallsTo h r falls → AreFallsTo h r others → (i : ℕ) (d : Fall) → i < length falls → Contains others (get_or falls i d)
-same_falls h r falls others are also i d i_in =
-    let count : length falls ≡ length are.links = ap length are.along ∙ length-map are.links (fall_along h) in
-    let k : ℕ = slice_index are.links i in
-    let k_in : i < length are.links = omega (arith, i_in, count) in
-    let among = also.each k (are.only i 0 k_in) in
-    let fall : get_or falls i d ≡ fall_along h k = ap (λ (fs : List Fall). get_or fs i d) are.along ∙ get_or-map (fall_along h) are.links i 0 d k_in in
-    let there : get_or others among.0 d ≡ fall_along h k =
-    ap (λ (fs : List Fall). get_or fs among.0 d) also.along ∙ (get_or-map (fall_along h) also.links among.0 0 d among.1 ∙ ap (fall_along h) (get_or_default also.links among.0 0 k among.1 ∙ among.2)) in
-    let among_in : among.0 < length others = omega (arith, among.1, ap length also.along ∙ length-map also.links (fall_along h)) in
-    (among.0, among_in, get_or_default others among.0 (get_or falls i d) d among_in ∙ (there ∙ sym fall))
+-- a rank that is marked is one of the ranks
+marked_in : (marks : List ℕ) (r : ℕ) → IsMarked marks r → r < length marks
+marked_in marks r is = elim (cases_lt r (length marks)) [
+  | inl low ↦ low
+  | inr past ↦ absurd (omega (arith, is 0, get_or_past marks r 0 past))
+]
 
-pub listed-none : (h : Hierarchy) (targets marks ranks : List ℕ) → ranks ≡ [] → length marks ≡ length h.ranks → All (λ t. IsMarked marks (rank_of h t)) targets → AreListedTo h targets marks ranks 0
-listed-none h targets marks ranks is nodes ends = record {
+pub listed-none : (h : Hierarchy) (targets marks ranks tails : List ℕ) → ranks ≡ [] → tails ≡ [] → length marks ≡ length h.ranks → All (λ t. IsMarked marks (rank_of h t)) targets → AreListedTo h targets marks ranks tails 0
+listed-none h targets marks ranks tails is none nodes ends = record {
   nodes = nodes;
   few = omega (arith, ap length is);
   rising = λ p q d before within. absurd (omega (arith, within, ap length is));
   below = λ k d within. absurd (omega (arith, within, ap length is));
   ends = ends;
   listed = λ r before marked. absurd (omega (arith, before));
-  closed = λ r falls among are. absurd (omega (arith, among.1, ap length is));
+  left = λ k d within. absurd (omega (arith, within, ap length none));
 }
 
-module _ (h : Hierarchy) (targets : List ℕ) (ranks : List ℕ) (low : ℕ) where
+module _ (h : Hierarchy) (targets ranks tails : List ℕ) (low : ℕ) where
   -- none from here to there is marked
-  pub listed-skips : (marks : List ℕ) (there : ℕ) → low ≤ there → ((r : ℕ) → low ≤ r → r < there → IsMarked marks r → ⊥) → AreListedTo h targets marks ranks low → AreListedTo h targets marks ranks there
+  pub listed-skips : (marks : List ℕ) (there : ℕ) → low ≤ there → ((r : ℕ) → low ≤ r → r < there → IsMarked marks r → ⊥) → AreListedTo h targets marks ranks tails low → AreListedTo h targets marks ranks tails there
   listed-skips marks there on never was = record {
     nodes = was.nodes;
     few = omega (arith, was.few, on);
@@ -48,12 +42,12 @@ module _ (h : Hierarchy) (targets : List ℕ) (ranks : List ℕ) (low : ℕ) whe
       | inl earlier ↦ was.listed r earlier marked
       | inr from ↦ absurd (never r (omega (arith, from)) before marked)
     ];
-    closed = was.closed;
+    left = was.left;
   }
 
   -- the next one is, and the nodes that links to it leave are marked
   pub listed-more : (old new : List ℕ) (falls : List Fall) → low < length h.ranks → AreFallsTo h low falls → AreMarkedWith falls old new → All (λ t. rank_of h t < length h.ranks) targets
-      → AreListedTo h targets old ranks low → AreListedTo h targets new (ranks ++ low ∷ []) (low + 1)
+      → AreListedTo h targets old ranks tails low → AreListedTo h targets new (ranks ++ low ∷ []) (tails ++ map (λ (f : Fall). f.tail) falls) (low + 1)
   listed-more old new falls low_in are marked ends_in was = record {
     nodes = marked.count ∙ was.nodes;
     few = omega (arith, length-append ranks (low ∷ []), was.few);
@@ -66,25 +60,25 @@ module _ (h : Hierarchy) (targets : List ℕ) (ranks : List ℕ) (low : ℕ) whe
           let here : r ≡ low = omega (arith, before, last) in
           subst (Contains (ranks ++ low ∷ [])) (sym here) (Contains-push ranks low)
     ];
-    closed = λ r others among also. elim (Contains-push_cases ranks low r among) [
-      | inl earlier ↦ λ k d within. marked.kept (get_or others k d).tail (omega (arith, (also.above k d within).tail_in, was.nodes)) (was.closed r others earlier also k d within)
-      | inr here ↦ λ k d within.
-          let one = same_falls h r others falls also (subst (λ q. AreFallsTo h q falls) here are) k d within in
-          subst (λ (f : Fall). IsMarked new f.tail) one.2 (marked.tails one.0 (get_or others k d) one.1)
-    ];
+    left = All-append (IsMarked new) tails (map (λ (f : Fall). f.tail) falls) (λ k d within. marked.kept (get_or tails k d) (marked_in old (get_or tails k d) (was.left k d within)) (was.left k d within))
+        (All-map (IsMarked new) (λ (f : Fall). f.tail) falls marked.tails);
   }
     where
       above : All (λ (f : Fall). low ≤ f.tail) falls
       above = λ k d within. omega (arith, (are.above k d within).above)
 
-  pub listed-all : (marks : List ℕ) → low ≡ length h.ranks → All (λ t. rank_of h t < length h.ranks) targets → AreListedTo h targets marks ranks low → AreRanksAbove h targets ranks
-  listed-all marks whole ends_in is = record {
-    few = omega (arith, is.few, whole);
-    rising = is.rising;
-    in_range = λ k d within. omega (arith, is.below k d within, whole);
-    ends = λ k d within. is.listed (rank_of h (get_or targets k d)) (omega (arith, ends_in k d within, whole)) (is.ends k d within);
-    closed = λ r falls among are k d within. is.listed (get_or falls k d).tail (omega (arith, (are.above k d within).tail_in, whole)) (is.closed r falls among are k d within);
-  }
+  -- all are: the links leave none that isn't listed
+  module _ (marks : List ℕ) (whole : low ≡ length h.ranks) (is : AreListedTo h targets marks ranks tails low) where
+    pub listed-all : All (λ t. rank_of h t < length h.ranks) targets → AreRanksAbove h targets ranks
+    listed-all ends_in = record {
+      few = omega (arith, is.few, whole);
+      rising = is.rising;
+      in_range = λ k d within. omega (arith, is.below k d within, whole);
+      ends = λ k d within. is.listed (rank_of h (get_or targets k d)) (omega (arith, ends_in k d within, whole)) (is.ends k d within);
+    }
+
+    pub listed-closed : All (Contains ranks) tails
+    listed-closed k d within = is.listed (get_or tails k d) (omega (arith, marked_in marks (get_or tails k d) (is.left k d within), is.nodes, whole)) (is.left k d within)
 
 -- the marks from a rank on, as a slice has them
 rest-drop : (marks : List ℕ) (low : ℕ) → take (length marks - low) (drop low marks) ≡ drop low marks

@@ -1,10 +1,13 @@
 -- The part of a hierarchy that ways to some targets fall through: its nodes by rank, and the links that fall to each.
-use Rattle.std.specs.Prelude.{ℕ, ◌≡◌, ◌+◌, ◌-◌, ◌^◌, ◌<◌, ◌≤◌, List, length, slice_index, slice_index_or, All, AllPairs, Contains}
+use Rattle.std.specs.Prelude.{ℕ, ◌≡◌, ◌+◌, ◌-◌, ◌^◌, ◌<◌, ◌≤◌, List, length, map, slice_index, slice_index_or, All, AllPairs, Contains}
 use Rattle.ch_cost.specs.Cost.{length_of}
 use Rattle.ch_graph.specs.Hierarchy.{Hierarchy, IsWellMade, rank_of}
 use Rattle.ch_query.specs.declared.fall.Fall.{Fall}
 use Rattle.ch_query.specs.Ways.{AreFallsTo}
 use Rattle.ch_table.specs.declared.columns.Columns.{Columns}
+use Rattle.ch_table.specs.declared.steps.Links.{Links}
+use Rattle.ch_table.specs.declared.steps.Links.TheVariants.{Short, Long}
+use Rattle.ch_table.specs.declared.steps.Steps.{Steps}
 use Rattle.ch_table.specs.declared.table.Table.{Table}
 
 -- The targets and the place of each; the rank of each place; for each rank its place and one more, or 0 for none; and for
@@ -18,24 +21,34 @@ pub record Selection : Type 0 where
   pub tails : List ℕ
   pub lengths : List ℕ
 
+-- the links, whatever numbers they are kept in
+abbrev pub steps_of : Links → Steps ℕ
+steps_of (Short steps) = steps
+steps_of (Long steps) = steps
+
 abbrev pub lists_of : Columns → Selection
 lists_of c = record {
   targets = c.targets.items;
   ends = c.ends.items;
   ranks = c.ranks.items;
   places = c.places.items;
-  first = c.steps.first.items;
-  tails = c.steps.tails.items;
-  lengths = c.steps.lengths.items;
+  first = (steps_of c.links).first.items;
+  tails = (steps_of c.links).tails.items;
+  lengths = (steps_of c.links).lengths.items;
 }
 
--- Ranks that rise, with those of all targets among them, and those of all nodes that links leave which fall to one of them.
+-- these are the links of a selection, whose numbers are kept so
+pub record AreLinksOf {X : Type 0} (number : X → ℕ) (steps : Steps X) (s : Selection) : Type 0 where
+  pub first : map number steps.first.items ≡ s.first
+  pub tails : steps.tails.items ≡ s.tails
+  pub lengths : map number steps.lengths.items ≡ s.lengths
+
+-- Ranks that rise, with those of all targets among them.
 pub record AreRanksAbove (h : Hierarchy) (targets ranks : List ℕ) : Type 0 where
   pub few : length ranks ≤ length h.ranks
   pub rising : AllPairs ◌<◌ ranks
   pub in_range : All (λ r. r < length h.ranks) ranks
   pub ends : All (λ t. Contains ranks (rank_of h t)) targets
-  pub closed : (r : ℕ) (falls : List Fall) → Contains ranks r → AreFallsTo h r falls → All (λ (f : Fall). Contains ranks f.tail) falls
 
 -- the places of the ranks, of so many
 pub record ArePlaced (nodes : ℕ) (ranks places : List ℕ) : Type 0 where

@@ -2,10 +2,10 @@ ghost use Rattle.std.specs.Prelude.{◌≡◌, ◌+◌, ◌<◌, ◌≤◌, leng
 ghost use Rattle.ch_graph.specs.Hierarchy.{IsWellMade, rank_of};
 ghost use Rattle.ch_query.specs.declared.fall.Fall.{Fall as a_fall};
 ghost use Rattle.ch_query.specs.Ways.{AreFallsTo};
-ghost use Rattle.ch_table.specs.Laying.{AreLaidTo, AreListedTo, AreMarkedWith, IsMarked};
+ghost use Rattle.ch_table.specs.Laying.{AreAllDown, AreDown, AreListedTo, AreMarkedWith, IsMarked};
 ghost use Rattle.ch_table.specs.Selection.{AreEnds, ArePlaced, AreRanksAbove, IsSelection, lists_of};
 
-use crate::steps::Steps;
+use crate::steps::{Links, Steps};
 use ch_graph::Hierarchy;
 use ch_query::{Fall, HierarchyRef, SearchOf};
 use memchr::memchr;
@@ -23,7 +23,7 @@ pub struct Columns {
     /// For each rank its place and one more, or 0 for a node that isn't selected.
     pub places: Vec<u32>,
     /// The links.
-    pub steps: Steps,
+    pub links: Links,
 }
 
 impl Columns {
@@ -39,10 +39,11 @@ impl Columns {
     {
         let hierarchy = search.hierarchy();
         let nodes = hierarchy.nodes();
-        let ranks = ranks_above(alloc, search, targets)?;
+        let Down { ranks, mut steps } = down_to(alloc, search, targets)?;
         let places = places_of(alloc, nodes, &ranks)?;
         let ends = ends_of(alloc, hierarchy, &ranks, &places, targets)?;
-        let steps = steps_of(alloc, search, targets, &ranks, &places)?;
+        steps.find_places(&places);
+        let links = Links::new(alloc, steps)?;
         let mut kept = Vec::new(alloc);
         kept.extend_from_slice(targets)?;
         Ok(Columns {
@@ -50,33 +51,43 @@ impl Columns {
             ends,
             ranks,
             places,
-            steps,
+            links,
         })
     }
 }
 
+// Some ranks, and the links to each, with the ranks of the nodes that they leave.
+#[derive(Drop)]
+struct Down {
+    ranks: Vec<u32>,
+    steps: Steps<u64>,
+}
+
 // The ranks of the targets and of all nodes that lead down to them, from the lowest up. A link falls to a node of lower
 // rank, so that each node is marked before its turn.
-fn ranks_above<H: HierarchyRef>(
+fn down_to<H: HierarchyRef>(
     alloc: Global,
     search: &SearchOf<H>,
     targets: &[u32],
-) -> Result<Vec<u32>, AllocError>
+) -> Result<Down, AllocError>
     requires targets { All (λ t. t < length search.now.ranks) targets.now }
-    ensures { IfOk result (λ ranks. AreRanksAbove search.now targets.now ranks.items) }
+    ensures { IfOk result (λ d. AreAllDown search.now targets.now d.ranks.items d.steps.first.items d.steps.tails.items d.steps.lengths.items) }
 {
     let nodes = search.hierarchy().nodes() as usize;
     let marks = marks_of(alloc, search.hierarchy(), targets)?;
     let mut marked = Marked {
         marks,
-        ranks: Vec::new(alloc),
         falls: Vec::new(alloc),
+        down: Down {
+            ranks: Vec::new(alloc),
+            steps: Steps::new(alloc)?,
+        },
     };
     let mut low = 0;
     'ranks: while low < nodes {
         low = marked.pass(search, targets, low)?;
     }
-    Ok(marked.ranks)
+    Ok(marked.down)
 }
 
 // What stands for a marked rank; 0 for another.
@@ -86,14 +97,14 @@ const MARK: u8 = 1;
 #[derive(Drop)]
 struct Marked {
     marks: Vec<u8>,
-    ranks: Vec<u32>,
-    // The links to the last of them.
+    // The links to the last that was passed.
     falls: Vec<Fall>,
+    down: Down,
 }
 
 impl Marked {
-    // Passes the first marked rank from this one on: it is listed, and the nodes that links to it leave are marked. Returns
-    // the rank behind it, or that behind all.
+    // Passes the first marked rank from this one on: it is listed with its links, and the nodes that these leave are marked.
+    // Returns the rank behind it, or that behind all.
     fn pass<H: HierarchyRef>(
         &mut self,
         search: &SearchOf<H>,
@@ -102,19 +113,22 @@ impl Marked {
     ) -> Result<usize, AllocError>
         requires low_in { low < length search.now.ranks }
         requires ends_in { All (λ t. rank_of search.now t < length search.now.ranks) targets.now }
-        requires listed { AreListedTo search.now targets.now self.old.marks.items self.old.ranks.items low }
+        requires listed { AreListedTo search.now targets.now self.old.marks.items self.old.down.ranks.items self.old.down.steps.tails.items low }
+        requires down { AreDown search.now self.old.down.ranks.items self.old.down.steps.first.items self.old.down.steps.tails.items self.old.down.steps.lengths.items }
         ensures on { IfOk result (λ next. low < next) }
         ensures within { IfOk result (λ next. next ≤ length search.now.ranks) }
-        ensures listed { IfOk result (λ next. AreListedTo search.now targets.now self.new.marks.items self.new.ranks.items next) }
+        ensures listed { IfOk result (λ next. AreListedTo search.now targets.now self.new.marks.items self.new.down.ranks.items self.new.down.steps.tails.items next) }
+        ensures down { OnOk result (AreDown search.now self.new.down.ranks.items self.new.down.steps.first.items self.new.down.steps.tails.items self.new.down.steps.lengths.items) }
     {
         let nodes = search.hierarchy().nodes();
         match memchr(MARK, &self.marks[low..]) {
             None => Ok(nodes as usize),
             Some(skipped) => {
                 let rank = low + skipped;
-                self.ranks.push(rank as u32)?;
+                self.down.ranks.push(rank as u32)?;
                 search.falls_to(rank as u32, &mut self.falls)?;
                 mark_tails(&self.falls, &mut self.marks);
+                self.down.steps.lay(&self.falls)?;
                 Ok(rank + 1)
             }
         }
@@ -176,25 +190,4 @@ fn ends_of(
         ends.push(places[hierarchy.rank(*target) as usize] - 1)?;
     }
     Ok(ends)
-}
-
-// The links of each place.
-fn steps_of<H: HierarchyRef>(
-    alloc: Global,
-    search: &SearchOf<H>,
-    targets: &[u32],
-    ranks: &[u32],
-    places: &[u32],
-) -> Result<Steps, AllocError>
-    requires above { AreRanksAbove search.now targets.now ranks.now }
-    requires placed { ArePlaced (length search.now.ranks) ranks.now places.now }
-    ensures { IfOk result (λ s. AreLaidTo search.now ranks.now s.first.items s.tails.items s.lengths.items (length ranks.now)) }
-{
-    let mut steps = Steps::new(alloc)?;
-    let mut falls = Vec::new(alloc);
-    'places: for place in 0..ranks.len() {
-        search.falls_to(ranks[place], &mut falls)?;
-        steps.lay(places, &falls)?;
-    }
-    Ok(steps)
 }

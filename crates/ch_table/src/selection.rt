@@ -19,8 +19,9 @@ const WIDE: usize = 65_536;
 ///
 /// It is made once for its targets, and then gives any number of rows. It never changes, holds no reference, and is good for
 /// each search of its hierarchy, so that several threads may use one. It takes 4 bytes for each node of the hierarchy, 8 for
-/// each target, 12 for each node that is selected and 12 for each link that falls to one of these; the lists of the last two
-/// may have room for as many again. Road networks have few such nodes: some 18,000 for 1,000 random targets among 264,346.
+/// each target, 8 for each node that is selected and 8 for each link that falls to one of these, or 12 for each of the last
+/// two where there are 2^32 such links or one is as long as that. Half of that may have room for as many again. Road networks
+/// have few such nodes: some 18,000 for 1,000 random targets among 264,346.
 #[derive(Drop)]
 pub struct Selection {
     columns: Columns,
@@ -39,8 +40,8 @@ impl Selection {
     /// Selects what walks to these targets fall through, in the hierarchy of a search. A target may be among them more
     /// than once.
     ///
-    /// Looks at each link of the selection twice, and at a byte for each node of the hierarchy, which it takes until it
-    /// returns.
+    /// Looks once at each link of the selection, and at a byte for each node of the hierarchy. Until it returns it takes that
+    /// byte, and 8 bytes for each node and each link that is selected, with room for as many again.
     pub fn new<H: HierarchyRef>(
         alloc: Global,
         search: &SearchOf<H>,

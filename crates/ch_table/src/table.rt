@@ -5,9 +5,10 @@ ghost use Rattle.ch_query.specs.Seeds.{AreSeeds};
 ghost use Rattle.ch_query.specs.Ways.{AreLeastClimbs, IsClimb, IsWay, WaysAreWalks};
 ghost use Rattle.ch_table.specs.Labels.{AreLabels, AreRaisedTo, AreSmall, AreSwept, HaveLanes, IsLabel, IsLeastOver, far, lane_of};
 ghost use Rattle.ch_table.specs.Lengths.{IsLengthFromAny, IsRow};
-ghost use Rattle.ch_table.specs.Selection.{IsTable};
+ghost use Rattle.ch_table.specs.Selection.{AreLinksOf, IsTable, lists_of};
 
 use crate::columns::Columns;
+use crate::steps::{Links, Number, Steps};
 use ch_cost::Cost;
 use ch_graph::Hierarchy;
 use ch_query::{Climbed, Seed};
@@ -61,16 +62,37 @@ impl Table<'_> {
         ensures lanes { HaveLanes (length self.now.columns.now.ranks.items) N labels.new }
         ensures swept { (starts : List a_seed) (lane : ℕ) → lane < N → AreLabels (IsClimb self.now.hierarchy.now Rise starts self.now.bound) self.now.bound self.now.columns.now.ranks.items (lane_of labels.old lane) → AreLabels (IsWay self.now.hierarchy.now starts self.now.bound) self.now.bound self.now.columns.now.ranks.items (lane_of labels.new lane) }
     {
+        match &self.columns.links {
+            Links::Short(steps) => self.sweep_over(steps, labels),
+            Links::Long(steps) => self.sweep_over(steps, labels),
+        }
+    }
+
+    // The same by the links of the selection, in either kind of numbers.
+    fn sweep_over<W: Number, const N: usize>(&self, steps: &Steps<W>, labels: &mut [[u64; N]])
+        requires table { IsTable self.now }
+        requires steps { AreLinksOf W.number steps.now (lists_of self.now.columns.now) }
+        requires lanes { HaveLanes (length self.now.columns.now.ranks.items) N labels.old }
+        requires small { AreSmall self.now.bound labels.old }
+        ensures lanes { HaveLanes (length self.now.columns.now.ranks.items) N labels.new }
+        ensures swept { (starts : List a_seed) (lane : ℕ) → lane < N → AreLabels (IsClimb self.now.hierarchy.now Rise starts self.now.bound) self.now.bound self.now.columns.now.ranks.items (lane_of labels.old lane) → AreLabels (IsWay self.now.hierarchy.now starts self.now.bound) self.now.bound self.now.columns.now.ranks.items (lane_of labels.new lane) }
+    {
         let count = labels.len();
         'places: for done in 0..count {
             let place = count - 1 - done;
-            labels[place] = self.least(labels, place);
+            labels[place] = self.least(steps, labels, place);
         }
     }
 
     // The labels of a place from those of later ones.
-    fn least<const N: usize>(&self, labels: &[[u64; N]], place: usize) -> [u64; N]
+    fn least<W: Number, const N: usize>(
+        &self,
+        steps: &Steps<W>,
+        labels: &[[u64; N]],
+        place: usize,
+    ) -> [u64; N]
         requires table { IsTable self.now }
+        requires steps { AreLinksOf W.number steps.now (lists_of self.now.columns.now) }
         requires lanes { HaveLanes (length self.now.columns.now.ranks.items) N labels.now }
         requires place_in { place < length labels.now }
         requires small { AreSmall self.now.bound labels.now }
@@ -78,16 +100,12 @@ impl Table<'_> {
         ensures small { (lane : ℕ) → slice_index result lane ≤ far self.now.bound }
         ensures least { (starts : List a_seed) (lane : ℕ) → lane < N → AreSwept (IsWay self.now.hierarchy.now starts self.now.bound) (IsClimb self.now.hierarchy.now Rise starts self.now.bound) self.now.bound self.now.columns.now.ranks.items (lane_of labels.now lane) (place + 1) → IsLabel (IsWay self.now.hierarchy.now starts self.now.bound (slice_index self.now.columns.now.ranks.items place)) self.now.bound (slice_index result lane) }
     {
-        let steps = &self.columns.steps;
-        let begin = steps.first[place];
-        let end = steps.first[place + 1];
+        let begin = steps.begin(place);
+        let end = steps.begin(place + 1);
         let mut least = labels[place];
         'steps: for at in begin..end {
-            pass_over(
-                &mut least,
-                &labels[steps.tails[at] as usize],
-                steps.lengths[at],
-            );
+            let tail = steps.tails[at] as usize;
+            pass_over(&mut least, &labels[tail], steps.length(at));
         }
         least
     }

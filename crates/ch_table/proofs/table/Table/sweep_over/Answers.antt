@@ -6,7 +6,7 @@ use Rattle.ch_query.specs.Ways.{IsClimb, IsWay}
 use Rattle.ch_table.specs.Labels.{AreSwept, IsLabel, lane_of}
 use Rattle.ch_table.proofs.LaneLabels.{lane-here, lane-elsewhere, lanes-set}
 use Rattle.ch_table.proofs.Sweeping.{swept-more, swept-all}
-use Rattle.ch_table.proofs.table.Table.sweep.Goals as goal
+use Rattle.ch_table.proofs.table.Table.sweep_over.Goals as goal
 
 pub places-preserved : goal.places-preserved
 places-preserved g c =

@@ -3,7 +3,7 @@ use Rattle.ch_query.specs.declared.seed.Seed.{Seed}
 use Rattle.ch_query.specs.declared.side.Side.TheVariants.{Rise}
 use Rattle.ch_query.specs.Ways.{IsClimb, IsWay}
 use Rattle.ch_table.specs.Labels.{AreLabels, AreSmall, AreSwept, HaveLanes, lane_of}
-use Rattle.ch_table.proofs.table.Table.sweep.Given as goal
+use Rattle.ch_table.proofs.table.Table.sweep_over.Given as goal
 
 abbrev pub invariant-places : goal.invariant-places
 invariant-places g l = record {
