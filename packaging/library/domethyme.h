@@ -112,8 +112,8 @@ uint32_t domethyme_open(domethyme *handle, const uint8_t *bytes, size_t count);
 void domethyme_close(domethyme *handle);
 
 /* Opens another handle of the same hierarchy, for another thread. `other` is another struct than `handle`; what it was open for
- * before is closed. It takes 48 bytes a node, and later what its own calls need; it shares what `handle` keeps of a table. From
- * then on the two are used, passed to threads and closed apart from each other, in any order. DOMETHYME_NO_HANDLE,
+ * before is closed. It takes 48 bytes a node, and later what its own calls need; the two share what either keeps of a table. From
+ * then on they are used, passed to threads and closed apart from each other, in any order. DOMETHYME_NO_HANDLE,
  * DOMETHYME_OUT_OF_MEMORY. */
 uint32_t domethyme_beside(domethyme *handle, domethyme *other);
 
@@ -144,9 +144,10 @@ uint32_t domethyme_lengths(domethyme *handle, const domethyme_pair *pairs, size_
  * j]. As domethyme_lengths else.
  *
  * Above 64 lengths it first selects what paths to the targets take: 4 bytes for each node of the hierarchy, 8 for each target,
- * and 12 for each node that is selected and for each link to one, with room for up to as many again. The handle keeps that for
- * the next table to the same targets, in the same order, until one to others comes; a call with no targets lets it go. Handles
- * that are opened beside this one share it, and the last of them frees it. */
+ * and 8 for each node that is selected and for each link to one, with room for up to as many again; 12 if there are 2^32 such
+ * links or one is as long as that. The handle keeps that for the next table to the same targets, in the same order, until one to
+ * others comes. All handles of the hierarchy share the last one that any of them made, those opened earlier too, and the last
+ * that has it frees it. A call with no targets lets both go. No call waits for another. */
 uint32_t domethyme_table(domethyme *handle, const uint32_t *sources, size_t source_count,
                          const uint32_t *targets, size_t target_count, uint64_t *lengths, size_t room);
 

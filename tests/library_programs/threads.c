@@ -36,6 +36,22 @@ static found answer(domethyme *handle, domethyme_pair pair)
     return now;
 }
 
+/* A row to one of two lists of targets, whose selections the handles share, beside lengths one by one. */
+static void compare(domethyme *handle, size_t place)
+{
+    uint32_t targets[80] = {0};
+    uint64_t row[80];
+    size_t first = place % 128 == 0 ? 0 : asked / 2, many = asked / 2 < 80 ? asked / 2 : 80;
+    for (size_t column = 0; column < many; ++column)
+        targets[column] = pairs[first + column].to;
+    WANT(domethyme_table(handle, &pairs[place].from, 1, targets, many, row, many) == DOMETHYME_OK);
+    for (size_t column = 0; column < many; ++column) {
+        uint64_t length = DOMETHYME_NO_LENGTH;
+        uint32_t code = domethyme_length(handle, pairs[place].from, targets[column], &length);
+        WANT((code == DOMETHYME_OK || code == DOMETHYME_NO_PATH) && length == row[column]);
+    }
+}
+
 static void *work(void *given)
 {
     share *mine = (share *)given;
@@ -46,6 +62,7 @@ static void *work(void *given)
         if (place % 64 == 0) {
             domethyme other = DOMETHYME_CLOSED;
             WANT(domethyme_beside(&mine->handle, &other) == DOMETHYME_OK);
+            compare(place % 256 == 0 ? &other : &mine->handle, place);
             domethyme_close(&other);
         }
     }

@@ -1,5 +1,5 @@
 -- A row whose targets are all nodes, in order.
-use Rattle.std.proofs.Common.{ℕ, ◌≡◌, ◌+◌, ◌<◌, ◌∙◌, List, length, slice_index, slice_index_or, All, ap, sym, subst, arith}
+use Rattle.std.proofs.Common.{ℕ, ◌≡◌, ◌+◌, ◌<◌, ◌∙◌, List, length, slice_index, slice_index_or, ap, sym, subst, arith}
 use Rattle.std.specs.List.{range_with_len}
 use Rattle.std.proofs.lemmas.List.FromFn.{length-range_with_len, get_or-range_with_len}
 use Rattle.ch_table.specs.Lengths.{IsRow}
@@ -11,9 +11,6 @@ module _ (count : ℕ) (nodes : List ℕ) (are : nodes ≡ range_with_len 0 coun
 
   own_node : (k d : ℕ) → k < count → slice_index_or nodes k d ≡ k
   own_node k d low = let here : 0 + k ≡ k = omega arith in ap (λ (ns : List ℕ). slice_index_or ns k d) are ∙ get_or-range_with_len 0 count k d low ∙ here
-
-  pub all_in : All (λ v. v < count) nodes
-  all_in k d low = let inside : k < count = omega (arith, low, count_of_all) in subst (λ v. v < count) (sym (own_node k d inside)) inside
 
   pub written-all : (Is : ℕ → ℕ → Type 0) (old new : List ℕ) → IsRow Is nodes 0 old new → AreWritten count Is old new
   written-all Is old new row = record {

@@ -3,3 +3,4 @@ mod Boxes
 mod OpenedFiles
 pub mod AllNodes
 pub mod TableRows
+pub mod OneHierarchy

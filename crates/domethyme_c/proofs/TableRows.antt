@@ -1,11 +1,12 @@
 -- A table is written row by row.
-use Rattle.std.proofs.Common.{ℕ, ◌≡◌, ◌+◌, ◌*◌, ◌/◌, ◌%◌, ◌<◌, List, length, slice_index, Option, Some, None, ap, refl, sym, subst, ◌∙◌, inl, inr, arith}
+use Rattle.std.proofs.Common.{ℕ, ◌≡◌, ◌+◌, ◌*◌, ◌/◌, ◌%◌, ◌<◌, ◌≤◌, List, All, length, slice_index, Option, Some, None, ap, refl, sym, subst, ◌∙◌, inl, inr, arith}
 use Rattle.std.proofs.lemmas.Bool.{cases_lt}
 use Rattle.std.proofs.Math.Nat.{div-add-mod, div-lt_iff_lt-mul, mod-lt, mul_comm}
 use Rattle.ch_graph.specs.Hierarchy.{Hierarchy}
 use Rattle.ch_route.specs.Routes.{IsRowLength, or_none as or_no_length}
 use Rattle.ch_table.specs.Lengths.{AreRows}
-use Rattle.domethyme_c.specs.Answers.{AreWritten, IsLengthOrNone, or_none}
+use Rattle.domethyme_c.specs.Answers.{AreWritten, AreAnswered.out_of_range, AreAnswered.no_memory, IsLengthOrNone, IsTableAnswer, or_none}
+use Rattle.domethyme_c.specs.Engines.{IsNoSelection, IsNoSelection.out_of_range as no_nodes, IsNoSelection.no_memory as no_room_left}
 
 same_number : (n : Option ℕ) → or_no_length n ≡ or_none n
 same_number None = refl
@@ -43,3 +44,8 @@ written-rows h sources targets old new rows = record {
       (subst (λ x. IsRowLength h (slice_index sources (k / length targets)) (slice_index targets (k % length targets)) (slice_index new x)) place own);
   rest = λ k high. rows.after k (omega (arith, high));
 }
+
+-- and where there is no selection, none is
+pub no_table : (h : Hierarchy) (sources targets : List ℕ) (code : ℕ) (lengths : List ℕ) → length sources * length targets ≤ length lengths → All (λ v. v < length h.ranks) sources → IsNoSelection h targets code → IsTableAnswer h sources targets code lengths lengths
+no_table h sources targets code lengths room sources_in (no_nodes is none) = out_of_range is room (λ both. none both.1) refl
+no_table h sources targets code lengths room sources_in (no_room_left is all) = no_memory is room (sources_in, all)

@@ -1,9 +1,16 @@
 -- What the engine of a handle keeps.
-use Rattle.std.specs.Prelude.{ℕ, ◌≡◌, Option, IfSome}
+use Rattle.std.specs.Prelude.{ℕ, ◌≡◌, ◌<◌, List, length, All, Option, Some, IfSome}
 use Rattle.ch_graph.specs.Hierarchy.{Hierarchy, version_number}
 use Rattle.ch_table.specs.Selection.{Selection, IsSelection}
+use Rattle.domethyme_c.specs.declared.code.TheConstants.{NODE_RANGE, OUT_OF_MEMORY}
 
--- the version is that of the hierarchy, and a selection is one of it
-pub record IsEngine (h : Hierarchy) (version : ℕ) (kept : Option Selection) : Type 0 where
+-- the version is that of the hierarchy, a selection is one of it, and it is the hierarchy that is shared
+pub record IsEngine (h : Hierarchy) (version : ℕ) (kept : Option Selection) (sharing : Option Hierarchy) : Type 0 where
   pub same_version : version ≡ version_number h.version
   pub selected : IfSome kept (IsSelection h)
+  pub shares : sharing ≡ Some h
+
+-- why there is no selection of these targets
+pub data IsNoSelection (h : Hierarchy) (targets : List ℕ) (code : ℕ) : Type 0 where
+  out_of_range : code ≡ NODE_RANGE → (All (λ t. t < length h.ranks) targets → ⊥) → IsNoSelection h targets code
+  no_memory : code ≡ OUT_OF_MEMORY → All (λ t. t < length h.ranks) targets → IsNoSelection h targets code

@@ -3,3 +3,4 @@ pub mod Codes
 pub mod Handles
 pub mod Engines
 pub mod Opened
+pub mod Sharing

@@ -1,9 +1,10 @@
-ghost use Rattle.std.specs.Prelude.{◌≡◌, ◌↔◌, ◌<◌, ◌≤◌, ◌^◌, All, Err, IfErr, IfOk, IsTrue, OnErr, OnOk, length, Some, ◌*◌};
+ghost use Rattle.std.specs.Prelude.{◌≡◌, ◌↔◌, ◌<◌, ◌≤◌, ◌^◌, All, Err, IfErr, IfOk, IfSome, IsTrue, OnErr, OnOk, length, Some, ◌*◌};
 ghost use Rattle.ch_graph.specs.Hierarchy.{IsWellMade, version_number};
 ghost use Rattle.hierfile.specs.Bytes.{IsFaultOf};
 ghost use Rattle.hierfile.specs.Fault.{first_fault};
 ghost use Rattle.hierfile.specs.Spelling.{bytes_of};
 ghost use Rattle.domethyme_c.specs.Answers.{AreNodes, IsBetween, IsLength, IsRoute, IsWrong};
+ghost use Rattle.domethyme_c.specs.Engines.{IsNoSelection};
 ghost use Rattle.ch_query.specs.Seeds.{AreSeeds};
 ghost use Rattle.ch_route.specs.Between.{HasTooLongBetween, IsRowLengthFrom, IsRowLengthWithin};
 ghost use Rattle.ch_route.specs.Routes.{HasTooLong, IsRowLength};
@@ -12,6 +13,8 @@ ghost use Rattle.ch_table.specs.Selection.{IsSelection};
 ghost use Rattle.std.specs.Arc.{arc_value};
 ghost use Rattle.ch_unpack.specs.declared.error.UnpackError.TheVariants.{TooLong};
 
+use crate::code::{NODE_RANGE, OUT_OF_MEMORY};
+use crate::sharing::Sharing;
 use ch_graph::Hierarchy;
 use ch_route::{Route, RouteBetween, RouterOf, Seed, Selection, UnpackError};
 use hierfile::HierError;
@@ -19,13 +22,14 @@ use std::alloc::{AllocError, Global};
 use std::marker::Model;
 use std::sync::Arc;
 
-/// What an open handle has: a router of a hierarchy, which other handles may share, the version of its file, and the
-/// selection of the last table, for another table to the same targets, which those opened beside it share.
+/// What an open handle has: a router of a hierarchy, which other handles may share, the version of its file, the selection
+/// of the last table, for another table to the same targets, and a share in the last one that any of these handles made.
 #[derive(Drop)]
 pub(crate) struct Engine {
     router: RouterOf<Arc<Hierarchy>>,
     version: u8,
     kept: Option<Arc<Selection>>,
+    sharing: Sharing,
 }
 
 impl Model for Engine {
@@ -38,7 +42,7 @@ impl Model for Engine {
 
     ghost view = { λ e. e.router };
 
-    ghost invariant = { λ e. IsEngine e.router e.version (option_map arc_value e.kept) };
+    ghost invariant = { λ e. IsEngine e.router e.version (option_map arc_value e.kept) e.sharing };
 }
 
 impl Engine {
@@ -54,10 +58,12 @@ impl Engine {
         let hierarchy = Arc::new(alloc, hierarchy)?;
         let router = RouterOf::new(alloc, hierarchy)?;
         let _well_made = router.nodes();
+        let sharing = Sharing::new(alloc, &router)?;
         Ok(Engine {
             router,
             version,
             kept: None,
+            sharing,
         })
     }
 
@@ -81,6 +87,14 @@ impl Engine {
     {
         let nodes = self.nodes();
         (from < nodes) & (to < nodes)
+    }
+
+    /// Whether all are nodes.
+    pub(crate) fn has_all(&self, nodes: &[u32]) -> bool
+        ensures { IsTrue result ↔ All (λ v. v < length self.now.ranks) nodes.now }
+    {
+        let count = self.nodes();
+        nodes.iter().all(|node| *node < count)
     }
 
     /// The least length of a path, or `None` where there is no path.
@@ -117,39 +131,76 @@ impl Engine {
         self.router.between(starts, ends)
     }
 
-    /// Returns a selection of these targets, the one that is kept if it is of them. None is kept then.
+    /// Returns a selection of these targets, which is kept and shared then, or the code that says why there is none. The one
+    /// that is kept or shared is taken if it is of them, and their nodes aren't looked at again.
     pub(crate) fn selection(
         &mut self,
         alloc: Global,
         targets: &[u32],
-    ) -> Result<Arc<Selection>, AllocError>
+    ) -> Result<Arc<Selection>, u32>
+        ensures selection { IfOk result (λ s. IsSelection self.old (arc_value s)) }
+        ensures targets { IfOk result (λ s. (arc_value s).targets ≡ targets.now) }
+        ensures refused { IfErr result (IsNoSelection self.old targets.now) }
+        ensures kept { self.new ≡ self.old }
+    {
+        if let Some(found) = self.find(targets) {
+            return Ok(found);
+        }
+        if !self.has_all(targets) {
+            return Err(NODE_RANGE);
+        }
+        match self.select(alloc, targets) {
+            Ok(selection) => Ok(selection),
+            Err(_) => Err(OUT_OF_MEMORY),
+        }
+    }
+
+    // The selection that is kept or shared, if it is of these targets. It is kept then.
+    fn find(&mut self, targets: &[u32]) -> Option<Arc<Selection>>
+        ensures selection { IfSome result (λ s. IsSelection self.old (arc_value s)) }
+        ensures targets { IfSome result (λ s. (arc_value s).targets ≡ targets.now) }
+        ensures kept { self.new ≡ self.old }
+    {
+        if let Some(kept) = &self.kept {
+            if kept.targets() == targets {
+                return Arc::try_clone(kept).ok();
+            }
+        }
+        let shared = self.sharing.find(&self.router, targets)?;
+        self.keep(&shared);
+        Some(shared)
+    }
+
+    // Makes a selection, keeps it and shares it, in place of any other.
+    fn select(&mut self, alloc: Global, targets: &[u32]) -> Result<Arc<Selection>, AllocError>
         requires targets { All (λ t. t < length self.old.ranks) targets.now }
         ensures selection { IfOk result (λ s. IsSelection self.old (arc_value s)) }
         ensures targets { IfOk result (λ s. (arc_value s).targets ≡ targets.now) }
         ensures kept { self.new ≡ self.old }
     {
-        if let Some(kept) = self.kept.take() {
-            if kept.targets() == targets {
-                return Ok(kept);
-            }
-        }
+        self.let_go();
         let selection = self.router.select(targets)?;
-        Ok(Arc::new(alloc, selection)?)
+        let selection = Arc::new(alloc, selection)?;
+        self.keep(&selection);
+        let shared = Arc::try_clone(&selection).ok();
+        self.sharing.put(&self.router, shared);
+        Ok(selection)
     }
 
-    /// Keeps a selection for the next table, in place of any other.
-    pub(crate) fn keep(&mut self, selection: Arc<Selection>)
-        requires { IsSelection self.old (arc_value selection) }
+    // Keeps a selection, if its counter isn't full.
+    fn keep(&mut self, selection: &Arc<Selection>)
+        requires { IsSelection self.old (arc_value selection.now) }
         ensures { self.new ≡ self.old }
     {
-        self.kept = Some(selection);
+        self.kept = Arc::try_clone(selection).ok();
     }
 
-    /// Keeps no selection.
+    /// Keeps and shares no selection.
     pub(crate) fn let_go(&mut self)
         ensures { self.new ≡ self.old }
     {
         self.kept = None;
+        self.sharing.put(&self.router, None);
     }
 
     /// Writes the least length of a path from each source to each target of a selection, row by row.
@@ -188,19 +239,22 @@ impl Engine {
         self.router.lengths_from(starts, most, selection, row, 0)
     }
 
-    /// Another engine of the same hierarchy, which shares the kept selection.
-    pub(crate) fn beside(&self) -> Result<Engine, AllocError>
-        ensures { IfOk result (λ engine. engine ≡ self.now) }
+    /// Another engine of the same hierarchy, which shares the kept selection and those that either makes later.
+    pub(crate) fn beside(&mut self) -> Result<Engine, AllocError>
+        ensures kept { self.new ≡ self.old }
+        ensures same { IfOk result (λ engine. engine ≡ self.old) }
     {
         let kept = match &self.kept {
             Some(kept) => Some(Arc::try_clone(kept)?),
             None => None,
         };
         let router = self.router.beside()?;
+        let sharing = self.sharing.beside(&self.router)?;
         Ok(Engine {
             router,
             version: self.version,
             kept,
+            sharing,
         })
     }
 }

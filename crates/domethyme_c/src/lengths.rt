@@ -141,15 +141,20 @@ fn answer_table(
     if lengths.len() < count {
         return NO_ROOM;
     }
-    if !(are_nodes(engine, sources) & are_nodes(engine, targets)) {
+    if !engine.has_all(sources) {
         return NODE_RANGE;
     }
-    fill_table(alloc, engine, sources, targets, count, lengths)
+    if count <= FEW {
+        return answer_few(engine, sources, targets, count, lengths);
+    }
+    match engine.selection(alloc, targets) {
+        Ok(selection) => fill_rows(engine, sources, &selection, lengths),
+        Err(code) => code,
+    }
 }
 
-// Writes the lengths of a table that has room: pair by pair where they are few, and else row by row.
-fn fill_table(
-    alloc: Global,
+// A table of few lengths, which has room. One with no targets lets the selection go.
+fn answer_few(
     engine: &mut Engine,
     sources: &[u32],
     targets: &[u32],
@@ -157,7 +162,6 @@ fn fill_table(
     lengths: &mut [u64],
 ) -> u32
     requires sources { All (λ v. v < length engine.old.ranks) sources.now }
-    requires targets { All (λ v. v < length engine.old.ranks) targets.now }
     requires count { count ≡ length sources.now * length targets.now }
     requires room { count ≤ length lengths.old }
     ensures kept { engine.new ≡ engine.old }
@@ -166,15 +170,10 @@ fn fill_table(
     if targets.is_empty() {
         engine.let_go();
     }
-    if count <= FEW {
-        return fill_pairs(engine, sources, targets, count, lengths);
+    if !engine.has_all(targets) {
+        return NODE_RANGE;
     }
-    let Ok(selection) = engine.selection(alloc, targets) else {
-        return OUT_OF_MEMORY;
-    };
-    let code = fill_rows(engine, sources, &selection, lengths);
-    engine.keep(selection);
-    code
+    fill_pairs(engine, sources, targets, count, lengths)
 }
 
 // Row by row.
@@ -220,14 +219,6 @@ fn fill_pairs(
         }
     }
     OK
-}
-
-// Whether all are nodes.
-fn are_nodes(engine: &Engine, nodes: &[u32]) -> bool
-    ensures { IsTrue result ↔ All (λ v. v < length engine.now.ranks) nodes.now }
-{
-    let count = engine.nodes();
-    nodes.iter().all(|node| *node < count)
 }
 
 // The least length, or the number that stands for none.

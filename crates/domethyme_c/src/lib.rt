@@ -15,6 +15,7 @@ mod opening;
 mod reach;
 mod route;
 mod seeds;
+mod sharing;
 mod text;
 
 pub use between::BetweenInfo;

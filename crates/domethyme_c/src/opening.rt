@@ -42,10 +42,10 @@ pub extern "C" fn domethyme_beside(alloc: Global, handle: &mut Handle, other: &m
     ensures kept { handle.new.held.hierarchy ≡ handle.old.held.hierarchy }
     ensures answer { IsBeside handle.old.held.hierarchy result other.old.held.hierarchy other.new.held.hierarchy }
 {
-    let Some(engine) = handle.take(alloc) else {
+    let Some(mut engine) = handle.take(alloc) else {
         return NO_HANDLE;
     };
-    let second = another(alloc, &engine);
+    let second = another(alloc, &mut engine);
     handle.put(alloc, engine);
     match second {
         Ok(second) => {
@@ -98,8 +98,9 @@ fn boxed(alloc: Global, engine: Engine) -> Result<Box<ManuallyDrop<Engine>>, All
 }
 
 // Another engine of the same hierarchy, on the heap.
-fn another(alloc: Global, engine: &Engine) -> Result<Box<ManuallyDrop<Engine>>, AllocError>
-    ensures { IfOk result (λ b. manually_drop_value b.value ≡ engine.now) }
+fn another(alloc: Global, engine: &mut Engine) -> Result<Box<ManuallyDrop<Engine>>, AllocError>
+    ensures kept { engine.new ≡ engine.old }
+    ensures same { IfOk result (λ b. manually_drop_value b.value ≡ engine.old) }
 {
     boxed(alloc, engine.beside()?)
 }

@@ -91,10 +91,10 @@ fn fill_reach(
     ensures refused { OnErr result (lengths.new ≡ lengths.old) }
 {
     let nodes = all_nodes(alloc, engine.nodes())?;
-    let selection = engine.selection(alloc, nodes.as_slice())?;
-    let done = engine.lengths_from(starts, most, &selection, lengths);
-    engine.keep(selection);
-    done
+    let Ok(selection) = engine.selection(alloc, nodes.as_slice()) else {
+        return Err(AllocError);
+    };
+    engine.lengths_from(starts, most, &selection, lengths)
 }
 
 // All nodes, in order.
