@@ -10,6 +10,12 @@ pub(crate) fn is(field: &[u8], word: &str) -> bool {
     field == word.as_bytes()
 }
 
+/// Whether a line is of an arc or a pair.
+pub(crate) fn is_item(line: &[u8]) -> bool {
+    let first = field(line, 0);
+    is(first, "a") || is(first, "q")
+}
+
 /// The number that a field is, if it is one of 64 bits.
 pub(crate) fn number_of(field: &[u8]) -> Option<u64> {
     if !is_number(field) {

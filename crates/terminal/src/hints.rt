@@ -1,4 +1,5 @@
-use crate::fields::{field, is, is_number, number_of};
+use crate::fields::{field, is, is_item, is_number, number_of};
+use crate::look::Look;
 use crate::shown::Shown;
 use crate::sorts::{ARC, PAIR, file_of, text_of};
 use grfile::GrErrorKind;
@@ -11,20 +12,10 @@ pub(crate) struct Text<'a> {
     pub(crate) is_pairs: bool,
     /// Whether it is a part of standard input, with the other text.
     pub(crate) is_joined: bool,
-    /// How the program is called for the job.
-    pub(crate) call: &'static str,
     /// How many nodes there are, if that is known.
     pub(crate) nodes: Option<u64>,
-    /// Whether it was looked at once more.
-    pub(crate) is_seen: bool,
-    /// Its first bytes.
-    pub(crate) head: &'a [u8],
-    /// Its problem line.
-    pub(crate) problem: &'a [u8],
-    /// The line with the fault.
-    pub(crate) line: &'a [u8],
-    /// How many arc lines or pairs come before it.
-    pub(crate) items: u64,
+    /// What a second look at it found.
+    pub(crate) look: &'a Look,
 }
 
 const GRAPH: &str =
@@ -52,9 +43,9 @@ fn expected(fault: GrErrorKind, is_pairs: bool) -> &'static str {
 }
 
 /// Writes what is wrong with a text that has this fault, what was expected, and what may be done.
-pub(crate) fn hint<E: Write>(fault: GrErrorKind, text: &Text<'_>, err: &mut E) {
+pub(crate) fn hint<E: Write>(fault: GrErrorKind, text: &Text<'_>, call: &str, err: &mut E) {
     if let Some(other) = other_sort(text) {
-        let _ = writeln!(err, "  this is {other}, and the call is {}", text.call);
+        let _ = writeln!(err, "  this is {other}, and the call is {call}");
         return;
     }
     let is_said = match fault {
@@ -65,7 +56,9 @@ pub(crate) fn hint<E: Write>(fault: GrErrorKind, text: &Text<'_>, err: &mut E) {
     if is_said {
         return;
     }
-    if let Some(remark) = remark(fault, text) {
+    if let Some(file) = file_of(text.look.head.as_slice()) {
+        let _ = writeln!(err, "  this {file}");
+    } else if let Some(remark) = remark(fault, text) {
         let _ = writeln!(err, "  {remark}");
     }
     let _ = writeln!(err, "  {}", expected(fault, text.is_pairs));
@@ -73,28 +66,29 @@ pub(crate) fn hint<E: Write>(fault: GrErrorKind, text: &Text<'_>, err: &mut E) {
 
 // What the file is, or the line with the fault, if that is of another sort than the text.
 fn other_sort(text: &Text<'_>) -> Option<&'static str> {
-    if text.head.starts_with(b"RCH") {
+    if text.look.head.as_slice().starts_with(b"RCH") {
         return Some("a hierarchy that prepare made");
     }
     let wanted = if text.is_pairs { PAIR } else { ARC };
-    text_of(text.line).filter(|sort| *sort != wanted)
+    text_of(text.look.line.as_slice()).filter(|sort| *sort != wanted)
 }
 
-// What stands out in a text that has this fault.
+const RETURNS: &str = "lines end with a line feed, and here with a carriage return alone";
+
+const SCALE: &str = "scale all weights, as seconds to milliseconds or metres to centimetres";
+
+// What stands out in a text of lines that has this fault.
 fn remark(fault: GrErrorKind, text: &Text<'_>) -> Option<&'static str> {
-    let line = text.line;
+    let (head, line) = (text.look.head.as_slice(), text.look.line.as_slice());
     let has_commas = line.contains(&b',') || line.contains(&b';');
-    if let Some(file) = file_of(text.head) {
-        return Some(file);
-    }
-    if has_returns_alone(text.head) {
-        return Some("lines end with a line feed, and here with a carriage return alone");
+    if has_returns_alone(head) {
+        return Some(RETURNS);
     }
     match fault {
         GrErrorKind::NoProblemLine | GrErrorKind::SecondProblemLine if text.is_joined => {
             Some("a line that is % alone ends the graph, and the pairs follow")
         }
-        GrErrorKind::NoProblemLine if text.is_seen && text.head.is_empty() => {
+        GrErrorKind::NoProblemLine if text.look.is_seen && head.is_empty() => {
             Some("the file is empty")
         }
         GrErrorKind::UnknownLine | GrErrorKind::FieldCount if has_commas => {
@@ -106,9 +100,7 @@ fn remark(fault: GrErrorKind, text: &Text<'_>) -> Option<&'static str> {
         GrErrorKind::NotANumber if line.contains(&b'-') => {
             Some("shortest paths need weights that aren't negative")
         }
-        GrErrorKind::NotANumber if line.contains(&b'.') || has_commas => {
-            Some("scale all weights, as seconds to milliseconds or metres to centimetres")
-        }
+        GrErrorKind::NotANumber if line.contains(&b'.') || has_commas => Some(SCALE),
         GrErrorKind::NodeRange if is(field(line, 1), "0") || is(field(line, 2), "0") => {
             Some("this file seems to number its nodes from 0")
         }
@@ -130,21 +122,17 @@ fn hint_of_node<E: Write>(text: &Text<'_>, err: &mut E) -> bool {
         return false;
     };
     for place in 1..3usize {
-        let node = field(text.line, place);
+        let node = field(text.look.line.as_slice(), place);
         if is(node, "0") {
             return false;
         }
         if number_of(node).unwrap_or(u64::MAX) > nodes {
-            let node = Shown(node);
+            let (node, problem) = (Shown(node), Shown(text.look.problem.as_slice()));
             let _ = writeln!(err, "  node {node} isn't there: nodes are 1 to {nodes}");
             let _ = if text.is_pairs {
                 writeln!(err, "  are these pairs for another network?")
             } else {
-                writeln!(
-                    err,
-                    "  the line \"{}\" announces {nodes} nodes",
-                    Shown(text.problem)
-                )
+                writeln!(err, "  the line \"{problem}\" announces {nodes} nodes")
             };
             return true;
         }
@@ -159,22 +147,21 @@ fn hint_of_count<E: Write>(text: &Text<'_>, err: &mut E) -> bool {
     } else {
         (3, "a U V W")
     };
-    let wanted = number_of(field(text.problem, place)).unwrap_or(0);
-    let first = field(text.line, 0);
-    let is_item = is(first, "a") || is(first, "q");
-    let found = text.items.saturating_add(u64::from(is_item));
-    let _ = if !text.is_seen {
+    let wanted = number_of(field(text.look.problem.as_slice(), place)).unwrap_or(0);
+    let last = u64::from(is_item(text.look.line.as_slice()));
+    let found = text.look.items.saturating_add(last);
+    let _ = if !text.look.is_seen {
         Ok(())
     } else if found > wanted {
         writeln!(
             err,
-            "  this is one more than the {wanted} lines \"{item}\" that are announced"
+            "  this is one more than the {wanted} announced \"{item}\""
         )
     } else {
         writeln!(
             err,
-            "  the text ends after {found} of {wanted} lines \"{item}\": is it cut?"
+            "  the text ends after {found} of {wanted} \"{item}\": is it cut?"
         )
     };
-    text.is_seen
+    text.look.is_seen
 }

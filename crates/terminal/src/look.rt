@@ -1,4 +1,4 @@
-use crate::fields::{field, is};
+use crate::fields::{field, is, is_item};
 use std::alloc::Global;
 use std::fs;
 use std::io::Read;
@@ -29,43 +29,29 @@ pub(crate) struct Look {
 }
 
 impl Look {
-    fn new(alloc: Global, wanted: u64) -> Look {
+    /// Nothing that could be looked at.
+    pub(crate) fn none(alloc: Global) -> Look {
         Look {
             is_seen: false,
             head: Vec::new(alloc),
             problem: Vec::new(alloc),
             line: Vec::new(alloc),
             items: 0,
-            wanted,
+            wanted: 0,
             number: 1,
             current: Vec::new(alloc),
         }
     }
 
-    /// Nothing that could be looked at.
-    pub(crate) fn none(alloc: Global) -> Look {
-        Look::new(alloc, 0)
-    }
-
     /// Looks at the file once more, up to this line, or to its end if the line is 0. Nothing is found in what can't be
     /// read, and in what is no regular file: a pipe has been read, and waits forever.
     pub(crate) fn at<R: Files + AllocGlobal>(rt: &R, path: &str, wanted: u64) -> Look {
-        let mut look = Look::new(rt.alloc(), wanted);
+        let mut look = Look::none(rt.alloc());
         if let Some(mut file) = opened(rt, path) {
             look.is_seen = true;
+            look.head = head_of(rt, path);
+            look.wanted = wanted;
             look.read(&mut file);
-        }
-        look
-    }
-
-    /// Looks at the first bytes of the file alone.
-    pub(crate) fn at_head<R: Files + AllocGlobal>(rt: &R, path: &str) -> Look {
-        let mut look = Look::new(rt.alloc(), 0);
-        if let Some(mut file) = opened(rt, path) {
-            let mut piece = [0u8; MOST];
-            let count = file.read(&mut piece).unwrap_or(0);
-            look.is_seen = true;
-            copy(piece.get(..count).unwrap_or(b""), &mut look.head);
         }
         look
     }
@@ -74,9 +60,7 @@ impl Look {
     fn read<R: Read>(&mut self, file: &mut R) {
         let mut piece = [0u8; PIECE];
         for _ in 0..u64::MAX {
-            let Ok(count) = file.read(&mut piece) else {
-                return;
-            };
+            let count = file.read(&mut piece).unwrap_or(0);
             if count == 0 {
                 self.end_line();
                 return;
@@ -90,15 +74,12 @@ impl Look {
     // Looks at more bytes; whether the line was among them.
     fn take_piece(&mut self, piece: &[u8]) -> bool {
         for byte in piece {
-            if self.head.len() < MOST {
-                let _ = self.head.push(*byte);
-            }
-            if *byte != b'\n' {
-                if self.current.len() < MOST {
-                    let _ = self.current.push(*byte);
+            if *byte == b'\n' {
+                if self.end_line() {
+                    return true;
                 }
-            } else if self.end_line() {
-                return true;
+            } else if self.current.len() < MOST {
+                let _ = self.current.push(*byte);
             }
         }
         false
@@ -107,21 +88,30 @@ impl Look {
     // A line has ended; whether it is the one that was asked for.
     fn end_line(&mut self) -> bool {
         let is_it = self.number == self.wanted;
-        let first = field(self.current.as_slice(), 0);
-        let is_problem = is(first, "p");
-        let is_item = is(first, "a") || is(first, "q");
+        let line = self.current.as_slice();
         if is_it {
-            copy(self.current.as_slice(), &mut self.line);
-        } else if is_item {
+            copy(line, &mut self.line);
+        } else if is_item(line) {
             self.items = self.items.saturating_add(1);
         }
-        if is_problem && self.problem.is_empty() {
-            copy(self.current.as_slice(), &mut self.problem);
+        if is(field(line, 0), "p") && self.problem.is_empty() {
+            copy(line, &mut self.problem);
         }
         self.current.clear();
         self.number = self.number.saturating_add(1);
         is_it
     }
+}
+
+/// The first bytes of a file, or none of what is no regular file.
+pub(crate) fn head_of<R: Files + AllocGlobal>(rt: &R, path: &str) -> Vec<u8> {
+    let mut head = Vec::new(rt.alloc());
+    if let Some(mut file) = opened(rt, path) {
+        let mut piece = [0u8; MOST];
+        let count = file.read(&mut piece).unwrap_or(0);
+        copy(piece.get(..count).unwrap_or(b""), &mut head);
+    }
+    head
 }
 
 // The file, if it is a regular one that can be opened.

@@ -5,26 +5,17 @@ use bstr::ByteSlice;
 const FILES: [(&[u8], &str); 10] = [
     (
         b"\x1f\x8b",
-        "this is a gzip file: gunzip it, or name it as <(zcat FILE)",
+        "is a gzip file: gunzip it, or use <(zcat FILE)",
     ),
-    (b"PK\x03\x04", "this is a zip file: unzip it"),
-    (b"BZh", "this is a bzip2 file: unpack it"),
-    (b"\xfd7zXZ", "this is an xz file: unpack it"),
-    (b"\x28\xb5\x2f\xfd", "this is a zstd file: unpack it"),
-    (
-        b"\xef\xbb\xbf",
-        "the file begins with a byte order mark: save it without one",
-    ),
-    (
-        b"\xff\xfe",
-        "this is a text in UTF-16: save it as ASCII or UTF-8",
-    ),
-    (
-        b"\xfe\xff",
-        "this is a text in UTF-16: save it as ASCII or UTF-8",
-    ),
-    (b"{", "this looks like JSON"),
-    (b"[", "this looks like JSON"),
+    (b"PK\x03\x04", "is a zip file: unzip it"),
+    (b"BZh", "is a bzip2 file: unpack it"),
+    (b"\xfd7zXZ", "is an xz file: unpack it"),
+    (b"\x28\xb5\x2f\xfd", "is a zstd file: unpack it"),
+    (b"\xef\xbb\xbf", "begins with a byte order mark: remove it"),
+    (b"\xff\xfe", "is in UTF-16: save it as ASCII or UTF-8"),
+    (b"\xfe\xff", "is in UTF-16: save it as ASCII or UTF-8"),
+    (b"{", "looks like JSON"),
+    (b"[", "looks like JSON"),
 ];
 
 /// What a line of a graph is.
