@@ -1,13 +1,3 @@
-pub mod Colons
-pub mod KeptBytes
-pub mod AskedInRange
-pub mod Letters
-pub mod Seeding
-pub mod Spaced
-pub mod Replied
-pub mod Delivered
-pub mod Served
-pub mod Ended
+pub mod Asking
 pub mod ServedOver
-pub mod Fronts
-pub mod Called
+pub mod Sessions

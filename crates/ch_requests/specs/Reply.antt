@@ -10,7 +10,7 @@ use Rattle.ch_answer.specs.Line.{IsAnswer, line_of, named, told_along}
 use Rattle.grfile.specs.Names.{kind_name}
 use Rattle.ch_requests.specs.declared.request.Request.{Request}
 use Rattle.ch_requests.specs.declared.request.Request.TheVariants as asks
-use Rattle.ch_requests.specs.Seeds.{seeds_of}
+use Rattle.ch_requests.specs.Requests.{seeds_of}
 
 -- what may be said of two nodes: a route, a length, and that the route is too long; and the same of several starts and ends
 pub record Told : Type 1 where

@@ -1,6 +1,6 @@
 ghost use Rattle.std.specs.Prelude.{◌≡◌, ◌≤◌, ◌<◌, false, suc, length, drop, ℕ, Ok, Err, MatchOption, MatchResult};
 ghost use Rattle.text_lines.specs.Fields.{fields_of};
-ghost use Rattle.ch_requests.specs.Places.{AreSides, are_ends, colon_at, ends_of, is_of_places, place_in_range, place_of, place_then, places_of};
+ghost use Rattle.ch_requests.specs.Requests.{AreSides, are_ends, colon_at, ends_of, is_of_places, place_in_range, place_of, place_then, places_of};
 
 use arrayvec::ArrayVec;
 use grfile::{GrError, GrErrorKind, number_in};

@@ -21,7 +21,7 @@ impl<'a> Replier<'a> {
     ghost use Rattle.text_lines.specs.Lines.{line_feeds};
     ghost use Rattle.ch_requests.specs.Reply.{IsReply, by_hierarchy};
     ghost use Rattle.ch_requests.specs.Requests.{IsInRange, requests_with};
-    ghost use Rattle.ch_requests.specs.Progress.{Replies};
+    ghost use Rattle.ch_requests.specs.Serving.{Replies};
 
     /// Replies to the requests of all lines that end in a piece. Once the writer has failed, no route is searched any more.
     pub(crate) fn reply_to_lines<W: StepWrite>(

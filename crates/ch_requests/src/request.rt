@@ -1,8 +1,7 @@
 ghost use Rattle.std.specs.Prelude.{◌≡◌, drop};
 ghost use Rattle.text_lines.specs.Fields.{fields_of};
 ghost use Rattle.grfile.specs.Pairs.{pair_of};
-ghost use Rattle.ch_requests.specs.Places.{ends_of};
-ghost use Rattle.ch_requests.specs.Requests.{letter_of, of_ends, of_pair, request_by, request_of};
+ghost use Rattle.ch_requests.specs.Requests.{ends_of, letter_of, of_ends, of_pair, request_by, request_of};
 ghost use Rattle.ch_requests.specs.declared.request.Request.TheVariants.{Length, Route};
 
 use crate::places::{Ends, ends_of};

@@ -1,5 +1,5 @@
 ghost use Rattle.std.specs.Prelude.{◌≡◌, ◌≤◌, take, length};
-ghost use Rattle.ch_requests.specs.Seeds.{seed_of, seeds_of};
+ghost use Rattle.ch_requests.specs.Requests.{seed_of, seeds_of};
 
 use crate::places::Place;
 use ch_cost::Cost;

@@ -1,5 +1,5 @@
 ghost use Rattle.std.specs.Prelude.{◌≡◌};
-ghost use Rattle.ch_requests.specs.Progress.{SendsAll, nothing_sent};
+ghost use Rattle.ch_requests.specs.Serving.{SendsAll, nothing_sent};
 
 use crate::error::ServeError;
 use counted_io::{FlushCalls, MOST_CALLS, Sink, StepFlush};

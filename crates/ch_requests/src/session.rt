@@ -26,7 +26,7 @@ pub(crate) struct Session<'a> {
 }
 
 impl<'a> Session<'a> {
-    ghost use Rattle.ch_requests.specs.Progress.{EndsLast, IsIdle, IsNew, Ran, Serving};
+    ghost use Rattle.ch_requests.specs.Serving.{EndsLast, IsIdle, IsNew, Ran, Serving};
 
     /// Returns a session that has read and written nothing.
     pub(crate) fn new(alloc: Global, hierarchy: &'a Hierarchy) -> Result<Session<'a>, AllocError>

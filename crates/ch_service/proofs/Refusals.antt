@@ -1,11 +1,12 @@
 -- Why a refusal says by its cause what its call says of it.
 use Rattle.std.proofs.Common.{ℕ, ◌≡◌, List, length, Option, inl, inr, refl, sym, ap, subst, arith}
-use Rattle.std.specs.Prelude.{Some, None, IfSome, Ok, Err}
+use Rattle.std.specs.Prelude.{Some, IfSome, Ok, Err}
 use Rattle.std.specs.Io.KnownBytes.{Keeps}
+use Rattle.std.proofs.lemmas.Option.{IfSome_then}
 use Rattle.grfile.specs.Reading.{graph_of, pairs_of}
 use Rattle.hierfile.specs.Fault.{first_fault}
-use Rattle.outcomes.specs.Cases.{text_case, file_case}
-use Rattle.outcomes.specs.Causes.{of_text}
+use Rattle.outcomes.specs.Causes.{text_case, file_case, of_text}
+use Rattle.outcomes.specs.Written.{told_all, told_first, told_then}
 use Rattle.outcomes.specs.declared.cause.Cause.TheVariants as causes
 use Rattle.outcomes.specs.declared.cause.Input.TheVariants as inputs
 use Rattle.ch_workers.specs.Options.{AreGood}
@@ -16,64 +17,37 @@ use Rattle.ch_unpack.specs.declared.error.UnpackError.TheVariants as unpacking
 use Rattle.ch_service.specs.declared.error.ServiceError.{ServiceError}
 use Rattle.ch_service.specs.declared.error.ServiceError.TheVariants.{Graph, Queries, Hierarchy, Build, Unpack, Write, OutOfMemory}
 use Rattle.ch_service.specs.Cause.{cause_of}
-use Rattle.ch_service.specs.Outcome.{IfTold, StopsAnswering, StopsReading}
+use Rattle.ch_service.specs.Outcome.{StopsAnswering, StopsReading, StopsRouting}
 use Rattle.ch_service.specs.Preparation.{StopsPreparing}
 use Rattle.ch_service.specs.Refusals.{RefusesAnswers, RefusesPreparing, RefusesRoutes, AnswersTell, JoinedAnswersTell, PreparationsTell, RoutesTell}
-use Rattle.ch_service.specs.Routing.{StopsRouting}
-
--- what is so of all texts, and what follows of texts that are known
-
-of_all : (first second : Option (List ℕ)) (P : List ℕ → List ℕ → Type 0) → ((a b : List ℕ) → P a b) → IfTold first second P
-of_all None second P f = tt
-of_all (Some a) None P f = tt
-of_all (Some a) (Some b) P f = f a b
-
-of_told : (first second : Option (List ℕ)) (P Q : List ℕ → List ℕ → Type 0) → ((a b : List ℕ) → P a b → Q a b) → IfTold first second P → IfTold first second Q
-of_told None second P Q f told = tt
-of_told (Some a) None P Q f told = tt
-of_told (Some a) (Some b) P Q f told = f a b told
-
-of_some : (first : Option (List ℕ)) (P Q : List ℕ → Type 0) → ((a : List ℕ) → P a → Q a) → IfSome first P → IfSome first Q
-of_some None P Q f told = tt
-of_some (Some a) P Q f told = f a told
-
-of_first : (first second : Option (List ℕ)) (P : List ℕ → Type 0) → IfSome first P → IfTold first second (λ a b. P a)
-of_first None second P told = tt
-of_first (Some a) None P told = tt
-of_first (Some a) (Some b) P told = told
 
 -- where pairs are answered from two texts
-module _ (o : Options) (lists : ℕ) (graph graph_left pairs pairs_left old new : Option (List ℕ)) where
+module _ {o : Options} {lists : ℕ} (graph graph_left pairs pairs_left old new : Option (List ℕ)) where
   answers : (e : ServiceError) → (e ≡ Build building.BadOptions → AreGood o lists) → StopsAnswering o lists graph graph_left pairs pairs_left old new e → RefusesAnswers graph pairs old new (cause_of e)
   answers (Graph fault) good s =
-      text_case fault.kind inputs.Graph (causes.Graph fault) (RefusesAnswers graph pairs old new) (of_all graph pairs _ (λ g p. inl s.2)) (inl refl, s.2)
-      (λ own. (of_first graph pairs _ (of_some graph _ _ (λ g. own (graph_of g ≡ Err fault)) s.0), s.2))
+      text_case fault.kind inputs.Graph (causes.Graph fault) (RefusesAnswers graph pairs old new) (told_all graph pairs (λ g p. inl s.2)) (inl refl, s.2)
+      (λ own. (told_first graph pairs _ (IfSome_then graph s.0 (λ g. own (graph_of g ≡ Err fault))), s.2))
   answers (Queries fault) good s =
-      text_case fault.kind inputs.Queries (causes.Queries fault) (RefusesAnswers graph pairs old new) (of_all graph pairs _ (λ g p. inl s.2)) (inr refl, s.2)
-      (λ own. (of_told graph pairs _ _ (λ g p h. (h.0, h.1, own (pairs_of h.0.nodes p ≡ Err fault) h.2)) s.0, s.2))
-  answers (Hierarchy fault) good s = absurd s
-  answers (Build building.OutOfMemory) good s = of_all graph pairs _ (λ g p. inl s.2)
+      text_case fault.kind inputs.Queries (causes.Queries fault) (RefusesAnswers graph pairs old new) (told_all graph pairs (λ g p. inl s.2)) (inr refl, s.2)
+      (λ own. (told_then graph pairs s.0 (λ g p h. (h.0, h.1, own (pairs_of h.0.nodes p ≡ Err fault) h.2)), s.2))
+  answers (Build building.OutOfMemory) good s = told_all graph pairs (λ g p. inl s.2)
   answers (Build building.BadOptions) good s = absurd (s.0.0 refl (good refl))
   answers (Build building.Mixed) good s = (s.1, s.2)
-  answers (Unpack unpacking.OutOfMemory) good s = of_told graph pairs _ _ (λ g p w. inr w) s.1
-  answers (Unpack unpacking.TooLong) good s = absurd s
+  answers (Unpack unpacking.OutOfMemory) good s = told_then graph pairs s.1 (λ g p w. inr w)
   answers (Write fault) good s = s.1
-  answers OutOfMemory good s = of_told graph pairs _ _ (λ g p w. w.1) s.1
+  answers OutOfMemory good s = told_then graph pairs s.1 (λ g p w. w.1)
+  answers e good s = absurd s
 
 pub answers-tell : AnswersTell
 answers-tell o lists graph graph_left pairs pairs_left old new (Ok x) good s = tt
-answers-tell o lists graph graph_left pairs pairs_left old new (Err e) good s = answers o lists graph graph_left pairs pairs_left old new e (λ is. good (ap Err is)) s
+answers-tell o lists graph graph_left pairs pairs_left old new (Err e) good s = answers {o = o} {lists = lists} graph graph_left pairs pairs_left old new e (λ is. good (ap Err is)) s
 
 -- and where both are in one input, which wasn't read, or was
 
 unread : (graph pairs had left old new : Option (List ℕ)) (e : ServiceError) → StopsReading had left e → Keeps old new → RefusesAnswers graph pairs old new (cause_of e)
 unread graph pairs had left old new (Graph fault) s k = subst (λ kind. RefusesAnswers graph pairs old new (of_text kind inputs.Graph (causes.Graph fault))) (sym s.0) (inl refl, k)
-unread graph pairs had left old new (Queries fault) s k = absurd s
-unread graph pairs had left old new (Hierarchy fault) s k = absurd s
-unread graph pairs had left old new (Build fault) s k = absurd s
-unread graph pairs had left old new (Unpack fault) s k = absurd s
-unread graph pairs had left old new (Write fault) s k = absurd s
-unread graph pairs had left old new OutOfMemory s k = of_all graph pairs _ (λ g p. inl k)
+unread graph pairs had left old new OutOfMemory s k = told_all graph pairs (λ g p. inl k)
+unread graph pairs had left old new e s k = absurd s
 
 plain_is_good : AreGood PLAIN 0
 plain_is_good = record {
@@ -90,40 +64,36 @@ pub joined-tell : JoinedAnswersTell
 joined-tell input left old new (Ok x) s = tt
 joined-tell input left old new (Err e) s = elim s [
   | inl stopped ↦ unread _ _ input left old new e stopped.0 stopped.1
-  | inr was ↦ answers PLAIN 0 _ was.2.0 _ was.2.1 old new e (λ _. plain_is_good) was.2.2
+  | inr was ↦ answers {o = PLAIN} {lists = 0} _ was.2.0 _ was.2.1 old new e (λ _. plain_is_good) was.2.2
 ]
 
 -- where a hierarchy is prepared
-module _ (o : Options) (lists : ℕ) (graph left old new : Option (List ℕ)) where
+module _ {o : Options} {lists : ℕ} (graph left old new : Option (List ℕ)) where
   preparing : (e : ServiceError) → (e ≡ Build building.BadOptions → AreGood o lists) → StopsPreparing o lists graph left old new e → RefusesPreparing graph old new (cause_of e)
-  preparing (Graph fault) good s = text_case fault.kind inputs.Graph (causes.Graph fault) (RefusesPreparing graph old new) s.2 (refl, s.2) (λ own. (of_some graph _ _ (λ g. own (graph_of g ≡ Err fault)) s.0, s.2))
-  preparing (Queries fault) good s = absurd s
-  preparing (Hierarchy fault) good s = absurd s
+  preparing (Graph fault) good s = text_case fault.kind inputs.Graph (causes.Graph fault) (RefusesPreparing graph old new) s.2 (refl, s.2) (λ own. (IfSome_then graph s.0 (λ g. own (graph_of g ≡ Err fault)), s.2))
   preparing (Build building.OutOfMemory) good s = s.2
   preparing (Build building.BadOptions) good s = absurd (s.0.0 refl (good refl))
   preparing (Build building.Mixed) good s = (s.1, s.2)
-  preparing (Unpack e) good s = absurd s
   preparing (Write fault) good s = s.1
-  preparing OutOfMemory good s = absurd s
+  preparing e good s = absurd s
 
 pub preparations-tell : PreparationsTell
 preparations-tell o lists graph left old new (Ok x) good s = tt
-preparations-tell o lists graph left old new (Err e) good s = preparing o lists graph left old new e (λ is. good (ap Err is)) s
+preparations-tell o lists graph left old new (Err e) good s = preparing {o = o} {lists = lists} graph left old new e (λ is. good (ap Err is)) s
 
 -- and where pairs are answered by the file of one
 routes : (file pairs left old new : Option (List ℕ)) (e : ServiceError) → StopsRouting file pairs left old new e → RefusesRoutes file pairs old new (cause_of e)
-routes file pairs left old new (Graph fault) s = absurd s
 routes file pairs left old new (Queries fault) s =
-    text_case fault.kind inputs.Queries (causes.Queries fault) (RefusesRoutes file pairs old new) (of_all file pairs _ (λ b p. inl s.2)) (inr refl, s.2)
-    (λ own. (of_told file pairs _ _ (λ b p h. (h.0, h.1, own (pairs_of (length h.0.ranks) p ≡ Err fault) h.2)) s.0, s.2))
+    text_case fault.kind inputs.Queries (causes.Queries fault) (RefusesRoutes file pairs old new) (told_all file pairs (λ b p. inl s.2)) (inr refl, s.2)
+    (λ own. (told_then file pairs s.0 (λ b p h. (h.0, h.1, own (pairs_of (length h.0.ranks) p ≡ Err fault) h.2)), s.2))
 routes file pairs left old new (Hierarchy fault) s =
-    file_case fault (RefusesRoutes file pairs old new) (of_all file pairs _ (λ b p. inl s.1)) (inl refl, s.1)
-    (λ own. (of_first file pairs _ (own (IfSome file (λ bytes. first_fault bytes ≡ Some fault)) s.0), s.1))
-routes file pairs left old new (Build e) s = absurd s
-routes file pairs left old new (Unpack unpacking.OutOfMemory) s = of_told file pairs _ _ (λ b p w. inr w) s
+    file_case fault (RefusesRoutes file pairs old new) (told_all file pairs (λ b p. inl s.1)) (inl refl, s.1)
+    (λ own. (told_first file pairs _ (own (IfSome file (λ bytes. first_fault bytes ≡ Some fault)) s.0), s.1))
+routes file pairs left old new (Unpack unpacking.OutOfMemory) s = told_then file pairs s (λ b p w. inr w)
 routes file pairs left old new (Unpack unpacking.TooLong) s = s
 routes file pairs left old new (Write fault) s = s
-routes file pairs left old new OutOfMemory s = of_told file pairs _ _ (λ b p w. w.1) s
+routes file pairs left old new OutOfMemory s = told_then file pairs s (λ b p w. w.1)
+routes file pairs left old new e s = absurd s
 
 pub routes-tell : RoutesTell
 routes-tell file pairs left old new (Ok x) s = tt

@@ -1,5 +1,5 @@
--- What an answering call has done where it refuses.
-use Rattle.std.specs.Prelude.{ℕ, ◌≡◌, ◌≢◌, ◌⊎◌, ◌↔◌, ⊤, List, Option, option_map, IfSome, Ok, Err}
+-- What a call has done where it refuses.
+use Rattle.std.specs.Prelude.{ℕ, ◌≡◌, ◌≢◌, ◌⊎◌, ◌↔◌, ⊤, List, Option, option_map, IfSome, Ok, Err, length}
 use Rattle.std.specs.Io.KnownBytes.{IsAtEnd, Keeps}
 pub use Rattle.outcomes.specs.Written.{IfTold, Writes, WritesFirst}
 use Rattle.ch_graph.specs.Graph.{Graph}
@@ -11,17 +11,18 @@ use Rattle.grfile.specs.Taken.{StopsAtReached}
 use Rattle.grfile.specs.declared.error.GrError.{GrError}
 use Rattle.grfile.specs.declared.error.GrErrorKind.{GrErrorKind}
 use Rattle.grfile.specs.declared.error.GrErrorKind.TheVariants.{Read}
-use Rattle.hierfile.specs.Bytes.{SaysNothing}
-use Rattle.ch_service.specs.declared.error.ServiceError.{ServiceError}
-use Rattle.ch_service.specs.declared.error.ServiceError.TheVariants.{Graph as GraphFault, Queries, Hierarchy as HierarchyFault, Build, Unpack, Write, OutOfMemory}
+use Rattle.hierfile.specs.Bytes.{SaysNothing, IsFaultOf}
 use Rattle.ch_unpack.specs.declared.error.UnpackError.TheVariants as unpacking
 use Rattle.ch_workers.specs.Options.{AreBad, AreGood}
 use Rattle.ch_workers.specs.declared.error.BuildError.TheVariants.{BadOptions}
 use Rattle.ch_workers.specs.declared.options.Options.{Options}
 use Rattle.ch_workers.specs.declared.options.TheConstants.Options.{PLAIN}
-use Rattle.ch_service.specs.Answer.{AnswersFirst}
-use Rattle.ch_service.specs.Joined.{graph_part, pairs_part}
-use Rattle.ch_service.specs.Route.{HasTooLong}
+use Rattle.hierfile.specs.Fault.{first_fault}
+use Rattle.ch_service.specs.declared.error.ServiceError.{ServiceError}
+use Rattle.ch_service.specs.declared.error.ServiceError.TheVariants.{Graph as GraphFault, Queries, Hierarchy as HierarchyFault, Build, Unpack, Write, OutOfMemory}
+use Rattle.ch_service.specs.Answer.{AnswersFirst, graph_part, pairs_part, HasTooLong, Spells, RoutesFirst, RoutesToTooLong}
+
+-- What an answering call has done where it refuses.
 
 -- the text spells a graph
 abbrev pub IsGraphText : List ℕ → Type 0
@@ -109,3 +110,22 @@ IsPairFault h pair (Unpack unpacking.OutOfMemory) = ⊤
 IsPairFault h pair (Unpack unpacking.TooLong) = HasTooLong h pair.0 pair.1
 IsPairFault h pair OutOfMemory = ⊤
 IsPairFault h pair e = ⊥
+
+-- What a call says where it refuses to answer pairs by the file of a hierarchy.
+
+-- the bytes are the file of a hierarchy, and the text spells pairs of its nodes
+abbrev pub AreRoutingTexts : List ℕ → List ℕ → Type 0
+AreRoutingTexts bytes pairs_text = (h : Hierarchy) × Spells bytes h × ((pairs : List (ℕ × ℕ)) × (pairs_of (length h.ranks) pairs_text ≡ Ok pairs))
+
+-- Of the file and the pairs that its readers had, of what the second has left, and of what the writer had before and has now.
+-- A fault of the file is its first. One of the pairs comes only where the file has none, and has the line that was reached.
+-- Nothing is written then. Each other refusal comes only where both are read: behind the lines of the pairs before, or behind
+-- the first bytes of such lines, where a write fails.
+abbrev pub StopsRouting : (file pairs left old new : Option (List ℕ)) → ServiceError → Type 0
+StopsRouting file pairs left old new (HierarchyFault e) = IsFaultOf first_fault file e × Keeps old new
+StopsRouting file pairs left old new (Queries fault) = IfTold file pairs (λ bytes pairs_text. (h : Hierarchy) × Spells bytes h × FromText fault.kind (pairs_of (length h.ranks) pairs_text ≡ Err fault)) × StopsAtReached pairs left fault × Keeps old new
+StopsRouting file pairs left old new (Unpack unpacking.OutOfMemory) = IfTold file pairs (λ bytes pairs_text. Writes (RoutesFirst bytes pairs_text) old new)
+StopsRouting file pairs left old new (Unpack unpacking.TooLong) = IfTold file pairs (λ bytes pairs_text. Writes (RoutesToTooLong bytes pairs_text) old new)
+StopsRouting file pairs left old new (Write fault) = IfTold file pairs (λ bytes pairs_text. WritesFirst (RoutesFirst bytes pairs_text) old new fault.written)
+StopsRouting file pairs left old new OutOfMemory = IfTold file pairs (λ bytes pairs_text. AreRoutingTexts bytes pairs_text × (Keeps old new ⊎ Writes (RoutesFirst bytes pairs_text) old new))
+StopsRouting file pairs left old new e = ⊥

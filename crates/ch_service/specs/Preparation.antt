@@ -8,7 +8,7 @@ use Rattle.ch_workers.specs.Options.{AreBad, AreGood}
 use Rattle.ch_workers.specs.declared.error.BuildError.TheVariants.{BadOptions}
 use Rattle.ch_workers.specs.declared.options.Options.{Options}
 use Rattle.ch_service.specs.Outcome.{Writes, WritesFirst, IsGraphText}
-use Rattle.ch_service.specs.Route.{Prepares}
+use Rattle.ch_service.specs.Answer.{Prepares}
 use Rattle.ch_service.specs.declared.error.ServiceError.{ServiceError}
 use Rattle.ch_service.specs.declared.error.ServiceError.TheVariants.{Graph, Build, Write}
 

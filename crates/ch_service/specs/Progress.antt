@@ -4,7 +4,7 @@ use Rattle.std.specs.declared.io.Error.{Error}
 use Rattle.counted_io.specs.Sinks.{Gathered, Puts, has_failed}
 use Rattle.ch_graph.specs.Hierarchy.{Hierarchy}
 use Rattle.ch_service.specs.Outcome.{IsPairFault}
-use Rattle.ch_service.specs.Route.{Routed}
+use Rattle.ch_service.specs.Answer.{Routed}
 use Rattle.ch_service.specs.declared.error.ServiceError.{ServiceError}
 
 -- By what ended it: all pairs are answered, or the writer has failed; or the next pair was refused.

@@ -8,19 +8,16 @@ use Rattle.hierfile.specs.Fault.{first_fault}
 use Rattle.ch_workers.specs.Options.{AreGood}
 use Rattle.ch_workers.specs.declared.error.BuildError.TheVariants.{BadOptions}
 use Rattle.ch_workers.specs.declared.options.Options.{Options}
-use Rattle.outcomes.specs.Resources.{IsEither, OfResource}
+use Rattle.outcomes.specs.Written.{IsEither, OfResource}
 use Rattle.outcomes.specs.declared.cause.Cause.{Cause}
 use Rattle.outcomes.specs.declared.cause.Cause.TheVariants.{Graph as GraphFault, Queries, Hierarchy as HierarchyFault, TooLong, Mixed}
 use Rattle.outcomes.specs.declared.cause.Input.TheVariants as inputs
 use Rattle.ch_service.specs.declared.error.ServiceError.{ServiceError}
 use Rattle.ch_service.specs.declared.error.ServiceError.TheVariants.{Build}
-use Rattle.ch_service.specs.Answer.{AnswersFirst}
+use Rattle.ch_service.specs.Answer.{AnswersFirst, graph_part, pairs_part, Spells, Prepares, RoutesFirst, RoutesToTooLong}
 use Rattle.ch_service.specs.Cause.{cause_of}
-use Rattle.ch_service.specs.Joined.{graph_part, pairs_part}
-use Rattle.ch_service.specs.Outcome.{IfTold, Writes, IsGraphText, AreTexts, StopsAnswering, StopsInJoined}
+use Rattle.ch_service.specs.Outcome.{IfTold, Writes, IsGraphText, AreTexts, StopsAnswering, StopsInJoined, StopsRouting}
 use Rattle.ch_service.specs.Preparation.{StopsPreparing}
-use Rattle.ch_service.specs.Route.{Spells, Prepares, RoutesFirst, RoutesToTooLong}
-use Rattle.ch_service.specs.Routing.{StopsRouting}
 
 -- where pairs are answered from the texts of a graph and of pairs
 abbrev pub RefusesAnswers : Option (List ℕ) → Option (List ℕ) → Option (List ℕ) → Option (List ℕ) → Cause → Type 0

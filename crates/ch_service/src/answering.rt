@@ -1,6 +1,5 @@
 ghost use Rattle.std.specs.Prelude.{◌≡◌, [], All, OnOk, IfErr, IfSome, vec_len};
-ghost use Rattle.ch_service.specs.Answer.{Answers, AnswersByFewest};
-ghost use Rattle.ch_service.specs.Joined.{graph_part, pairs_part};
+ghost use Rattle.ch_service.specs.Answer.{Answers, AnswersByFewest, graph_part, pairs_part};
 ghost use Rattle.ch_service.specs.Outcome.{IfTold, StopsAnswering, StopsInJoined, Writes};
 ghost use Rattle.ch_workers.specs.Options.{AreGood};
 

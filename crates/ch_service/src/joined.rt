@@ -1,5 +1,5 @@
 ghost use Rattle.std.specs.Prelude.{◌≡◌, ◌<◌, ◌≤◌, ◌∷◌, length, take, drop};
-ghost use Rattle.ch_service.specs.Joined.{ended_lines, is_percent, graph_part, pairs_part};
+ghost use Rattle.ch_service.specs.Answer.{ended_lines, is_percent, graph_part, pairs_part};
 
 use memchr::memchr;
 

@@ -2,7 +2,7 @@
 
 ghost use Rattle.ch_graph.specs.declared.version.Version.TheVariants.{One, Two};
 ghost use Rattle.ch_service.specs.Refusals.{AnswersTell, JoinedAnswersTell, PreparationsTell, RoutesTell};
-ghost use Rattle.ch_service.specs.Route.{FirstRoutesAreExact, RightRoutesAreLeast, RoutesAreExact, RoutesHaveFewestArcs};
+ghost use Rattle.ch_service.specs.Answer.{FirstRoutesAreExact, RightRoutesAreLeast, RoutesAreExact, RoutesHaveFewestArcs};
 
 use ch_route::routes_are_least;
 use grfile::{spelled_graphs_are_in_range, spelled_pairs_are_in_range};

@@ -2,7 +2,7 @@ ghost use Rattle.std.specs.Prelude.{◌≡◌, ℕ, All, OnOk, IfErr, length, ta
 ghost use Rattle.grfile.specs.Reading.{IsPair};
 ghost use Rattle.ch_service.specs.Outcome.{Writes, StopsShort};
 ghost use Rattle.ch_service.specs.Progress.{PutsPairs};
-ghost use Rattle.ch_service.specs.Route.{Routed, StopsAtTooLong};
+ghost use Rattle.ch_service.specs.Answer.{Routed, StopsAtTooLong};
 
 use crate::error::ServiceError;
 use ch_answer::put_line;

@@ -1,9 +1,7 @@
 ghost use Rattle.std.specs.Prelude.{◌≡◌, ℕ, List, Err, OnOk, IfErr, IfSome};
 ghost use Rattle.ch_graph.specs.declared.version.Version.TheVariants.{One};
-ghost use Rattle.ch_service.specs.Answer.{Answers, AnswersByFewest};
-ghost use Rattle.ch_service.specs.Outcome.{IfTold, Writes};
-ghost use Rattle.ch_service.specs.Route.{Prepares, PreparesIn, Routes};
-ghost use Rattle.ch_service.specs.Routing.{StopsRouting};
+ghost use Rattle.ch_service.specs.Answer.{Answers, AnswersByFewest, Prepares, PreparesIn, Routes};
+ghost use Rattle.ch_service.specs.Outcome.{IfTold, Writes, StopsRouting};
 ghost use Rattle.ch_service.specs.declared.error.ServiceError.TheVariants.{Unpack};
 ghost use Rattle.ch_unpack.specs.declared.error.UnpackError.TheVariants.{TooLong};
 

@@ -1,19 +1,27 @@
--- What a check of a hierarchy's file against the text of a graph says, and how that is shown.
-use Rattle.std.specs.Prelude.{ℕ, ◌≡◌, ◌≢◌, ◌+◌, ⊤, List, ◌++◌, length, codes, decimal, Ok}
+-- What a check says of a text and a file, and what it says where it refuses.
+use Rattle.std.specs.Prelude.{ℕ, ◌≡◌, ◌≢◌, ◌+◌, ⊤, List, ◌++◌, length, codes, decimal, Ok, ◌<◌, take, Option, Some, false, Err, IfSome}
 use Rattle.ch_graph.specs.Graph.{Graph}
 use Rattle.ch_graph.specs.Hierarchy.{Hierarchy, IsRight}
 use Rattle.ch_graph.specs.Limits.{bound_of}
 use Rattle.ch_graph.specs.declared.version.Version.{Version}
-use Rattle.ch_graph.specs.declared.version.Version.TheVariants.{Two}
+use Rattle.ch_graph.specs.declared.version.Version.TheVariants.{Two, One}
 use Rattle.grfile.specs.Reading.{graph_of}
 use Rattle.ch_answer.specs.File.{Spells, PreparesIn}
 use Rattle.ch_check.specs.Refuting.{AreApart}
+use Rattle.std.specs.Io.KnownBytes.{Appends, Keeps}
+use Rattle.hierfile.specs.Fault.{first_fault}
+use Rattle.outcomes.specs.declared.cause.Cause.{Cause}
+use Rattle.outcomes.specs.declared.cause.Cause.TheVariants.{Graph as GraphFault, Hierarchy as HierarchyFault, OldVersion, Memory, Write}
+use Rattle.outcomes.specs.declared.cause.Input.TheVariants as inputs
+use Rattle.outcomes.specs.Written.{IsEither, OfResource, IfTold}
 use Rattle.ch_verify.specs.declared.verdict.Verdict.{Verdict}
 use Rattle.ch_verify.specs.declared.verdict.Verdict.TheVariants.{Right, Wrong, NotShown}
 use Rattle.ch_verify.specs.declared.verdict.Refutation.{Refutation}
 use Rattle.ch_verify.specs.declared.verdict.Refutation.TheVariants.{Nodes, Pair}
 use Rattle.ch_verify.specs.declared.verdict.Doubt.{Doubt}
 use Rattle.ch_verify.specs.declared.verdict.Doubt.TheVariants.{Bound, Work, Way, Link}
+
+-- What a check of a hierarchy's file against the text of a graph says, and how that is shown.
 
 -- What a refutation names: the hierarchy has another number of nodes, or another distance of a pair.
 abbrev pub Refutes : Refutation → Graph → Hierarchy → Type 0
@@ -78,3 +86,20 @@ verdict_line v = verdict_text v ++ codes "\n"
 -- the line is that of a verdict that holds
 abbrev pub IsVerdictLine : List ℕ → List ℕ → List ℕ → Type 0
 IsVerdictLine graph_text bytes line = (v : Verdict) × Says v graph_text bytes × (line ≡ verdict_line v)
+
+-- Why there is no verdict.
+
+-- A fault of the text is the first that it has, and one of the bytes comes only where the text has none. A file of version
+-- 1 is refused only where both were read. Nothing is written then, and where a write fails the first bytes of the line of a
+-- verdict that holds.
+abbrev pub RefusesCheck : Option (List ℕ) → Option (List ℕ) → Option (List ℕ) → Option (List ℕ) → Cause → Type 0
+RefusesCheck graph file old new (GraphFault fault) = IfSome graph (λ graph_text. graph_of graph_text ≡ Err fault) × Keeps old new
+RefusesCheck graph file old new (HierarchyFault e) = IfTold graph file (λ graph_text bytes. (g : Graph) × (graph_of graph_text ≡ Ok g) × (first_fault bytes ≡ Some e)) × Keeps old new
+RefusesCheck graph file old new OldVersion = IfTold graph file (AreOf One (λ g h. ⊤)) × Keeps old new
+RefusesCheck graph file old new cause = OfResource false (IsEither inputs.Graph inputs.Hierarchy) graph file IsVerdictLine old new cause
+
+-- where the line of a verdict isn't written: nothing of it, or its first bytes, and not all
+abbrev pub BreaksOff : Verdict → Option (List ℕ) → Option (List ℕ) → Cause → Type 0
+BreaksOff v old new Memory = Keeps old new
+BreaksOff v old new (Write fault) = (fault.written < length (verdict_line v)) × Appends old new (take fault.written (verdict_line v))
+BreaksOff v old new cause = ⊥

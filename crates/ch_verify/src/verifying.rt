@@ -3,8 +3,7 @@ ghost use Rattle.std.specs.Io.KnownBytes.{Appends};
 ghost use Rattle.ch_graph.specs.declared.version.Version.TheVariants.{One, Two};
 ghost use Rattle.outcomes.specs.Written.{IfTold};
 ghost use Rattle.outcomes.specs.declared.cause.Cause.TheVariants.{OldVersion};
-ghost use Rattle.ch_verify.specs.Refusal.{BreaksOff, RefusesCheck};
-ghost use Rattle.ch_verify.specs.Verdict.{Doubts, Judges, Says, verdict_line};
+ghost use Rattle.ch_verify.specs.Verdict.{BreaksOff, RefusesCheck, Doubts, Judges, Says, verdict_line};
 
 use crate::verdict::{Doubt, Refutation, Verdict};
 use ch_check::{CheckError, Watch, check_watched, is_refuted_by};

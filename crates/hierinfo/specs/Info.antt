@@ -5,7 +5,7 @@ use Rattle.ch_cost.specs.Cost.{length_of}
 use Rattle.ch_graph.specs.Hierarchy.{Hierarchy, IsWellMade, version_number}
 use Rattle.hierfile.specs.Spelling.{bytes_of}
 use Rattle.hierfile.specs.Fault.{first_fault}
-use Rattle.outcomes.specs.Resources.{OfResource}
+use Rattle.outcomes.specs.Written.{OfResource}
 use Rattle.outcomes.specs.declared.cause.Cause.{Cause}
 use Rattle.outcomes.specs.declared.cause.Cause.TheVariants.{Hierarchy as HierarchyFault}
 use Rattle.outcomes.specs.declared.cause.Input.TheVariants as inputs

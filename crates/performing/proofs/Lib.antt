@@ -1,5 +1,2 @@
-mod Joining
 mod OneForEach
-mod Putting
-mod Outcomes
-mod Statuses
+pub mod Outcomes

@@ -13,9 +13,9 @@ and_one Is (next ∷ orders) [] order thing are is = absurd are
 and_one Is (next ∷ orders) (first ∷ things) order thing are is = (are.0, and_one Is orders things order thing are.1 is)
 
 -- and one for the next of the orders
-pub and_next : {K T : Type 0} (Is : K → T → Type 0) (orders : List K) (things more : List T) (k : ℕ) (default : K) (thing : T) → k < length orders
+pub and_next : {K T : Type 0} (Is : K → T → Type 0) (orders : List K) (things : List T) {more : List T} (k : ℕ) (default : K) (thing : T) → k < length orders
     → AreFor Is (take k orders) things → Is (get_or orders k default) thing → more ≡ things ++ thing ∷ [] → AreFor Is (take (k + 1) orders) more
-and_next Is orders things more k default thing below are is pushed =
+and_next Is orders things k default thing below are is pushed =
     let both = and_one Is (take k orders) things (get_or orders k default) thing are is in
     let next = subst (λ os. AreFor Is os (things ++ thing ∷ [])) (sym (take_more orders k default below)) both in
     subst (AreFor Is (take (k + 1) orders)) (sym pushed) next

@@ -1,35 +1,42 @@
--- What a call says by its outcome.
-use Rattle.std.proofs.Common.{ℕ, ◌≡◌, List, Option, Bool, true, false, sym, subst, inl}
-use Rattle.std.specs.Prelude.{⊤, Some, None, option_map, MatchBool, Result, Ok, Err, OnOk, IfErr, IfSome, IsErrAnd}
+-- What the outcome of a job says, and its status.
+use Rattle.std.proofs.Common.{ℕ, ◌≡◌, List, Option, Bool, true, false, sym, subst, inl, refl, inr, [], ap, ◌∙◌}
+use Rattle.std.specs.Prelude.{⊤, Some, None, option_map, MatchBool, Result, Ok, Err, OnOk, IfErr, IfSome, IsErrAnd, ◌⊎◌}
 use Rattle.std.specs.Io.KnownBytes.{Appends, Keeps}
-use Rattle.outcomes.specs.Outcomes.{Ends, outcome_after}
+use Rattle.std.proofs.lemmas.Option.{IfSome_then}
+use Rattle.outcomes.specs.Outcomes.{Ends, outcome_after, status_after}
+use Rattle.outcomes.specs.Written.{told_all}
 use Rattle.outcomes.specs.declared.cause.Cause.{Cause}
 use Rattle.outcomes.specs.declared.cause.Cause.TheVariants as causes
 use Rattle.outcomes.specs.declared.outcome.Outcome.{Outcome}
-use Rattle.outcomes.specs.declared.outcome.Outcome.TheVariants.{Done, Refused}
+use Rattle.outcomes.specs.declared.outcome.Outcome.TheVariants.{Done, Refused, Wrong, NotShown}
+use Rattle.outcomes.specs.Causes.{file_case}
 use Rattle.ch_service.specs.declared.error.ServiceError.{ServiceError}
 use Rattle.ch_service.specs.declared.error.ServiceError.TheVariants.{OutOfMemory}
-use Rattle.ch_service.specs.Answer.{AnswersByFewest}
+use Rattle.ch_service.specs.Answer.{AnswersByFewest, graph_part, pairs_part, Prepares, RoutesHaveFewestArcs}
 use Rattle.ch_service.specs.Cause.{cause_of}
-use Rattle.ch_service.specs.Joined.{graph_part, pairs_part}
-use Rattle.ch_service.specs.Outcome.{IfTold, Writes}
-use Rattle.ch_service.specs.Refusals.{RefusesAnswers}
-use Rattle.ch_verify.specs.Refusal.{RefusesCheck}
-use Rattle.ch_verify.specs.Verdict.{Says, verdict_line}
+use Rattle.ch_service.specs.Outcome.{IfTold, Writes, IsGraphText}
+use Rattle.ch_service.specs.Refusals.{RefusesAnswers, RefusesPreparing, RefusesRoutes}
+use Rattle.ch_verify.specs.Verdict.{RefusesCheck, Says, verdict_line}
 use Rattle.ch_verify.specs.declared.verdict.Verdict.{Verdict}
 use Rattle.ch_verify.specs.declared.verdict.Verdict.TheVariants as verdicts
 use Rattle.jobs.specs.Job.{is_joined}
 use Rattle.jobs.specs.declared.job.Job.{Job}
 use Rattle.jobs.specs.declared.job.Job.TheVariants.{Answer, Prepare, Route, Serve, Info, Check}
-use Rattle.performing.specs.Status.{outcome_of, outcome_found, Tells, TellsAnswers, TellsChecked}
+use Rattle.ch_requests.specs.declared.error.ServeError.{ServeError}
+use Rattle.ch_requests.specs.declared.error.ServeError.TheVariants as stops
+use Rattle.ch_requests.specs.Cause.{stop_cause}
+use Rattle.hierinfo.specs.Info.{RefusesInfo}
+use Rattle.performing.specs.Status.{outcome_of, outcome_found, Tells, TellsAnswers, TellsChecked, StopsBy, TellsPrepared, TellsRouted, TellsServed, TellsInfo, IsAnsweringStatus, IsPreparingStatus, IsRoutingStatus, IsServingStatus, IsCheckingStatus, IsStatusOf, TellsPut, RoutesAreExactAfter, HasPrepared}
+
+-- What a call says by its outcome.
 
 -- what is done, or refused
 
 pub is_done : (IsDone : Type 0) (Refuses : Cause → Type 0) → IsDone → Ends Done IsDone Refuses
 is_done IsDone Refuses done = record { done = λ is. done; refused = λ cause is. absurd (cc); no_verdict = (λ is. absurd (cc), λ is. absurd (cc)) }
 
-pub is_refused : (why : Cause) (IsDone : Type 0) (Refuses : Cause → Type 0) → Refuses why → Ends (Refused why) IsDone Refuses
-is_refused why IsDone Refuses refused = record {
+pub is_refused : {why : Cause} (IsDone : Type 0) (Refuses : Cause → Type 0) → Refuses why → Ends (Refused why) IsDone Refuses
+is_refused {why} IsDone Refuses refused = record {
   done = λ is. absurd (cc);
   refused = λ cause is. let same : why ≡ cause = cc in subst Refuses same refused;
   no_verdict = (λ is. absurd (cc), λ is. absurd (cc));
@@ -38,49 +45,47 @@ is_refused why IsDone Refuses refused = record {
 -- what a call has done, or why it didn't
 pub told : (r : Result ⊤ ServiceError) (IsDone : Type 0) (Refuses : Cause → Type 0) → OnOk r IsDone → IfErr r (λ e. Refuses (cause_of e)) → Ends (outcome_of r) IsDone Refuses
 told (Ok x) IsDone Refuses done refused = is_done IsDone Refuses done
-told (Err e) IsDone Refuses done refused = is_refused (cause_of e) IsDone Refuses refused
+told (Err e) IsDone Refuses done refused = is_refused IsDone Refuses refused
 
 pub told_after : (r : Result ⊤ Cause) (IsDone : Type 0) (Refuses : Cause → Type 0) → OnOk r IsDone → IfErr r Refuses → Ends (outcome_after r) IsDone Refuses
 told_after (Ok x) IsDone Refuses done refused = is_done IsDone Refuses done
-told_after (Err cause) IsDone Refuses done refused = is_refused cause IsDone Refuses refused
+told_after (Err cause) IsDone Refuses done refused = is_refused IsDone Refuses refused
 
 -- the same of an outcome that is that after the call
-pub after : (outcome ended : Outcome) (IsDone : Type 0) (Refuses : Cause → Type 0) → outcome ≡ ended → Ends ended IsDone Refuses → Ends outcome IsDone Refuses
-after outcome ended IsDone Refuses is ends = subst (λ (o : Outcome). Ends o IsDone Refuses) (sym is) ends
+pub after : {outcome ended : Outcome} {IsDone : Type 0} {Refuses : Cause → Type 0} → outcome ≡ ended → Ends ended IsDone Refuses → Ends outcome IsDone Refuses
+after {IsDone = IsDone} {Refuses = Refuses} is ends = subst (λ (o : Outcome). Ends o IsDone Refuses) (sym is) ends
 
 -- where memory ran out before the call
 pub wants_memory : (r : Result ⊤ ServiceError) (IsDone : Type 0) (Refuses : Cause → Type 0) → IsErrAnd r (λ e. e ≡ OutOfMemory) → Refuses causes.Memory → Ends (outcome_of r) IsDone Refuses
 wants_memory (Ok x) IsDone Refuses is memory = absurd is
-wants_memory (Err e) IsDone Refuses is memory = is_refused (cause_of e) IsDone Refuses (subst (λ (x : ServiceError). Refuses (cause_of x)) (sym is) memory)
+wants_memory (Err e) IsDone Refuses is memory = is_refused IsDone Refuses (subst (λ (x : ServiceError). Refuses (cause_of x)) (sym is) memory)
 
 pub unwritten : (graph pairs old new : Option (List ℕ)) → Keeps old new → RefusesAnswers graph pairs old new causes.Memory
-unwritten None pairs old new k = tt
-unwritten (Some graph) None old new k = tt
-unwritten (Some graph) (Some pairs) old new k = inl k
+unwritten graph pairs old new k = told_all graph pairs (λ a b. inl k)
 
 -- where both texts are in one input
 pub joined_told : (input old new : Option (List ℕ)) (r : Result ⊤ ServiceError) → OnOk r (IfSome input (λ text. Writes (AnswersByFewest (graph_part text) (pairs_part text)) old new))
     → IfErr r (λ e. RefusesAnswers (option_map graph_part input) (option_map pairs_part input) old new (cause_of e)) → TellsAnswers (outcome_of r) (option_map graph_part input) (option_map pairs_part input) old new
 joined_told None old new (Ok x) w f = is_done _ _ tt
-joined_told None old new (Err e) w f = is_refused (cause_of e) _ _ f
+joined_told None old new (Err e) w f = is_refused _ _ f
 joined_told (Some text) old new (Ok x) w f = is_done _ _ w
-joined_told (Some text) old new (Err e) w f = is_refused (cause_of e) _ _ f
+joined_told (Some text) old new (Err e) w f = is_refused _ _ f
 
 -- a check that came to a verdict
-pub found : (v : Verdict) (outcome : Outcome) (graph file old new : Option (List ℕ)) → outcome ≡ outcome_found v → IfTold graph file (Says v) → Appends old new (verdict_line v) → TellsChecked outcome graph file old new
-found verdicts.Right outcome graph file old new is says given = record {
+pub found : (v : Verdict) {outcome : Outcome} (graph file old new : Option (List ℕ)) → outcome ≡ outcome_found v → IfTold graph file (Says v) → Appends old new (verdict_line v) → TellsChecked outcome graph file old new
+found verdicts.Right graph file old new is says given = record {
   right = λ same. (says, given);
   wrong = λ same. absurd (cc);
   not_shown = λ same. absurd (cc);
   refused = λ cause same. absurd (cc);
 }
-found (verdicts.Wrong refutation) outcome graph file old new is says given = record {
+found (verdicts.Wrong refutation) graph file old new is says given = record {
   right = λ same. absurd (cc);
   wrong = λ same. (refutation, says, given);
   not_shown = λ same. absurd (cc);
   refused = λ cause same. absurd (cc);
 }
-found (verdicts.NotShown doubt) outcome graph file old new is says given = record {
+found (verdicts.NotShown doubt) graph file old new is says given = record {
   right = λ same. absurd (cc);
   wrong = λ same. absurd (cc);
   not_shown = λ same. (doubt, says, given);
@@ -102,18 +107,173 @@ pub of_joined : (j : Job) (o : Outcome) (first second left old new : Option (Lis
 of_joined (Answer graph queries) o first second left old new is t = record {
   of_job = subst (λ (b : Bool). MatchBool b (TellsAnswers o (option_map graph_part first) (option_map pairs_part first) old new) (TellsAnswers o first second old new)) (sym is) t;
 }
-of_joined (Prepare preparation) o first second left old new is t = absurd (cc)
-of_joined (Route hierarchy queries) o first second left old new is t = absurd (cc)
-of_joined (Serve hierarchy) o first second left old new is t = absurd (cc)
-of_joined (Info hierarchy) o first second left old new is t = absurd (cc)
-of_joined (Check check) o first second left old new is t = absurd (cc)
+of_joined j o first second left old new is t = absurd (cc)
 
-pub of_two : (j : Job) (graph queries : _) (o : Outcome) (first second left old new : Option (List ℕ)) → j ≡ Answer graph queries → is_joined j ≡ false → TellsAnswers o first second old new → Tells j o first second left old new
-of_two (Answer a b) graph queries o first second left old new is apart t = record {
+pub of_two : {j : Job} (graph queries : _) (o : Outcome) (first second left old new : Option (List ℕ)) → j ≡ Answer graph queries → is_joined j ≡ false → TellsAnswers o first second old new → Tells j o first second left old new
+of_two {j = Answer a b} graph queries o first second left old new is apart t = record {
   of_job = subst (λ (b : Bool). MatchBool b (TellsAnswers o (option_map graph_part first) (option_map pairs_part first) old new) (TellsAnswers o first second old new)) (sym apart) t;
 }
-of_two (Prepare preparation) graph queries o first second left old new is apart t = absurd (cc)
-of_two (Route hierarchy pairs) graph queries o first second left old new is apart t = absurd (cc)
-of_two (Serve hierarchy) graph queries o first second left old new is apart t = absurd (cc)
-of_two (Info hierarchy) graph queries o first second left old new is apart t = absurd (cc)
-of_two (Check check) graph queries o first second left old new is apart t = absurd (cc)
+of_two graph queries o first second left old new is apart t = absurd (cc)
+
+-- Which statuses a job may end with, and that nothing was written where the workers don't agree.
+
+abbrev pub Ending : (ℕ → Type 0) → Option (List ℕ) → Option (List ℕ) → Outcome → Type 0
+Ending Is old new outcome = Is (status_after outcome) × (status_after outcome ≡ 8 → Keeps old new)
+
+-- what ends so with status 0, and so for each cause of its refusals
+module _ {IsDone : Type 0} {Refuses : Cause → Type 0} (Is : ℕ → Type 0) (old new : Option (List ℕ)) (done : Is 0) (refused : (cause : Cause) → Refuses cause → Ending Is old new (Refused cause)) where
+  ending : (outcome : Outcome) → Ends outcome IsDone Refuses → Ending Is old new outcome
+  ending Done t = (done, λ is. absurd (cc))
+  ending Wrong t = absurd (t.no_verdict.0 refl)
+  ending NotShown t = absurd (t.no_verdict.1 refl)
+  ending (Refused cause) t = refused cause (t.refused cause refl)
+
+-- where pairs are answered over a graph
+pub answering_end : (outcome : Outcome) (graph pairs old new : Option (List ℕ)) → TellsAnswers outcome graph pairs old new → Ending IsAnsweringStatus old new outcome
+answering_end outcome graph pairs old new = ending IsAnsweringStatus old new (inl refl) by_cause outcome where
+  by_cause : (cause : Cause) → RefusesAnswers graph pairs old new cause → Ending IsAnsweringStatus old new (Refused cause)
+  by_cause (causes.Graph fault) r = (inr (inl refl), λ is. absurd (cc))
+  by_cause (causes.Queries fault) r = (inr (inr (inl refl)), λ is. absurd (cc))
+  by_cause causes.Memory r = (inr (inr (inr (inl refl))), λ is. absurd (cc))
+  by_cause (causes.Read input) r = (inr (inr (inr (inr (inl refl)))), λ is. absurd (cc))
+  by_cause (causes.Write fault) r = (inr (inr (inr (inr (inl refl)))), λ is. absurd (cc))
+  by_cause causes.Mixed r = (inr (inr (inr (inr (inr refl)))), λ is. r.1)
+  by_cause cause r = absurd r
+
+-- where a hierarchy is prepared
+pub preparing_end : (outcome : Outcome) (graph old new : Option (List ℕ)) → TellsPrepared outcome graph old new → Ending IsPreparingStatus old new outcome
+preparing_end outcome graph old new = ending IsPreparingStatus old new (inl refl) by_cause outcome where
+  by_cause : (cause : Cause) → RefusesPreparing graph old new cause → Ending IsPreparingStatus old new (Refused cause)
+  by_cause (causes.Graph fault) r = (inr (inl refl), λ is. absurd (cc))
+  by_cause causes.Memory r = (inr (inr (inl refl)), λ is. absurd (cc))
+  by_cause (causes.Read input) r = (inr (inr (inr (inl refl))), λ is. absurd (cc))
+  by_cause (causes.Write fault) r = (inr (inr (inr (inl refl))), λ is. absurd (cc))
+  by_cause causes.Mixed r = (inr (inr (inr (inr refl))), λ is. r.1)
+  by_cause cause r = absurd r
+
+-- where pairs are answered by one
+pub routing_end : (outcome : Outcome) (file pairs old new : Option (List ℕ)) → TellsRouted outcome file pairs old new → Ending IsRoutingStatus old new outcome
+routing_end outcome file pairs old new = ending IsRoutingStatus old new (inl refl) by_cause outcome where
+  by_cause : (cause : Cause) → RefusesRoutes file pairs old new cause → Ending IsRoutingStatus old new (Refused cause)
+  by_cause (causes.Queries fault) r = (inr (inr (inl refl)), λ is. absurd (cc))
+  by_cause (causes.Hierarchy fault) r = (inr (inl refl), λ is. absurd (cc))
+  by_cause causes.TooLong r = (inr (inl refl), λ is. absurd (cc))
+  by_cause causes.Memory r = (inr (inr (inr (inl refl))), λ is. absurd (cc))
+  by_cause (causes.Read input) r = (inr (inr (inr (inr refl))), λ is. absurd (cc))
+  by_cause (causes.Write fault) r = (inr (inr (inr (inr refl))), λ is. absurd (cc))
+  by_cause cause r = absurd r
+
+-- where what one has is printed
+pub informing_end : (outcome : Outcome) (file old new : Option (List ℕ)) → TellsInfo outcome file old new → Ending IsServingStatus old new outcome
+informing_end outcome file old new = ending IsServingStatus old new (inl refl) by_cause outcome where
+  by_cause : (cause : Cause) → RefusesInfo file old new cause → Ending IsServingStatus old new (Refused cause)
+  by_cause (causes.Hierarchy fault) r = (inr (inl refl), λ is. absurd (cc))
+  by_cause causes.Memory r = (inr (inr (inl refl)), λ is. absurd (cc))
+  by_cause (causes.Read input) r = (inr (inr (inr refl)), λ is. absurd (cc))
+  by_cause (causes.Write fault) r = (inr (inr (inr refl)), λ is. absurd (cc))
+  by_cause cause r = absurd r
+
+-- where one is checked
+pub checking_end : {outcome : Outcome} {graph file old new : Option (List ℕ)} → TellsChecked outcome graph file old new → Ending IsCheckingStatus old new outcome
+checking_end {outcome = Done} t = (inl refl, λ is. absurd (cc))
+checking_end {outcome = Wrong} t = (inr (inr (inr (inr (inr (inl refl))))), λ is. absurd (cc))
+checking_end {outcome = NotShown} t = (inr (inr (inr (inr (inr (inr refl))))), λ is. absurd (cc))
+checking_end {outcome = Refused (causes.Graph fault)} t = (inr (inl refl), λ is. absurd (cc))
+checking_end {outcome = Refused (causes.Hierarchy fault)} t = (inr (inr (inl refl)), λ is. absurd (cc))
+checking_end {outcome = Refused causes.OldVersion} t = (inr (inr (inl refl)), λ is. absurd (cc))
+checking_end {outcome = Refused causes.Memory} t = (inr (inr (inr (inl refl))), λ is. absurd (cc))
+checking_end {outcome = Refused (causes.Read input)} t = (inr (inr (inr (inr (inl refl)))), λ is. absurd (cc))
+checking_end {outcome = Refused (causes.Write fault)} t = (inr (inr (inr (inr (inl refl)))), λ is. absurd (cc))
+checking_end {outcome = Refused cause} t = absurd (t.refused cause refl)
+
+-- where requests are replied to
+
+stop_end : (old new : Option (List ℕ)) (e : ServeError) → Ending IsServingStatus old new (Refused (stop_cause e))
+stop_end old new (stops.Hierarchy fault) =
+    file_case fault (λ (cause : Cause). Ending IsServingStatus old new (Refused cause)) (inr (inr (inl refl)), λ is. absurd (cc)) (inr (inr (inr refl)), λ is. absurd (cc)) (λ own. (inr (inl refl), λ is. absurd (cc)))
+stop_end old new stops.OutOfMemory = (inr (inr (inl refl)), λ is. absurd (cc))
+stop_end old new e = (inr (inr (inr refl)), λ is. absurd (cc))
+
+pub serving_end : (outcome : Outcome) (file had left old new : Option (List ℕ)) → TellsServed outcome file had left old new → Ending IsServingStatus old new outcome
+serving_end outcome file had left old new =
+    ending IsServingStatus old new (inl refl) by_cause outcome
+  where
+    by_cause : (cause : Cause) → StopsBy file had left old new cause → Ending IsServingStatus old new (Refused cause)
+    by_cause cause why = subst (λ (c : Cause). Ending IsServingStatus old new (Refused c)) (sym why.1) (stop_end old new why.0)
+
+-- where a job is any of these
+
+answer_end : (joined : Bool) (outcome : Outcome) (graph pairs first second old new : Option (List ℕ)) → MatchBool joined (TellsAnswers outcome graph pairs old new) (TellsAnswers outcome first second old new) → Ending IsAnsweringStatus old new outcome
+answer_end true outcome graph pairs first second old new t = answering_end outcome graph pairs old new t
+answer_end false outcome graph pairs first second old new t = answering_end outcome first second old new t
+
+pub job_end : (j : Job) (outcome : Outcome) (first second left old new : Option (List ℕ)) → Tells j outcome first second left old new → Ending (IsStatusOf j) old new outcome
+job_end (Answer graph queries) outcome first second left old new t = answer_end (is_joined (Answer graph queries)) outcome _ _ _ _ old new t.of_job
+job_end (Prepare preparation) outcome first second left old new t = preparing_end outcome first old new t.of_job
+job_end (Route hierarchy queries) outcome first second left old new t = routing_end outcome first second old new t.of_job
+job_end (Serve hierarchy) outcome first second left old new t = serving_end outcome first second left old new t.of_job
+job_end (Info hierarchy) outcome first second left old new t = informing_end outcome first old new t.of_job
+job_end (Check check) outcome first second left old new t = checking_end t.of_job
+
+-- What the outcome of a preparation says where its bytes are put at a destination.
+
+-- what was written, where the bytes aren't known
+untold_file : (graph old new : Option (List ℕ)) → IfSome graph (λ text. Writes (Prepares text) old new) → IfSome graph (λ text. Writes (Prepares text) None None)
+untold_file graph old new file = IfSome_then graph file (λ text put. (put.0, put.1, tt))
+
+-- what an outcome says of the text alone
+untold : (outcome : Outcome) (graph old new : Option (List ℕ)) → TellsPrepared outcome graph old new → TellsPut outcome graph
+untold Done graph old new t = is_done _ _ (untold_file graph old new (t.done refl))
+untold Wrong graph old new t = absurd (t.no_verdict.0 refl)
+untold NotShown graph old new t = absurd (t.no_verdict.1 refl)
+untold (Refused (causes.Graph fault)) graph old new t = is_refused {why = causes.Graph fault} _ _ ((t.refused (causes.Graph fault) refl).0, tt)
+untold (Refused causes.Memory) graph old new t = is_refused {why = causes.Memory} _ _ tt
+untold (Refused (causes.Read input)) graph old new t = is_refused {why = causes.Read input} _ _ ((t.refused (causes.Read input) refl).0, tt)
+untold (Refused (causes.Write fault)) None old new t = is_refused {why = causes.Write fault} _ _ tt
+untold (Refused (causes.Write fault)) (Some text) old new t = let part = t.refused (causes.Write fault) refl in is_refused {why = causes.Write fault} _ _ (part.0, part.1, part.2, tt)
+untold (Refused causes.Mixed) graph old new t = is_refused {why = causes.Mixed} _ _ ((t.refused causes.Mixed refl).0, tt)
+untold (Refused cause) graph old new t = absurd (t.refused cause refl)
+
+-- a text of which a hierarchy was prepared spells a graph
+is_text : (graph old new : Option (List ℕ)) → IfSome graph (λ text. Writes (Prepares text) old new) → IfSome graph IsGraphText
+is_text graph old new file = IfSome_then graph file (λ text put. (put.1.graph, put.1.graph_reads))
+
+-- what the outcome says of the text once the draft was put or thrown away, and its status
+pub finished : (graph old new : Option (List ℕ)) {prepared result : Outcome} → (result ≡ prepared) ⊎ ((prepared ≡ Done) × (result ≡ Refused causes.Flush)) → TellsPrepared prepared graph old new → TellsPut result graph × IsPreparingStatus (status_after result)
+finished graph old new {prepared} (inl is) t = subst (λ (o : Outcome). TellsPut o graph × IsPreparingStatus (status_after o)) (sym is) (untold prepared graph old new t, (preparing_end prepared graph old new t).0)
+finished graph old new (inr failed) t =
+    subst (λ (o : Outcome). TellsPut o graph × IsPreparingStatus (status_after o)) (sym failed.1)
+    (is_text graph old new (t.done failed.0), inr (inr (inr (inl refl))))
+
+-- where it is done, so was the work
+pub was_done : {prepared result : Outcome} → (result ≡ prepared) ⊎ ((prepared ≡ Done) × (result ≡ Refused causes.Flush)) → result ≡ Done → prepared ≡ Done
+was_done (inl is) done = sym is ∙ done
+was_done (inr failed) done = failed.0
+
+-- all bytes of a draft that was empty
+whole : (graph : List ℕ) (new : Option (List ℕ)) {stands : Option (Option (List ℕ))} → stands ≡ option_map Some new → Writes (Prepares graph) (Some []) new → (bytes : List ℕ) × Prepares graph bytes × (stands ≡ Some (Some bytes))
+whole graph None put file = absurd file.2
+whole graph (Some ys) put file = (file.0, file.1, put ∙ ap (λ (bytes : List ℕ). Some (Some bytes)) file.2)
+
+-- the draft that was put is the file of the hierarchy
+pub has_prepared : (graph : Option (List ℕ)) (stood : Option (Option (List ℕ))) {old : Option (List ℕ)} (new : Option (List ℕ)) {stands : Option (Option (List ℕ))} → old ≡ option_map (λ _. []) stood → stands ≡ option_map Some new
+    → IfSome graph (λ text. Writes (Prepares text) old new) → HasPrepared graph stood stands
+has_prepared None stood new starts put file = tt
+has_prepared (Some text) None new starts put file = tt
+has_prepared (Some text) (Some before) new {stands} starts put file = whole text new put (subst (λ (o : Option (List ℕ)). Writes (Prepares text) o new) starts file)
+
+-- What two statuses 0 say together.
+
+-- with status 0 a job is done, and no other way
+at_zero : (Says : Outcome → Type 0) (outcome : Outcome) → 0 ≡ status_after outcome → Says outcome → Says Done
+at_zero Says Done is says = says
+at_zero Says (Refused causes.Memory) is says = absurd (cc)
+at_zero Says outcome is says = absurd (cc)
+
+-- where a job that is done tells that the file is right for the graph
+pub joined : (TellsFile : List ℕ → List ℕ → Outcome → Type 0) → ((graph_text bytes : List ℕ) → TellsFile graph_text bytes Done → Prepares graph_text bytes) → RoutesHaveFewestArcs → RoutesAreExactAfter TellsFile
+joined TellsFile right fewest graph_text bytes pairs_text old new first second =
+    let file = right graph_text bytes (at_zero (TellsFile graph_text bytes) first.0 first.1 first.2) in
+    let routed = at_zero (λ (outcome : Outcome). TellsRouted outcome (Some bytes) (Some pairs_text) old new) second.0 second.1 second.2 in
+    let written = routed.done refl in
+    (written.0, fewest graph_text bytes pairs_text written.0 file written.1, written.2)

@@ -1,3 +1,2 @@
-pub mod Destination
-pub mod Lists
 pub mod Status
+pub mod Lists

@@ -7,17 +7,14 @@ use Rattle.outcomes.specs.declared.cause.Cause.TheVariants as causes
 use Rattle.outcomes.specs.declared.outcome.Outcome.{Outcome}
 use Rattle.outcomes.specs.declared.outcome.Outcome.TheVariants as outcomes
 use Rattle.ch_service.specs.declared.error.ServiceError.{ServiceError}
-use Rattle.ch_service.specs.Answer.{AnswersByFewest}
+use Rattle.ch_service.specs.Answer.{AnswersByFewest, graph_part, pairs_part, Prepares, Routes}
 use Rattle.ch_service.specs.Cause.{cause_of}
-use Rattle.ch_service.specs.Joined.{graph_part, pairs_part}
 use Rattle.ch_service.specs.Outcome.{IfTold, IsGraphText, Writes}
 use Rattle.ch_service.specs.Refusals.{RefusesAnswers, RefusesPreparing, RefusesRoutes}
-use Rattle.ch_service.specs.Route.{Prepares, Routes}
 use Rattle.ch_requests.specs.Cause.{stop_cause}
 use Rattle.ch_requests.specs.Serving.{IsFileFault, KeepsBefore, Serves, ServesFirst, StopsServing}
 use Rattle.ch_requests.specs.declared.error.ServeError.{ServeError}
-use Rattle.ch_verify.specs.Refusal.{RefusesCheck}
-use Rattle.ch_verify.specs.Verdict.{IsWrong, Says, verdict_line}
+use Rattle.ch_verify.specs.Verdict.{RefusesCheck, IsWrong, Says, verdict_line}
 use Rattle.ch_verify.specs.declared.verdict.Doubt.{Doubt}
 use Rattle.ch_verify.specs.declared.verdict.Refutation.{Refutation}
 use Rattle.ch_verify.specs.declared.verdict.Verdict.{Verdict}
@@ -128,3 +125,10 @@ IsStatusOf (Route hierarchy queries) = IsRoutingStatus
 IsStatusOf (Serve hierarchy) = IsServingStatus
 IsStatusOf (Info hierarchy) = IsServingStatus
 IsStatusOf (Check check) = IsCheckingStatus
+
+-- What is at a destination after a hierarchy was prepared for it.
+
+-- It is the file of a hierarchy that is right for the graph of the text, whole and nothing else, if the reader shows the
+-- text and the destination shows what was there before.
+abbrev pub HasPrepared : Option (List ℕ) → Option (Option (List ℕ)) → Option (Option (List ℕ)) → Type 0
+HasPrepared graph old new = IfSome graph (λ graph_text. IfSome old (λ before. (bytes : List ℕ) × Prepares graph_text bytes × (new ≡ Some (Some bytes))))

@@ -1,5 +1,5 @@
 ghost use Rattle.std.specs.Prelude.{◌≡◌, option_map};
-ghost use Rattle.ch_service.specs.Joined.{graph_part, pairs_part};
+ghost use Rattle.ch_service.specs.Answer.{graph_part, pairs_part};
 ghost use Rattle.outcomes.specs.Outcomes.{status_after};
 ghost use Rattle.performing.specs.Status.{IsAnsweringStatus, TellsAnswers, outcome_of};
 

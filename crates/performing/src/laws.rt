@@ -2,8 +2,7 @@
 
 ghost use Rattle.std.specs.Prelude.{◌≡◌, ℕ, [], List, Option, Some};
 ghost use Rattle.outcomes.specs.declared.outcome.Outcome.TheVariants.{Done};
-ghost use Rattle.performing.specs.Destination.{HasPrepared};
-ghost use Rattle.performing.specs.Status.{RoutesAreExactAfter, TellsChecked, TellsPrepared};
+ghost use Rattle.performing.specs.Status.{HasPrepared, RoutesAreExactAfter, TellsChecked, TellsPrepared};
 
 use ch_service::routes_are_exact;
 

@@ -2,8 +2,7 @@ ghost use Rattle.std.specs.Prelude.{◌≡◌, ◌≢◌, ◌⊎◌, Some, optio
 ghost use Rattle.outcomes.specs.Outcomes.{status_after};
 ghost use Rattle.outcomes.specs.declared.cause.Cause.TheVariants.{Flush};
 ghost use Rattle.outcomes.specs.declared.outcome.Outcome.TheVariants.{Done, Refused};
-ghost use Rattle.performing.specs.Destination.{HasPrepared};
-ghost use Rattle.performing.specs.Status.{IsPreparingStatus, TellsPut};
+ghost use Rattle.performing.specs.Status.{HasPrepared, IsPreparingStatus, TellsPut};
 
 use crate::outcome::outcome_of;
 use crate::preparing::prepare_by;

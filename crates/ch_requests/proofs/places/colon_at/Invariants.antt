@@ -1,5 +1,5 @@
 use Rattle.std.proofs.Common.{◌≡◌, ◌+◌}
-use Rattle.ch_requests.specs.Places.{colon_at}
+use Rattle.ch_requests.specs.Requests.{colon_at}
 use Rattle.ch_requests.proofs.places.colon_at.Given as goal
 
 abbrev pub invariant-fields : goal.invariant-fields

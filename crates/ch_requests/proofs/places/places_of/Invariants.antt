@@ -1,6 +1,6 @@
 use Rattle.std.proofs.Common.{◌≡◌, ◌-◌, ◌++◌, length, Ok}
 use Rattle.grfile.specs.Outcome.{◌>>=◌}
-use Rattle.ch_requests.specs.Places.{places_of}
+use Rattle.ch_requests.specs.Requests.{places_of}
 use Rattle.ch_requests.proofs.places.places_of.Given as goal
 
 abbrev pub invariant-places : goal.invariant-places

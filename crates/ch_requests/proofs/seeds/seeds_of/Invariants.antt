@@ -1,5 +1,5 @@
 use Rattle.std.proofs.Common.{◌≡◌, length, take}
-use Rattle.ch_requests.specs.Seeds.{seeds_of}
+use Rattle.ch_requests.specs.Requests.{seeds_of}
 use Rattle.ch_requests.proofs.seeds.seeds_of.Given as goal
 
 abbrev pub invariant-places : goal.invariant-places

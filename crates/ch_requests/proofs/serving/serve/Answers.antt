@@ -1,9 +1,8 @@
 use Rattle.ch_graph.specs.declared.version.Version.TheVariants.{One, Two}
-use Rattle.ch_requests.proofs.Fronts.{serves_over, serves_told, spelled}
+use Rattle.ch_requests.proofs.ServedOver.{serves_over, serves_told, spelled}
 use Rattle.std.proofs.lemmas.Result.{err_from_is_err_and}
 use Rattle.counted_io.specs.declared.TheConstants.{MOST_CALLS}
-use Rattle.ch_requests.proofs.Called.{always_ok, file_no_read, file_read, file_stops, unread}
-use Rattle.ch_requests.proofs.Called.{nothing_sent}
+use Rattle.ch_requests.proofs.Sessions.{always_ok, file_no_read, file_read, file_stops, unread, none_sent}
 use Rattle.ch_requests.proofs.serving.serve.Goals as goal
 
 pub returns-clause-fewest : goal.returns-clause-fewest
@@ -31,4 +30,4 @@ returns-clause-file_stopped g c = file_read g.H.StepRead.step MOST_CALLS c.serve
 pub returns-in_err-hierarchy-clause-unsent : goal.returns-in_err-hierarchy-clause-unsent
 returns-in_err-hierarchy-clause-unsent g c =
     let exit = err_from_is_err_and c.from_residual.result c.from_residual.ensures.1 in
-    rw (exit.1, exit.2) (nothing_sent g.W.StepWrite.step g.W.StepFlush.flush_step MOST_CALLS _)
+    rw (exit.1, exit.2) (none_sent g.W.StepWrite.step g.W.StepFlush.flush_step MOST_CALLS _)

@@ -5,24 +5,23 @@ use Rattle.std.proofs.lemmas.Grind.{common_steps}
 use Rattle.ch_graph.specs.Graph.{Graph}
 use Rattle.ch_graph.specs.Limits.{IsGraph}
 use Rattle.ch_service.specs.Answer.{IsLeastWalk, IsFewestWalk}
-use Rattle.ch_service.proofs.ByWalks.{walk-right, answers-told, both_read, pairs_refused, stops-answering}
-use Rattle.ch_service.proofs.FromBuild.{built-good, refused-bad}
+use Rattle.ch_service.proofs.ByHierarchies.{walk-right, answers-told, both_read, pairs_refused, stops-answering, built-good, refused-bad}
 use Rattle.ch_service.proofs.answering.answer.Goals as goal
 
 pub returns-clause-answers : goal.returns-clause-answers
 returns-clause-answers g c =
-    answers-told {Is = IsLeastWalk} (walk-right c.routes_are_least.ensures.fewest) c.in-Ok.graph c.in_ok-hierarchy.field-0.hierarchy c.as_slice.result.now _ _ _ _ c.answer_pairs.result (search rules) (search rules)
+    answers-told {Is = IsLeastWalk} (walk-right c.routes_are_least.ensures.fewest) c.as_slice.result.now _ _ _ _ c.answer_pairs.result (search rules) (search rules)
     (subst (λ (g : Graph). IsGraph g) c.graph.view_is c.graph.invariant.0) c.in_ok-hierarchy.ensures.built.ok.right (search rules) c.answer_pairs.ensures.routed
 
 pub returns-clause-fewest : goal.returns-clause-fewest
 returns-clause-fewest g c =
-    answers-told {Is = IsFewestWalk} c.routes_are_least.ensures.fewest c.in-Ok.graph c.in_ok-hierarchy.field-0.hierarchy c.as_slice.result.now _ _ _ _ c.answer_pairs.result (search rules) (search rules)
+    answers-told {Is = IsFewestWalk} c.routes_are_least.ensures.fewest c.as_slice.result.now _ _ _ _ c.answer_pairs.result (search rules) (search rules)
     (subst (λ (g : Graph). IsGraph g) c.graph.view_is c.graph.invariant.0) c.in_ok-hierarchy.ensures.built.ok.right (search rules) c.answer_pairs.ensures.routed
 
 pub returns-clause-refused : goal.returns-clause-refused
 returns-clause-refused g c =
     stops-answering c.in-Ok.graph _ _ (search rules) c.as_slice.result.now (search rules) _ _ _ _ _ _ c.routes_are_least.ensures.fewest c.routes_are_least.ensures.never_long
-    (built-good c.build.result _ _ _ (Ok tt) c.in_ok-hierarchy.was c.build.ensures.built.bad) c.in_ok-hierarchy.field-0.hierarchy
+    (built-good _ _ (Ok tt) c.in_ok-hierarchy.was c.build.ensures.built.bad) c.in_ok-hierarchy.field-0.hierarchy
     (subst (λ (g : Graph). IsGraph g) c.graph.view_is c.graph.invariant.0) c.in_ok-hierarchy.ensures.built.ok.right (search rules) c.answer_pairs.result c.answer_pairs.ensures.stops
 
 pub returns-in-Err-clause-refused : goal.returns-in-Err-clause-refused
@@ -37,11 +36,11 @@ pub returns-in_err-hierarchy-clause-refused : goal.returns-in_err-hierarchy-clau
 returns-in_err-hierarchy-clause-refused g c =
     let exit = err_from_is_err_and c.from_residual.result c.from_residual.ensures.1 in
     let fault = c.in_err-hierarchy.field-0.0 in
-    let bad = refused-bad c.build.result fault _ _ c.in_err-hierarchy.was c.build.ensures.built.bad in
+    let bad = refused-bad _ _ c.in_err-hierarchy.was c.build.ensures.built.bad in
     rw (exit.1, exit.2) (bad, both_read c.in-Ok.graph _ _ (search rules) c.in-Ok-read_queries.pairs.items (search rules), search rules)
 
 pub returns-clause-good : goal.returns-clause-good
-returns-clause-good g c = built-good c.build.result _ _ _ c.answer_pairs.result c.in_ok-hierarchy.was c.build.ensures.built.bad
+returns-clause-good g c = built-good _ _ c.answer_pairs.result c.in_ok-hierarchy.was c.build.ensures.built.bad
 
 pub returns-clause-leases : goal.returns-clause-leases
 returns-clause-leases c = grind (arith, common_steps) steps 600000

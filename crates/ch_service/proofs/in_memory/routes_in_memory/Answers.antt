@@ -1,21 +1,18 @@
-use Rattle.ch_service.specs.Answer.{IsLeastWalk, IsFewestWalk}
-use Rattle.ch_service.proofs.Exact.{prepared-in_memory}
+use Rattle.ch_service.specs.Answer.{IsLeastWalk, IsFewestWalk, Prepares}
+use Rattle.ch_service.proofs.ByHierarchies.{prepared-in_memory, all_of, refused-preparing, refused-routing}
 use Rattle.std.proofs.Common.{rules, List, ℕ, ap, subst, sym}
 use Rattle.std.specs.Prelude.{Some, Err}
 use Rattle.std.proofs.lemmas.Result.{err_from_is_err_and}
-use Rattle.ch_service.specs.Route.{Prepares}
-use Rattle.ch_service.proofs.Exact.{all_of}
-use Rattle.ch_service.proofs.InMemory.{refused-preparing, refused-routing}
 use Rattle.ch_service.proofs.in_memory.routes_in_memory.Goals as goal
 
 pub returns-clause-exact : goal.returns-clause-exact
 returns-clause-exact g c =
-    prepared-in_memory IsLeastWalk c.args.graph.now c.args.pairs.now c.new-file.result.items c.prepare.new.out.items c.as_slice-bytes.result.now c.new-text.result.items c.route.new.out.items
+    prepared-in_memory IsLeastWalk c.args.graph.now c.args.pairs.now {none = c.new-file.result.items} {bytes = c.prepare.new.out.items} {slice = c.as_slice-bytes.result.now} {empty = c.new-text.result.items} c.route.new.out.items
     (search rules) (search rules) (search rules) c.in_ok-prepare.ensures.prepared.prepares c.in_ok-route.ensures.exact
 
 pub returns-clause-fewest : goal.returns-clause-fewest
 returns-clause-fewest g c =
-    prepared-in_memory IsFewestWalk c.args.graph.now c.args.pairs.now c.new-file.result.items c.prepare.new.out.items c.as_slice-bytes.result.now c.new-text.result.items c.route.new.out.items
+    prepared-in_memory IsFewestWalk c.args.graph.now c.args.pairs.now {none = c.new-file.result.items} {bytes = c.prepare.new.out.items} {slice = c.as_slice-bytes.result.now} {empty = c.new-text.result.items} c.route.new.out.items
     (search rules) (search rules) (search rules) c.in_ok-prepare.ensures.prepared.prepares c.in_ok-route.ensures.fewest
 
 pub returns-clause-good : goal.returns-clause-good
@@ -31,7 +28,7 @@ returns-in_err-route-clause-refused g c =
     let exit = err_from_is_err_and c.from_residual-in_err-route.result c.from_residual-in_err-route.ensures.1 in
     let text : List ℕ = c.args.graph.now in
     let file : List ℕ = c.as_slice-bytes.result.now in
-    let written : Prepares text c.prepare.new.out.items = all_of (Prepares text) c.new-file.result.items c.prepare.new.out.items (search rules) c.in_ok-prepare.ensures.prepared.prepares in
+    let written : Prepares text c.prepare.new.out.items = all_of (Prepares text) {old = c.new-file.result.items} c.prepare.new.out.items (search rules) c.in_ok-prepare.ensures.prepared.prepares in
     let p : Prepares text file = subst (Prepares text) (sym c.as_slice-bytes.ensures.value) written in
     rw (exit.1, exit.2) (refused-routing _ _ c.hierarchies_have_one_spelling.ensures c.spellings_have_no_fault.ensures c.spelled_graphs_are_in_range.ensures text c.args.pairs.now file p (Some c.route.new.queries.now) (Some c.new-text.result.items) (Some c.route.new.out.items) c.in_err-route.field-0.0 c.in_err-route.ensures.refused
     (λ is. c.in_err-route.ensures.never_long (ap Err is) text p))

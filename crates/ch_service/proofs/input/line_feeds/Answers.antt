@@ -1,7 +1,7 @@
 use Rattle.std.proofs.Common.{rules, ◌≡◌, ◌==◌, ◌∙◌, sym}
 use Rattle.std.specs.List.{count_by}
 use Rattle.std.proofs.iter.runs.Made.{chains}
-use Rattle.ch_service.proofs.LineFeeds.{line_feeds_count}
+use Rattle.ch_service.proofs.JoinedLines.{line_feeds_count}
 use Rattle.ch_service.proofs.input.line_feeds.Goals as goal
 
 pub returns : goal.returns

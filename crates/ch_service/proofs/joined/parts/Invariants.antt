@@ -1,5 +1,5 @@
 use Rattle.std.proofs.Common.{◌≡◌, ◌-◌, ◌≤◌, ◌++◌, length, take, drop}
-use Rattle.ch_service.specs.Joined.{graph_part, pairs_part}
+use Rattle.ch_service.specs.Answer.{graph_part, pairs_part}
 use Rattle.ch_service.proofs.joined.parts.Given as goal
 
 abbrev pub invariant-loop-start : goal.invariant-loop-start

@@ -1,6 +1,5 @@
 use Rattle.ch_graph.specs.declared.version.Version.TheVariants.{One, Two}
-use Rattle.ch_service.proofs.ByWalks.{walk-right, walk-right_by_weight}
-use Rattle.ch_service.proofs.Exact.{first-routes}
+use Rattle.ch_service.proofs.ByHierarchies.{walk-right, walk-right_by_weight, first-routes}
 use Rattle.ch_service.proofs.laws.first_routes_are_exact.Goals as goal
 
 pub returns-clause-exact : goal.returns-clause-exact

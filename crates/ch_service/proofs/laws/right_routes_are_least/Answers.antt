@@ -1,5 +1,5 @@
 use Rattle.ch_graph.specs.declared.version.Version.TheVariants.{One, Two}
-use Rattle.ch_service.proofs.ByWalks.{walk-right, walk-right_by_weight, right-routes}
+use Rattle.ch_service.proofs.ByHierarchies.{walk-right, walk-right_by_weight, right-routes}
 use Rattle.ch_service.proofs.laws.right_routes_are_least.Goals as goal
 
 pub returns-clause-least : goal.returns-clause-least

@@ -1,7 +1,6 @@
 use Rattle.ch_graph.specs.declared.version.Version.TheVariants.{One, Two}
 use Rattle.ch_service.specs.Answer.{IsLeastWalk, IsFewestWalk}
-use Rattle.ch_service.proofs.ByWalks.{walk-right, walk-right_by_weight}
-use Rattle.ch_service.proofs.Exact.{prepared-routes}
+use Rattle.ch_service.proofs.ByHierarchies.{walk-right, walk-right_by_weight, prepared-routes}
 use Rattle.ch_service.proofs.laws.routes_are_exact.Goals as goal
 
 pub returns-clause-exact : goal.returns-clause-exact

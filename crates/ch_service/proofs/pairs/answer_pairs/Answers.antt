@@ -3,7 +3,7 @@ use Rattle.std.proofs.lemmas.Result.{err_from_is_err_and}
 use Rattle.counted_io.specs.Sinks.Laws.{finishes, goes_on}
 use Rattle.grfile.specs.Reading.{IsPair}
 use Rattle.ch_graph.specs.Hierarchy.{Hierarchy}
-use Rattle.ch_service.proofs.Progress.{all-written, pairs-by, short-written}
+use Rattle.ch_service.proofs.ByHierarchies.{all-written, pairs-by, short-written}
 use Rattle.ch_service.proofs.pairs.answer_pairs.Goals as goal
 
 pub put_pairs-answered-requires : goal.put_pairs-answered-requires
@@ -19,9 +19,9 @@ returns-in_err-finish-clause-stops g c =
 pub returns-clause-routed : goal.returns-clause-routed
 returns-clause-routed g c =
     let put = pairs-by c.in_ok-router.ensures c.put_pairs-answered.ensures in
-    all-written c.put_pairs-answered.result _ _ put (goes_on c.in_ok-finish.ensures) (finishes c.new-sink.ensures put.puts c.in_ok-finish.ensures).ok
+    all-written _ _ put (goes_on c.in_ok-finish.ensures) (finishes c.new-sink.ensures put.puts c.in_ok-finish.ensures).ok
 
 pub returns-clause-stops : goal.returns-clause-stops
 returns-clause-stops g c =
     let put = pairs-by c.in_ok-router.ensures c.put_pairs-answered.ensures in
-    short-written c.put_pairs-answered.result _ _ put (finishes c.new-sink.ensures put.puts c.in_ok-finish.ensures).ok
+    short-written _ _ put (finishes c.new-sink.ensures put.puts c.in_ok-finish.ensures).ok

@@ -1,6 +1,6 @@
 use Rattle.std.proofs.Common.{◌≡◌, take}
 use Rattle.counted_io.specs.Sinks.{PutsSome}
-use Rattle.ch_service.specs.Route.{Routed}
+use Rattle.ch_service.specs.Answer.{Routed}
 use Rattle.ch_service.proofs.pairs.put_pairs.Given as goal
 
 abbrev pub invariant-pairs : goal.invariant-pairs

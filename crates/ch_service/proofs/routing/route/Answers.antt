@@ -1,8 +1,7 @@
 use Rattle.std.proofs.Common.{rules}
 use Rattle.ch_graph.specs.declared.version.Version.TheVariants.{One, Two}
 use Rattle.ch_service.specs.Answer.{IsLeastWalk, IsFewestWalk}
-use Rattle.ch_service.proofs.ByWalks.{routes-told, stops-routing, pairs-fault, queries-refused, file-refused, short-in_two, short-in_one}
-use Rattle.ch_service.proofs.Exact.{prepared-told, never_long-told}
+use Rattle.ch_service.proofs.ByHierarchies.{routes-told, stops-routing, pairs-fault, queries-refused, file-refused, short-in_two, short-in_one, prepared-told, never_long-told}
 use Rattle.ch_service.proofs.routing.route.Goals as goal
 
 pub returns-clause-refused : goal.returns-clause-refused
@@ -11,13 +10,13 @@ returns-clause-refused g c =
 
 pub returns-in_err-pairs-clause-refused : goal.returns-in_err-pairs-clause-refused
 returns-in_err-pairs-clause-refused g c =
-    queries-refused c.in_ok-hierarchy.hierarchy _ _ _ _ _ c.read_queries.result c.map_err-2.result c.in_err-pairs.field-0.0 c.from_residual-in_err-pairs.result (search rules)
-    (pairs-fault _ _ _ _ c.read_queries.result c.nodes.ensures.count c.read_queries.ensures.reads.reading) c.read_queries.ensures.reads.reached (search rules) c.map_err-2.ensures.cases c.in_err-pairs.was
+    queries-refused c.in_ok-hierarchy.hierarchy _ _ _ _ _ c.read_queries.result c.from_residual-in_err-pairs.result (search rules)
+    (pairs-fault _ _ c.read_queries.result c.nodes.ensures.count c.read_queries.ensures.reads.reading) c.read_queries.ensures.reads.reached (search rules) c.map_err-2.ensures.cases c.in_err-pairs.was
     c.from_residual-in_err-pairs.ensures.1
 
 pub returns-in_err-hierarchy-clause-refused : goal.returns-in_err-hierarchy-clause-refused
 returns-in_err-hierarchy-clause-refused g c =
-    file-refused _ _ _ _ _ c.read.result c.map_err.result c.in_err-hierarchy.field-0.0 c.from_residual.result c.read.ensures.reads.err (search rules) c.map_err.ensures.cases c.in_err-hierarchy.was
+    file-refused _ _ _ _ _ c.read.result c.from_residual.result c.read.ensures.reads.err (search rules) c.map_err.ensures.cases c.in_err-hierarchy.was
     c.from_residual.ensures.1
 
 pub returns-clause-routes : goal.returns-clause-routes

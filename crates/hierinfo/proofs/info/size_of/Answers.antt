@@ -5,5 +5,5 @@ use Rattle.hierinfo.proofs.info.size_of.Goals as goal
 
 pub returns : goal.returns
 returns c =
-    size c.args.hierarchy.now c.from-ranks.result c.from-version.result (length c.links.result.now) (c.from-ranks.ensures ∙ c.nodes.ensures.count)
+    size c.args.hierarchy.now (c.from-ranks.ensures ∙ c.nodes.ensures.count)
     (c.from-version.ensures ∙ c.version.ensures) (ap (λ (l : List Link). length l) c.links.ensures.links)

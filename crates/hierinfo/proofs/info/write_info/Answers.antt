@@ -1,7 +1,7 @@
 use Rattle.std.proofs.Common.{List, ℕ, ◌++◌, ap, ◌∙◌, rules}
 use Rattle.std.proofs.lemmas.Result.{err_from_is_err_and}
 use Rattle.hierinfo.specs.Info.{info}
-use Rattle.hierinfo.proofs.Breaks.{breaks, refused}
+use Rattle.hierinfo.proofs.Sizes.{breaks, refused}
 use Rattle.hierinfo.proofs.info.write_info.Goals as goal
 
 pub returns-in_err-hierarchy-clause-refused : goal.returns-in_err-hierarchy-clause-refused
@@ -12,6 +12,5 @@ returns-in_err-hierarchy-clause-refused g c =
 pub returns-in_err-write-clause-refused : goal.returns-in_err-write-clause-refused
 returns-in_err-write-clause-refused g c =
     let exit = err_from_is_err_and c.from_residual-in_err-write.result c.from_residual-in_err-write.ensures.1 in
-    rw (exit.1, exit.2)
-    (breaks _ _ _ c.in_ok-hierarchy.hierarchy c.as_slice.result.now _ _ c.nodes-well_made.ensures.made c.in_ok-hierarchy.ensures.reads.ok
+    rw (exit.1, exit.2) (breaks _ c.nodes-well_made.ensures.made c.in_ok-hierarchy.ensures.reads.ok
     (c.as_slice.ensures.value ∙ (c.in_ok-push_info.ensures ∙ ap (λ (l : List ℕ). l ++ info c.in_ok-hierarchy.hierarchy) c.new-text.ensures.items)) c.new.ensures.written c.in_err-write.ensures.err)

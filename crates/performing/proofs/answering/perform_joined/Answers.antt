@@ -1,10 +1,9 @@
-use Rattle.performing.proofs.Outcomes.{after, joined_told}
-use Rattle.performing.proofs.Statuses.{answering_end}
+use Rattle.performing.proofs.Outcomes.{after, joined_told, answering_end}
 use Rattle.performing.proofs.answering.perform_joined.Goals as goal
 
 tells : goal.returns-clause-told
 tells g c =
-    after _ _ _ _ c.outcome_of.ensures (joined_told _ _ _ c.answer_joined.result c.answer_joined.ensures.fewest
+    after c.outcome_of.ensures (joined_told _ _ _ c.answer_joined.result c.answer_joined.ensures.fewest
     (c.causes_tell_refusals.ensures.joined _ _ _ _ c.answer_joined.result c.answer_joined.ensures.refused))
 
 pub returns-clause-told : goal.returns-clause-told

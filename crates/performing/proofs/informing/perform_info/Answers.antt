@@ -1,9 +1,8 @@
-use Rattle.performing.proofs.Outcomes.{after, told_after}
-use Rattle.performing.proofs.Statuses.{informing_end}
+use Rattle.performing.proofs.Outcomes.{after, told_after, informing_end}
 use Rattle.performing.proofs.informing.perform_info.Goals as goal
 
 tells : goal.returns-clause-told
-tells g c = after _ _ _ _ c.after.ensures (told_after c.write_info.result _ _ c.write_info.ensures.informs c.write_info.ensures.refused)
+tells g c = after c.after.ensures (told_after c.write_info.result _ _ c.write_info.ensures.informs c.write_info.ensures.refused)
 
 pub returns-clause-told : goal.returns-clause-told
 returns-clause-told g c = tells g c

@@ -1,10 +1,9 @@
 use Rattle.std.proofs.Common.{[], ◌≡◌, refl, sym, subst}
 use Rattle.std.specs.Prelude.{Some}
 use Rattle.outcomes.specs.declared.outcome.Outcome.TheVariants.{Done}
-use Rattle.ch_service.specs.Route.{Prepares}
-use Rattle.performing.specs.Destination.{HasPrepared}
-use Rattle.performing.specs.Status.{TellsPrepared}
-use Rattle.performing.proofs.Joining.{joined}
+use Rattle.ch_service.specs.Answer.{Prepares}
+use Rattle.performing.specs.Status.{HasPrepared, TellsPrepared}
+use Rattle.performing.proofs.Outcomes.{joined}
 use Rattle.performing.proofs.laws.prepared_routes_are_exact.Goals as goal
 
 pub returns-clause-written : goal.returns-clause-written

@@ -1,10 +1,9 @@
-use Rattle.performing.proofs.Outcomes.{after, told}
-use Rattle.performing.proofs.Statuses.{routing_end}
+use Rattle.performing.proofs.Outcomes.{after, told, routing_end}
 use Rattle.performing.proofs.routing.perform_route.Goals as goal
 
 tells : goal.returns-clause-told
 tells g c =
-    after _ _ _ _ c.outcome_of.ensures (told c.route.result _ _ c.route.ensures.routes
+    after c.outcome_of.ensures (told c.route.result _ _ c.route.ensures.routes
     (c.causes_tell_refusals.ensures.routes _ _ _ _ _ c.route.result c.route.ensures.refused))
 
 pub returns-clause-told : goal.returns-clause-told

@@ -1,12 +1,11 @@
-use Rattle.performing.proofs.Outcomes.{is_done, is_refused}
-use Rattle.performing.proofs.Statuses.{serving_end}
+use Rattle.performing.proofs.Outcomes.{is_done, is_refused, serving_end}
 use Rattle.performing.proofs.serving.perform_service.Goals as goal
 
 pub returns-in-Ok-clause-told : goal.returns-in-Ok-clause-told
 returns-in-Ok-clause-told g c = is_done _ _ c.in-Ok.ensures.serves
 
 tells : goal.returns-in-Err-clause-told
-tells g c = is_refused _ _ _ (c.in-Err.error, c.cause.ensures, c.in-Err.ensures.untouched, c.in-Err.ensures.fault, c.in-Err.ensures.stops)
+tells g c = is_refused _ _ (c.in-Err.error, c.cause.ensures, c.in-Err.ensures.untouched, c.in-Err.ensures.fault, c.in-Err.ensures.stops)
 
 pub returns-in-Err-clause-told : goal.returns-in-Err-clause-told
 returns-in-Err-clause-told g c = tells g c

@@ -1,6 +1,6 @@
 use Rattle.std.proofs.Common.{◌∙◌, sym}
 use Rattle.ch_requests.specs.Reply.{by_hierarchy}
-use Rattle.ch_requests.proofs.Replied.{puts_reply}
+use Rattle.ch_requests.proofs.Sessions.{puts_reply}
 use Rattle.ch_requests.proofs.replying.Replier.reply.Goals as goal
 
 pub returns-then-has_failed-clause-replies : goal.returns-then-has_failed-clause-replies

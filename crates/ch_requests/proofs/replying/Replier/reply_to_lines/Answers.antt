@@ -4,7 +4,7 @@ use Rattle.counted_io.specs.Sinks.Laws.{puts_nothing}
 use Rattle.ch_graph.specs.Hierarchy.{Hierarchy}
 use Rattle.ch_requests.specs.Reply.{IsReply, by_hierarchy}
 use Rattle.ch_requests.specs.Requests.{RequestsTaken, requests_with}
-use Rattle.ch_requests.proofs.Replied.{puts_more, replies_as, replies_none}
+use Rattle.ch_requests.proofs.Sessions.{puts_more, replies_as, replies_none}
 use Rattle.ch_requests.proofs.replying.Replier.reply_to_lines.Goals as goal
 
 pub lines-init : goal.lines-init

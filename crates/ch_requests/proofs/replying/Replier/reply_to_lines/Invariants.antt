@@ -1,7 +1,7 @@
 use Rattle.std.proofs.Common.{◌≡◌, ◌+◌, ◌++◌, List, ℕ, length}
 use Rattle.counted_io.specs.Sinks.{PutsSome}
 use Rattle.text_lines.specs.Lines.{line_feeds}
-use Rattle.ch_requests.specs.Progress.{Replies}
+use Rattle.ch_requests.specs.Serving.{Replies}
 use Rattle.ch_requests.specs.Reply.{by_hierarchy}
 use Rattle.ch_requests.specs.Requests.{requests_with}
 use Rattle.ch_requests.proofs.replying.Replier.reply_to_lines.Given as goal

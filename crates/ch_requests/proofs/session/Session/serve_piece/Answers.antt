@@ -3,10 +3,8 @@ use Rattle.std.specs.Io.KnownBytes.{Consumes}
 use Rattle.std.proofs.lemmas.Result.{err_from_is_err_and}
 use Rattle.counted_io.specs.Limits.{gives_out}
 use Rattle.counted_io.specs.Limits.Laws.{gave_out, read_by, refused_after}
-use Rattle.ch_requests.specs.Progress.{Sent}
-use Rattle.ch_requests.proofs.Delivered.{delivers_nothing, no_read}
-use Rattle.ch_requests.proofs.Replied.{replies_none}
-use Rattle.ch_requests.proofs.Served.{consumes_none}
+use Rattle.ch_requests.specs.Serving.{Sent}
+use Rattle.ch_requests.proofs.Sessions.{delivers_nothing, no_read, replies_none, consumes_none}
 use Rattle.ch_requests.proofs.session.Session.serve_piece.Goals as goal
 
 pub returns-in_err-count-clause-serves : goal.returns-in_err-count-clause-serves
@@ -19,7 +17,7 @@ returns-in_err-count-clause-serves g c =
       text = [];
       replies = replies_none (λ (more : List ℕ). refl);
       reads = gives_out refl (gave_out g.Q.StepRead.step _ _ c.in_err-count.ensures.failed);
-      sent = Sent.unread (delivers_nothing _ _ c.requires.idle);
+      sent = Sent.unread (delivers_nothing _ c.requires.idle);
     })
 
 pub returns-then-count-eq0-clause-serves : goal.returns-then-count-eq0-clause-serves
@@ -30,7 +28,7 @@ returns-then-count-eq0-clause-serves g c = record {
   text = [];
   replies = replies_none (λ (more : List ℕ). refl);
   reads = read_by g.Q.StepRead.step _ _ _ c.in_ok-count.ensures.given;
-  sent = Sent.all (delivers_nothing _ _ c.requires.idle);
+  sent = Sent.all (delivers_nothing _ c.requires.idle);
 }
 
 pub returns-in_err-send-clause-serves : goal.returns-in_err-send-clause-serves

@@ -1,7 +1,6 @@
 use Rattle.std.proofs.Common.{rules}
 use Rattle.std.proofs.lemmas.Result.{err_from_is_err_and}
-use Rattle.ch_requests.proofs.Delivered.{delivered}
-use Rattle.ch_requests.proofs.Served.{serving_none, serving_off, serving_on}
+use Rattle.ch_requests.proofs.Sessions.{delivered, serving_none, serving_off, serving_on}
 use Rattle.ch_requests.proofs.session.Session.serve_pieces.Goals as goal
 
 pub pieces-init : goal.pieces-init

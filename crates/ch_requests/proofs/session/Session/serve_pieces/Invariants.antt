@@ -1,6 +1,6 @@
 use Rattle.std.proofs.Common.{Ok}
 use Rattle.std.specs.Prelude.{⊤}
-use Rattle.ch_requests.specs.Progress.{Serving}
+use Rattle.ch_requests.specs.Serving.{Serving}
 use Rattle.ch_requests.proofs.session.Session.serve_pieces.Given as goal
 
 abbrev pub invariant-pieces : goal.invariant-pieces
