@@ -1,9 +1,4 @@
-mod Ranking
-mod Replaying
-mod Sorting
-mod Around
-mod Joining
-mod Making
+pub mod Replaying
 mod Outcomes
-mod Reading
+pub mod Joining
 mod Tests

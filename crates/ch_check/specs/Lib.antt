@@ -1,6 +1,5 @@
 pub mod Refuting
 pub mod Replay
 pub mod Pairs
-pub mod Searching
 pub mod Comparing
 pub mod Ranks

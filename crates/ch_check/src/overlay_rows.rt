@@ -3,8 +3,7 @@ ghost use Rattle.ch_overlay.specs.Source as sources;
 ghost use Rattle.ch_overlay.specs.declared.source.SeeError.TheVariants.{Unseen};
 ghost use Rattle.ch_laws.specs.Contraction.{IsAlive};
 ghost use Rattle.ch_overlay.specs.Overlay.{state_of};
-ghost use Rattle.ch_check.specs.Pairs.{IsOpenRow};
-ghost use Rattle.ch_check.specs.Searching.{IsNode, ShowsRow};
+ghost use Rattle.ch_check.specs.Pairs.{IsOpenRow, IsNode, ShowsRow};
 
 use ch_cost::Cost;
 use ch_laws::rows_of_alive_nodes_show_what_remains;
@@ -70,7 +69,7 @@ impl RowSource for OverlayRows<'_> {
     ghost use Rattle.ch_overlay.specs.declared.source.Seen.{Seen};
     ghost use Rattle.ch_overlay.specs.declared.source.SeeError.TheVariants.{Unseen};
     ghost use Rattle.ch_overlay.specs.Source.{row_in, IsBound, IsSeenRow, NamesAlone};
-    ghost use Rattle.ch_check.specs.Searching.{IsNode, ShowsRow};
+    ghost use Rattle.ch_check.specs.Pairs.{IsNode, ShowsRow};
 
     ghost bears = { λ _. Unit {0} };
 

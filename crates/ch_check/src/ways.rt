@@ -7,8 +7,7 @@ ghost use Rattle.ch_witness.specs.declared.error.SearchError.TheVariants.{Unseen
 ghost use Rattle.ch_witness.specs.Kept.{kept_of};
 ghost use Rattle.ch_witness.specs.Tree.{seen_of};
 ghost use Rattle.ch_witness.specs.Ways.{AreWays, IsFound};
-ghost use Rattle.ch_check.specs.Pairs.{HaveWays};
-ghost use Rattle.ch_check.specs.Searching.{AreAround, AreLeft, AreOwed, AreRowsOf, AreUnmet, IsNode};
+ghost use Rattle.ch_check.specs.Pairs.{HaveWays, AreAround, AreLeft, AreOwed, AreRowsOf, AreUnmet, IsNode};
 
 use crate::fault::Fault;
 use crate::overlay_rows::OverlayRows;

@@ -2,9 +2,8 @@ ghost use Rattle.std.specs.Prelude.{◌≡◌, [], Contains, OnOk};
 ghost use Rattle.ch_laws.specs.Contraction.{IsAlive};
 ghost use Rattle.ch_overlay.specs.Overlay.{state_of};
 ghost use Rattle.ch_witness.specs.Kept.{kept_of};
-ghost use Rattle.ch_check.specs.Pairs.{AreJoined, IsTask, Joins};
+ghost use Rattle.ch_check.specs.Pairs.{AreJoined, IsTask, Joins, AreRowsOf};
 ghost use Rattle.ch_check.specs.Replay.{MayPut};
-ghost use Rattle.ch_check.specs.Searching.{AreRowsOf};
 
 use crate::desk::Desk;
 use crate::fault::Fault;

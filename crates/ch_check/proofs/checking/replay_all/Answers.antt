@@ -4,7 +4,7 @@ use Rattle.ch_graph.specs.Hierarchy.{IsRight}
 use Rattle.ch_graph.specs.Limits.{bound_of}
 use Rattle.ch_overlay.specs.Overlay.{Overlay}
 use Rattle.ch_check.specs.Comparing.{AreLinked, IsArc}
-use Rattle.ch_check.proofs.Making.{right_by_replay}
+use Rattle.ch_check.proofs.Replaying.{right_by_replay}
 use Rattle.ch_check.proofs.Outcomes.{on_both}
 use Rattle.ch_check.proofs.checking.replay_all.Goals as goal
 
@@ -15,7 +15,7 @@ returns g c =
     let graph = done.graph ∙ c.in_ok-replay.ensures.graph in
     on_both c.compare.result (λ linked arcs.
     subst (λ (k : Graph). IsRight k h) graph
-    (right_by_replay c.reached_hierarchy_is_right.ensures c.contract_all.new.replay h c.in_ok-order.order.items c.holds.ensures c.nodes.ensures.made c.in_ok-order.ensures
+    (right_by_replay c.reached_hierarchy_is_right.ensures c.holds.ensures c.nodes.ensures.made c.in_ok-order.ensures
     (done.order ∙ c.deref.ensures.value)
     (c.requires.nodes ∙ sym c.in_ok-replay.ensures.nodes ∙ sym done.nodes)
     c.requires.version

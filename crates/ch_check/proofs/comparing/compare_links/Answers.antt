@@ -6,7 +6,7 @@ use Rattle.ch_check.proofs.Tests.{more_of}
 use Rattle.ch_check.proofs.comparing.compare_links.Goals as goal
 
 pub links-preserved : goal.links-preserved
-links-preserved c = more_of (IsArc c.args.overlay.now) c.args.hierarchy.now.links _ c.links-link-items.ensures.links c.links.link-index _ _ c.links-test.true c.links.invariant c.link-item.is (c.is_arc.ensures c.if-not-is_arc.false)
+links-preserved c = more_of (IsArc c.args.overlay.now) c.links-link-items.ensures.links c.links.link-index _ c.links-test.true c.links.invariant c.link-item.is (c.is_arc.ensures c.if-not-is_arc.false)
 
 pub returns : goal.returns
 returns c =

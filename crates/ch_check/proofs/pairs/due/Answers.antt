@@ -4,15 +4,14 @@ use Rattle.ch_laws.specs.declared.entry.Entry.{Entry}
 use Rattle.ch_laws.specs.Rows.{Row}
 use Rattle.ch_overlay.specs.Pairs.{IsPairOf}
 use Rattle.ch_check.specs.Pairs.{LeadsDirectly, LeadsOver}
-use Rattle.ch_check.proofs.Around.{direct_pair, two_pair}
+use Rattle.ch_check.proofs.Joining.{direct_pair, two_pair}
 use Rattle.ch_check.proofs.pairs.due.Goals as goal
 
 pub returns-then-has_direct : goal.returns-then-has_direct
 returns-then-has_direct c =
     let t = c.args.task.now in
     let pair = c.in-Some.pair in
-    direct_pair t.overlay.now t.node c.args.first.now c.args.into.now c.args.out.now
-    c.requires.first c.requires.start c.requires.end pair
+    direct_pair t.node c.args.into.now c.args.out.now c.requires.first c.requires.start c.requires.end pair
     (subst (λ (b : Cost). IsPairOf b c.args.into.now c.args.out.now (Some pair)) c.bound.ensures c.in-Some.ensures)
     (subst (λ (es : List Entry). LeadsDirectly es pair) (c.deref.ensures.value ∙ ap (λ (r : Row). r.out) c.first.view_is)
     (c.has_direct.ensures.yes c.if-has_direct.true))
@@ -22,11 +21,9 @@ returns-then-has_two_arcs c =
     let t = c.args.task.now in
     let pair = c.in-Some.pair in
     let last = c.open_row-last.result.now in
-    two_pair t.overlay.now t.node c.args.first.now c.args.into.now c.args.out.now
-    c.requires.first c.requires.start c.requires.end pair
+    two_pair t.node c.args.into.now c.args.out.now c.requires.first c.requires.start c.requires.end pair
     (subst (λ (b : Cost). IsPairOf b c.args.into.now c.args.out.now (Some pair)) c.bound.ensures c.in-Some.ensures)
-    last c.open_row-last.ensures
-    (subst (λ (es : List Entry). LeadsOver es last.inn t.node pair)
+    c.open_row-last.ensures (subst (λ (es : List Entry). LeadsOver es last.inn t.node pair)
     (c.deref-2.ensures.value ∙ ap (λ (r : Row). r.out) c.first.view_is)
     (subst (λ (es : List Entry). LeadsOver c.deref-2.result.now es t.node pair)
     (c.deref-3.ensures.value ∙ ap (λ (r : Row). r.inn) c.last.view_is)

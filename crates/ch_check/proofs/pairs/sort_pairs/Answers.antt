@@ -3,7 +3,7 @@ use Rattle.ch_laws.specs.declared.entry.Entry.{Entry}
 use Rattle.ch_laws.specs.declared.shortcut.Shortcut.{Shortcut}
 use Rattle.ch_laws.specs.Rows.{Row}
 use Rattle.ch_check.specs.Pairs.{AreSorted, IsDue}
-use Rattle.ch_check.proofs.Sorting.{next_sorted, sorted_none}
+use Rattle.ch_check.proofs.Joining.{next_sorted, sorted_none}
 use Rattle.ch_check.proofs.pairs.sort_pairs.Goals as goal
 
 pub outs-init : goal.outs-init
@@ -35,7 +35,7 @@ outs-preserved c =
     let outs = c.args.task.now.row.now.out in
     let items : c.deref-out-items.result.now ≡ outs =
     c.deref-out-items.ensures.value ∙ ap (λ (r : Row). r.out) c.row.view_is in
-    next_sorted o v first into outs c.outs.out-index c.out-item.result _ _ c.due-share.result _ _
+    next_sorted outs c.outs.out-index c.out-item.result c.due-share.result _ _
     (subst (λ (es : List Entry). c.outs.out-index < length es) items c.outs-test.true) c.requires.task.row.out_rises
     c.outs.invariant
     (subst (λ (e : Entry). IsDue o v first into e c.due-share.result)

@@ -6,8 +6,8 @@ use Rattle.std.proofs.lemmas.Option.{slice_get-get_or}
 use Rattle.ch_cost.specs.Cost.{◌≼◌}
 use Rattle.ch_laws.specs.declared.shortcut.Shortcut.{Shortcut}
 use Rattle.ch_witness.specs.declared.way.Way.{Way}
-use Rattle.ch_check.specs.Searching.{AreUnmet}
-use Rattle.ch_check.proofs.Around.{unmet_met, unmet_more}
+use Rattle.ch_check.specs.Pairs.{AreUnmet}
+use Rattle.ch_check.proofs.Joining.{unmet_met, unmet_more}
 use Rattle.ch_check.proofs.ways.unmet.Goals as goal
 use Rattle.ch_check.proofs.ways.unmet.Goals.{then-not-is_met+in_ok-push, else-not-is_met}
 
@@ -17,10 +17,10 @@ owed-preserved c =
     elim c.if-not-is_met.branch [
       | then-not-is_met+in_ok-push w ↦
           subst (λ (ps : List Shortcut). AreUnmet c.args.owed.now c.args.ways.now (c.owed.place + 1) ps) (sym (ap (λ l. l.items) w.left-is ∙ w.in_ok-push.ensures.items))
-          (unmet_more c.args.owed.now c.args.ways.now c.owed.place c.index-owed-place.result c.owed.left.items here c.owed.invariant)
+          (unmet_more here c.owed.invariant)
       | else-not-is_met w ↦
           subst (λ (ps : List Shortcut). AreUnmet c.args.owed.now c.args.ways.now (c.owed.place + 1) ps) (sym (ap (λ l. l.items) w.left-is))
-          (unmet_met c.args.owed.now c.args.ways.now c.owed.place c.index-owed-place.result c.owed.left.items here c.owed.invariant
+          (unmet_met here c.owed.invariant
           (subst (λ (way : Option Way). IsSomeAnd way (λ (v : Way). v.cost ≼ c.index-owed-place.result.cost)) (get_or_read c.args.ways.now c.owed.place c.index-ways-place.result (omega (arith, c.requires.many)) c.index-ways-place.is None)
           (c.is_met.ensures w.if-not-is_met.false)))
     ]

@@ -1,4 +1,4 @@
-use Rattle.ch_check.specs.Searching.{AreUnmet}
+use Rattle.ch_check.specs.Pairs.{AreUnmet}
 use Rattle.ch_check.proofs.ways.unmet.Given as goal
 
 abbrev pub invariant-owed : goal.invariant-owed

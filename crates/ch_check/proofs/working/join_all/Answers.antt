@@ -15,7 +15,7 @@ inns-preserved c =
     let items : c.deref-into-items.result.now ≡ row.inn =
     c.deref-into-items.ensures.value ∙ ap (λ (r : Row). r.inn) c.row.view_is in
     record {
-      joined = next_joined o v row row.inn c.inns.into-index c.into-item.result old new
+      joined = next_joined row.inn c.inns.into-index c.into-item.result new
           (subst (λ (es : List Entry). c.inns.into-index < length es) items c.inns-test.true) c.requires.task.row.inn_rises
           c.inns.invariant.joined
           (subst (λ (e : Entry). Joins o v row e old new)

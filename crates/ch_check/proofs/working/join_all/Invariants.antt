@@ -1,7 +1,6 @@
 use Rattle.std.proofs.Common.{take}
 use Rattle.ch_witness.specs.Kept.{kept_of}
-use Rattle.ch_check.specs.Pairs.{AreJoined}
-use Rattle.ch_check.specs.Searching.{AreRowsOf}
+use Rattle.ch_check.specs.Pairs.{AreJoined, AreRowsOf}
 use Rattle.ch_check.proofs.working.join_all.Given as goal
 
 abbrev pub invariant-inns : goal.invariant-inns

@@ -1,7 +1,6 @@
 use Rattle.std.proofs.Common.{◌++◌, List, ap, sym, subst, ◌∙◌}
 use Rattle.ch_laws.specs.declared.shortcut.Shortcut.{Shortcut}
-use Rattle.ch_check.specs.Pairs.{HaveWays}
-use Rattle.ch_check.specs.Searching.{AreOwed}
+use Rattle.ch_check.specs.Pairs.{HaveWays, AreOwed}
 use Rattle.ch_check.proofs.Joining.{are_owed, is_joined}
 use Rattle.ch_check.proofs.working.join_from.Goals as goal
 
@@ -13,8 +12,7 @@ find_ways-requires-clause-owed c =
     let t = c.args.task.now in
     let pairs = c.sort_pairs.new.pairs in
     subst (λ (ps : List Shortcut). AreOwed t.overlay.now t.node c.args.into.now.other ps) (sym c.deref.ensures.value)
-    (are_owed t.overlay.now t.node t.row.now c.open_row-first.result.now c.args.into.now c.requires.task.row
-    c.open_row-first.ensures c.requires.among pairs.put.items pairs.owed.items c.in_ok-sort_pairs.ensures)
+    (are_owed c.requires.task.row c.open_row-first.ensures c.requires.among c.in_ok-sort_pairs.ensures)
 
 pub returns-clause-joined : goal.returns-clause-joined
 returns-clause-joined c =
@@ -24,8 +22,7 @@ returns-clause-joined c =
       put = pairs.put.items;
       appends = c.in_ok-extend_from_slice.ensures.items ∙ ap (λ (ps : List Shortcut). c.args.desk.now.shortcuts.items ++ ps)
           c.deref-2.ensures.value;
-      joined = is_joined t.overlay.now t.node t.row.now c.open_row-first.result.now c.args.into.now c.requires.task.row
-          c.open_row-first.ensures c.requires.among pairs.put.items pairs.owed.items c.in_ok-sort_pairs.ensures
+      joined = is_joined c.requires.task.row c.open_row-first.ensures c.requires.among c.in_ok-sort_pairs.ensures
           (subst (λ (ps : List Shortcut). HaveWays t.overlay.now t.node ps) c.deref.ensures.value
           c.in_ok-find_ways.ensures.ways);
     }

@@ -5,8 +5,7 @@ use Rattle.ch_laws.specs.Contraction.{IsAlive}
 use Rattle.ch_overlay.specs.Overlay.{Overlay, state_of}
 use Rattle.ch_overlay.specs.Source.{IsBound}
 use Rattle.ch_check.specs.Pairs.{AreJoined, IsOpenRow}
-use Rattle.ch_check.proofs.Joining.{may_put}
-use Rattle.ch_check.proofs.Reading.{none_kept}
+use Rattle.ch_check.proofs.Joining.{may_put, none_kept}
 use Rattle.ch_check.proofs.working.work_out.Goals as goal
 
 pub open_row-row-requires : goal.open_row-row-requires
@@ -28,6 +27,6 @@ pub returns : goal.returns
 returns c = on_ok_weaker c.join_all.result (λ joined.
     let row = c.open_row-row.result.now in
     let put = c.join_all.new.desk.shortcuts.items in
-    may_put c.verdicts_are_lawful.ensures c.args.replay.now c.holds.ensures c.args.node row put
+    may_put c.verdicts_are_lawful.ensures c.holds.ensures
     (subst (λ (o : Overlay). IsOpenRow o c.args.node row) c.overlay-overlay.ensures c.open_row-row.ensures)
     (subst (λ (o : Overlay). AreJoined o c.args.node row row.inn put) c.overlay-overlay.ensures joined)) c.join_all.ensures

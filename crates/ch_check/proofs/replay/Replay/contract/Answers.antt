@@ -40,10 +40,10 @@ order c = ap (λ (s : State). s.order) (made c)
 
 pub invariant_of-self : goal.invariant_of-self
 invariant_of-self c =
-    let few = few_changes c.changes_write_their_rows.ensures c.self.inside.overlay c.args.shortcuts.now c.in_ok-change.change c.nodes.ensures.holds c.in_ok-change.ensures.change in
+    let few = few_changes c.changes_write_their_rows.ensures c.nodes.ensures.holds c.in_ok-change.ensures.change in
     let long : length c.apply.new.self.order ≡ length c.self.inside.overlay.order + 1 = ap length (order c) ∙ length_push c.self.inside.overlay.order c.in_ok-change.change.node in
     let old = c.self.invariant.1.few in (
-      replay_goes_on c.plan_is_lawful.ensures c.reached_goes_on.ensures (before c) c.args.shortcuts.now c.in_ok-change.change c.apply.new.self c.self.invariant.0 (may c) c.in_ok-change.ensures.change c.apply.ensures.holds c.apply.ensures.bound (made c),
+      replay_goes_on c.plan_is_lawful.ensures c.reached_goes_on.ensures c.self.invariant.0 (may c) c.in_ok-change.ensures.change c.apply.ensures.holds c.apply.ensures.bound (made c),
       record {
         above = subst (λ (vs : List ℕ). All (λ v. v < c.self.inside.next + length c.rows-count.result.now) vs) (sym c.apply.ensures.versions) (versions-next _ _ _ (versions c) (changed_nodes c.in_ok-change.change) c.self.inside.overlay.versions c.self.invariant.1.above);
         few = omega (arith, old, few, long, counted c);

@@ -1,6 +1,6 @@
 use Rattle.std.proofs.Common.{List, sym, subst}
 use Rattle.ch_laws.specs.declared.shortcut.Shortcut.{Shortcut}
-use Rattle.ch_check.specs.Searching.{AreOwed}
+use Rattle.ch_check.specs.Pairs.{AreOwed}
 use Rattle.ch_check.proofs.ways.Finder.find_ways.Goals as goal
 
 pub search_ways-requires-clause-owed : goal.search_ways-requires-clause-owed

@@ -1,7 +1,7 @@
 use Rattle.std.proofs.Common.{List, sym, subst}
 use Rattle.ch_laws.specs.declared.shortcut.Shortcut.{Shortcut}
-use Rattle.ch_check.specs.Searching.{AreLeft, AreOwed}
-use Rattle.ch_check.proofs.Around.{left_of_left}
+use Rattle.ch_check.specs.Pairs.{AreLeft, AreOwed}
+use Rattle.ch_check.proofs.Joining.{left_of_left}
 use Rattle.ch_check.proofs.ways.Finder.search_few.Goals as goal
 
 pub search_ways-requires-2-clause-owed : goal.search_ways-requires-2-clause-owed
@@ -11,7 +11,6 @@ search_ways-requires-2-clause-owed c =
 
 pub returns-clause-left : goal.returns-clause-left
 returns-clause-left c =
-    left_of_left c.args.overlay.now c.args.via c.args.owed.now c.in_ok-some.some.items c.in_ok-few.few.items
-    c.in_ok-some.ensures.left
+    left_of_left c.in_ok-some.ensures.left
     (subst (λ (ps : List Shortcut). AreLeft c.args.overlay.now c.args.via ps c.in_ok-few.few.items) c.deref.ensures.value
     c.in_ok-few.ensures.left)

@@ -8,8 +8,8 @@ use Rattle.ch_witness.specs.Kept.{kept_of, AllNamed, AreKept, IsKept}
 use Rattle.ch_witness.specs.Tree.{seen_of}
 use Rattle.ch_witness.specs.Ways.{AreWays}
 use Rattle.std.proofs.lemmas.Result.{IfOk-weaker}
-use Rattle.ch_check.specs.Searching.{AreRowsOf, IsNode, ShowsRow}
-use Rattle.ch_check.proofs.Around.{apart_targets, ways_around}
+use Rattle.ch_check.specs.Pairs.{AreRowsOf, IsNode, ShowsRow}
+use Rattle.ch_check.proofs.Joining.{apart_targets, ways_around}
 use Rattle.ch_check.proofs.Outcomes.{at_ok, named_at}
 use Rattle.ch_check.proofs.ways.Finder.trace_ways.Goals as goal
 
@@ -43,15 +43,13 @@ targets c = c.deref.ensures.value ∙ c.in_ok-find_ends.ensures
 
 pub returns-clause-ways : goal.returns-clause-ways
 returns-clause-ways c = IfOk-weaker c.seen_all.result _ _ (λ traced is.
-    ways_around c.args.overlay.now c.args.via c.args.from (kept_of c.search-found.new.self.rows)
-    (seen_of traced.steps.items) c.greatest_cost.result (map (λ (p : Shortcut). p.to) c.args.owed.now) traced.ways.items
-    (answers c)
+    ways_around c.args.overlay.now c.args.via c.args.from (kept_of c.search-found.new.self.rows) (answers c)
     (at_ok (λ (t : Traced). All (IsKept (kept_of c.search-found.new.self.rows)) (seen_of t.steps.items))
-    c.search-found.result traced is c.search-found.ensures.kept_rows)
+    is c.search-found.ensures.kept_rows)
     (subst (λ (ts : List ℕ). AreWays (seen_of traced.steps.items) c.args.from c.args.via c.greatest_cost.result ts
     traced.ways.items) (targets c)
     (at_ok (λ (t : Traced). AreWays (seen_of t.steps.items) c.args.from c.args.via c.greatest_cost.result c.deref.result.now
-    t.ways.items) c.search-found.result traced is c.search-found.ensures.ways))) c.seen_all.ensures
+    t.ways.items) is c.search-found.ensures.ways))) c.seen_all.ensures
 
 pub returns-clause-kept : goal.returns-clause-kept
 returns-clause-kept c =
@@ -62,5 +60,5 @@ returns-clause-kept c =
     record {
       answers = answers c;
       named = subst (λ (o : Overlay). AllNamed (IsNode o) (kept_of c.search-found.new.self.rows)) (source c)
-          (named_at _ _ _ c.search-found.result traced is named);
+          (named_at _ _ _ is named);
     }) c.seen_all.ensures
