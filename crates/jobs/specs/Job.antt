@@ -22,32 +22,12 @@ names_one_file (Serve hierarchy) = false
 names_one_file (Info hierarchy) = false
 names_one_file (Check check) = false
 
--- pairs are to be answered over a graph
-abbrev pub IsAnswering : Job → Type 0
-IsAnswering (Answer graph queries) = ⊤
-IsAnswering job = ⊥
-
 -- a hierarchy is to be prepared
 abbrev pub IsPreparing : Job → Type 0
 IsPreparing (Prepare preparation) = ⊤
 IsPreparing job = ⊥
 
--- pairs are to be answered by a hierarchy
-abbrev pub IsRouting : Job → Type 0
-IsRouting (Route hierarchy queries) = ⊤
-IsRouting job = ⊥
-
--- requests are to be replied to by a hierarchy
-abbrev pub IsServing : Job → Type 0
-IsServing (Serve hierarchy) = ⊤
-IsServing job = ⊥
-
 -- what the file of a hierarchy has is to be printed
 abbrev pub IsInforming : Job → Type 0
 IsInforming (Info hierarchy) = ⊤
 IsInforming job = ⊥
-
--- a hierarchy is to be checked against a graph
-abbrev pub IsChecking : Job → Type 0
-IsChecking (Check check) = ⊤
-IsChecking job = ⊥
