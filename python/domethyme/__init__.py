@@ -21,6 +21,7 @@ pandas: where one is missing, the call that needs it raises ImportError.
 
 Errors are DomethymeErrors, listed in `domethyme.errors`; arguments that can't be used raise ValueError.
 """
+import importlib
 from typing import TYPE_CHECKING, Any
 
 from .checking import check
@@ -52,6 +53,8 @@ __all__ = [
 Fault = DomethymeError
 # Old words that work until the next version.
 RENAMED = {"NO_WAY": "NO_PATH", "NotShown": "NotProved"}
+# The modules of what needs numpy.
+LATER = {"Network": ".network.network", "Routes": ".routes"}
 
 
 def __getattr__(name: str) -> Any:
@@ -59,13 +62,7 @@ def __getattr__(name: str) -> Any:
     if name in RENAMED:
         warn_renamed(f"domethyme.{name}", RENAMED[name])
         return globals()[RENAMED[name]]
-    if name not in ("Network", "Routes"):
+    if name not in LATER:
         raise AttributeError(f"module 'domethyme' has no attribute {name!r}")
     need("numpy")
-    if name == "Network":
-        from .network.network import Network
-
-        return Network
-    from .routes import Routes
-
-    return Routes
+    return getattr(importlib.import_module(LATER[name], __name__), name)

@@ -9,7 +9,7 @@ import shutil
 import stat
 import sys
 import tempfile
-from collections.abc import Iterator, Sequence
+from collections.abc import Iterator
 from typing import IO, Any
 
 from .program import StrPath
@@ -28,15 +28,8 @@ def atomic_write(path: StrPath, mode: str = "w") -> Iterator[IO[Any]]:
         with add_paths_to_errors(path), open_to_write(path, mode) as file:
             yield file
     else:
-        with temp_files_for([path], mode) as (file,):
+        with atomic_write_all(path, mode=mode) as (file,):
             yield file
-
-
-@contextlib.contextmanager
-def atomic_write_all(*paths: StrPath) -> Iterator[list[IO[Any]]]:
-    """Files of text to write: all whole after the block, or all as they were where it ends by an exception."""
-    with temp_files_for(paths, "w") as files:
-        yield files
 
 
 @contextlib.contextmanager
@@ -55,8 +48,9 @@ def open_to_write(path: StrPath, mode: str) -> IO[Any]:
 
 
 @contextlib.contextmanager
-def temp_files_for(paths: Sequence[StrPath], mode: str) -> Iterator[list[IO[Any]]]:
-    """Files beside those of the paths, which take their places, synced, when the block has ended well."""
+def atomic_write_all(*paths: StrPath, mode: str = "w") -> Iterator[list[IO[Any]]]:
+    """Files to write: all whole and synced after the block, or all as they were where it ends by an exception. Until then they
+    are beside those of the paths."""
     targets = [os.path.realpath(path) for path in paths]
     temp_paths: list[str] = []
     with add_paths_to_errors(*paths), contextlib.ExitStack() as leftovers:
@@ -84,18 +78,15 @@ def make_temp_file(path: StrPath, target: str) -> str:
         handle, temp_path = tempfile.mkstemp(prefix=f"{name}.", suffix=".new", dir=folder)
     except OSError as error:
         raise OSError(error.errno, error.strerror, os.fspath(path)) from error
-    os.fchmod(handle, permissions_at(target))
-    os.close(handle)
-    return temp_path
-
-
-def permissions_at(target: str) -> int:
-    try:
-        return stat.S_IMODE(os.stat(target).st_mode)
-    except FileNotFoundError:
+    if os.path.exists(target):
+        permissions = stat.S_IMODE(os.stat(target).st_mode)
+    else:
         mask = os.umask(0)
         os.umask(mask)
-        return 0o666 & ~mask
+        permissions = 0o666 & ~mask
+    os.fchmod(handle, permissions)
+    os.close(handle)
+    return temp_path
 
 
 def replace_all(temp_paths: list[str], targets: list[str]) -> None:
@@ -103,31 +94,17 @@ def replace_all(temp_paths: list[str], targets: list[str]) -> None:
     *before, last = zip(temp_paths, targets)
     with contextlib.ExitStack() as backups, contextlib.ExitStack() as undone:
         for temp_path, target in before:
-            backups.callback(unlink_missing_ok, f"{temp_path}.old")
-            back_up(target, f"{temp_path}.old")
-        for temp_path, target in before:
+            old, is_there = f"{temp_path}.old", os.path.exists(target)
+            if is_there:
+                backups.callback(unlink_missing_ok, old)
+                try:
+                    os.link(target, old)
+                except OSError:
+                    shutil.copy2(target, old)
             os.replace(temp_path, target)
-            undone.callback(restore, target, f"{temp_path}.old")
+            undone.callback(*((os.replace, old, target) if is_there else (unlink_missing_ok, target)))
         os.replace(*last)
         undone.pop_all()
-
-
-def back_up(target: str, old: str) -> None:
-    """Gives the file at the target, if there is one, a second name, or a copy by that name."""
-    if not os.path.exists(target):
-        return
-    try:
-        os.link(target, old)
-    except OSError:
-        shutil.copy2(target, old)
-
-
-def restore(target: str, old: str) -> None:
-    """Puts back what was at the target: the file that was kept, or none."""
-    if os.path.exists(old):
-        os.replace(old, target)
-    else:
-        unlink_missing_ok(target)
 
 
 def unlink_missing_ok(path: StrPath) -> None:
