@@ -1,6 +1,6 @@
 """Old words of public names. Each works until the next version, and warns with what is used now."""
 import warnings
-from typing import Literal
+from typing import Any, Literal
 
 Side = Literal["from", "to"]
 
@@ -8,6 +8,16 @@ Side = Literal["from", "to"]
 def warn_renamed(old: str, new: str, level: int = 3) -> None:
     """Warns (DeprecationWarning) the caller of the caller, or who is `level` - 1 calls away, that a name has another word."""
     warnings.warn(f"{old} is now {new}; the old word goes with the next version", DeprecationWarning, stacklevel=level)
+
+
+def old_word(old: str, new: str) -> Any:
+    """A method by its old word, CLASS.METHOD, which warns and calls the new one."""
+    def call(owner: Any, *arguments: Any, **options: Any) -> Any:
+        warn_renamed(old, new)
+        return getattr(owner, new.partition(".")[2])(*arguments, **options)
+
+    call.__doc__ = f"The old word of `{new}`."
+    return call
 
 
 def check_by(by: str | None) -> None:

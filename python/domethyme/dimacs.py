@@ -21,29 +21,29 @@ class GraphLists(NamedTuple):
     weights: list[int]
 
 
-def dimacs_lines(path: StrPath, stream: IO[bytes]) -> Iterator[tuple[int, list[bytes]]]:
+def dimacs_lines(path: StrPath) -> Iterator[tuple[int, list[bytes]]]:
     """The row and the fields of each line that is neither a comment nor blank."""
-    for row, line in enumerate(stream, 1):
-        fields = line.split()
-        if fields and not fields[0].startswith(b"c"):
-            yield row, fields
+    with open_input(path) as stream:
+        for row, line in enumerate(stream, 1):
+            fields = line.split()
+            if fields and not fields[0].startswith(b"c"):
+                yield row, fields
 
 
 def read_graph(path: StrPath) -> GraphLists:
     """The graph of a .gr file (`-` is standard input)."""
     graph: GraphLists | None = None
     announced = 0
-    with open_input(path) as stream:
-        for row, fields in dimacs_lines(path, stream):
-            if fields[0] == b"a" and graph is not None and len(fields) == 4:
-                graph.starts.append(parse_int(fields[1], "node", path, row, 1, graph.nodes))
-                graph.ends.append(parse_int(fields[2], "node", path, row, 1, graph.nodes))
-                graph.weights.append(parse_int(fields[3], "weight", path, row))
-            elif fields[:2] == [b"p", b"sp"] and graph is None and len(fields) == 4:
-                graph = GraphLists(parse_int(fields[2], "the number of nodes", path, row, 0, MAX_NODES), [], [], [])
-                announced = parse_int(fields[3], "the number of arcs", path, row, 0, MAX_LINES)
-            else:
-                raise NetworkError("is no line of a graph", path, row)
+    for row, fields in dimacs_lines(path):
+        if fields[0] == b"a" and graph is not None and len(fields) == 4:
+            graph.starts.append(parse_int(fields[1], "node", path, row, 1, graph.nodes))
+            graph.ends.append(parse_int(fields[2], "node", path, row, 1, graph.nodes))
+            graph.weights.append(parse_int(fields[3], "weight", path, row))
+        elif fields[:2] == [b"p", b"sp"] and graph is None and len(fields) == 4:
+            graph = GraphLists(parse_int(fields[2], "the number of nodes", path, row, 0, MAX_NODES), [], [], [])
+            announced = parse_int(fields[3], "the number of arcs", path, row, 0, MAX_LINES)
+        else:
+            raise NetworkError("is no line of a graph", path, row)
     if graph is None:
         raise NetworkError("has no line `p sp NODES ARCS`", path)
     if len(graph.starts) != announced:

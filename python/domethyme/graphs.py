@@ -2,6 +2,7 @@
 import contextlib
 import math
 import os
+import subprocess
 import tempfile
 import warnings
 from collections.abc import Iterator
@@ -9,13 +10,13 @@ from typing import TYPE_CHECKING, Any, Literal
 
 from . import dimacs, library
 from .atomic_files import atomic_write
-from .deprecated import warn_renamed
-from .errors import ReadWriteError, os_reason
+from .deprecated import old_word, warn_renamed
+from .errors import ReadWriteError, error_from_exit, os_reason
 from .extras import need
 from .hierarchy import Hierarchy
 from .keys import Keys, as_list, is_missing, to_python_scalar
 from .limits import MAX_LINES, MAX_NODES, MAX_WEIGHT
-from .program import StrPath, find_program, run_program
+from .program import StrPath, find_program, run_explaining
 
 if TYPE_CHECKING:
     import numpy as np
@@ -77,17 +78,8 @@ class Graph:
         from_nodes, to_nodes = (np.array([numbers[key] for key in side], dtype=np.int64) for side in (starts, ends))
         return cls(from_nodes, to_nodes, weights, len(numbers), Keys(numbers))
 
-    @classmethod
-    def of_keys(cls, *arguments: Any, **options: Any) -> "Graph":
-        """The old word of `from_keys`."""
-        warn_renamed("Graph.of_keys", "Graph.from_keys")
-        return cls.from_keys(*arguments, **options)
-
-    @classmethod
-    def of_frame(cls, *arguments: Any, **options: Any) -> "Graph":
-        """The old word of `from_frame`."""
-        warn_renamed("Graph.of_frame", "Graph.from_frame")
-        return cls.from_frame(*arguments, **options)
+    of_keys = classmethod(old_word("Graph.of_keys", "Graph.from_keys"))
+    of_frame = classmethod(old_word("Graph.of_frame", "Graph.from_frame"))
 
     @classmethod
     def from_frame(
@@ -115,7 +107,6 @@ class Graph:
 
 
 def scaled(weights: "ArrayLike", scale: float) -> "NDArray[np.int64]":
-    """The weights times the scale, rounded."""
     import numpy as np
 
     if not 0 < scale < math.inf:
@@ -186,7 +177,9 @@ def prepare(
     options = {"--order": order, "--workers": workers, "--seed": seed, "--stint": switch_order_after}
     arguments = [str(word) for name, value in options.items() if value is not None for word in (name, value)]
     with graph_file(graph) as text:
-        run_program(found, ["prepare", *arguments], [text, os.fspath(hierarchy)])
+        ended = run_explaining(found, ["prepare", *arguments], [text, os.fspath(hierarchy)], stdout=subprocess.DEVNULL)
+    if ended.returncode != 0:
+        raise error_from_exit(ended.returncode, ended.stderr)
     keys = graph.keys if isinstance(graph, Graph) else None
     if keys is not None and keys.can_be_saved():
         keys.save(hierarchy)

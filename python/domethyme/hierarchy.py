@@ -147,7 +147,8 @@ class Hierarchy:
 
         asked = arrays.pairs_of(pairs, self.keys, self.nodes)
         lengths, counts, nodes = batch.routes(self._router, asked)
-        return routes.Routes(lengths, nodes, offsets(counts), asked, self.keys, routes.index_of(pairs))
+        index = pairs.index if hasattr(pairs, "iloc") else None
+        return routes.Routes(lengths, nodes, offsets(counts), asked, self.keys, index)
 
     @overload
     def matrix(self, sources: "NDArray[Any]", targets: "NDArray[Any] | None" = None, by: By | None = None) -> "NDArray[np.int64]": ...
@@ -305,9 +306,8 @@ class Hierarchy:
     def _route(self, answer: RouterResult | None) -> Route | None:
         if answer is None:
             return None
-        numbers = answer.nodes
-        nodes: list[Any] = list(numbers) if self.keys is None else [self.keys.key(number) for number in numbers]
-        return Route(nodes[0], nodes[-1], answer.length, nodes, numbers)
+        nodes: list[Any] = list(answer.nodes if self.keys is None else map(self.keys.key, answer.nodes))
+        return Route(nodes[0], nodes[-1], answer.length, nodes, answer.nodes)
 
 
 def refuse_towards(towards: bool) -> None:

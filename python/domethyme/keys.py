@@ -9,7 +9,7 @@ from typing import TYPE_CHECKING, Any
 from .atomic_files import atomic_write
 from .belonging import digest_of
 from .csv_tables import open_table
-from .deprecated import warn_renamed
+from .deprecated import old_word
 from .errors import FileError, NoSuchNode, os_reason
 from .program import StrPath
 
@@ -54,15 +54,14 @@ class Keys:
         int, other texts as str, an empty one for no key. A key of several nodes can't be asked for, but that of a junction with
         turn restrictions, which is the node where routes begin (the column ends is `from`). Raises NetworkError."""
         with open_table(path, [column]) as rows:
-            listed = [(parse_key(fields[column]), fields.get("ends", "")) for _, fields in rows]
-        return cls.of_rows([key for key, _ in listed], [ends for _, ends in listed])
+            return cls.of_rows((parse_key(fields[column]), fields.get("ends", "")) for _, fields in rows)
 
     @classmethod
-    def of_rows(cls, names: "Iterable[Hashable]", ends: Iterable[str]) -> "Keys":
+    def of_rows(cls, rows: Iterable[tuple[Hashable, str]]) -> "Keys":
         """The key of each node, or None, and its place at a junction with turn restrictions, as `read` has them."""
-        rows = list(zip(names, ends))
-        begins = {key: node for node, (key, end) in enumerate(rows) if end == "from" and key is not None}
-        return cls._choosing([key for key, _ in rows], begins)
+        listed = list(rows)
+        begins = {key: node for node, (key, end) in enumerate(listed) if end == "from" and key is not None}
+        return cls._choosing([key for key, _ in listed], begins)
 
     @classmethod
     def _choosing(cls, names: list[Hashable], chosen: Mapping[Any, int]) -> "Keys":
@@ -83,11 +82,7 @@ class Keys:
             raise FileError(f"has the keys of another file than {os.fspath(hierarchy)}", keys_path(hierarchy))
         return keys
 
-    @classmethod
-    def saved(cls, hierarchy: StrPath) -> "Keys":
-        """The old word of `load`."""
-        warn_renamed("Keys.saved", "Keys.load")
-        return cls.load(hierarchy)
+    saved = classmethod(old_word("Keys.saved", "Keys.load"))
 
     def save(self, hierarchy: StrPath) -> None:
         """Saves the keys beside the file of their hierarchy, as FILE.keys, with its digest, so that nobody takes them for those of
@@ -139,8 +134,8 @@ class Keys:
         try:
             return self._nodes[key]
         except (KeyError, TypeError):
-            problem = "names several nodes" if key in self._ambiguous else "names no node"
-            raise NoSuchNode(f"key {key!r} {problem}", key) from None
+            number = "several nodes" if key in self._ambiguous else "no node"
+            raise NoSuchNode(f"key {key!r} names {number}", key) from None
 
     def key(self, node: int) -> Hashable:
         """The key of a node, None where it has none."""
@@ -165,7 +160,6 @@ class Keys:
 
 
 def keys_path(hierarchy: StrPath) -> str:
-    """The name of the file of a hierarchy's keys."""
     return f"{os.fspath(hierarchy)}.keys"
 
 

@@ -5,7 +5,7 @@ import shutil
 import subprocess
 from typing import Any, Union
 
-from .errors import ProgramError, ProgramNotFound, error_from_exit, os_reason
+from .errors import ProgramError, ProgramNotFound, os_reason
 
 StrPath = Union[str, "os.PathLike[str]"]
 
@@ -29,18 +29,11 @@ def find_program(named: StrPath | None = None) -> str:
     raise ProgramNotFound("routecli isn't found: name it as `program`, set ROUTECLI, or build it as README.md says")
 
 
-def run_program(program: str, arguments: list[str], files: list[str]) -> None:
-    """Runs the program to its end, with empty standard input, on files of any names; raises the error of its exit status if that
-    isn't 0, with the program's explanation."""
-    completed = run_explaining(program, arguments, files, stdout=subprocess.DEVNULL)
-    if completed.returncode != 0:
-        raise error_from_exit(completed.returncode, completed.stderr)
-
-
 def run_explaining(
     program: str, arguments: list[str], files: list[str], **options: Any
 ) -> "subprocess.CompletedProcess[bytes]":
-    """The same with `options` for subprocess.run, and whatever status it ends with."""
+    """Runs the program to its end, with empty standard input and `options` for subprocess.run, on files of any names.
+    Its standard error has its explanation."""
     words = [program, *arguments, "--explain", "--", *files]
     try:
         return subprocess.run(words, stdin=subprocess.DEVNULL, stderr=subprocess.PIPE, **options)

@@ -71,17 +71,13 @@ def parse_reply_to(request: bytes, reply: bytes) -> RouteReply | None:
 
 
 def matches_request(request: bytes, reply: bytes) -> bool:
-    """Whether the line is a reply to this request, `q`, `d` or `b`: of its kind, and of its nodes."""
-    kind, ends = request[:1], request[1:]
+    """Whether the line is a reply to this request, of its kind, and of its nodes or, to `b`, of one of the starts and
+    one of the ends."""
+    kind, nodes = request[:1], request[1:]
     if reply in ERROR_REPLIES:
         return True
-    if kind == b"b":
-        return reply == b"n" or matches_between(request, reply)
-    return reply == b"n" + ends or reply.startswith((b"r" if kind == b"q" else b"d") + ends + b" ")
-
-
-def matches_between(request: bytes, reply: bytes) -> bool:
-    """Whether a line `r S T ..` has one of the starts and one of the ends of a request `b S C .. : T D ..`."""
-    words = reply.split(b" ", 3)
-    starts, _, ends = request[2:].partition(b" : ")
-    return len(words) == 4 and words[0] == b"r" and words[1] in starts.split()[::2] and words[2] in ends.split()[::2]
+    if kind != b"b":
+        return reply == b"n" + nodes or reply.startswith((b"r" if kind == b"q" else b"d") + nodes + b" ")
+    words, (starts, _, ends) = reply.split(b" ", 3), nodes.partition(b" : ")
+    is_route = len(words) == 4 and words[0] == b"r"
+    return reply == b"n" or is_route and words[1] in starts.split()[::2] and words[2] in ends.split()[::2]

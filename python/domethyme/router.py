@@ -42,7 +42,7 @@ class Searcher:
     def __init__(self, name: str) -> None:
         """It is closed; `name` is the hierarchy's in messages."""
         self.name, self._library, self._handle = name, load_library(), Handle()
-        self._at, self._number, self._length = byref(self._handle), ctypes.c_uint32(), ctypes.c_uint64()
+        self._at, self._length = byref(self._handle), ctypes.c_uint64()
         self._length_at, self._ask_length = byref(self._length), self._library.domethyme_length
         self.route_info, self.between_info = RouteInfo(), BetweenInfo()
         self._resize_buffer(INITIAL_NODES)
@@ -63,10 +63,10 @@ class Searcher:
         if hasattr(self, "_at"):
             self.close()
 
-    def figure(self, name: str) -> int:
-        """The number of `nodes`, or the `version` of the file."""
-        self._check(getattr(self._library, f"domethyme_{name}")(self._at, byref(self._number)))
-        return self._number.value
+    def nodes_of_file(self) -> int:
+        number = ctypes.c_uint32()
+        self._check(self._library.domethyme_nodes(self._at, byref(number)))
+        return number.value
 
     def length(self, source: int, target: int) -> int | None:
         """The least length from one node to another, None where there is no path."""
@@ -78,14 +78,13 @@ class Searcher:
         return self._with_room(self._library.domethyme_route, self.route_info, source, target)
 
     def between(self, starts: "ctypes.Array[Seed]", ends: "ctypes.Array[Seed]") -> bool:
-        """The same from one of several starts to one of several ends, of the least whole length. It is in `between_info` and
+        """The same from one of several starts to one of several ends, of the least whole length; in `between_info` and
         `nodes`."""
         sides = addressof(starts), len(starts), addressof(ends), len(ends)
         return self._with_room(self._library.domethyme_between, self.between_info, *sides)
 
     def lengths(self, pairs: int, count: int, lengths: int) -> None:
-        """Writes the least length of each pair of an array, NO_LENGTH if there is no path, to another; both by their
-        addresses."""
+        """Writes the least length of each pair of an array, or NO_LENGTH, to another; both are given by their addresses."""
         self._check(self._library.domethyme_lengths(self._at, pairs, count, lengths, count))
 
     def table(self, sources: int, rows: int, targets: int, columns: int, lengths: int) -> None:
@@ -126,14 +125,13 @@ class Searcher:
 
 
 class Router:
-    """A hierarchy and its seats. `nodes` is the number of nodes, and `version` that of the file."""
+    """A hierarchy of so many `nodes`, and its seats."""
 
     def __init__(self, data: bytes, name: str) -> None:
-        """Opens the bytes of a file that messages call `name`. Raises HierarchyError, with the file's first fault, OutOfMemory
-        and LibraryNotFound."""
+        """Opens the bytes of a file that messages call `name`. Raises HierarchyError, OutOfMemory and LibraryNotFound."""
         self.name, self._first = name, Searcher(name)
         self._first.open(data)
-        self.nodes, self.version = self._first.figure("nodes"), self._first.figure("version")
+        self.nodes = self._first.nodes_of_file()
         self._idle: list[Searcher] = []
         self._seats: "weakref.WeakSet[Searcher]" = weakref.WeakSet()
         self._making, self._is_closed = threading.Lock(), False
@@ -180,18 +178,14 @@ class Router:
             return RouterResult(starts[info.start][0], ends[info.end][0], info.length, seat.nodes[: info.nodes])
 
     def _acquire(self) -> Searcher:
-        """A seat: one that is idle, or another one."""
-        if self._is_closed:
-            raise ValueError(f"the hierarchy {self.name} is closed")
-        try:
-            return self._idle.pop()
-        except IndexError:
-            return self._made()
-
-    def _made(self) -> Searcher:
-        """Another seat. Where there is no memory for one it waits for one that is lent. Raises OutOfMemory."""
-        end = time.monotonic() + PATIENCE
+        """A seat: one that is idle, or another one; without memory for one it waits for one that is lent. Raises OutOfMemory."""
+        end = 0.0
         while True:
+            try:
+                if not self._is_closed:
+                    return self._idle.pop()
+            except IndexError:
+                pass
             with self._making:
                 if self._is_closed:
                     raise ValueError(f"the hierarchy {self.name} is closed")
@@ -199,14 +193,12 @@ class Router:
             if made is not None:
                 self._seats.add(made)
                 return made
+            end = end or time.monotonic() + PATIENCE
             if not self._seats or time.monotonic() > end:
                 raise OutOfMemory(f"{self.name}: {error_message(OUT_OF_MEMORY)}", 6)
             time.sleep(PAUSE)
-            with contextlib.suppress(IndexError):
-                return self._idle.pop()
 
     def _release(self, seat: Searcher) -> None:
-        """Gives a seat back."""
         self._idle.append(seat)
         if self._is_closed:
             self._idle.clear()

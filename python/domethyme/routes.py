@@ -1,5 +1,4 @@
 """The routes of many pairs, as arrays. Needs numpy."""
-import sys
 from collections.abc import Iterator
 from typing import TYPE_CHECKING, Any, overload
 
@@ -7,7 +6,7 @@ import numpy as np
 from numpy.typing import NDArray
 
 from .arrays import with_missing
-from .deprecated import warn_renamed
+from .deprecated import old_word
 from .extras import load
 from .keys import Keys
 from .network.groups import expand, offsets
@@ -72,10 +71,7 @@ class Routes:
         row %= len(self)
         return self.nodes[self.offsets[row] : self.offsets[row + 1]]
 
-    def numbers(self, row: int) -> NDArray[np.int32]:
-        """The old word of `node_indices`."""
-        warn_renamed("Routes.numbers", "Routes.node_indices")
-        return self.node_indices(row)
+    numbers = old_word("Routes.numbers", "Routes.node_indices")
 
     @property
     def arcs(self) -> NDArray[np.int64]:
@@ -92,8 +88,3 @@ class Routes:
     def geojson(self, network: "Network") -> dict[str, Any]:
         """The routes as a FeatureCollection along the real road; see Network.geojson."""
         return network.geojson(self)
-
-
-def index_of(pairs: Any) -> Any:
-    """The index of pairs that came as a frame of pandas."""
-    return getattr(pairs, "index", None) if "pandas" in sys.modules and hasattr(pairs, "iloc") else None

@@ -46,6 +46,10 @@ class Network:
         return Network, (self.prefix,)
 
     @functools.cached_property
+    def _places(self) -> NodeIndex:
+        return load_node_index(self.prefix)
+
+    @functools.cached_property
     def lon(self) -> Floats:
         """The longitudes of the nodes in degrees, of shape (nodes,). Raises NetworkError, as all that reads files."""
         return np.asarray(self._places.lon[:] / UNITS)
@@ -67,7 +71,7 @@ class Network:
         if all(each is None for each in osm):
             why = "its nodes have no keys: they are in the column node, or osm, of the table of nodes"
             raise NetworkError(why, self.prefix)
-        return Keys.of_rows(osm, [ENDS[each] for each in self._places.ends[:].tolist()])
+        return Keys.of_rows(zip(osm, [ENDS[each] for each in self._places.ends[:].tolist()]))
 
     def nodes_frame(self) -> Any:
         """A DataFrame of pandas with the columns osm, lon, lat and ends, and key where nodes have keys, whose index are the nodes from
@@ -192,9 +196,6 @@ class Network:
                 raise NoSuchNode(f"place {number} has no road within {max_metres:g} m: {away}", number)
         return found
 
-    @functools.cached_property
-    def _places(self) -> NodeIndex:
-        return load_node_index(self.prefix)
 
 
 def check_degrees(lon: Floats, lat: Floats) -> None:

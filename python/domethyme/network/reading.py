@@ -1,11 +1,9 @@
-"""The nodes and arcs of a network, from the file that is to be read: NETWORK.net where it is no older than the tables, the tables, or a
-DIMACS .co file and its graph.
-"""
+"""The nodes and arcs of a network, from NETWORK.net where that is current, its tables, or a DIMACS .co file and its graph."""
 import os
 from collections.abc import Iterator
 from typing import TYPE_CHECKING, Any
 
-from ..csv_tables import open_input, parse_int
+from ..csv_tables import parse_int
 from ..dimacs import dimacs_lines
 from ..errors import NetworkError
 from ..limits import MAX_NODES
@@ -20,8 +18,7 @@ CHUNK = 1 << 14
 
 
 def read_nodes(path: StrPath) -> Nodes:
-    """The nodes of a .nodes.csv file, by the binary form beside it where that is current, or of a DIMACS .co file by its
-    ending."""
+    """The nodes of a .nodes.csv file, by the binary form beside it where that is current, or of a file .co."""
     if is_coordinates(path):
         return read_coordinates(path)
     arrays = mapped_if_current(os.fspath(path).removesuffix(".nodes.csv")) if str(path).endswith(".nodes.csv") else None
@@ -63,22 +60,21 @@ def arcs_from_net(arrays: "net_file.MappedNetwork") -> Iterator[Arc]:
 def read_coordinates(path: StrPath) -> Nodes:
     """The nodes of a DIMACS .co file: `p aux sp co N`, and `v NODE X Y` in millionths of a degree, in any order."""
     places: list[tuple[float, float] | None] | None = None
-    with open_input(path) as stream:
-        for row, fields in dimacs_lines(path, stream):
-            if fields[0] == b"p" and places is None:
-                if fields[1:-1] != [b"aux", b"sp", b"co"]:
-                    raise NetworkError("is no problem line `p aux sp co NUMBER`", path, row)
-                places = [None] * parse_int(fields[-1], "the number", path, row, 0, MAX_NODES)
-            elif fields[0] == b"v" and places is not None and len(fields) == 4:
-                node = parse_int(fields[1], "node", path, row, 1, len(places))
-                lon = parse_int(fields[2], "x", path, row, -180_000_000, 180_000_000) / 1e6
-                places[node - 1] = lon, parse_int(fields[3], "y", path, row, -90_000_000, 90_000_000) / 1e6
-            else:
-                missing = " before the line `p aux sp co N`" if places is None else ""
-                raise NetworkError(f"is no line of coordinates{missing}", path, row)
+    for row, fields in dimacs_lines(path):
+        if fields[0] == b"p" and places is None:
+            if fields[1:-1] != [b"aux", b"sp", b"co"]:
+                raise NetworkError("is no problem line `p aux sp co NUMBER`", path, row)
+            places = [None] * parse_int(fields[-1], "the number", path, row, 0, MAX_NODES)
+        elif fields[0] == b"v" and places is not None and len(fields) == 4:
+            node = parse_int(fields[1], "node", path, row, 1, len(places))
+            lon = parse_int(fields[2], "x", path, row, -180_000_000, 180_000_000) / 1e6
+            places[node - 1] = lon, parse_int(fields[3], "y", path, row, -90_000_000, 90_000_000) / 1e6
+        else:
+            missing = " before the line `p aux sp co N`" if places is None else ""
+            raise NetworkError(f"is no line of coordinates{missing}", path, row)
     if places is None:
         raise NetworkError("has no line `p aux sp co N`", path)
     if None in places:
         raise NetworkError(f"has no coordinates of node {places.index(None) + 1}", path)
-    known = [place for place in places if place is not None]
-    return Nodes([None] * len(known), [lon for lon, _ in known], [lat for _, lat in known], [""] * len(known))
+    lons, lats = ([place[axis] for place in places if place is not None] for axis in (0, 1))
+    return Nodes([None] * len(lons), lons, lats, [""] * len(lons))
