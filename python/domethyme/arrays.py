@@ -27,11 +27,8 @@ def whole_numbers(name: str, values: "ArrayLike | list[Hashable]", low: int, hig
 
 
 def pairs_of(pairs: Any, keys: Keys | None, nodes: int) -> Numbers:
-    """The pairs as an array of shape (n, 2) of nodes from 0.
-
-    `pairs` are rows (from, to): an array, a list, or a frame with columns of one of the names in COLUMNS. Raises NoSuchNode, with the
-    row, and ValueError.
-    """
+    """Rows (from, to), an array, a list or a frame with columns of COLUMNS, as an array of shape (n, 2) of nodes from 0.
+    Raises NoSuchNode, with the row, and ValueError."""
     columns = columns_of(pairs)
     if keys is not None:
         firsts, seconds = columns if columns is not None else split(pairs)

@@ -49,8 +49,8 @@ def open_to_write(path: StrPath, mode: str) -> IO[Any]:
 
 @contextlib.contextmanager
 def atomic_write_all(*paths: StrPath, mode: str = "w") -> Iterator[list[IO[Any]]]:
-    """Files to write: all whole and synced after the block, or all as they were where it ends by an exception. Until then they
-    are beside those of the paths."""
+    """Files to write beside those of the paths: all whole and synced after the block, or all as they were where it ends
+    by an exception."""
     targets = [os.path.realpath(path) for path in paths]
     temp_paths: list[str] = []
     with add_paths_to_errors(*paths), contextlib.ExitStack() as leftovers:
@@ -102,7 +102,10 @@ def replace_all(temp_paths: list[str], targets: list[str]) -> None:
                 except OSError:
                     shutil.copy2(target, old)
             os.replace(temp_path, target)
-            undone.callback(*((os.replace, old, target) if is_there else (unlink_missing_ok, target)))
+            if is_there:
+                undone.callback(os.replace, old, target)
+            else:
+                undone.callback(unlink_missing_ok, target)
         os.replace(*last)
         undone.pop_all()
 

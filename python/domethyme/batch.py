@@ -1,6 +1,5 @@
 """Lengths and routes of many pairs, tables, by as many threads as there are processors, and what is reached. Needs numpy."""
 import concurrent.futures
-import os
 from collections.abc import Callable, Sequence
 from typing import TypeVar
 
@@ -9,6 +8,7 @@ from numpy.typing import NDArray
 
 from .errors import OutOfMemory
 from .limits import MAX_CELLS
+from .network.parallel import cpu_count
 from .protocol import NO_PATH
 from .router import Router, Searcher, seed_array
 
@@ -57,8 +57,8 @@ def rows_at_a_time(rows: int, columns: int) -> int:
 
 
 def reach(router: Router, starts: Sequence[tuple[int, int]], limit: int | None) -> NDArray[np.int64]:
-    """The least length of each node from the nearest of several starts, each a node and a length that is added there; NO_PATH
-    where it is above the limit. An array of shape (nodes,)."""
+    """The least length of each node from the nearest of several starts, a node and an added length each; NO_PATH above
+    the limit."""
     found = np.empty(router.nodes, np.int64)
     with router.searcher() as seat:
         seat.reach(seed_array(starts), limit, found.ctypes.data, router.nodes)
@@ -66,8 +66,8 @@ def reach(router: Router, starts: Sequence[tuple[int, int]], limit: int | None) 
 
 
 def routes(router: Router, pairs: NDArray[np.int64]) -> RouteArrays:
-    """The routes of pairs of nodes, of shape (n, 2): the length of each, NO_PATH where there is none, how many nodes it
-    has, and the nodes of all."""
+    """The routes of pairs of nodes, of shape (n, 2): the length of each or NO_PATH, how many nodes it has, and the nodes
+    of all."""
 
     def query_chunk(part: slice, seat: Searcher) -> RouteArrays:
         lengths, nodes = zip(*(route_arrays(seat, source, target) for source, target in pairs[part].tolist()))
@@ -79,7 +79,6 @@ def routes(router: Router, pairs: NDArray[np.int64]) -> RouteArrays:
 
 
 def route_arrays(seat: Searcher, source: int, target: int) -> tuple[int, NDArray[np.int32]]:
-    """The length and the nodes of a route."""
     if not seat.route(source, target):
         return NO_PATH, np.empty(0, np.int32)
     info = seat.route_info
@@ -104,8 +103,3 @@ def map_chunks(
         except BaseException:
             threads.shutdown(wait=True, cancel_futures=True)
             raise
-
-
-def cpu_count() -> int:
-    """How many processors this process may use."""
-    return len(os.sched_getaffinity(0))

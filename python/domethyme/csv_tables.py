@@ -57,11 +57,9 @@ class Row(dict[str, str]):
         return NetworkError(message, self.path, self.row)
 
     def read_int(self, column: str, low: int = 0, high: int = MAX_WEIGHT) -> int:
-        """The value of a column, as `parse_int` has it."""
         return parse_int(self[column], column, self.path, self.row, low, high)
 
     def read_float(self, column: str, low: float = -math.inf, high: float = math.inf) -> float:
-        """The value of a column, as `parse_float` has it."""
         return parse_float(self[column], column, self.path, self.row, low, high)
 
 

@@ -106,7 +106,6 @@ def load_later_call(name: str) -> Any:
 
 
 def error_message(code: int) -> str:
-    """What a code means."""
     text = ctypes.create_string_buffer(TEXT)
     load_library().domethyme_text(code, text, TEXT)
     return text.value.decode("ascii", "replace")

@@ -1,7 +1,6 @@
 """Which requests are allowed. Any page in a browser of this machine can send requests to a service on the loopback, also
-under a host name of the page's own (DNS rebinding). So a request has to be for an allowed host, and one that a browser
-marks as cross-origin is rejected unless its origin is allowed. Batches need a Content-Type that makes the browser send a
-CORS preflight."""
+under a host name of its own (DNS rebinding). So a request has to be for an allowed host, and not marked as of another
+origin unless that is allowed. Batches need a Content-Type that makes the browser send a CORS preflight."""
 import functools
 import ipaddress
 import re
@@ -53,7 +52,6 @@ class AccessPolicy(NamedTuple):
 
     @property
     def headers(self) -> dict[str, str]:
-        """The CORS headers of responses."""
         if self.origin == NO_ORIGIN:
             return {}
         return {"Access-Control-Allow-Origin": self.origin, **({} if self.origin == ANY_ORIGIN else {"Vary": "Origin"})}

@@ -111,8 +111,7 @@ def configure_logging(access: bool) -> None:
 
 
 def open_sockets(args: argparse.Namespace) -> tuple[list[str], bool]:
-    """Opens the sockets to listen on. Returns gunicorn's `bind`, empty if systemd passes the sockets, and whether there is
-    one for probes. Raises StartupError for an address that other machines can reach."""
+    """Opens the sockets to listen on. Returns gunicorn's `bind`, empty if systemd passes them, and whether one is for probes."""
     if count := systemd.listen_fds(unset_environment=False):
         for number in range(count):
             with socket.socket(fileno=os.dup(systemd.SD_LISTEN_FDS_START + number)) as listening:

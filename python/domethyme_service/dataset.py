@@ -21,8 +21,8 @@ EAGER_VERIFY_BYTES = 1 << 28
 
 
 class DatasetPaths(NamedTuple):
-    """Where a dataset is read from: the hierarchy's file, the prefix of its network's, the graph it is checked against,
-    and the program that does it; and whether all links are compared with the network, however many there are."""
+    """The hierarchy's file, the prefix of its network's, the graph it is checked against and the program that does it,
+    and whether all links are compared with the network, however many there are."""
 
     hierarchy: str
     network: str | None
@@ -73,7 +73,7 @@ def load_roads(network: str) -> RoadIndex:
     roads = RoadIndex(network)
     roads.arrays.file.verify(EAGER_VERIFY_BYTES)
     # (what is computed here, before the fork, is in memory once for all workers)
-    roads.box, roads.roundabout_texts
+    roads.roundabout_texts
     for grid in (roads.arrays.edge_grid, roads.arrays.node_grid):
         columns_per_band(grid.height)
     return roads

@@ -13,7 +13,6 @@ class RequestError(Exception):
         self.headers = {"Retry-After": "1"} if status == 503 else {}
 
     def json(self, **more: object) -> str:
-        """The body of the response."""
         return to_json(dict[str, object](code=self.code, message=self.message, **more))
 
 

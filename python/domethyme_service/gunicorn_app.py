@@ -1,8 +1,6 @@
 """The service under gunicorn: the arbiter opens the files and forks the workers, which share their memory. At SIGHUP a
-child opens the files first, and the arbiter if the child succeeds; if not, the old ones stay in use.
-
-gunicorn's settings are read from GUNICORN_CMD_ARGS, as by its own command, except those that the service depends on
-(FIXED_SETTINGS)."""
+child opens the files first, and the arbiter if the child succeeds; if not, the old ones stay in use. gunicorn's settings
+are read from GUNICORN_CMD_ARGS, as by its own command, except those that the service depends on (FIXED_SETTINGS)."""
 import contextlib
 import ctypes
 import gc
@@ -25,8 +23,7 @@ from . import VERSION
 from .dataset import DatasetPaths, end_with_parent, open_dataset
 from .errors import StartupError
 from .metrics import SharedMetrics
-from .slots import Slots
-from .worker import Worker
+from .worker import Slots, Worker
 from .wsgi import Options, Service
 
 # Seconds after which gunicorn kills a worker that doesn't report, more than an answer may take; and for the service to end.
@@ -60,8 +57,6 @@ class Setup(NamedTuple):
 
 
 class Application(BaseApplication):  # type: ignore[misc] # (gunicorn has no types)
-    """gunicorn's application."""
-
     def __init__(self, setup: Setup) -> None:
         self.setup = setup
         self.workers = setup.workers + setup.has_probe
@@ -108,8 +103,8 @@ class Arbiter(gunicorn.arbiter.Arbiter):  # type: ignore[misc] # (gunicorn has n
     pending_reloads, old_workers = 0, list[Worker]()
 
     def setup(self, app: Application) -> None:
-        """Prepares the memory for the fork, too: returns free memory to the system (malloc_trim), excludes all objects from
-        garbage collection, and limits malloc to one arena."""
+        """Prepares the memory for the fork, too: returns what is free, collects no garbage of it, and limits malloc to
+        one arena."""
         super().setup(app)
         gc.collect()
         gc.freeze()
@@ -184,7 +179,6 @@ class Arbiter(gunicorn.arbiter.Arbiter):  # type: ignore[misc] # (gunicorn has n
         self.record_load()
 
     def record_load(self) -> None:
-        """Stores when the files that are served were opened."""
         own = self.app.metrics.own
         own.last_reload_failed, own.last_reload_timestamp_seconds = 0, time.time()
 

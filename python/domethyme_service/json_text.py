@@ -9,7 +9,6 @@ ENCODER = json.JSONEncoder(separators=(",", ":"), allow_nan=False, ensure_ascii=
 
 
 def to_json(value: object) -> str:
-    """A value as JSON."""
     return ENCODER.encode(value)
 
 

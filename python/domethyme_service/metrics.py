@@ -1,7 +1,5 @@
-"""Metrics of the whole service, in Prometheus' text format 0.0.4. Labels are names of endpoints, never paths.
-
-All processes share one block of memory, in which each writes to a row of its own. So any process can report the sums of all
-rows, and the counts of a process remain after its end."""
+"""Metrics of the whole service, in Prometheus' text format 0.0.4. Labels are names of endpoints, never paths. All processes share
+one block of memory, in which each has a row of its own, so the counts of a process remain after its end."""
 import bisect
 import ctypes
 import itertools
@@ -59,7 +57,6 @@ class Row(ctypes.Structure):
     ]
 
     def count(self, endpoint: str, status: int, seconds: float) -> None:
-        """Counts an answer."""
         number = ENDPOINT_NAMES.index(endpoint)
         self.requests[number][STATUSES.index(status)] += 1
         self.buckets[number][bisect.bisect_left(BUCKETS, seconds)] += 1
@@ -95,7 +92,6 @@ def resident_bytes(process: int) -> int:
 
 
 def format_header(name: str, kind: str, text: str) -> str:
-    """The HELP and TYPE lines of a metric."""
     return f"# HELP domethyme_{name} {text}\n# TYPE domethyme_{name} {kind}"
 
 

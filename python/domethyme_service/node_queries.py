@@ -54,8 +54,8 @@ def length_json(pair: Pair, length: int) -> bytes:
 
 
 def batch_answer(queries: Queries, has_routes: bool, body: bytes) -> Iterator[bytes]:
-    """The answers to lines `{"from": S, "to": T}`, in order, in a part for each block. An error is reported in its line, and
-    too many end the answer."""
+    """The answers to lines `{"from": S, "to": T}`, in order, a part for each block. Errors are in their lines; too many
+    end it."""
     first, errors = 1, 0
     for lines in split_blocks(body):
         rows: Sequence[Pair | RequestError] | None = parse_pairs_fast(lines, queries.nodes)
@@ -91,12 +91,9 @@ def split_blocks(body: bytes) -> Iterator[list[bytes]]:
 
 
 def parse_pairs_fast(lines: list[bytes], nodes: int) -> list[Pair] | None:
-    """The pairs of lines if all are valid and have numbers of nodes; None otherwise.
-
-    The lines are parsed as one array, with a 0 between each two. If there are a brace and four quotes for each line and no
-    bracket, no line's object, array or string continues in the next; so each line is one object if the array has 2 n - 1
-    items.
-    """
+    """The pairs of lines if all are valid and have numbers of nodes; None otherwise. The lines are parsed as one array,
+    with a 0 between each two. With a brace and four quotes for each line and no bracket, no line's object, array or
+    string continues in the next; so each line is one object if the array has 2 n - 1 items."""
     text, count = b",0,".join(lines), len(lines)
     is_flat = b"[" not in text and text.count(b"{") == count and text.count(b'"') == 4 * count
     if not is_flat or max(map(len, lines)) > MAX_LINE_BYTES:

@@ -72,8 +72,8 @@ def encode_geometries(lines: Sequence[Line], format_: str) -> list[Geometry]:
 
 def annotate(geometry: LegGeometry, names: list[str]) -> dict[str, list[float | None]]:
     """The annotations of these names: for each segment of the leg's line its metres, seconds, weight and speed, an arc's
-    divided in proportion to metres; for each point the OpenStreetMap id of its node, 0 for none, as between junctions.
-    Durations and speeds are None if the network has no seconds."""
+    divided by metres; for each point the OpenStreetMap id of its node, or 0. Durations and speeds are None if the
+    network has no seconds."""
     found: dict[str, list[float | None]] = {name: [] for name in names}
     segments, computed = segments_by_arc(geometry), [name for name in names if name != "nodes"]
     for arc_index, steps in enumerate(segments):

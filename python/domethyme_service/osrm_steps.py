@@ -106,7 +106,6 @@ def build_steps(roads: RoadIndex, geometry: LegGeometry | None, start: Point, en
 
 
 def make_maneuver(turn: Json, location: list[float], before: int, after: int) -> Json:
-    """A maneuver, with the bearings before and after it."""
     return {**turn, "location": location, "bearing_before": before, "bearing_after": after}
 
 

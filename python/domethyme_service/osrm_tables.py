@@ -90,8 +90,8 @@ def table_members(
 
 
 def fill_fallback(figures: dict[str, Row], unit: str, speed: float, start: Point, ends: list[Point]) -> list[int]:
-    """Fills cells of a row without a route by the great-circle distance, and that over `speed`, in metres a second; returns
-    their columns. A weight that is neither time nor distance stays None."""
+    """Fills cells of a row without a route by the great-circle distance, or that over `speed` in metres a second, if
+    they have such a unit; returns their columns."""
     columns = [column for column in range(len(ends)) if any(row[column] is None for row in figures.values())]
     for column in columns:
         metres = metres_between(*start, *ends[column])

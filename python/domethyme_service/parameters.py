@@ -75,7 +75,6 @@ def choice(name: str, *words: str, rejected: Sequence[str] = (), message: str = 
 
 
 def ignored(name: str) -> Parameter[str]:
-    """Any text, without effect."""
     return Parameter(name, "any, not used", lambda text, _context: text)
 
 
@@ -123,12 +122,10 @@ def annotations(known: Sequence[str], default: str, is_list_only: bool = False) 
 
 
 def node(name: str) -> Parameter[int]:
-    """A node by its number."""
     return Parameter(name, "", lambda text, context: parse_node(text, name, context.nodes))
 
 
 def key(name: str) -> Parameter[str]:
-    """The key of a node, where the network has keys."""
     return Parameter(name, "", lambda text, _context: text)
 
 
@@ -192,7 +189,6 @@ def parse_continue_straight(text: str, context: Context) -> None:
 
 
 def parse_indices(text: str, context: Context) -> list[int]:
-    """Indices of places, from 0."""
     if text == "all":
         return list(range(context.places))
     words = text.split(";")

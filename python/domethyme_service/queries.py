@@ -1,5 +1,4 @@
-"""Queries to the hierarchy in the memory of this process (domethyme.router), whose answers the library proves. Nodes are
-numbered from 1, as in files."""
+"""Queries to a hierarchy in this process's memory (domethyme.router), which the library proves. Nodes are numbered from 1."""
 import json
 from collections.abc import Sequence
 

@@ -1,5 +1,5 @@
-"""The files of the page at `/`. They are read once, when the service starts, into a dictionary by path, so no path leads to
-another file. Their Content-Security-Policy lets the page load only them, and send requests to this service alone."""
+"""The files of the page at `/`, by path, read when the service starts, so no path leads to another file. Their
+Content-Security-Policy lets the page load only them, and send requests to this service alone."""
 import pathlib
 
 FOLDER = pathlib.Path(__file__).resolve().parent / "page"

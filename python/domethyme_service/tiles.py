@@ -1,6 +1,5 @@
-"""The roads of the page's map, in square tiles of the Mercator projection, as web maps have them: at zoom z the world is 2**z
-tiles wide. Levels of detail keep tiles small: each class of roads has a least zoom (zoom_levels), and segments that coincide
-on the tile's grid are drawn once."""
+"""The roads of the page's map, in square tiles of the Mercator projection: at zoom z the world is 2**z tiles wide. Each class of
+roads has a least zoom (zoom_levels), and segments that coincide on the tile's grid are drawn once."""
 import bisect
 import functools
 import itertools
@@ -26,8 +25,6 @@ NAME_COLUMN = TEXTS.index("name")
 
 
 class Tiles:
-    """The tiles of a network."""
-
     def __init__(self, arrays: MappedNetwork) -> None:
         self.arrays = arrays
         self.tile = functools.lru_cache(TILE_CACHE_SIZE)(self._tile)
@@ -37,7 +34,7 @@ class Tiles:
         """The bounding box of the roads, whose east may be beyond 180 degrees; the attribution that the data's licence
         requires; the greatest zoom and the extent of tiles; and a version that changes with the network."""
         return {
-            "box": [self.arrays.about[side] / UNITS for side in ("west", "south", "east", "north")],
+            "box": self.arrays.box,
             "attribution": self.arrays.texts[0],
             "deepest": MAX_ZOOM,
             "grid": EXTENT,
@@ -57,8 +54,8 @@ class Tiles:
         return self.tile(zoom, x, y)
 
     def _tile(self, zoom: int, x: int, y: int) -> bytes:
-        """A tile as JSON: for each class its lines, as the coordinates of the first point and then the steps to the others, in
-        units of 1/EXTENT of the tile's width; and the name of each line."""
+        """A tile as JSON: for each class its lines, as the first point's coordinates and then the steps to the others,
+        in units of 1/EXTENT of the tile's width; and the name of each line."""
         self.arrays.file.check_unchanged()
         found: list[dict[str, Any]] = []
         for kind in range(len(ROAD_CLASSES)):

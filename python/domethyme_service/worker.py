@@ -1,10 +1,10 @@
-"""A sync worker of gunicorn that doesn't block on slow clients: it reads a request once its head has arrived, and answers a
-long one once a slot is free. It ends an answer that takes too long, counts and logs requests, and reports HTTP errors as
-JSON."""
+"""A sync worker of gunicorn that doesn't block on slow clients: it reads a request once its head has arrived, and answers a long
+one once a slot is free. It ends an answer that takes too long, counts and logs requests, and reports HTTP errors as JSON."""
 import collections
 import contextlib
 import datetime
 import enum
+import fcntl
 import json
 import logging
 import os
@@ -23,7 +23,6 @@ from gunicorn.workers.sync import SyncWorker
 from .dataset import end_with_parent
 from .errors import RequestError, malformed
 from .metrics import Row
-from .slots import Slots
 from .wsgi import JSON, STATUS_LINES, Environ, Service, StartResponse
 
 # Seconds for a head and a short body to arrive, for an answer, and for the answer to a long request or a block of a batch.
@@ -88,6 +87,26 @@ class BufferedHead:
         """Sends the head of an answer without a body."""
         if self._head:
             self._client.sendall(self._head)
+
+
+class Slots:
+    """N slots for long requests, shared with the processes that are forked after it was made. A slot is a kernel lock on
+    a byte of a file in memory, so the slot of a process that ends, however it ends, is free again."""
+
+    def __init__(self, count: int) -> None:
+        self.count, self._file = count, os.memfd_create("slots")
+
+    def acquire(self) -> bool:
+        """Takes a slot for this process, which may have one; returns whether one was free."""
+        for slot in range(self.count):
+            with contextlib.suppress(OSError):
+                fcntl.lockf(self._file, fcntl.LOCK_EX | fcntl.LOCK_NB, 1, slot)
+                return True
+        return False
+
+    def release(self) -> None:
+        """Frees the slot of this process, if it has one."""
+        fcntl.lockf(self._file, fcntl.LOCK_UN)
 
 
 class Worker(SyncWorker):  # type: ignore[misc] # (gunicorn has no types)

@@ -86,7 +86,6 @@ class Service:
         self.headers = {"X-Content-Type-Options": "nosniff", **options.access.headers}
 
     def __call__(self, environ: Environ, start_response: StartResponse) -> Iterable[bytes]:
-        """Answers a request."""
         environ["domethyme.endpoint"] = "other"
         try:
             return self.send(environ, start_response, self.respond(environ))
@@ -134,7 +133,6 @@ class Service:
         return HANDLERS[endpoint.name](self, Call(endpoint, path, query, environ))
 
     def page_file(self, call: Call) -> Response:
-        """A file of the page."""
         kind, text = PAGE_FILES[call.path]
         return Response(text, kind, HEADERS)
 
@@ -152,7 +150,6 @@ class Service:
         return Response(BY_SERVICE[request.service](needed(self.engine), request))
 
     def pair(self, call: Call) -> Response:
-        """The route or length of a pair of nodes."""
         values = call.endpoint.values(call.query, Context(nodes=self.queries.nodes))
         answer = node_queries.route_answer if call.endpoint.name == "/nodes/route" else node_queries.length_answer
         ends = (node_queries.find_node(self.queries, values, *each) for each in ((FROM, FROM_KEY), (TO, TO_KEY)))
@@ -169,11 +166,9 @@ class Service:
         return Response(itertools.chain([first], blocks), LINES)
 
     def health(self, _call: Call) -> Response:
-        """Reports that requests are answered."""
         return Response(to_json({"status": "ok", "nodes": self.queries.nodes, "links": self.queries.links}))
 
     def show_metrics(self, _call: Call) -> Response:
-        """The metrics of the whole service."""
         return Response(self.metrics.text(self.queries.nodes), METRICS)
 
 

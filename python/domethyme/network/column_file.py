@@ -96,7 +96,7 @@ class MappedFile:
             if self._state[0] < HEAD.itemsize:
                 raise self.damaged_error("it is too short")
             self._bytes = np.frombuffer(mmap.mmap(self._file, 0, prot=mmap.PROT_READ), np.uint8)
-        self.columns = self._read_columns(self._read_head())
+        self.columns = self._read_columns(*self._read_head())
 
     def _stat(self) -> tuple[int, int, int]:
         found = os.fstat(self._file)
@@ -106,11 +106,11 @@ class MappedFile:
         """Verifies all blocks now, where the file has no more than so many bytes. Raises NetworkError."""
         if len(self._bytes) <= most:
             for column in self.columns.values():
-                column.verify()
+                column.verify_rows(slice(None))
 
     def check_unchanged(self) -> None:
-        """Raises NetworkError where another file was written into this one after it was opened. Where its times alone differ, blocks
-        are verified anew."""
+        """Raises NetworkError where another file was written into this one. Where its times alone differ, blocks are
+        verified anew."""
         now = self._stat()
         if now == self._state:
             return
@@ -131,28 +131,26 @@ class MappedFile:
     def damaged_error(self, problem: str) -> NetworkError:
         return NetworkError(f"is damaged: {problem}; {self.remedy}", self.path)
 
-    def _read_head(self) -> int:
-        """Looks at the head and the tail's checksum. Returns where the tail begins."""
+    def _read_head(self) -> tuple[Schema, int]:
+        """Looks at the head and the tail's checksum. Returns the form, and where the tail begins."""
         found, size = self._bytes[: HEAD.itemsize].copy().view(HEAD)[0], len(self._bytes)
         if found["magic"] != MAGIC:
             raise NetworkError(f"isn't a network's file; {self.remedy}", self.path)
-        if found["version"] not in self._forms:
+        if (form := self._forms.get(int(found["version"]))) is None:
             known = " or ".join(map(str, self._forms))
             raise NetworkError(f"has version {found['version']} and not {known}; {self.remedy}", self.path)
-        self._form = self._forms[int(found["version"])]
-        count, tail = len(self._form), int(found["tail"])
+        count, tail = len(form), int(found["tail"])
         if found["size"] != size or found["arrays"] != count or not HEAD.itemsize <= tail <= size - 8 * count:
             raise self.damaged_error("its size isn't the one that it was written with")
         self.sum = int(found["sum"])
         if self._sum_now() != self.sum:
             raise self.damaged_error("its head or tail has another checksum")
-        return tail
+        return form, tail
 
-    def _read_columns(self, tail: int) -> "dict[str, Column]":
-        """The columns, by the sizes in the tail."""
-        place, begin, found = HEAD.itemsize, tail + 8 * len(self._form), {}
+    def _read_columns(self, form: Schema, tail: int) -> "dict[str, Column]":
+        place, begin, found = HEAD.itemsize, tail + 8 * len(form), {}
         rows: list[int] = self._bytes[tail:begin].copy().view("<u8").tolist()
-        for (name, kind), length in zip(self._form.items(), rows):
+        for (name, kind), length in zip(form.items(), rows):
             size = length * kind.columns * np.dtype(kind.values).itemsize
             end = begin + 4 * -(-size // BLOCK)
             if place + size > tail or end > len(self._bytes):
@@ -173,10 +171,11 @@ class Column:
     min_step    how much more each value is at least than the one before, or None
     """
 
+    low: float | None = None
+    high: float | None = None
+    min_step: int | None = None
+
     def __init__(self, file: MappedFile, name: str, values: NDArray[Any], sums: NDArray[np.uint32]) -> None:
-        self.low: float | None = None
-        self.high: float | None = None
-        self.min_step: int | None = None
         self._file, self._name, self._values, self._sums = file, name, values, sums
         self._verified = np.zeros(len(sums), dtype=bool)
         self._shift = (BLOCK // (values.itemsize * math.prod(values.shape[1:]))).bit_length() - 1
@@ -185,14 +184,6 @@ class Column:
     def __len__(self) -> int:
         return len(self._values)
 
-    @property
-    def shape(self) -> tuple[int, ...]:
-        return self._values.shape
-
-    @property
-    def dtype(self) -> np.dtype[Any]:
-        return self._values.dtype
-
     def __array__(self, dtype: Any = None) -> NDArray[Any]:
         return np.asarray(self[:], dtype)
 
@@ -200,17 +191,13 @@ class Column:
         """Has all blocks verified anew."""
         self._verified[:], self._all_verified = False, not len(self._sums)
 
-    def verify(self) -> None:
-        """Verifies all blocks that aren't yet."""
-        self._verify_rows(slice(None))
-
     def __getitem__(self, index: Any) -> Any:
         if not self._all_verified:
-            self._verify_rows(index[0] if isinstance(index, tuple) else index)
+            self.verify_rows(index[0] if isinstance(index, tuple) else index)
         return self._values[index]
 
-    def _verify_rows(self, rows: Any) -> None:
-        """Verifies the blocks of the rows that an index takes."""
+    def verify_rows(self, rows: Any) -> None:
+        """Verifies the blocks of the rows that an index takes, those that aren't yet."""
         if type(rows) is int and 0 <= rows < len(self._values):
             if not self._verified[rows >> self._shift]:
                 self._verify(np.array([rows >> self._shift]))
@@ -225,7 +212,7 @@ class Column:
             return
         numbers = np.asarray(rows)
         if numbers.dtype == bool:
-            self._verify_rows(slice(None))
+            self.verify_rows(slice(None))
         elif numbers.size:
             blocks = numbers >> self._shift
             if blocks.min() < 0:

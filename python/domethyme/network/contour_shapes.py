@@ -22,8 +22,8 @@ HALVINGS = 8
 
 def denoised(contours: Sequence[list[Polygon]], share: float) -> list[list[Polygon]]:
     """Contours without the parts and holes whose area is less than a share, from 0 to 1, of the area of the contour's
-    largest part. Holes count as area of parts. A part that has one of a lesser contour in it stays. Raises ValueError for
-    another share."""
+    largest part. Holes count as area of parts. A part that has one of a lesser contour in it stays. Raises ValueError
+    for another share."""
     if not 0 <= share <= 1:
         raise ValueError(f"denoise has to be from 0 to 1, and is {share}")
     found: list[list[Polygon]] = []
@@ -43,10 +43,9 @@ def denoised(contours: Sequence[list[Polygon]], share: float) -> list[list[Polyg
 def generalized(contours: Sequence[list[Polygon]], metres: float) -> list[list[Polygon]]:
     """Contours with some of their points, so that no other one is further away from its line than this many metres.
 
-    Shapely's simplification keeps how the lines lie to one another; a line that contours share is simplified once. A ring
-    that would have no area is left out. If the result isn't valid, or one contour isn't within the next, it is tried with
-    half of the metres, and so on HALVINGS times; then contours stay as they are. Raises ValueError for less than 0 or no
-    number.
+    Lines that contours share are simplified once, by shapely, and a ring that would have no area is left out. If the result
+    isn't valid, or one contour isn't within the next, it is tried with half of the metres, and so on HALVINGS times; then
+    contours stay as they are. Raises ValueError for less than 0 or no number.
     """
     if not 0 <= metres < float("inf"):
         raise ValueError(f"generalize has to be a number of metres from 0, and is {metres}")
@@ -69,8 +68,8 @@ def rings_of(polygon: Polygon) -> list[Ring]:
 
 
 def split_at_forks(rings: Sequence[Ring]) -> dict[Ring, list[Ring]]:
-    """The lines of which each ring consists, between the points where rings part or meet. A ring without such points is
-    one, which begins at its least point."""
+    """The lines of each ring, between the points where rings part or meet; of a ring without such points one, from its
+    least point."""
     beside: dict[Point, set[Point]] = {}
     for ring in rings:
         for before, here, behind in zip((ring[-1], *ring[:-1]), ring, (*ring[1:], ring[0])):

@@ -76,7 +76,6 @@ class Mesh(NamedTuple):
 
     @property
     def points(self) -> int:
-        """How many points the field has."""
         return self.width * self.height
 
     @property
@@ -94,16 +93,15 @@ class Mesh(NamedTuple):
 
 
 class Contour(NamedTuple):
-    """What lies within a limit: polygons in degrees, with DECIMALS, whose longitudes may go beyond 180; and the step of
-    the grid in metres, None if nothing is reached."""
+    """Polygons in degrees, with DECIMALS, whose longitudes may go beyond 180; and the grid's step in metres, None for no
+    polygon."""
 
     polygons: list[Polygon]
     step: float | None
 
 
 def contours(reach: Reach) -> list[Contour]:
-    """The contours of all limits. A node that is more than a step away from the line is inside if and only if it is
-    reached."""
+    """The contours of all limits. A node that is more than a step away from the line is inside if and only if it is reached."""
     found: list[list[list[Polygon]]] = [[] for _ in reach.boxes]
     steps: list[float | None] = [None for _ in reach.boxes]
     drawn: Box | None = None
@@ -138,8 +136,8 @@ def step_of(box: Box) -> float:
 
 
 def meshes_of(reach: Reach) -> list[Mesh]:
-    """The grids, the finest first. One serves as many limits as it has points for. The next one is around it and at most
-    RATIO times as coarse."""
+    """The grids, the finest first. Each serves as many limits as it has points for. The next one is at most RATIO times
+    as coarse."""
     served: list[tuple[float, int, Box]] = []
     rim = 0.0
     for limit, reached in enumerate(reach.boxes):

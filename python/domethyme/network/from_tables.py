@@ -1,37 +1,19 @@
-"""Networks that come of tables of nodes and arcs, or of files of the DIMACS challenge. Needs numpy.
-
-    NODES   a CSV table with the columns lon and lat, in degrees, a row for each node. It may have `node`, the node's name in the table
-            of arcs (any text; without it the numbers of the rows, from 1), key, its name in answers (without it that in `node`), and
-            osm and ends, as NETWORK.nodes.csv. Or a file X.co.
-    ARCS    a CSV table with the columns from and to, the nodes' names, a row for each arc, and some of
-
-            oneway    with this column a row is a road: 1 or yes is one arc, -1 one arc from `to` to `from`, and 0, no or nothing both
-            weight    a whole number, which routes have the least sum of; without it it is the milliseconds or centimetres of
-                      the other columns
-            metres    or km; without them the length of the line
-            seconds   without it those of the metres at kmh kilometres an hour, and without that column 0
-            WKT       the line, `LINESTRING (LON LAT, LON LAT, ..)`; without it the straight one from node to node
-            osm, highway, name, ref, junction, destination, structure     as NETWORK.arcs.csv
-
-            An empty field is as if the column weren't there. Or a file X.gr; its arcs are straight, and take 0 seconds.
-
-Columns may have other letters, and common names (columns.py).
-"""
+"""A network of tables of nodes and arcs, or of files of the DIMACS challenge: NODES and ARCS of `to_network --help`,
+which describes them. Columns may have other letters, and common names. Needs numpy."""
 import array
 import dataclasses
 import os
 import warnings
-from collections.abc import Sequence
+from collections.abc import Callable, Iterable, Mapping, Sequence
 
 import numpy as np
 from numpy.typing import NDArray
 
-from ..csv_tables import Row, excerpt, open_input, open_table
+from ..csv_tables import Row, Table, alike, excerpt, need_columns, open_input, open_table
 from ..dimacs import read_graph
 from ..errors import NetworkError, raised_as
 from ..limits import MAX_LINES, MAX_NODES, MAX_WEIGHT
 from ..program import StrPath
-from .columns import OF_ARCS, OF_NODES, Say, take_columns
 from .geo import parse_linestring
 from .groups import Ints
 from .net_file import (
@@ -42,6 +24,17 @@ from .reading import read_coordinates
 from .sphere import great_circle_metres, unit_vectors
 from .tables import ENDS, graph_of, is_coordinates, read_ends
 
+# By the name of a column the other names that are taken for it.
+OF_NODES: Mapping[str, tuple[str, ...]] = {
+    "node": ("id",), "lon": ("lng", "long", "longitude", "x"), "lat": ("latitude", "y"), "osm": (), "ends": (), "key": (),
+}
+OF_ARCS: Mapping[str, tuple[str, ...]] = {
+    "from": ("source", "from_node", "from_id"), "to": ("target", "to_node", "to_id"), "oneway": (), "weight": (),
+    "seconds": (), "metres": ("meters",), "km": (), "kmh": ("km/h", "kph"), "wkt": (), "osm": (),
+    **{name: () for name in ("highway", "name", "ref", "junction", "destination", "structure")},
+}
+# What takes a line of report.
+Say = Callable[[str], object]
 FARTHEST_END = 1000.0
 # The ids of OpenStreetMap that there may be.
 IDS = NO_OSM + 1, (1 << 63) - 1
@@ -56,10 +49,34 @@ SHORTER, FASTEST = 0.99, 400.0
 NO_BLANKS = bytes.maketrans(b"\0\x1c\x1d\x1e\x1f", b"?????")
 
 
+def take_columns(table: Table, known: Mapping[str, tuple[str, ...]], needed: Iterable[str], say: Say) -> None:
+    """Gives the columns of a table the names by which they are known, in small letters, and says which aren't used.
+    Raises NetworkError for those that are missing, all in one, and for two columns of one meaning."""
+    small_letters = [column.lower() for column in table.columns]
+    found: dict[str, str] = {}
+    for name, others in known.items():
+        names = [name] if name in small_letters else others
+        meant = [column for each in names for column in table.columns if column.lower() == each]
+        if len(meant) > 1:
+            raise NetworkError(f"has the columns {' and '.join(meant)}, of which each may be {name}: rename one", table.path, 1)
+        if meant:
+            found[meant[0]] = name
+            if meant[0].lower() != name:
+                say(f"{table.path}: column {meant[0]} is taken as {name}")
+    unused = [column for column in table.columns if column not in found]
+    table.columns = [found.get(column, column) for column in table.columns]
+    need_columns(table.path, table.columns, needed)
+    if unused:
+        free = [name for name in known if name not in found.values()]
+        near = ((column, alike(column, free)) for column in unused)
+        named = [column if other is None else f"{column} (did you mean {other}?)" for column, other in near]
+        say(f"{table.path}: columns not used: {', '.join(named)}")
+
+
 @dataclasses.dataclass
 class Nodes(NodeArrays):
-    """Nodes with their rows in the table by their names, None where the names are numbers from 1, its path and its columns.
-    Their keys are their names in answers, none where these are numbers from 1."""
+    """Nodes with their rows by their names, None where these are numbers from 1, and the table's path and columns. Keys
+    are names in answers."""
 
     rows: dict[str, int] | None = None
     path: StrPath = ""
@@ -122,7 +139,10 @@ def read_arcs(path: StrPath, nodes: Nodes, weight: str = "time", say: Say = lamb
             osm = fields.read_int("osm", *IDS) if fields.get("osm") else 0
             more = osm, known.setdefault(texts, len(known)), row
             line, values = line_of(nodes.places[[start - 1, end - 1]], fields), arc_values(fields, weight)
-            for step in directions_of(fields):
+            direction = fields.get("oneway", "1").strip().lower()
+            if direction not in ONE_WAY:
+                raise fields.error(f"oneway {excerpt(direction)} is none of 1, yes, -1, 0, no")
+            for step in ONE_WAY[direction]:
                 numbers.extend((*(start, end)[::step], *more))
                 figures.extend(values)
                 points_of_lines.frombytes(line[::step].tobytes())
@@ -150,14 +170,6 @@ def read_arcs(path: StrPath, nodes: Nodes, weight: str = "time", say: Say = lamb
     return ArcArrays(starts, stops, whole, seconds, lengths, osm_ids, of_texts, list(known), begins, points)
 
 
-def directions_of(fields: Row) -> tuple[int, ...]:
-    """The directions in which the road of a row is open; without a column that says it there is one."""
-    text = fields.get("oneway", "1").strip().lower()
-    if text not in ONE_WAY:
-        raise fields.error(f"oneway {excerpt(text)} is none of 1, yes, -1, 0, no")
-    return ONE_WAY[text]
-
-
 def doubt(arcs: NDArray[np.bool_], says: str, path: StrPath, say: Say) -> None:
     """Says of how many arcs something is doubted, where it is of any."""
     if count := int(np.count_nonzero(arcs)):
@@ -179,8 +191,8 @@ def arc_values(fields: Row, weight: str) -> tuple[float, float, float, float]:
 
 
 def line_of(ends: NDArray[np.int32], fields: Row) -> NDArray[np.int32]:
-    """The line of a road between two places in units, a straight one where the row has none. Raises NetworkError where it
-    doesn't lead from the one to the other."""
+    """The line of a road between two places in units, straight where the row has none. Raises NetworkError where it
+    doesn't join them."""
     wkt = fields.get("wkt", "")
     if not wkt:
         return ends

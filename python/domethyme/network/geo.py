@@ -31,8 +31,7 @@ def format_linestring(points: Iterable[Point]) -> str:
 
 
 def split_at_antimeridian(line: Sequence[Point]) -> list[list[Point]]:
-    """A line in parts none of which crosses the 180th meridian, as GeoJSON wants them (RFC 7946, 3.1.9): where it does, one part ends
-    there and the next begins on the other side. There is one of two points at least."""
+    """A line in parts, each of two points or more, that end and begin where it crosses the 180th meridian (RFC 7946, 3.1.9)."""
     parts = [[line[0]]]
     for here, there in itertools.pairwise(line):
         if abs(there[0] - here[0]) > 180:
@@ -48,8 +47,12 @@ def split_at_antimeridian(line: Sequence[Point]) -> list[list[Point]]:
 
 def to_geojson_geometry(line: Sequence[Point]) -> dict[str, Any]:
     """A line as GeoJSON: a LineString, or where it crosses the 180th meridian a MultiLineString."""
-    parts = [[list(point) for point in part] for part in split_at_antimeridian(line)]
-    return {"type": "LineString", "coordinates": parts[0]} if len(parts) == 1 else {"type": "MultiLineString", "coordinates": parts}
+    return multi_geometry("LineString", [[list(point) for point in part] for part in split_at_antimeridian(line)])
+
+
+def multi_geometry(kind: str, parts: list[Any]) -> dict[str, Any]:
+    """A GeoJSON geometry of a kind, or of several of it."""
+    return {"type": kind, "coordinates": parts[0]} if len(parts) == 1 else {"type": f"Multi{kind}", "coordinates": parts}
 
 
 def to_multilinestring(line: Sequence[Point]) -> str:

@@ -54,8 +54,8 @@ class Grid(NamedTuple):
     things: Any
 
     def candidate_slices(self, lon: Floats, lat: Floats, reach: Floats) -> tuple[Ints, Ints, Ints]:
-        """The slices of `things` that have all things within some metres of places, and others: the number of the place, where the
-        slice begins, and where it ends."""
+        """The number of a place, and where a slice of `things` begins and ends: the slices have all things within some
+        metres, and others."""
         which, lows, highs = self._key_ranges(lon, lat, (reach + self.margin) / EARTH_RADIUS)
         keys = self.keys[:]
         first, last = np.searchsorted(keys, lows), np.searchsorted(keys, highs)
@@ -147,8 +147,8 @@ class Grid(NamedTuple):
             yield np.concatenate(waiting)
 
     def candidates_of_each(self, places: Sequence[tuple[float, float]], reach: float) -> tuple[Ints, Ints]:
-        """The things within `reach` metres of places, and others: the number of the place, and the thing, which may come several
-        times. Those of a place that has very many are left out."""
+        """The number of a place, and a thing within `reach` metres or another, maybe several times. Places with very
+        many are left out."""
         found: list[tuple[int, int, int]] = []
         for number, place in enumerate(places):
             slices = self._slices_around(place, reach)
@@ -228,7 +228,6 @@ class Grid(NamedTuple):
 
 
 def size_of(slices: list[tuple[int, int]]) -> int:
-    """How many things slices have."""
     return sum(end - begin for begin, end in slices)
 
 
@@ -239,8 +238,8 @@ def concat_ranges(begins: NDArray[Any], counts: NDArray[Any]) -> tuple[Ints, Int
 
 
 def half_widths(lat: Floats, angle: Floats, south: Floats, height: float) -> Floats:
-    """How many degrees circles reach to the east in bands, which begin in the south: most where meridians touch them, or else at a side
-    of the band. A little more, since cosines of small angles are rounded."""
+    """How many degrees circles reach to the east in bands, at most: where meridians touch them, or else at a side of the
+    band. A little more, since cosines of small angles are rounded."""
     sine, cosine = np.sin(np.radians(lat)), np.cos(np.radians(lat))
     sides = np.radians(np.clip([south, south + height], -90, 90))
     with np.errstate(divide="ignore", invalid="ignore"):
@@ -253,13 +252,11 @@ def half_widths(lat: Floats, angle: Floats, south: Floats, height: float) -> Flo
 
 
 def band_index(lat: Floats, height: float) -> Ints:
-    """The band of each latitude."""
     return np.asarray(np.clip(np.floor((lat + 90) / height), 0, math.ceil(180 / height) - 1), np.int64)
 
 
 @functools.lru_cache(4)
 def columns_per_band(height: float) -> Ints:
-    """How many cells each band has."""
     south = np.arange(math.ceil(180 / height)) * height - 90
     widest = np.maximum(0, np.maximum(south, -(south + height)))  # (the latitude that is nearest to the equator)
     # (a little less, so that machines that round a cosine differently agree)

@@ -84,11 +84,9 @@ def node_degrees(arrays: "Arrays") -> NDArray[np.uint8]:
 
 
 def unique_text_rows(rows: NDArray[np.int32], row: NDArray[Any]) -> tuple[NDArray[np.int32], NDArray[np.int32]]:
-    """The different ones of the rows of texts that arcs have, in the order of their numbers, with zeros behind them as the file has
-    them, and the number of each arc's, by the row that each arc has."""
-    is_used = np.zeros(len(rows), dtype=bool)
-    is_used[row] = True
-    used = np.flatnonzero(is_used)
+    """The different rows of texts that arcs have, in order and with zeros behind them, and the number of each arc's, by
+    its row."""
+    used = np.flatnonzero(np.bincount(row, minlength=len(rows)))
     used = used[np.lexsort(rows[used].T[::-1])]
     is_new = np.ones(len(used), dtype=bool)
     is_new[1:] = (rows[used[1:]] != rows[used[:-1]]).any(axis=1)

@@ -11,6 +11,7 @@ from typing import Any, Literal, NamedTuple, get_args
 
 from .contour_shapes import closed_rings, denoised, generalized, split
 from .contours import contours
+from .geo import multi_geometry
 from .grid import Ints
 from .reach import PlaceOnRoad, Reach
 from .snapping import NO_ARC, RoadIndex, SnappedPoint
@@ -60,8 +61,7 @@ def limits(unit: str, minutes: Sequence[float] = (), metres: Sequence[float] = (
 
 
 def reach_from(roads: RoadIndex, points: Sequence[SnappedPoint], within: Sequence[int], lengths: Lengths) -> Reach:
-    """What is reached from the nearest of several points of roads within limits, each greater than the one before. Raises
-    ValueError for other limits, and what `lengths` does."""
+    """What is reached from the nearest of several points of roads within limits that rise. Raises what Reach and `lengths` do."""
     starts = sorted((node - 1, weight) for point in points for node, (weight, _) in point.exits.items())
     return Reach(roads.arrays, lengths(starts, max(within, default=0)), within, [as_place(point) for point in points])
 
@@ -73,10 +73,10 @@ def as_place(point: SnappedPoint) -> PlaceOnRoad:
 
 
 def features(reach: Reach, asked: Sequence[float], metric: Metric, style: Style = Style()) -> dict[str, Any]:
-    """The contours of what is reached, a Feature for each limit, the greatest first, and `attribution` beside them if
-    there is one. A contour lies within those of greater limits. A geometry is a Polygon or MultiPolygon, for lines and
-    roads a LineString or MultiLineString, and None if nothing is reached. Coordinates have six decimals; none crosses the
-    180th meridian (RFC 7946).
+    """The contours of what is reached, a Feature for each limit, the greatest first, and `attribution` beside them if there
+    is one. A contour lies within those of greater limits. A geometry is a Polygon, for lines and roads a LineString, or
+    several of these, and None if nothing is reached. Coordinates have six decimals; none crosses the 180th meridian (RFC
+    7946).
 
     asked    the limits in minutes or metres, as `contour` has them
 
@@ -109,10 +109,9 @@ def properties(value: float, metric: Metric, color: str) -> dict[str, Any]:
 
 
 def geometries(reach: Reach, style: Style) -> list[dict[str, Any] | None]:
-    """The geometry of each limit."""
     if style.shape == "roads":
-        roads = (reach.roads(limit) for limit in range(len(reach.limits)))
-        return [geometry("LineString", [[[*point] for point in line] for line in lines]) for lines in roads]
+        roads = [[[[*point] for point in line] for line in reach.roads(limit)] for limit in range(len(reach.limits))]
+        return [multi_geometry("LineString", lines) if lines else None for lines in roads]
     polygons = [contour.polygons for contour in contours(reach)]
     if style.denoise:
         polygons = denoised(polygons, style.denoise)
@@ -120,12 +119,5 @@ def geometries(reach: Reach, style: Style) -> list[dict[str, Any] | None]:
         polygons = generalized(polygons, style.generalize)
     rings = [[closed_rings(part) for part in split(parts)] for parts in polygons]
     if style.shape == "polygons":
-        return [geometry("Polygon", parts) for parts in rings]
-    return [geometry("LineString", [ring for part in parts for ring in part]) for parts in rings]
-
-
-def geometry(kind: str, parts: list[Any]) -> dict[str, Any] | None:
-    """A geometry of this kind, or of several; None without a part."""
-    if not parts:
-        return None
-    return {"type": kind, "coordinates": parts[0]} if len(parts) == 1 else {"type": f"Multi{kind}", "coordinates": parts}
+        return [multi_geometry("Polygon", parts) if parts else None for parts in rings]
+    return [multi_geometry("LineString", [ring for part in parts for ring in part]) if parts else None for parts in rings]

@@ -1,5 +1,4 @@
-"""The geometry of a leg: the points of its arcs, their weights, seconds and metres, and their bearings. It is in arrays, since
-a leg may have thousands of arcs."""
+"""The geometry of a leg, in arrays: the points of its arcs, their weights, seconds and metres, and their bearings."""
 import functools
 import itertools
 from typing import TypedDict
@@ -94,7 +93,6 @@ class LegGeometry:
         return weights, seconds, metres
 
     def figures(self, first: int, last: int) -> Figures:
-        """The weight, seconds and metres of arcs first:last."""
         weights, seconds, metres = self.prefix_sums
         weight, duration = weights[last] - weights[first], seconds[last] - seconds[first]
         return make_totals(self.roads, weight, duration, metres[last] - metres[first])

@@ -39,8 +39,8 @@ class Ends(NamedTuple):
 def weight_rows(
     ask: NodeTable, roads: RoadIndex, starts: Sequence[SnappedPoint], ends: Sequence[SnappedPoint], cells: int
 ) -> Iterator[Ints]:
-    """The least weights from each start to each end, NO_PATH for no path, some rows at a time, for which `ask` is called once. Of
-    nodes it is asked for `cells` lengths or one row; memory is a few times as many numbers, and some for each end."""
+    """The least weights from each start to each end, NO_PATH for no path, some rows at a time. `ask` is called once for
+    these, for `cells` lengths or one row; memory is a few times as many numbers, and some for each end."""
     entries, columns = Ends.of([end.entries for end in ends]), collections.defaultdict(list)
     for column, end in enumerate(ends):
         columns[place_key(end)].append(column)

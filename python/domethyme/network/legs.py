@@ -18,8 +18,8 @@ Between = Callable[[SnapEnds, SnapEnds], RouteReply | None]
 
 
 class Leg(NamedTuple):
-    """The path between two points: its weight, its arcs, and the weights of the parts of these that are driven. The first is
-    driven from its fraction `begin`, the last one to `end`."""
+    """The path between two points: its weight, its arcs, what is driven of their weights, and from where the first and
+    to where the last is."""
 
     weight: int
     arcs: list[int]

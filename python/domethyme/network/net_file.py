@@ -15,7 +15,7 @@ import stat
 import tempfile
 from collections import Counter
 from collections.abc import Iterator, Sequence
-from typing import IO, Any, NamedTuple
+from typing import IO, TYPE_CHECKING, Any, NamedTuple
 
 import numpy as np
 from numpy.typing import NDArray
@@ -98,8 +98,8 @@ class NodeArrays:
 
 
 class ArcArrays(NamedTuple):
-    """Arcs: their nodes, from 1, weights, seconds and metres, ways, rows of texts, and lines, in units: those of arc i are
-    points[begins[i]:begins[i + 1]]."""
+    """Arcs: their nodes, from 1, and the points of arc i, points[begins[i]:begins[i + 1]], in units. `osm` is the way,
+    `row` that of `texts`."""
 
     starts: Ints
     ends: Ints
@@ -218,9 +218,9 @@ def find_inconsistency(arrays: Arrays) -> str | None:
             continue
         if values.shape != (size[name] if rows is None else rows, *spec.row_shape):
             return f"{name} has another size"
-        if min_step is not None and not (len(values) and values[0] == 0 and values[-1] == high):
-            return f"{name} has wrong offsets"
-        if min_step is not None and (np.diff(values) < min_step).any():
+        if min_step is not None and not (
+            len(values) and values[0] == 0 and values[-1] == high and (np.diff(values) >= min_step).all()
+        ):
             return f"{name} has wrong offsets"
         if low is not None and values.size and not (values.min() >= low and values.max() <= high):
             return f"{name} isn't from {low:g} to {high:g}"
@@ -287,8 +287,7 @@ FORMS = {VERSION: FILE_SCHEMA, WITH_KEYS: SCHEMA_WITH_KEYS}
 
 
 def write(file: IO[bytes], arrays: Arrays) -> None:
-    """Writes the file of a network, with all that is derived from the arrays, to an empty file that can seek. Raises ValueError for
-    arrays that don't fit together."""
+    """Writes a network's file to an empty file that can seek. Raises ValueError for arrays that don't fit together."""
     if problem := find_inconsistency(arrays):
         raise ValueError(problem)
     version = WITH_KEYS if len(arrays.node_texts) else VERSION
@@ -296,7 +295,6 @@ def write(file: IO[bytes], arrays: Arrays) -> None:
 
 
 def iter_file_arrays(arrays: Arrays) -> Iterator[tuple[str, NDArray[Any]]]:
-    """The arrays of the file in their order."""
     steps, edges = indexes.edge_segments(arrays.edge_begin)
     levels = indexes.build_zoom_levels(arrays, steps, edges)
     edge_grid = indexes.edge_grid(arrays.points, steps, edges)
@@ -375,24 +373,18 @@ class MappedNetwork:
     texts           the list of texts, of which the first is what the data asks to be said
     out_begin, ..   as in index.py
     node_grid, edge_grid    nodes, counted from 0, and edges, by their places
+    box             the bounding box in degrees: west, south, east, which may be beyond 180, and north
     """
+
+    if TYPE_CHECKING:
+        def __getattr__(self, name: str) -> Column: ...
 
     def __init__(self, file: IO[bytes], path: str) -> None:
         self.path, self.file = path, MappedFile(file, path, FORMS, REMEDY)
         found = self.file.columns
-        self.node_osm, self.node_ends = found["node_osm"], found["node_ends"]
-        self.node_lon, self.node_lat = found["node_lon"], found["node_lat"]
-        self.arc_from, self.arc_to, self.arc_weight = found["arc_from"], found["arc_to"], found["arc_weight"]
-        self.arc_seconds, self.arc_metres, self.arc_osm = found["arc_seconds"], found["arc_metres"], found["arc_osm"]
-        self.arc_edge, self.arc_along = found["arc_edge"], found["arc_along"]
-        self.arc_row, self.row_texts = found["arc_row"], found["row_texts"]
-        self.edge_begin, self.points = found["edge_begin"], found["points"]
-        self.text_begin, self.text_bytes = found["text_begin"], found["text_bytes"]
+        vars(self).update(found)
         self.node_texts: Any = found.get("node_texts", np.empty(0, np.int32))
-        self.out_begin, self.out_arcs, self.degrees = found["out_begin"], found["out_arcs"], found["degrees"]
-        self.edge_first, self.edge_arcs = found["edge_first"], found["edge_arcs"]
-        self.step_begin, self.step_codes = found["step_begin"], found["step_codes"]
-        self.step_points, self.step_edges = found["step_points"], found["step_edges"]
+        self.has_keys = len(self.node_texts) > 0
         self.arc_texts, self.texts = ArcTexts(self.arc_row, self.row_texts), Texts(self.text_begin, self.text_bytes)
         size = Counter({name: len(column) for name, column in found.items()})
         fields = fields_of(size)
@@ -403,6 +395,7 @@ class MappedNetwork:
         if not size["text_begin"] > 1 or not size["edge_begin"]:
             raise self.file.damaged_error("it has no texts or edges")
         self.about = dict(zip(ABOUT, found["about"][:].tolist()))
+        self.box = [self.about[side] / UNITS for side in ("west", "south", "east", "north")]
         self.node_grid, self.edge_grid = self._grid("node"), self._grid("edge")
         self.version, self.sizes = np.array([VERSION]), np.array([self.about["nodes_size"], self.about["arcs_size"]])
 
@@ -426,11 +419,6 @@ class MappedNetwork:
         parts = range(0, len(self.arc_seconds), SECONDS_AT_A_TIME)
         return any(bool(self.arc_seconds[begin : begin + SECONDS_AT_A_TIME].any()) for begin in parts)
 
-    @property
-    def has_keys(self) -> bool:
-        """Whether nodes have keys, by which their user knows them."""
-        return len(self.node_texts) > 0
-
     def key(self, node: int) -> str | None:
         """The key of a node, counted from 1; None where nodes have none."""
         return self.texts[int(self.node_texts[node - 1])] if self.has_keys else None
@@ -452,12 +440,10 @@ class MappedNetwork:
         return found
 
     def line(self, arc: int) -> list[Point]:
-        """The points of an arc."""
         line = self.edge_line(int(self.arc_edge[arc]))
         return line if self.arc_along[arc] else line[::-1]
 
     def edge_line(self, edge: int) -> list[Point]:
-        """The points of an edge."""
         begin, end = self.edge_begin[edge : edge + 2].tolist()
         return [(lon / UNITS, lat / UNITS) for lon, lat in self.points[begin:end].tolist()]
 
@@ -466,8 +452,8 @@ REMEDY = "convert the map again, or make it of its tables, as `to_network NODES 
 
 
 def read(path: StrPath) -> MappedNetwork:
-    """The file of a network. Raises NetworkError for one that can't be read, is damaged where that is looked at when it is opened,
-    or is of another version."""
+    """The file of a network. Raises NetworkError for one that can't be read, is of another version, or is damaged in its
+    head or tail."""
     with raised_as(NetworkError, path), open(path, "rb", opener=open_nonblocking) as file:
         if not stat.S_ISREG(os.fstat(file.fileno()).st_mode):
             raise NetworkError("is no regular file, so it can't be mapped", path)
@@ -475,8 +461,8 @@ def read(path: StrPath) -> MappedNetwork:
 
 
 def map_tempfile(arrays: Arrays, path: str) -> MappedNetwork:
-    """Arrays as if they were read from a file of this name. They are in a temporary file, which goes with them. Raises ValueError as
-    `write`."""
+    """Arrays as if they were read from a file of this name: a temporary one has them, and goes with them. Raises
+    ValueError as `write`."""
     with tempfile.TemporaryFile() as file:
         write(file, arrays)
         file.flush()
@@ -484,12 +470,9 @@ def map_tempfile(arrays: Arrays, path: str) -> MappedNetwork:
 
 
 def is_current(prefix: str) -> bool:
-    """Whether there is a file NETWORK.net that goes before the tables beside it; else these are read. Tables count that the tools wrote, or
-    of which `to_network` made the file: where they are no newer than it, and of the size that it has for them, it goes before them.
-
-    Raises NetworkError as `read` does; where there is an archive of an earlier version alone; and where a user's own table has
-    changed since the file was made of it.
-    """
+    """Whether NETWORK.net goes before the tables beside it, those of the tools and those of which `to_network` made it:
+    where they are no newer than it, and of the size that it has for them. Raises NetworkError as `read` does; where
+    there is an archive of an earlier version alone; and where a user's own table has changed since."""
     files = Files(prefix)
     if not os.path.exists(files.binary):
         if os.path.exists(files.old):

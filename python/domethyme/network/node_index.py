@@ -15,10 +15,8 @@ from .tables import ENDS, Side, is_coordinates, need_nodes
 
 
 class NodeIndex:
-    """Where the nodes of a network lie, for look-ups by place. Nodes are counted from 0.
-
-    osm, lon, lat, ends   of each node, as net_file.Arrays has them, in columns of a file
-    """
+    """Where the nodes of a network lie, for look-ups by place. Nodes are counted from 0; `osm`, `lon`, `lat` and `ends`
+    are columns."""
 
     def __init__(self, arrays: MappedNetwork, has_arcs: bool = True) -> None:
         """Those of a mapped file, which has no arcs where it was made of a table of nodes or of a DIMACS .co file alone."""
@@ -34,8 +32,8 @@ class NodeIndex:
         return self._arrays.keys()
 
     def nearest(self, lon: Floats, lat: Floats, side: Side) -> tuple[NDArray[np.int64], Floats]:
-        """The nearest node to each place in degrees, from 0, of those where routes may begin (`from`) or end (`to`), and the metres
-        to it. Raises NetworkError where there is none."""
+        """The node nearest to each place in degrees, where routes may begin (`from`) or end (`to`), and the metres.
+        Raises NetworkError for none."""
         places = unit_vectors(lon, lat)
 
         def away(rows: NDArray[np.int64], nodes: NDArray[np.int64]) -> Floats:
@@ -52,12 +50,11 @@ class NodeIndex:
         """The nodes that turn restrictions made of the junction of a node: it alone where they made none."""
         if not self.ends[node]:
             return (node,)
-        place = int(self.lon[node]), int(self.lat[node])
-        found = {node}
-        for part in self._arrays.node_grid.candidates((place[0] / UNITS, place[1] / UNITS), 0.1):
-            here = part[(self.lon[part] == place[0]) & (self.lat[part] == place[1]) & (self.ends[part] != 0)]
-            found.update(here[self.osm[here] == self.osm[node]].tolist())
-        return tuple(sorted(found))
+        near = np.concatenate([*self._arrays.node_grid.candidates((self.lon[node] / UNITS, self.lat[node] / UNITS), 0.1)])
+        is_part = self.ends[near] != 0
+        for column in (self.lon, self.lat, self.osm):
+            is_part &= column[near] == column[node]
+        return tuple(sorted({node, *near[is_part].tolist()}))
 
 
 def load_node_index(word: StrPath) -> NodeIndex:

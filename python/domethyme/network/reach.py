@@ -36,8 +36,8 @@ T = TypeVar("T", bound=np.generic)
 
 
 class PlaceOnRoad(NamedTuple):
-    """A point of a road: its edge, and the share of the edge's metres before the point. At 0 and 1 it is a node. `arcs` are
-    those of the edge by which it is left, or come to; None for all."""
+    """A point of a road: its edge, the share of the edge's metres before it, and the arcs by which it is left, or come
+    to; None for all."""
 
     edge: int
     fraction: float
@@ -45,11 +45,8 @@ class PlaceOnRoad(NamedTuple):
 
 
 class Plane(NamedTuple):
-    """Metres to the east of a meridian and to the north of the equator, by the length of a degree at one latitude.
-
-    origin   the meridian, in units of a degree
-    east     the metres of a degree of longitude
-    """
+    """Metres to the east of a meridian, `origin` in units of a degree, and to the north of the equator. `east` are those
+    of a degree."""
 
     origin: int
     east: float
@@ -67,8 +64,6 @@ class Plane(NamedTuple):
 
 
 class Box(NamedTuple):
-    """A rectangle of a plane."""
-
     west: float
     south: float
     east: float
@@ -126,8 +121,7 @@ class Vertices(NamedTuple):
 
 class Shares(NamedTuple):
     """How far edges are reached, of shape (limits, edges): the share from the first point, and from the last; -1 if not
-    even that point is. `parts` are those at places: the row of the edge, and for each limit the shares between which it
-    is reached."""
+    even that is. And for the places the row of the edge, and for each limit the shares between which it is reached."""
 
     first: Floats
     last: Floats
@@ -145,8 +139,7 @@ class Shares(NamedTuple):
         return found
 
     def intervals(self, limit: int) -> tuple[Ints, Floats, Floats]:
-        """What is reached within a limit: rows, which rise, and the shares between which they are; those of a row are
-        apart."""
+        """What is reached within a limit: rows, which rise, and the shares between which they are; those of a row are apart."""
         one, other = (np.flatnonzero(way[limit] > 0) for way in (self.first, self.last))
         parts = [(row, lows[limit], highs[limit]) for row, lows, highs in self.parts if lows[limit] < highs[limit]]
         more = np.array(parts, dtype=float).reshape(-1, 3)
@@ -193,7 +186,7 @@ class Reach:
         """
         self.network, self.limits, self.towards = network, list(limits), towards
         self._lengths = np.asarray(lengths)
-        if self._lengths.shape != network.node_lon.shape or self._lengths.dtype.kind != "i":
+        if self._lengths.shape != (len(network.node_lon),) or self._lengths.dtype.kind != "i":
             raise ValueError(f"lengths have to be whole numbers with a sign, one for each of {len(network.node_lon)} nodes")
         if not self.limits or self.limits[0] < 0 or any(low >= high for low, high in zip(self.limits, self.limits[1:])):
             raise ValueError("limits have to be numbers from 0, each greater than the one before")
@@ -204,12 +197,11 @@ class Reach:
         self.boxes: list[Box | None] = [None] * len(self.limits)
         reached = np.flatnonzero((self._lengths >= 0) & (self._lengths <= self.limits[-1]))
         if len(reached) or self._places:
-            self._set_plane(reached)
+            self.plane = self._plane_of(reached)
             self._set_boxes(reached)
 
-    def _set_plane(self, reached: Ints) -> None:
-        """Lays the plane about the middle of the reached nodes and the places, which may lie on both sides of the 180th
-        meridian."""
+    def _plane_of(self, reached: Ints) -> Plane:
+        """The plane about the middle of the reached nodes and the places, which may lie on both sides of the 180th meridian."""
         network = self.network
         lons, lats = network.points[network.edge_begin[self._edges_of_places]].T
         lons, lats = np.append(network.node_lon[reached], lons), np.append(network.node_lat[reached], lats)
@@ -217,16 +209,16 @@ class Reach:
         middle = int(lons[0]) + (int(away.min()) + int(away.max())) // 2
         lat = (int(lats.min()) + int(lats.max())) / 2 / UNITS
         east = METRES_OF_DEGREE * max(float(np.cos(np.radians(lat))), 0.01)
-        self.plane = Plane(int(wrapped_difference(np.array([middle]))[0]), east)
+        return Plane(int(wrapped_difference(np.array([middle]))[0]), east)
 
     def _set_boxes(self, reached: Ints) -> None:
-        """Sets the boxes: around the nodes and places, and then what is reached of edges near by, but for those that are
-        so short that no grid shows them."""
+        """Sets the boxes: around nodes and places, and what is reached of edges near by, but for those that are too
+        short for a grid."""
         fractions = np.array([place.fraction for place in self._places])
         here = self.vertices(self._edges_of_places).at(np.arange(len(fractions)), fractions)
         boxes = [Box.around(here) for _ in self.limits]
         for nodes in chunks_of(reached):
-            points, levels = self.plane.of(self._units_of(nodes)), self._levels_by_length(nodes)
+            points, levels = self._points_of(nodes), self._levels_by_length(nodes)
             boxes = [box.with_(Box.around(points[levels == limit])) for limit, box in enumerate(boxes)]
         for limit, box in enumerate(itertools.accumulate(boxes, Box.with_)):
             if box.west < np.inf:
@@ -244,9 +236,9 @@ class Reach:
         ends = vertices.at(np.tile(rows, 2), np.concatenate((lows, highs)))
         return Box.around(np.concatenate((vertices.points[shares.levels(vertices.rows, vertices.shares) <= limit], ends)))
 
-    def _units_of(self, nodes: Ints) -> NDArray[np.int32]:
-        """Where nodes lie, in units of a degree."""
-        return np.column_stack((self.network.node_lon[nodes], self.network.node_lat[nodes]))
+    def _points_of(self, nodes: Ints) -> Floats:
+        """The points of nodes in the plane."""
+        return self.plane.of(np.column_stack((self.network.node_lon[nodes], self.network.node_lat[nodes])))
 
     def edges_near(self, box: Box, metres: float = -1.0) -> Iterator[Ints]:
         """The edges in a box that are longer than so many metres, and others near it, which rise, some at a time."""
@@ -259,8 +251,7 @@ class Reach:
     def nodes_near(self, box: Box) -> Iterator[tuple[Floats, Levels]]:
         """The nodes in a box, and others near it, some at a time: their points in the plane, and their levels."""
         nodes = self._near(self.network.node_grid, len(self.network.node_lon), box)
-        for some, levels in zip(chunks_of(nodes), chunks_of(self.node_levels(nodes))):
-            yield self.plane.of(self._units_of(some)), levels
+        return zip(map(self._points_of, chunks_of(nodes)), chunks_of(self.node_levels(nodes)))
 
     def _near(self, grid: Grid, count: int, box: Box) -> Ints:
         """The things of a grid with so many that lie in the circle around a box."""
@@ -309,9 +300,9 @@ class Reach:
             share = np.where((lengths < 0) | (left < 0), -1.0, np.where(left < weights, left / np.maximum(weights, 1), 1.0))
             for side, is_there in zip(found, (is_first, ~is_first)):
                 side[row, counts > 0] = np.maximum.reduceat(np.where(is_there, share, -1.0), groups)
-        row_of = {edge: int(np.searchsorted(edges, edge)) for edge, _, _ in self._parts}
-        is_here = {edge: row < len(edges) and edges[row] == edge for edge, row in row_of.items()}
-        parts = [(row_of[edge], lows, highs) for edge, lows, highs in self._parts if is_here[edge]]
+        rows = np.searchsorted(edges, np.array([edge for edge, _, _ in self._parts], np.int64)).tolist()
+        known = zip(rows, self._parts)
+        parts = [(row, lows, highs) for row, (edge, lows, highs) in known if row < len(edges) and edges[row] == edge]
         return Shares(found[0], found[1], parts)
 
     def _parts_at(self, place: PlaceOnRoad) -> Iterator[tuple[int, Floats, Floats]]:
@@ -332,7 +323,6 @@ class Reach:
             yield place.edge, np.minimum(here, there), np.maximum(here, there)
 
     def vertices(self, edges: Ints) -> Vertices:
-        """The points of edges."""
         begins = self.network.edge_begin[edges]
         counts = self.network.edge_begin[edges + 1] - begins
         rows, places = concat_ranges(begins, counts)
@@ -349,8 +339,8 @@ class Reach:
         return Vertices(rows, self.plane.of(points), shares, is_last, metres)
 
     def roads(self, limit: int) -> list[list[Point]]:
-        """The lines of all roads that are reached within a limit, which is given by its number, as far as they are
-        reached, with DECIMALS. None crosses the 180th meridian."""
+        """The lines of the roads that are reached within the limit of this number, with DECIMALS. None crosses the 180th
+        meridian."""
         box = self.boxes[limit]
         chunks = self.edges_near(box.grown(FARTHEST_END)) if box else ()
         return [line for edges in chunks for line in self._lines(edges, limit)]

@@ -25,6 +25,7 @@ from .parallel import differs_from_previous
 from .sphere import Floats, interpolate_one, nearest_on_segments
 from .tables import ENDS
 
+# So many metres from an end of an edge a point is at the end.
 END_TOLERANCE = 0.005
 NO_ARC = -1
 # Edges that are cached.
@@ -90,28 +91,18 @@ class RoadIndex:
 
     unit         of weights: `duration` (milliseconds), `distance` (centimetres), or `weight` for anything else
     has_seconds  whether arcs have seconds; if not, durations aren't known
+    box          the bounding box in degrees: west, south, east, which may be beyond 180, and north
     """
 
     def __init__(self, prefix: str) -> None:
         self.arrays: MappedNetwork = load_network(prefix)
-        self.nodes = len(self.arrays.node_osm)
+        self.nodes, self.edges = len(self.arrays.node_osm), len(self.arrays.edge_begin) - 1
         if not len(self.arrays.arc_from):
             raise NetworkError("has no arcs", self.arrays.path)
         self.texts, self.unit, self.degree = self.arrays.texts, self.arrays.unit, self.arrays.degrees
-        self.has_seconds = self.arrays.has_seconds
+        self.has_seconds, self.box = self.arrays.has_seconds, self.arrays.box
         self.edge = functools.lru_cache(EDGE_CACHE_SIZE)(self._edge)
         self._places = NodeIndex(self.arrays)
-
-    @property
-    def edges(self) -> int:
-        """The number of edges."""
-        return len(self.arrays.edge_begin) - 1
-
-    @functools.cached_property
-    def box(self) -> tuple[float, float, float, float]:
-        """The bounding box in degrees: west, south, east, which may be beyond 180, and north."""
-        west, south, east, north = (self.arrays.about[side] / UNITS for side in ("west", "south", "east", "north"))
-        return west, south, east, north
 
     def split_nodes(self, node: int) -> tuple[int, ...]:
         """All nodes into which turn restrictions split the junction of a node."""
@@ -139,7 +130,6 @@ class RoadIndex:
         return np.array([text for text in junctions if self.texts[text] in ROUNDABOUT_VALUES], dtype=np.int64)
 
     def is_roundabout(self, arcs: NDArray[np.int64]) -> NDArray[np.bool_]:
-        """Which arcs are on a roundabout."""
         return np.asarray((self.arrays.arc_texts[arcs, JUNCTION][:, None] == self.roundabout_texts).any(axis=1))
 
     def count_exits(self, node: int) -> int:
@@ -170,7 +160,11 @@ class RoadIndex:
         here = np.array(place)
 
         def metres(edges: Ints) -> Floats:
-            return np.concatenate([self._metres(here, part) for part in split_by_points(edges, self.arrays.edge_begin)])
+            found = []
+            for part in split_by_points(edges, self.arrays.edge_begin):
+                ways = self._project(here, part)
+                found.append(np.minimum.reduceat(ways.metres, np.flatnonzero(differs_from_previous(ways.which))))
+            return np.concatenate(found)
 
         near = self.arrays.edge_grid.nearest(place, min(count, self.edges), metres, step)
         found = ((edge, self._project(here, np.array([edge]))) for _, edge in near)
@@ -204,17 +198,14 @@ class RoadIndex:
         metres, shares = nearest_on_segments(places if places.ndim < 2 else places[which], points)
         return SegmentProjections(which, rows, metres.round(6), shares)
 
-    def _metres(self, place: Floats, edges: Ints) -> Floats:
-        """The metres from a place to each edge."""
-        ways = self._project(place, edges)
-        return np.asarray(np.minimum.reduceat(ways.metres, np.flatnonzero(differs_from_previous(ways.which))))
-
     def _snap_on_segment(self, edge: int, ways: SegmentProjections, best: int) -> SnappedPoint:
         """The nearest point of segment `best` of the projections, which is of this edge."""
         line, share = self.edge(edge), float(ways.shares[best])
         step = int(ways.rows[best]) - int(self.arrays.edge_begin[edge])
         lon, lat = interpolate_one(line.points[step], line.points[step + 1], share)
-        fraction = self._fraction(line, step, share)
+        along = line.cumulative[step] + share * (line.cumulative[step + 1] - line.cumulative[step])
+        is_at_start = along <= END_TOLERANCE or line.metres <= 2 * END_TOLERANCE
+        fraction = 0.0 if is_at_start else 1.0 if along >= line.metres - END_TOLERANCE else along / line.metres
         place = round(lon, 6), round(lat, 6), float(ways.metres[best]), edge, fraction
         name = next((arc.name for arc in line.arcs.values() if arc.name), "")
         if 0.0 < fraction < 1.0:
@@ -224,14 +215,6 @@ class RoadIndex:
         exits = {each: (0, NO_ARC) for each in copies if self.ends(each) in ("", "from")}
         entries = {each: (0, NO_ARC) for each in copies if self.ends(each) in ("", "to")}
         return SnappedPoint(*place, exits, entries, copies, name)
-
-    @staticmethod
-    def _fraction(line: Edge, step: int, part: float) -> float:
-        """The fraction of an edge at a fraction of its segment; 0 or 1 within END_TOLERANCE metres of its ends."""
-        along = line.cumulative[step] + part * (line.cumulative[step + 1] - line.cumulative[step])
-        if along <= END_TOLERANCE or line.metres <= 2 * END_TOLERANCE:
-            return 0.0
-        return 1.0 if along >= line.metres - END_TOLERANCE else along / line.metres
 
     def split_arcs(self, arcs: dict[int, Arc], fraction: float) -> tuple[dict[int, tuple[int, int]], dict[int, tuple[int, int]]]:
         """The exits and the entries of a point that splits these arcs at a fraction of their edge."""
@@ -282,7 +265,6 @@ def clip(edge: Edge, begin: float, end: float) -> list[Point]:
 
 
 def point_at(edge: Edge, metres: float) -> Point:
-    """The point at some metres along an edge."""
     index = min(max(bisect.bisect_right(edge.cumulative, metres), 1), len(edge.cumulative) - 1)
     begin, length = edge.cumulative[index - 1], edge.cumulative[index] - edge.cumulative[index - 1]
     part = (metres - begin) / length if length else 0.0
@@ -291,5 +273,4 @@ def point_at(edge: Edge, metres: float) -> Point:
 
 
 def segment_metres(points: "tuple[Point, ...] | list[Point]") -> list[float]:
-    """The metres of each segment of a line."""
     return [metres_between(*begin, *end) for begin, end in itertools.pairwise(points)]

@@ -1,7 +1,4 @@
-"""Places on the earth as points of a sphere of radius 1, where neither a meridian nor a pole is special. Needs numpy.
-
-Lines between places are arcs of great circles, the shorter way round.
-"""
+"""Places on the earth as points of a sphere of radius 1. Lines are arcs of great circles, the shorter way round. Needs numpy."""
 import math
 
 import numpy as np
@@ -24,7 +21,6 @@ def unit_vectors(lon: ArrayLike, lat: ArrayLike) -> Floats:
 
 
 def angles(begins: Floats, ends: Floats) -> Floats:
-    """The angles between points."""
     chords = np.sqrt(np.square(ends - begins).sum(axis=-1))
     found: Floats = 2 * np.arcsin(np.minimum(1, chords / 2))
     return found
@@ -67,8 +63,8 @@ def unit_vector(lon: float, lat: float) -> tuple[float, float, float]:
 
 
 def local_components(place: Floats, points: Floats) -> tuple[Floats, Floats, Floats]:
-    """How far to the east, to the north and up points lie from the earth's centre, by the directions at a place. They have the shape
-    (.., 2), in degrees; the place is one, or one for each of the last axis of points."""
+    """How far east, north and up of the earth's centre points lie, by the directions at a place, or one for each of the
+    last axis of points."""
     here, there = np.radians(place), np.radians(points)
     there[..., 0] -= here[..., 0]
     sine, cosine = np.sin(there), np.cos(there)
@@ -78,12 +74,10 @@ def local_components(place: Floats, points: Floats) -> tuple[Floats, Floats, Flo
 
 
 def nearest_on_segments(place: Floats, ways: Floats) -> tuple[Floats, Floats]:
-    """The nearest point on each way from a point to another: the metres to it from a place, or from one for each way, and the share of
-    the way that lies before it. Ways have the shape (2, ways, 2): beginnings and ends, in degrees.
-
-    Near the place that is looked for in the plane that touches the earth there, to which points come along lines from its centre: ways
-    are straight there, and the nearest point is the nearest on the earth. A share is right to 4 millionths then.
-    """
+    """The nearest point on each way from a point to another: the metres to it from a place, or from one for each way,
+    and the share of the way before it. Ways have the shape (2, ways, 2): beginnings and ends, in degrees. Near the place
+    points come along lines from the earth's centre to the plane that touches it there: ways are straight there, and a
+    share is right to 4 millionths."""
     east, north, up = local_components(place, ways)
     if up.min() < COS_FLAT:
         return nearest_on_segments_far(

@@ -1,19 +1,11 @@
 """The tables of a network, NETWORK.nodes.csv and NETWORK.arcs.csv, and the names of its files.
 
-A network is files with one beginning of their names, NETWORK:
-
-    NETWORK.gr          the graph, in the format of docs/FORMATS.md
-    NETWORK.nodes.csv   node, osm, lon, lat, ends: where node 1, 2, .. is, in degrees; `osm` is empty for a point
-                        between; `ends` is empty, or says that routes begin there alone (from), end there alone (to) or
-                        neither (no), as turn_restrictions.py of the tools has it
-    NETWORK.arcs.csv    from, to, weight, seconds, metres, osm, highway, name, ref, junction, destination, structure, WKT:
-                        a row for each arc of the graph, in the graph's order; structure is tunnel, bridge or empty, WKT
-                        its line, longitude first
-
-    NETWORK.net         both tables and what is derived from them, to be mapped: read in their place where it is no older
+A network is files with one beginning of their names, NETWORK: the graph NETWORK.gr, both tables, which `osm_to_gr --help`
+describes, and NETWORK.net, which has them and what is derived from them, to be mapped: it is read in their place where it
+is no older. The columns ends, ref, junction, destination and structure of tables may be missing, and are empty then.
 
 Beside each table lie NAME.csvt and NAME.prj, by which GDAL and QGIS know the kinds of its columns and that it has degrees of
-WGS 84; no tool here reads them. The columns ends, ref, junction, destination and structure may be missing, and are empty then.
+WGS 84; no tool here reads them.
 """
 import csv
 import errno
@@ -111,8 +103,8 @@ def first_line(path: StrPath, encoding: str) -> str:
 
 
 class Nodes(NamedTuple):
-    """Node n has its values at n - 1: the id in OpenStreetMap or None, degrees, which ends of routes it has (ENDS), and its key
-    where nodes have keys."""
+    """Node n has its values at n - 1: the id in OpenStreetMap or None, degrees, which ends of routes it has (ENDS), and
+    its key if any has."""
 
     osm: list[int | None]
     lon: list[float]

@@ -30,8 +30,8 @@ CellCounts = tuple[NDArray[np.uint32], Ints]
 
 
 class Levels(NamedTuple):
-    """Kind k has codes[begins[k]:begins[k + 1]], which rise: the cells of its steps. `steps` are their first points, and `edges`
-    their edges. Kind k is shown from zoom shown_from[k] on."""
+    """Kind k, shown from zoom shown_from[k] on, has the steps begins[k]:begins[k + 1]: their cells, which rise, first
+    points and edges."""
 
     begins: Ints
     codes: NDArray[np.uint32]
