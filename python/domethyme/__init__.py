@@ -24,14 +24,13 @@ Errors are DomethymeErrors, listed in `domethyme.errors`; arguments that can't b
 import importlib
 from typing import TYPE_CHECKING, Any
 
-from .checking import check
 from .deprecated import warn_renamed
 from .errors import (
     DomethymeError, FileError, GraphError, HierarchyError, HierarchyNotFound, LibraryError, LibraryNotFound, NetworkError,
     NoSuchNode, NotProved, OutOfMemory, ProgramError, ProgramNotFound, ProgramStopped, ReadWriteError, WrongHierarchy
 )
 from .extras import need
-from .graphs import Graph, prepare, unscaled, write_graph
+from .graphs import Graph, check, prepare, unscaled, write_graph
 from .hierarchy import Hierarchy
 from .keys import Keys
 from .program import find_program

@@ -58,7 +58,6 @@ def columns_of(pairs: Any) -> list[Any] | None:
 
 
 def split(pairs: Iterable[Any]) -> tuple[list[Hashable], list[Hashable]]:
-    """The firsts and the seconds of rows of two keys."""
     rows = [tuple(row) for row in pairs]
     if any(len(row) != 2 for row in rows):
         raise ValueError("pairs have to be rows of two nodes")
@@ -82,11 +81,9 @@ def is_pandas(value: Any) -> bool:
     return type(value).__module__.partition(".")[0] == "pandas"
 
 
-def like_frame(lengths: Numbers, pairs: Any) -> Any:
-    """The lengths as a Series of Int64 with the frame's index where the pairs came as a frame, else as they are."""
-    if not is_pandas(pairs):
-        return lengths
-    return load("pandas").Series(with_missing(lengths), index=pairs.index, name="length")
+def series(lengths: Numbers, index: Any) -> Any:
+    """The lengths as a Series of Int64 with this index, missing if there is no path."""
+    return load("pandas").Series(with_missing(lengths), index=index, name="length")
 
 
 def like_axes(table: Numbers, sources: Any, targets: Any, has_keys: bool, missing: Any) -> Any:
@@ -103,10 +100,8 @@ def like_axes(table: Numbers, sources: Any, targets: Any, has_keys: bool, missin
 
 
 def by_keys(lengths: Numbers, keys: Keys) -> Any:
-    """The length of each node as a Series of Int64 by the nodes' keys, missing where there is none."""
-    pandas = load("pandas")
-    index = pandas.Index(keys.of(np.arange(len(lengths))), tupleize_cols=False)
-    return pandas.Series(with_missing(lengths), index=index, name="length")
+    """The length of each node as a Series by the nodes' keys."""
+    return series(lengths, load("pandas").Index(keys.of(np.arange(len(lengths))), tupleize_cols=False))
 
 
 def axis(values: Any) -> Any:

@@ -49,8 +49,7 @@ def open_to_write(path: StrPath, mode: str) -> IO[Any]:
 
 @contextlib.contextmanager
 def atomic_write_all(*paths: StrPath, mode: str = "w") -> Iterator[list[IO[Any]]]:
-    """Files to write beside those of the paths: all whole and synced after the block, or all as they were where it ends
-    by an exception."""
+    """Files to write: all whole and synced after the block, or all as they were where it ends by an exception."""
     targets = [os.path.realpath(path) for path in paths]
     temp_paths: list[str] = []
     with add_paths_to_errors(*paths), contextlib.ExitStack() as leftovers:

@@ -23,12 +23,7 @@ RouteArrays = tuple[NDArray[np.int64], NDArray[np.int64], NDArray[np.int32]]
 def lengths(router: Router, pairs: NDArray[np.int64]) -> NDArray[np.int64]:
     """The least lengths of pairs of nodes, of shape (n, 2), NO_PATH where there is no path."""
     pairs_u32, found = np.ascontiguousarray(pairs, dtype=np.uint32), np.empty(len(pairs), np.int64)
-
-    def query_chunk(part: slice, seat: Searcher) -> None:
-        chunk, out = pairs_u32[part], found[part]
-        seat.lengths(chunk.ctypes.data, len(chunk), out.ctypes.data)
-
-    map_chunks(router, query_chunk, len(pairs))
+    map_chunks(router, lambda part, seat: seat.lengths(pairs_u32[part], found[part]), len(pairs))
     return found
 
 
@@ -40,13 +35,9 @@ def table(router: Router, sources: NDArray[np.int64], targets: NDArray[np.int64]
         raise OutOfMemory(f"{router.name}: {size}: ask for fewer sources at a time", 6)
     rows, columns = (np.ascontiguousarray(nodes, dtype=np.uint32) for nodes in (sources, targets))
     found = np.empty((len(rows), len(columns)), np.int64)
-
-    def query_chunk(part: slice, seat: Searcher) -> None:
-        chunk, out = rows[part], found[part]
-        seat.table(chunk.ctypes.data, len(chunk), columns.ctypes.data, len(columns), out.ctypes.data)
-
     if found.size:
-        map_chunks(router, query_chunk, len(rows), rows_at_a_time(*found.shape))
+        at_a_time = rows_at_a_time(*found.shape)
+        map_chunks(router, lambda part, seat: seat.table(rows[part], columns, found[part]), len(rows), at_a_time)
     return found
 
 
@@ -57,17 +48,15 @@ def rows_at_a_time(rows: int, columns: int) -> int:
 
 
 def reach(router: Router, starts: Sequence[tuple[int, int]], limit: int | None) -> NDArray[np.int64]:
-    """The least length of each node from the nearest of several starts, a node and an added length each; NO_PATH above
-    the limit."""
+    """The least length of each node from the nearest of several starts (node, added length); NO_PATH above the limit."""
     found = np.empty(router.nodes, np.int64)
     with router.searcher() as seat:
-        seat.reach(seed_array(starts), limit, found.ctypes.data, router.nodes)
+        seat.reach(seed_array(starts), limit, found)
     return found
 
 
 def routes(router: Router, pairs: NDArray[np.int64]) -> RouteArrays:
-    """The routes of pairs of nodes, of shape (n, 2): the length of each or NO_PATH, how many nodes it has, and the nodes
-    of all."""
+    """The routes of pairs of shape (n, 2): the length of each or NO_PATH, how many nodes it has, and all nodes."""
 
     def query_chunk(part: slice, seat: Searcher) -> RouteArrays:
         lengths, nodes = zip(*(route_arrays(seat, source, target) for source, target in pairs[part].tolist()))

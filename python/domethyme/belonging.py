@@ -1,9 +1,8 @@
 """What belongs together, and how that is told. What differs is refused by an error that names both sides and what to do.
 
-A hierarchy is compared by all that can be told from its file: the number of nodes, and its links beside the least arcs between
-their ends. A link without a middle is such an arc, so it weighs as much; another one is lighter; and there is a link wherever
-there is an arc. That holds for each file of `routecli prepare`. It finds another map, another vehicle, one weight that
-differs, and damage of a weight that no shortcut rests on. It is no proof: that is `routecli check`.
+A hierarchy is compared by the number of nodes, and by its links beside the least arcs between their ends. A link without a middle
+weighs as much as such an arc; another one is lighter; and there is a link wherever there is an arc. That finds another map,
+another vehicle, one weight that differs, and damage of a weight that no shortcut rests on. The proof is `routecli check`.
 """
 import hashlib
 import os
@@ -48,8 +47,7 @@ class Origin(NamedTuple):
 
 
 def compare_files(hierarchy: str, network: str, whole: bool = False) -> None:
-    """Raises WrongHierarchy where a file of a hierarchy isn't that of the network that a tool's argument NETWORK names, and the
-    errors of both."""
+    """Raises WrongHierarchy where a file isn't that of the network that a tool's argument names, and errors of both."""
     from .network.from_tables import load_network_or_dimacs
 
     with open_hierarchy_file(hierarchy) as file:

@@ -1,7 +1,5 @@
-"""Graphs, pairs and answers as texts, in the formats of docs/FORMATS.md.
-Nodes are numbered from 1, as in the texts. The path `-` is standard input. What is wrong is a NetworkError with file and row.
-Needs nothing but Python's own library.
-"""
+"""Graphs, pairs and answers as texts, in the formats of docs/FORMATS.md, where nodes are numbered from 1. The path `-`
+is standard input. What is wrong is a NetworkError with file and row. Needs nothing but Python's own library."""
 from collections.abc import Collection, Iterable, Iterator
 from typing import IO, NamedTuple
 

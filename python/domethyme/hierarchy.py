@@ -137,7 +137,8 @@ class Hierarchy:
         need("numpy")
         from . import arrays, batch
 
-        return arrays.like_frame(batch.lengths(self._router, arrays.pairs_of(pairs, self.keys, self.nodes)), pairs)
+        found = batch.lengths(self._router, arrays.pairs_of(pairs, self.keys, self.nodes))
+        return arrays.series(found, pairs.index) if arrays.is_pandas(pairs) else found
 
     def routes(self, pairs: Any) -> "Routes":
         """The Routes of many pairs, which are given and asked for as for `lengths`."""

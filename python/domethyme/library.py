@@ -68,11 +68,9 @@ GET_IT = "install libdomethyme1, build it by packaging/build-library, or set DOM
 
 
 def find_library(named: StrPath | None = None) -> str:
-    """The path of libdomethyme: the one that is named, else that of the environment variable DOMETHYME_LIBRARY, else the one
-    inside this package (of a wheel), else the one that was built in this repository, else the system's.
-
-    Raises LibraryNotFound for one that is named and isn't there.
-    """
+    """The path of libdomethyme: what is named, or DOMETHYME_LIBRARY, else the one inside this package (of a wheel), else
+    the one that was built in this repository, else the system's. Raises LibraryNotFound for one that is named and isn't
+    there."""
     if choice := named or os.environ.get("DOMETHYME_LIBRARY"):
         if not os.path.isfile(choice):
             raise LibraryNotFound(f"{os.fspath(choice)}: is no file of a library")

@@ -32,8 +32,7 @@ def find_program(named: StrPath | None = None) -> str:
 def run_explaining(
     program: str, arguments: list[str], files: list[str], **options: Any
 ) -> "subprocess.CompletedProcess[bytes]":
-    """Runs the program to its end, with empty standard input and `options` for subprocess.run, on files of any names.
-    Its standard error has its explanation."""
+    """Runs the program to its end on files of any names, with empty standard input; stderr has its explanation."""
     words = [program, *arguments, "--explain", "--", *files]
     try:
         return subprocess.run(words, stdin=subprocess.DEVNULL, stderr=subprocess.PIPE, **options)

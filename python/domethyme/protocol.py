@@ -1,13 +1,5 @@
 """The lines of `routecli serve` and `routecli route`, as docs/FORMATS.md has them: what a reply says, and to which request.
-Nodes are numbered from 1, as there, and requests and replies are without their line feed.
-
-    ready NODES LINKS VERSION       the first line of `serve`
-    q S T, d S T                    requests for a route, and for its length alone
-    b S C .. : T D ..               a request for a route from one of several nodes to one of several, with lengths added at each
-    r S T LENGTH ARCS NODE ..       a route; `d S T LENGTH` is its length alone
-    n S T                           there is none; that to a request `b` is `n`
-    e KIND                          the program couldn't answer
-"""
+Nodes are numbered from 1, as there, and requests and replies are without their line feed."""
 from typing import NamedTuple
 
 from .errors import HierarchyError, OutOfMemory, ProgramError
@@ -58,8 +50,7 @@ def parse_reply(line: bytes) -> RouteReply:
 
 
 def parse_reply_to(request: bytes, reply: bytes) -> RouteReply | None:
-    """What a reply to a request says, None if there is no path. Raises the error of a reply `e`, and ProgramError for a line
-    that is no reply to this request."""
+    """What a reply to a request says, None for no path. Raises its error, and ProgramError for no reply to this request."""
     if reply in ERROR_REPLIES:
         error, message, status = ERROR_REPLIES[reply]
         raise error(message, status)
@@ -71,8 +62,7 @@ def parse_reply_to(request: bytes, reply: bytes) -> RouteReply | None:
 
 
 def matches_request(request: bytes, reply: bytes) -> bool:
-    """Whether the line is a reply to this request, of its kind, and of its nodes or, to `b`, of one of the starts and
-    one of the ends."""
+    """Whether the line replies to this request: is of its kind, and of its nodes, for `b` of a start and an end."""
     kind, nodes = request[:1], request[1:]
     if reply in ERROR_REPLIES:
         return True

@@ -13,13 +13,17 @@ import time
 import weakref
 from collections.abc import Iterator, Sequence
 from ctypes import addressof, byref
-from typing import Any, NamedTuple
+from typing import TYPE_CHECKING, Any, NamedTuple
 
 from .errors import HierarchyError, LibraryError, OutOfMemory
 from .library import (
     FIRST_FAULT, NO_LENGTH, NO_PATH, NO_ROOM, OK, OUT_OF_MEMORY, TOO_LONG, BetweenInfo, Handle, RouteInfo, Seed,
     error_message, load_later_call, load_library
 )
+
+if TYPE_CHECKING:
+    import numpy as np
+    from numpy.typing import NDArray
 
 # How many nodes of a route a seat has room for at first.
 INITIAL_NODES = 1 << 10
@@ -78,24 +82,24 @@ class Searcher:
         return self._with_room(self._library.domethyme_route, self.route_info, source, target)
 
     def between(self, starts: "ctypes.Array[Seed]", ends: "ctypes.Array[Seed]") -> bool:
-        """The same from one of several starts to one of several ends, of the least whole length; in `between_info` and
-        `nodes`."""
+        """The same from one of several starts to one of several ends, of the least whole length; in `between_info`."""
         sides = addressof(starts), len(starts), addressof(ends), len(ends)
         return self._with_room(self._library.domethyme_between, self.between_info, *sides)
 
-    def lengths(self, pairs: int, count: int, lengths: int) -> None:
-        """Writes the least length of each pair of an array, or NO_LENGTH, to another; both are given by their addresses."""
-        self._check(self._library.domethyme_lengths(self._at, pairs, count, lengths, count))
+    def lengths(self, pairs: "NDArray[np.uint32]", lengths: "NDArray[np.int64]") -> None:
+        """Writes the least length of each pair, or -1."""
+        arrays = pairs.ctypes.data, len(pairs), lengths.ctypes.data, len(lengths)
+        self._check(self._library.domethyme_lengths(self._at, *arrays))
 
-    def table(self, sources: int, rows: int, targets: int, columns: int, lengths: int) -> None:
+    def table(self, sources: "NDArray[np.uint32]", targets: "NDArray[np.uint32]", lengths: "NDArray[np.int64]") -> None:
         """The same of each source and target, row by row."""
-        self._check(self._library.domethyme_table(self._at, sources, rows, targets, columns, lengths, rows * columns))
+        arrays = sources.ctypes.data, len(sources), targets.ctypes.data, len(targets), lengths.ctypes.data, lengths.size
+        self._check(self._library.domethyme_table(self._at, *arrays))
 
-    def reach(self, starts: "ctypes.Array[Seed]", limit: int | None, lengths: int, count: int) -> None:
-        """Writes the least length of each node from the nearest start, with what is added there, NO_LENGTH for one above the
-        limit, to an array of as many as there are nodes, by its address. Raises LibraryNotFound for an older library."""
-        most = NO_LENGTH if limit is None else limit
-        self._check(load_later_call("reach")(self._at, addressof(starts), len(starts), most, lengths, count))
+    def reach(self, starts: "ctypes.Array[Seed]", limit: int | None, lengths: "NDArray[np.int64]") -> None:
+        """The same of each node from the nearest start, with what is added there, up to a limit. Raises LibraryNotFound."""
+        arrays = addressof(starts), len(starts), NO_LENGTH if limit is None else limit, lengths.ctypes.data, len(lengths)
+        self._check(load_later_call("reach")(self._at, *arrays))
 
     def _with_room(self, call: Any, info: RouteInfo | BetweenInfo, *question: int) -> bool:
         """Whether a call finds a path, of which it writes to the info and to `nodes`, with as much room as it needs."""

@@ -25,7 +25,7 @@ from domethyme import DomethymeError, find_program
 from .access import ORIGIN, AccessPolicy
 from .dataset import DatasetPaths
 from .errors import StartupError
-from .gunicorn_app import Application, Setup
+from .gunicorn_app import Application
 from .wsgi import Options
 
 EXAMPLES = """examples:
@@ -85,7 +85,6 @@ def refuse_option(parser: argparse.ArgumentParser, message: str, _text: str) -> 
 
 
 def int_between(low: int, high: int) -> Callable[[str], int]:
-    """Parses an integer argument."""
     def parse(text: str) -> int:
         if not text.isascii() or not text.isdigit() or not low <= int(text[:12]) <= high:
             raise argparse.ArgumentTypeError(f"has to be from {low} to {high}")
@@ -178,7 +177,7 @@ def run(args: argparse.Namespace) -> None:
     paths = DatasetPaths(args.hierarchy, args.network, args.verify, program, args.compare_all)
     options = Options(AccessPolicy.from_options(args.allowed_host, args.cors), args.default_radius, args.max_table_cells)
     bind, has_probe = open_sockets(args)
-    Application(Setup(paths, options, bind, max(args.workers, MIN_WORKERS), has_probe, args.log_places)).run()
+    Application(paths, options, bind, max(args.workers, MIN_WORKERS), has_probe, args.log_places).run()
 
 
 def main(words: Sequence[str] | None = None) -> None:

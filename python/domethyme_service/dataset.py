@@ -6,7 +6,7 @@ import signal
 from typing import NamedTuple
 
 from domethyme import belonging
-from domethyme.checking import run_check
+from domethyme.graphs import run_check
 from domethyme.hierarchy_file import open_hierarchy_file, pread_all, read_header
 from domethyme.network.grid import columns_per_band
 from domethyme.network.snapping import RoadIndex

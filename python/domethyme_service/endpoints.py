@@ -6,7 +6,7 @@ from typing import Any, NamedTuple
 
 from .errors import RequestError, invalid_query
 from .parameters import (
-    INDEX, METRES, Context, Parameter, Values, annotations, choice, contours, ignored, key, node, number_range,
+    INDEX, METRES, Context, Parameter, Values, annotations, any_text, choice, contours, node, number_range,
     parse_alternatives, parse_bearing, parse_colors, parse_continue_straight, parse_indices, parse_number, parse_radius,
     per_place, unsupported
 )
@@ -56,11 +56,11 @@ CONTOURS_COLORS = Parameter(
 )
 GENERALIZE = number_range("generalize", 1e6, "metres by which contours are simplified")
 DENOISE = number_range("denoise", 1, "0 to 1: parts and holes smaller than this share of the largest part go")
-FROM, TO, FROM_KEY, TO_KEY = node("from"), node("to"), key("from_key"), key("to_key")
+FROM, TO, FROM_KEY, TO_KEY = node("from"), node("to"), any_text("from_key", ""), any_text("to_key", "")
 
 # The parameters of all of OSRM's services.
 COMMON: tuple[Parameter[Any], ...] = (
-    RADIUSES, ignored("hints"), GENERATE_HINTS, SKIP_WAYPOINTS, BEARINGS, unsupported("approaches", "unrestricted"),
+    RADIUSES, any_text("hints"), GENERATE_HINTS, SKIP_WAYPOINTS, BEARINGS, unsupported("approaches", "unrestricted"),
     unsupported("exclude"), choice("snapping", "default", rejected=["any"], message=UNSUPPORTED_VALUES),
     choice("format", "json", rejected=["flatbuffers"], message=UNSUPPORTED_VALUES),
 )
@@ -99,7 +99,7 @@ ENDPOINTS = (
     Endpoint("/map/about", "/map/about", "the box of the roads, the attribution, and a number that changes with the network",
              unknown="there is no such parameter"),
     Endpoint("/map/roads", "/map/roads/ZOOM/X/Y", "the roads in a square tile, as maps of the web number them, to zoom 16",
-             (ignored("v"),), "there is no such parameter"),
+             (any_text("v"),), "there is no such parameter"),
     osrm_endpoint("route", "/route/v1/PROFILE/PLACES", "a route by two places or more, to 500, a leg for each two",
                   ALTERNATIVES, CONTINUE_STRAIGHT, unsupported("waypoints"), ANNOTATIONS, OVERVIEW, GEOMETRIES, STEPS),
     osrm_endpoint("nearest", "/nearest/v1/PROFILE/PLACE", "the nearest points of roads", NUMBER),
@@ -107,7 +107,7 @@ ENDPOINTS = (
                   FALLBACK_SPEED, FALLBACK_COORDINATE, SCALE_FACTOR, TABLE_ANNOTATIONS, SOURCES, DESTINATIONS),
     Endpoint("/isochrone", "/isochrone/v1/PROFILE/PLACE", "what is reached within minutes or metres, as GeoJSON",
              (CONTOURS_MINUTES, CONTOURS_METERS, CONTOURS_COLORS, POLYGONS, GENERALIZE, DENOISE, RADIUSES, BEARINGS,
-              ignored("access_token"), choice("reverse", "false", rejected=["true"], message="reverse=true isn't supported"),
+              any_text("access_token"), choice("reverse", "false", rejected=["true"], message="reverse=true isn't supported"),
               unsupported("exclude"), unsupported("depart_at")), "isochrone has no parameter {!r}"),
     *(osrm_endpoint(service, "", "") for service in ("match", "trip", "tile")),
     Endpoint("/nodes/route", "/nodes/route", "a route between nodes by their numbers, from 1", (FROM, TO, FROM_KEY, TO_KEY)),

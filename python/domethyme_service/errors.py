@@ -21,8 +21,9 @@ class StartupError(Exception):
 
 
 # An unknown parameter, or a request of the wrong shape; an invalid value of a parameter; an OSRM parameter that would change
-# the answer, and that this service doesn't support; and a request that isn't valid HTTP (RFC 9112).
+# the answer, and that this service doesn't support; too much; and a request that isn't valid HTTP (RFC 9112).
 invalid_query = functools.partial(RequestError, 400, "InvalidQuery")
 invalid_value = functools.partial(RequestError, 400, "InvalidValue")
 not_implemented = functools.partial(RequestError, 400, "NotImplemented")
+too_big = functools.partial(RequestError, 400, "TooBig")
 malformed = functools.partial(RequestError, 400, "InvalidUrl", "the request cannot be read")

@@ -11,7 +11,7 @@ import select
 import signal
 import socket
 import time
-from typing import NamedTuple, NoReturn
+from typing import NoReturn
 
 import gunicorn
 import gunicorn.arbiter
@@ -44,25 +44,17 @@ class LoadInterrupted(BaseException):
     """A signal to end came while files were opened."""
 
 
-class Setup(NamedTuple):
-    """What to serve: the files, the options of answers, gunicorn's `bind`, empty if systemd passes the sockets, the number
-    of workers, whether a second socket is for probes, with one more worker, and whether the access log has paths."""
-
-    paths: DatasetPaths
-    options: Options
-    bind: list[str]
-    workers: int
-    has_probe: bool = False
-    log_places: bool = False
-
-
 class Application(BaseApplication):  # type: ignore[misc] # (gunicorn has no types)
-    def __init__(self, setup: Setup) -> None:
-        self.setup = setup
-        self.workers = setup.workers + setup.has_probe
+    def __init__(
+        self, paths: DatasetPaths, options: Options, bind: list[str], workers: int, has_probe: bool, log_places: bool
+    ) -> None:
+        """What to serve: the files, the options of answers, gunicorn's `bind`, empty if systemd passes the sockets, the number of
+        workers, whether a second socket is for probes, with one more worker, and whether the access log has paths."""
+        self.paths, self.options, self.bind = paths, options, bind
+        self.workers, self.has_probe, self.log_places = workers + has_probe, has_probe, log_places
         versions = {"version": VERSION, "python": platform.python_version(), "gunicorn": gunicorn.__version__}
         self.metrics = SharedMetrics(1 + MAX_GENERATIONS * self.workers, versions)
-        self.slots = Slots(setup.workers // 2)
+        self.slots = Slots(workers // 2)
         self.generation = 0
         # (gunicorn would block on a socket that nobody reads)
         self.notify_socket = os.environ.pop("NOTIFY_SOCKET", "")
@@ -79,12 +71,12 @@ class Application(BaseApplication):  # type: ignore[misc] # (gunicorn has no typ
         # (gunicorn's default of pre_request logs the path)
         hooks = {"pre_request": lambda _worker, _request: None, "post_request": Worker.record}
         hooks |= {hook.__name__: hook for hook in (pre_fork, child_exit, when_ready)}
-        for name, value in {**FIXED_SETTINGS, **hooks, "bind": self.setup.bind, "workers": self.workers}.items():
+        for name, value in {**FIXED_SETTINGS, **hooks, "bind": self.bind, "workers": self.workers}.items():
             self.cfg.set(name, value)
 
     def load(self, paths: DatasetPaths | None = None) -> Service:
         """Opens the files. Raises StartupError or a DomethymeError."""
-        return Service(open_dataset(paths or self.setup.paths), self.setup.options, self.metrics)
+        return Service(open_dataset(paths or self.paths), self.options, self.metrics)
 
     def run(self) -> None:
         """Runs the service; ends the process. Raises StartupError or a DomethymeError if it can't start."""
@@ -103,8 +95,7 @@ class Arbiter(gunicorn.arbiter.Arbiter):  # type: ignore[misc] # (gunicorn has n
     pending_reloads, old_workers = 0, list[Worker]()
 
     def setup(self, app: Application) -> None:
-        """Prepares the memory for the fork, too: returns what is free, collects no garbage of it, and limits malloc to
-        one arena."""
+        """Prepares the memory for the fork, too: returns what is free, collects none of it, and has one arena of malloc."""
         super().setup(app)
         gc.collect()
         gc.freeze()
@@ -162,9 +153,9 @@ class Arbiter(gunicorn.arbiter.Arbiter):  # type: ignore[misc] # (gunicorn has n
         """Opens the files, which a child has checked against the graph, and replaces the workers."""
         self.is_opening = True
         try:
-            service = self.app.load(self.app.setup.paths._replace(graph=None))
+            service = self.app.load(self.app.paths._replace(graph=None))
             if ready_message(service) != report:
-                raise StartupError(f"{self.app.setup.paths.hierarchy}: has changed since it was tried")
+                raise StartupError(f"{self.app.paths.hierarchy}: has changed since it was tried")
         except Exception as fault:
             return self.refuse_reload(failure_reason(fault))
         except LoadInterrupted:
@@ -201,8 +192,8 @@ def pre_fork(arbiter: Arbiter, worker: Worker) -> None:
     app, others = arbiter.app, list(arbiter.WORKERS.values())
     used = {id(other.row) for other in others}
     worker.row = next((row for row in app.metrics.rows[1:] if id(row) not in used), app.metrics.rows[-1])
-    worker.slots, worker.log_places, worker.generation = app.slots, app.setup.log_places, app.generation
-    if app.setup.has_probe:
+    worker.slots, worker.log_places, worker.generation = app.slots, app.log_places, app.generation
+    if app.has_probe:
         worker.is_probe = not any(other.is_probe and other.generation == app.generation for other in others)
         worker.sockets = [arbiter.LISTENERS[worker.is_probe]]
 

@@ -9,7 +9,7 @@ from domethyme.network.groups import Ints
 from domethyme.network.isochrones import METRICS, Shape, Style, features, limits, reach_from
 
 from .endpoints import CONTOURS_COLORS, CONTOURS_METERS, CONTOURS_MINUTES, DENOISE, GENERALIZE, POLYGONS
-from .errors import RequestError, invalid_query, invalid_value, not_implemented
+from .errors import invalid_query, invalid_value, not_implemented, too_big
 from .json_text import to_json
 from .osrm import Engine, snap_places
 from .osrm_request import Request
@@ -29,7 +29,7 @@ def answer(engine: Engine, request: Request) -> str:
     def lengths(starts: Sequence[tuple[int, int]], limit: int) -> Ints:
         found = engine.queries.reach(starts, limit)
         if np.count_nonzero(found >= 0) > MAX_REACHED:
-            raise RequestError(400, "TooBig", f"more than {MAX_REACHED:,} nodes are reached: ask for less")
+            raise too_big(f"more than {MAX_REACHED:,} nodes are reached: ask for less")
         return found
 
     reach = reach_from(roads, snap_places(roads, request), weight_limits, lengths)

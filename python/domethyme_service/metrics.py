@@ -79,8 +79,7 @@ class SharedMetrics:
         sums.nodes, sums.resident_memory_bytes = nodes, max(map(resident_bytes, processes), default=0)
         labels = ",".join(f'{name}="{version}"' for name, version in self.versions.items())
         header = format_header("build_info", "gauge", "1, with the versions as labels.")
-        lines = [*format_requests(sums), *format_histogram(sums), *format_unlabelled(sums), header]
-        return "\n".join([*lines, f"domethyme_build_info{{{labels}}} 1", ""])
+        return "\n".join([*format_sums(sums), header, f"domethyme_build_info{{{labels}}} 1", ""])
 
 
 def resident_bytes(process: int) -> int:
@@ -95,15 +94,13 @@ def format_header(name: str, kind: str, text: str) -> str:
     return f"# HELP domethyme_{name} {text}\n# TYPE domethyme_{name} {kind}"
 
 
-def format_requests(sums: Row) -> Iterator[str]:
+def format_sums(sums: Row) -> Iterator[str]:
+    """The lines of all metrics but build_info, those of METRICS also under their old names."""
     yield format_header("requests_total", "counter", "Requests that were answered, by endpoint and status.")
     for name, counts in zip(ENDPOINT_NAMES, sums.requests):
         for status, count in zip(STATUSES, counts):
             if count:
                 yield f'domethyme_requests_total{{endpoint="{name}",status="{status}"}} {count:.0f}'
-
-
-def format_histogram(sums: Row) -> Iterator[str]:
     yield format_header("request_seconds", "histogram", "Seconds until a request was answered, by endpoint.")
     for name, counts, seconds in zip(ENDPOINT_NAMES, sums.buckets, sums.seconds):
         label, totals = f'endpoint="{name}"', list(itertools.accumulate(counts))
@@ -112,10 +109,6 @@ def format_histogram(sums: Row) -> Iterator[str]:
                 yield f'domethyme_request_seconds_bucket{{{label},le="{bound}"}} {total:.0f}'
             yield f"domethyme_request_seconds_sum{{{label}}} {seconds:.6f}"
             yield f"domethyme_request_seconds_count{{{label}}} {totals[-1]:.0f}"
-
-
-def format_unlabelled(sums: Row) -> Iterator[str]:
-    """The lines of METRICS, also under their old names."""
     for name, kind, text, old_name in METRICS:
         for shown, shown_text in ((name, text), (old_name, f"The same as domethyme_{name}, for one version.")):
             if shown:

@@ -7,7 +7,7 @@ from collections.abc import Iterator, Sequence
 
 from domethyme.protocol import NO_PATH, RouteReply
 
-from .errors import RequestError, invalid_query, invalid_value
+from .errors import RequestError, invalid_query, invalid_value, too_big
 from .parameters import Parameter, Values, parse_node
 from .queries import Pair, Queries
 
@@ -54,8 +54,7 @@ def length_json(pair: Pair, length: int) -> bytes:
 
 
 def batch_answer(queries: Queries, has_routes: bool, body: bytes) -> Iterator[bytes]:
-    """The answers to lines `{"from": S, "to": T}`, in order, a part for each block. Errors are in their lines; too many
-    end it."""
+    """The answers to lines `{"from": S, "to": T}`, in order, a part for each block; too many errors end them."""
     first, errors = 1, 0
     for lines in split_blocks(body):
         rows: Sequence[Pair | RequestError] | None = parse_pairs_fast(lines, queries.nodes)
@@ -64,8 +63,8 @@ def batch_answer(queries: Queries, has_routes: bool, body: bytes) -> Iterator[by
         errors += len(error_rows)
         if is_last := errors > MAX_ERRORS:
             last = error_rows[MAX_ERRORS - errors]
-            message = f"more than {MAX_ERRORS} lines have an error: this line and all behind it aren't answered"
-            rows = [*rows[:last], RequestError(400, "TooBig", message)]
+            error = too_big(f"more than {MAX_ERRORS} lines have an error: this line and all behind it aren't answered")
+            rows = [*rows[:last], error]
         pairs = [pair for pair in rows if not isinstance(pair, RequestError)]
         if has_routes:
             bodies = [route_json(pair, queries.route(*pair)) for pair in pairs]

@@ -71,19 +71,15 @@ def snap_places(roads: RoadIndex, request: Request) -> list[SnappedPoint]:
     return found
 
 
-def is_near_network(roads: RoadIndex, lon: float, lat: float) -> bool:
-    """Whether a place is in the bounding box of the roads, or near it."""
-    west, south, east, north = roads.box
-    is_near_lon: bool = west - NEAR_DEGREES <= lon <= east + NEAR_DEGREES
-    return is_near_lon and south - NEAR_DEGREES <= lat <= north + NEAR_DEGREES
-
-
 def no_segment_error(roads: RoadIndex, request: Request, number: int) -> RequestError:
     """A place without a road near it: which place, its radius, and the bounding box of the roads."""
     (lon, lat), max_metres = request.places[number], request.values[RADIUSES][number]
     west, south, east, north = roads.box
-    is_swapped = is_near_network(roads, lat, lon) and not is_near_network(roads, lon, lat)
-    hint = "; is it LAT,LON?" if is_swapped else ""
+
+    def is_near(x: float, y: float) -> bool:
+        return west - NEAR_DEGREES <= x <= east + NEAR_DEGREES and south - NEAR_DEGREES <= y <= north + NEAR_DEGREES
+
+    hint = "; is it LAT,LON?" if is_near(lat, lon) and not is_near(lon, lat) else ""
     within_what = " of that bearing" if request.values[BEARINGS][number] else ""
     return RequestError(
         400, "NoSegment",

@@ -12,7 +12,7 @@ from domethyme.network.network import Floats
 from domethyme.network.polyline import Line, encode_polylines, points_array
 from domethyme.network.snapping import segment_metres
 
-from .errors import RequestError
+from .errors import too_big
 from .json_text import Json
 
 # Points of the lines of an answer, and points that may be examined to simplify its line.
@@ -31,15 +31,13 @@ class Budget:
         """Subtracts points of the answer. Raises RequestError if fewer are left."""
         self.points -= points
         if self.points < 0:
-            message = f"the answer has more than {MAX_POINTS} points: ask for fewer places, or overview=false"
-            raise RequestError(400, "TooBig", message)
+            raise too_big(f"the answer has more than {MAX_POINTS} points: ask for fewer places, or overview=false")
 
     def examine(self, points: int) -> None:
         """Subtracts examined points. Raises RequestError if fewer are left."""
         self.examined -= points
         if self.examined < 0:
-            message = "the line of the route takes too long to simplify: ask for overview=full or false"
-            raise RequestError(400, "TooBig", message)
+            raise too_big("the line of the route takes too long to simplify: ask for overview=full or false")
 
 
 def leg_lines(geometries: Sequence[LegGeometry | None], ends: list[Point]) -> list[Line]:

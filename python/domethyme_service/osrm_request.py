@@ -9,7 +9,7 @@ from domethyme.network.geo import Point
 from domethyme.network.polyline import decode_polyline
 
 from .endpoints import BY_NAME
-from .errors import RequestError, invalid_query, invalid_value
+from .errors import RequestError, invalid_query, invalid_value, too_big
 from .parameters import Context, Values
 
 DEGREES = re.compile(r"[-+]?(?:[0-9]{1,3}(?:\.[0-9]{0,20})?|\.[0-9]{1,20})(?:[eE][-+]?[0-9]{1,2})?")
@@ -28,8 +28,8 @@ class Request(NamedTuple):
 
 
 def parse_request(path: str, query: Mapping[str, str], default_radius: float) -> Request:
-    """The request of a path `/SERVICE/v1/PROFILE/PLACES`, percent-encoded; that of an isochrone may have a PROFILE of two
-    words. `default_radius` are the metres to a road of a place without a radius. Raises RequestError."""
+    """The request of a path `/SERVICE/v1/PROFILE/PLACES`, percent-encoded, where an isochrone's PROFILE may have two
+    words, with the metres to a road of a place without a radius. Raises RequestError."""
     service = path.split("/")[1]
     if service not in MAX_PLACES:
         raise RequestError(400, "InvalidService", f"the service {service} isn't supported")
@@ -61,7 +61,7 @@ def parse_coordinates(text: str, service: str) -> list[Point]:
             order = "longitude first, from -180 to 180, then latitude, from -90 to 90"
             raise invalid_value(f"place {number} is {lon:g},{lat:g}: {order}{hint}")
     if 1 < MAX_PLACES[service] < len(places):
-        raise RequestError(400, "TooBig", f"there may be {MAX_PLACES[service]} places")
+        raise too_big(f"there may be {MAX_PLACES[service]} places")
     if MAX_PLACES[service] == 1 and len(places) != 1 or service == "route" and len(places) < 2 or not places:
         raise invalid_query("nearest and isochrone have one place, route two or more, table one or more")
     return places

@@ -25,8 +25,7 @@ NAME_COLUMNS = [TEXTS.index(name) for name in ("name", "ref", "destination")]
 
 
 class StepBuilder:
-    """The steps of a leg. `step_begins` are the positions of their first arcs, and the number of arcs. For each arc there are
-    the numbers of its texts, whether it is on a roundabout, and its bearings at the start and at the end."""
+    """The steps of a leg, by their first arcs, and the texts of each arc and its bearings at both ends."""
 
     def __init__(self, geometry: LegGeometry) -> None:
         self.geometry, self.roads = geometry, geometry.roads
@@ -67,17 +66,14 @@ class StepBuilder:
         angle = (self.first_bearings[named] - self.last_bearings[begin - 1] + 180) % 360 - 180
         modifier = MODIFIERS[angle > 0][bisect.bisect(MODIFIER_LIMITS, abs(angle))]
         if self.is_on_roundabout[begin]:
-            is_left = named > begin or not self.is_on_roundabout[end - 1]
-            number = {"exit": self.exit_number(begin, named)} if is_left else {}
-            return {"type": "roundabout", "modifier": modifier, **number}
+            found: Json = {"type": "roundabout", "modifier": modifier}
+            if named > begin or not self.is_on_roundabout[end - 1]:
+                ends = self.roads.arrays.arc_to[self.geometry.arcs[begin:named]].tolist()
+                found["exit"] = 1 + sum(self.roads.count_exits(node) for node in ends[:-1])
+            return found
         is_same = self.arc_texts[begin - 1][0] == self.arc_texts[begin][0]
         kind = "continue" if is_same else "turn" if abs(angle) > MIN_TURN_DEGREES else "new name"
         return {"type": kind, "modifier": modifier}
-
-    def exit_number(self, begin: int, named: int) -> int:
-        """Which exit arc `named` takes out of the roundabout that arc `begin` enters, from 1."""
-        ends = self.roads.arrays.arc_to[self.geometry.arcs[begin:named]].tolist()
-        return 1 + sum(self.roads.count_exits(node) for node in ends[:-1])
 
 
 def mark_roundabout_steps(is_new: NDArray[np.bool_], is_on_roundabout: NDArray[np.bool_]) -> None:

@@ -1,5 +1,5 @@
-"""Tables of durations and distances between points on roads. Weights are from the library's tables between nodes, which are
-proved (domethyme.network.leg_tables). Other values are sums along routes, with a query for each cell."""
+"""Tables of durations and distances between points on roads. Weights come of the library's tables, which are proved
+(domethyme.network.leg_tables); other values are sums along routes, with a query for each cell."""
 from collections.abc import Iterator, Sequence
 from typing import cast
 
@@ -11,7 +11,7 @@ from domethyme.network.snapping import SnappedPoint
 from domethyme.protocol import NO_PATH
 
 from .endpoints import DESTINATIONS, FALLBACK_COORDINATE, FALLBACK_SPEED, SCALE_FACTOR, SOURCES, TABLE_ANNOTATIONS
-from .errors import RequestError, not_implemented
+from .errors import not_implemented, too_big
 from .json_text import join_array, join_object, to_json
 from .osrm import Engine, snap_places, waypoints
 from .osrm_request import Request
@@ -30,13 +30,12 @@ def table(engine: Engine, request: Request) -> str:
     needs_routes = not {roads.unit, "weight"}.issuperset(names)
     cells = len(sources) * len(destinations)
     if cells > engine.max_cells:
-        message = f"a table may have {engine.max_cells} cells (--max-table-cells), and this one would have more"
-        raise RequestError(400, "TooBig", message)
+        raise too_big(f"a table may have {engine.max_cells} cells (--max-table-cells), and this one would have more")
     if "duration" in names and not roads.has_seconds:
         raise not_implemented("this network has no seconds, so no durations: ask annotations=weight or distance")
     if needs_routes and cells > MAX_ROUTED_CELLS:
         why = f"unless it is of annotations={roads.unit} or weight alone"
-        raise RequestError(400, "TooBig", f"a table may have {MAX_ROUTED_CELLS} cells, {why}")
+        raise too_big(f"a table may have {MAX_ROUTED_CELLS} cells, {why}")
     points = snap_places(roads, request)
     starts, ends = ([points[number] for number in side] for side in (sources, destinations))
     rows = (routed_rows if needs_routes else rows_of_weights)(engine, names, starts, ends)

@@ -30,9 +30,8 @@ Parse = Callable[[str, Context], T]
 
 
 class Parameter(Generic[T]):
-    """A parameter. `invalid` is the message for an invalid text, after the name. A missing parameter has the value of the
-    text `default`, or none. `accepted` and `rejected` are its line in docs/SERVICE.md; rejected values are those of OSRM
-    that the service answers with NotImplemented."""
+    """A parameter. `invalid` is the message for an invalid text, after the name; `default` the text of a missing one.
+    `accepted` and `rejected` are its line in docs/SERVICE.md; rejected values are those of OSRM that get NotImplemented."""
 
     def __init__(
         self, name: str, accepted: str, parse: Parse[T], invalid: str = "", default: str | None = None, rejected: str = ""
@@ -49,8 +48,6 @@ class Parameter(Generic[T]):
 
 
 class Values:
-    """The values of a request's parameters."""
-
     def __init__(self, values: Mapping[str, object]) -> None:
         self._values = values
 
@@ -74,8 +71,8 @@ def choice(name: str, *words: str, rejected: Sequence[str] = (), message: str = 
     return Parameter(name, lists[0], parse, f"has to be one of {', '.join((*words, *rejected))}", words[0], lists[1])
 
 
-def ignored(name: str) -> Parameter[str]:
-    return Parameter(name, "any, not used", lambda text, _context: text)
+def any_text(name: str, accepted: str = "any, not used") -> Parameter[str]:
+    return Parameter(name, accepted, lambda text, _context: text)
 
 
 def unsupported(name: str, allowed: str = "") -> Parameter[None]:
@@ -123,10 +120,6 @@ def annotations(known: Sequence[str], default: str, is_list_only: bool = False) 
 
 def node(name: str) -> Parameter[int]:
     return Parameter(name, "", lambda text, context: parse_node(text, name, context.nodes))
-
-
-def key(name: str) -> Parameter[str]:
-    return Parameter(name, "", lambda text, _context: text)
 
 
 def require(is_valid: object) -> None:

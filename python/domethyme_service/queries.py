@@ -39,9 +39,7 @@ class NodeKeys:
 
 
 class Queries:
-    """A router whose queries are counted. `nodes` and `links` are the hierarchy's numbers of them, `keys` the network's.
-
-    All methods raise OutOfMemory, and HierarchyError if the file is of no graph."""
+    """A router whose queries are counted. All methods raise OutOfMemory, and HierarchyError if the file is of no graph."""
 
     def __init__(self, router: Router, links: int, metrics: SharedMetrics, keys: NodeKeys = NodeKeys()) -> None:
         self.router, self.nodes, self.links, self._metrics, self.keys = router, router.nodes, links, metrics, keys
@@ -84,6 +82,6 @@ class Queries:
         rows, columns = (np.ascontiguousarray(nodes, np.uint32) for nodes in (sources, targets))
         out = np.empty((len(rows), len(columns)), np.int64)
         with self.router.searcher() as searcher:
-            searcher.table(rows.ctypes.data, len(rows), columns.ctypes.data, len(columns), out.ctypes.data)
+            searcher.table(rows, columns, out)
         self._metrics.own.queries_total += len(sources)
         return out

@@ -109,8 +109,7 @@ class MappedFile:
                 column.verify_rows(slice(None))
 
     def check_unchanged(self) -> None:
-        """Raises NetworkError where another file was written into this one. Where its times alone differ, blocks are
-        verified anew."""
+        """Raises NetworkError where the file was written to. Where its times alone differ, blocks are verified anew."""
         now = self._stat()
         if now == self._state:
             return

@@ -1,7 +1,5 @@
-"""Contours with fewer parts or points, and as GeoJSON needs them. Needs numpy and shapely.
-
-A contour is a list of polygons. Contours are given the least first; each lies within the next one, before and afterwards.
-"""
+"""Contours with fewer parts or points, and as GeoJSON needs them. A contour is a list of polygons, which lies within the
+next one, before and afterwards. Needs numpy and shapely."""
 import itertools
 from collections.abc import Sequence
 from typing import Any
@@ -68,8 +66,7 @@ def rings_of(polygon: Polygon) -> list[Ring]:
 
 
 def split_at_forks(rings: Sequence[Ring]) -> dict[Ring, list[Ring]]:
-    """The lines of each ring, between the points where rings part or meet; of a ring without such points one, from its
-    least point."""
+    """The lines of each ring between the points where rings part or meet; without such points one, from the least point."""
     beside: dict[Point, set[Point]] = {}
     for ring in rings:
         for before, here, behind in zip((ring[-1], *ring[:-1]), ring, (*ring[1:], ring[0])):
@@ -145,11 +142,9 @@ def closed_rings(polygon: Polygon) -> list[list[list[float]]]:
 
 
 def parts_of(shape: Any) -> list[Polygon]:
-    """The polygons of a shape of shapely."""
     return [part for part in getattr(shape, "geoms", [shape]) if isinstance(part, Polygon) and not part.is_empty]
 
 
 def rounded(polygon: Polygon) -> Polygon:
-    """A polygon with DECIMALS."""
     shell, *holes = (np.array(ring.coords).round(DECIMALS) for ring in (polygon.exterior, *polygon.interiors))
     return Polygon(shell, holes)

@@ -84,8 +84,7 @@ class Mesh(NamedTuple):
         return Box(west * half, south * half, (west + self.width) * half, (south + self.height) * half)
 
     def nearest(self, points: Floats) -> tuple[Ints, NDArray[np.bool_]]:
-        """The points of the field that are nearest to some points, numbered row by row, for those on the grid; and which
-        these are."""
+        """The nearest points of the field, numbered row by row, to those of some points that are on the grid; and which are."""
         columns, rows = (np.floor(axis * (2 / self.step)).astype(np.int64) for axis in points.T)
         columns, rows = columns - self.left, rows - self.bottom
         is_on = (0 <= rows) & (rows < self.height) & (0 <= columns) & (columns < self.width)
@@ -93,8 +92,7 @@ class Mesh(NamedTuple):
 
 
 class Contour(NamedTuple):
-    """Polygons in degrees, with DECIMALS, whose longitudes may go beyond 180; and the grid's step in metres, None for no
-    polygon."""
+    """Polygons in degrees, with DECIMALS, whose longitudes may go beyond 180; and the grid's step in metres, or None."""
 
     polygons: list[Polygon]
     step: float | None
@@ -136,8 +134,8 @@ def step_of(box: Box) -> float:
 
 
 def meshes_of(reach: Reach) -> list[Mesh]:
-    """The grids, the finest first. Each serves as many limits as it has points for. The next one is at most RATIO times
-    as coarse."""
+    """The grids, the finest first, each for as many limits as it has points for, and at most RATIO times as coarse as
+    the last."""
     served: list[tuple[float, int, Box]] = []
     rim = 0.0
     for limit, reached in enumerate(reach.boxes):
@@ -171,7 +169,6 @@ def cut(polygons: Iterator[list[Floats]], plane: Plane, shown: Box | None, drawn
 
 
 def square_of(box: Box, plane: Plane) -> Polygon:
-    """A box of the plane in degrees."""
     corners = plane.degrees(np.array([[box.west, box.south], [box.east, box.north]])).round(DECIMALS)
     return rectangle(*corners.ravel().tolist())
 

@@ -75,8 +75,7 @@ def take_columns(table: Table, known: Mapping[str, tuple[str, ...]], needed: Ite
 
 @dataclasses.dataclass
 class Nodes(NodeArrays):
-    """Nodes with their rows by their names, None where these are numbers from 1, and the table's path and columns. Keys
-    are names in answers."""
+    """Nodes, their rows by their names, None where these are numbers from 1, and their table. Keys are names in answers."""
 
     rows: dict[str, int] | None = None
     path: StrPath = ""
@@ -191,8 +190,7 @@ def arc_values(fields: Row, weight: str) -> tuple[float, float, float, float]:
 
 
 def line_of(ends: NDArray[np.int32], fields: Row) -> NDArray[np.int32]:
-    """The line of a road between two places in units, straight where the row has none. Raises NetworkError where it
-    doesn't join them."""
+    """The line of a road between two places in units; without one straight. Raises NetworkError where it doesn't join them."""
     wkt = fields.get("wkt", "")
     if not wkt:
         return ends
@@ -206,7 +204,6 @@ def line_of(ends: NDArray[np.int32], fields: Row) -> NDArray[np.int32]:
 
 
 def line_metres(begins: Ints, points: NDArray[np.int32]) -> NDArray[np.float64]:
-    """The metres of lines along great circles."""
     sphere = unit_vectors(points[:, 0] / UNITS, points[:, 1] / UNITS)
     sums = np.append(0.0, np.cumsum(great_circle_metres(sphere[:-1], sphere[1:])))
     # (what leads from a line's end to the next line's beginning is in none of the differences)

@@ -41,8 +41,7 @@ def split_at_antimeridian(line: Sequence[Point]) -> list[list[Point]]:
             parts[-1].append((side, round(lat, 7)))
             parts.append([(-side, round(lat, 7))])
         parts[-1].append(there)
-    found = [part for part in parts if len(set(part)) > 1]
-    return found or [list(line)]
+    return [part for part in parts if len(set(part)) > 1] or [list(line)]
 
 
 def to_geojson_geometry(line: Sequence[Point]) -> dict[str, Any]:

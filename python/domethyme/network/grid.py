@@ -54,8 +54,7 @@ class Grid(NamedTuple):
     things: Any
 
     def candidate_slices(self, lon: Floats, lat: Floats, reach: Floats) -> tuple[Ints, Ints, Ints]:
-        """The number of a place, and where a slice of `things` begins and ends: the slices have all things within some
-        metres, and others."""
+        """The number of a place, and the begin and end of a slice of `things`, for all within some metres, and others."""
         which, lows, highs = self._key_ranges(lon, lat, (reach + self.margin) / EARTH_RADIUS)
         keys = self.keys[:]
         first, last = np.searchsorted(keys, lows), np.searchsorted(keys, highs)
@@ -123,7 +122,6 @@ class Grid(NamedTuple):
     def _nearest_in(
         self, slices: list[tuple[int, int]], count: int, metres: DistanceFunction, step: Callable[[], object]
     ) -> list[tuple[float, int]]:
-        """The nearest of the things in slices."""
         found: list[tuple[float, int]] = []
         for part in self._parts(slices):
             step()
@@ -147,8 +145,7 @@ class Grid(NamedTuple):
             yield np.concatenate(waiting)
 
     def candidates_of_each(self, places: Sequence[tuple[float, float]], reach: float) -> tuple[Ints, Ints]:
-        """The number of a place, and a thing within `reach` metres or another, maybe several times. Places with very
-        many are left out."""
+        """The number of a place, and a thing within `reach` metres, or another. Places with very many are left out."""
         found: list[tuple[int, int, int]] = []
         for number, place in enumerate(places):
             slices = self._slices_around(place, reach)

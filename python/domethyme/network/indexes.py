@@ -1,6 +1,5 @@
-"""What is derived from a network's arrays, so that nobody who reads them has to sort: which arcs lead from a node, which lie on an
-edge, how many edges meet at a node, which nodes and edges are near a place, and what maps show. Needs numpy.
-"""
+"""What is derived from a network's arrays: which arcs lead from a node, which lie on an edge, how many edges meet at a
+node, which nodes and edges are near a place, and what maps show. Needs numpy."""
 import math
 from typing import TYPE_CHECKING, Any
 
@@ -9,10 +8,10 @@ from numpy.typing import NDArray
 
 from .geo import EARTH_RADIUS
 from .grid import Grid, build_grid, cell_keys, pack_keys
-from .groups import Ints, expand, offsets
+from .groups import Ints, expand
 from .parallel import differs_from_previous, map_slices, parallel_argsort
 from .sphere import angles, interpolate, unit_vectors
-from .zoom_levels import Floats, Levels, morton_codes, road_class, sort_by_cell, to_mercator
+from .zoom_levels import Floats, morton_codes, road_class, sort_by_cell, to_mercator
 
 if TYPE_CHECKING:
     from .net_file import Arrays
@@ -52,12 +51,6 @@ def argsort_arcs(start: NDArray[np.int32], end: NDArray[np.int32], weight: Ints)
     return order
 
 
-def arcs_by_edge(arrays: "Arrays") -> tuple[Ints, NDArray[np.int32]]:
-    """The arcs on edge e are arcs[begins[e]:begins[e + 1]], in their order."""
-    counts = np.bincount(arrays.arc_edge, minlength=len(arrays.edge_begin) - 1)
-    return offsets(counts), np.argsort(arrays.arc_edge, kind="stable").astype(np.int32)
-
-
 def node_degrees(arrays: "Arrays") -> NDArray[np.uint8]:
     """How many edges meet at each node, 255 for more; the first figure is of none."""
     of_edge = np.full(len(arrays.edge_begin) - 1, -1, dtype=np.int32)
@@ -84,8 +77,7 @@ def node_degrees(arrays: "Arrays") -> NDArray[np.uint8]:
 
 
 def unique_text_rows(rows: NDArray[np.int32], row: NDArray[Any]) -> tuple[NDArray[np.int32], NDArray[np.int32]]:
-    """The different rows of texts that arcs have, in order and with zeros behind them, and the number of each arc's, by
-    its row."""
+    """The different rows of texts that arcs have, in order and with zeros behind them, and the number of each arc's."""
     used = np.flatnonzero(np.bincount(row, minlength=len(rows)))
     used = used[np.lexsort(rows[used].T[::-1])]
     is_new = np.ones(len(used), dtype=bool)
@@ -181,8 +173,10 @@ def segment_middles(points: Any, steps: NDArray[Any]) -> Floats:
     return middles
 
 
-def build_zoom_levels(arrays: "Arrays", steps: NDArray[np.int32], edges: NDArray[np.int32]) -> Levels:
-    """The levels of all steps; an edge's class is that of one of its arcs."""
+def build_zoom_levels(
+    arrays: "Arrays", steps: NDArray[np.int32], edges: NDArray[np.int32]
+) -> tuple[tuple[NDArray[Any], ...], list[int]]:
+    """What `sort_by_cell` returns of all steps; an edge's class is that of one of its arcs."""
     highways, which = np.unique(arrays.row_texts[:, 0], return_inverse=True)
     begins = arrays.text_begin
     texts = [arrays.text_bytes[begins[each] : begins[each + 1]].tobytes().decode() for each in highways.tolist()]

@@ -1,10 +1,4 @@
-"""What is reached, as GeoJSON: a FeatureCollection with the properties that Mapbox's Isochrone API gives contours. Needs
-numpy, scipy, contourpy and shapely.
-
-    limits(unit, minutes=..)         minutes or metres in the unit of a network's weights
-    reach_from(roads, points, ..)    what is reached from points of roads
-    features(reach, asked, "time")   a Feature for each contour
-"""
+"""What is reached, as GeoJSON with the properties of Mapbox's Isochrone API. Needs numpy, scipy, contourpy and shapely."""
 import re
 from collections.abc import Callable, Sequence
 from typing import Any, Literal, NamedTuple, get_args

@@ -114,7 +114,6 @@ def leg_geometry(roads: RoadIndex, leg: Leg) -> LegGeometry | None:
 
 
 def leg_totals(roads: RoadIndex, leg: Leg) -> Figures:
-    """The weight, seconds and metres of a leg."""
     if not leg.arcs:
         return make_totals(roads, leg.weight, 0.0, 0.0)
     seconds, metres = (float(values.cumsum()[-1]) for values in driven_parts(roads, leg, np.array(leg.arcs)))

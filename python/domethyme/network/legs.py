@@ -18,8 +18,7 @@ Between = Callable[[SnapEnds, SnapEnds], RouteReply | None]
 
 
 class Leg(NamedTuple):
-    """The path between two points: its weight, its arcs, what is driven of their weights, and from where the first and
-    to where the last is."""
+    """The path between two points: weight, arcs, the weights driven on these, the first from `begin` and the last to `end`."""
 
     weight: int
     arcs: list[int]

@@ -1,10 +1,8 @@
 """A network in arrays, and the file NETWORK.net, which has them and what is derived from them. Needs numpy.
 
-A tool that makes a network writes the file; whoever reads one maps it (column_file.py), so nothing is read before it is used, and
-processes share it. Where NETWORK.nodes.csv and NETWORK.arcs.csv are there too, it has their sizes: it is taken where it is no older
-than they are and these are their sizes. Places are in tenths of a millionth of a degree, as the tables have them. Texts are
-numbers of rows in one list of texts, which is an array of bytes and the offsets at which they begin. An edge is a line of a way, in
-the direction that sorts first, with arcs along it and against.
+Whoever reads the file maps it (column_file.py). It has the sizes of the tables beside it, and is taken where it is no older than
+they are and these are their sizes. Texts are numbers of rows in one list of texts. An edge is a line of a way, in the direction
+that sorts first, with arcs along it and against.
 """
 import array
 import dataclasses
@@ -98,8 +96,7 @@ class NodeArrays:
 
 
 class ArcArrays(NamedTuple):
-    """Arcs: their nodes, from 1, and the points of arc i, points[begins[i]:begins[i + 1]], in units. `osm` is the way,
-    `row` that of `texts`."""
+    """Arcs: their nodes, from 1, rows of texts, and points[begins[i]:begins[i + 1]] of arc i, in units. `osm` is the way."""
 
     starts: Ints
     ends: Ints
@@ -296,7 +293,7 @@ def write(file: IO[bytes], arrays: Arrays) -> None:
 
 def iter_file_arrays(arrays: Arrays) -> Iterator[tuple[str, NDArray[Any]]]:
     steps, edges = indexes.edge_segments(arrays.edge_begin)
-    levels = indexes.build_zoom_levels(arrays, steps, edges)
+    levels, shown_from = indexes.build_zoom_levels(arrays, steps, edges)
     edge_grid = indexes.edge_grid(arrays.points, steps, edges)
     del steps, edges
     node_grid = indexes.node_grid(arrays.node_lon, arrays.node_lat)
@@ -304,16 +301,17 @@ def iter_file_arrays(arrays: Arrays) -> Iterator[tuple[str, NDArray[Any]]]:
     numbers = [
         *arrays.sizes.tolist(), UNITS_OF_WEIGHTS.index(weight_unit(arrays)), side[0] + side[1], side[0] + side[2],
         round(node_grid.height * UNITS), round(edge_grid.height * UNITS), *indexes.bounding_box(arrays.points),
-        *levels.shown_from,
+        *shown_from,
     ]
     yield "about", np.array(numbers, dtype=np.int64)
     yield from zip(Arrays._fields[2:-1], arrays[2:-1])  # (all but the version, the sizes and node_texts)
     yield from zip(("out_begin", "out_arcs"), indexes.outgoing_arcs(arrays))
-    yield from zip(("edge_first", "edge_arcs"), indexes.arcs_by_edge(arrays))
+    yield "edge_first", offsets(np.bincount(arrays.arc_edge, minlength=len(arrays.edge_begin) - 1))
+    yield "edge_arcs", np.argsort(arrays.arc_edge, kind="stable")
     yield "degrees", indexes.node_degrees(arrays)
     yield from zip(("node_keys", "node_cells", "node_things"), node_grid[2:])
     yield from zip(("edge_keys", "edge_cells", "edge_things"), edge_grid[2:])
-    yield from zip(("step_begin", "step_codes", "step_points", "step_edges"), levels[:4])
+    yield from zip(("step_begin", "step_codes", "step_points", "step_edges"), levels)
     if len(arrays.node_texts):
         yield "node_texts", arrays.node_texts
 
@@ -395,7 +393,7 @@ class MappedNetwork:
         if not size["text_begin"] > 1 or not size["edge_begin"]:
             raise self.file.damaged_error("it has no texts or edges")
         self.about = dict(zip(ABOUT, found["about"][:].tolist()))
-        self.box = [self.about[side] / UNITS for side in ("west", "south", "east", "north")]
+        self.box: list[float] = [self.about[side] / UNITS for side in ("west", "south", "east", "north")]
         self.node_grid, self.edge_grid = self._grid("node"), self._grid("edge")
         self.version, self.sizes = np.array([VERSION]), np.array([self.about["nodes_size"], self.about["arcs_size"]])
 
@@ -452,8 +450,7 @@ REMEDY = "convert the map again, or make it of its tables, as `to_network NODES 
 
 
 def read(path: StrPath) -> MappedNetwork:
-    """The file of a network. Raises NetworkError for one that can't be read, is of another version, or is damaged in its
-    head or tail."""
+    """The file of a network. Raises NetworkError for one of another version, or that is damaged in its head or tail."""
     with raised_as(NetworkError, path), open(path, "rb", opener=open_nonblocking) as file:
         if not stat.S_ISREG(os.fstat(file.fileno()).st_mode):
             raise NetworkError("is no regular file, so it can't be mapped", path)
@@ -461,8 +458,7 @@ def read(path: StrPath) -> MappedNetwork:
 
 
 def map_tempfile(arrays: Arrays, path: str) -> MappedNetwork:
-    """Arrays as if they were read from a file of this name: a temporary one has them, and goes with them. Raises
-    ValueError as `write`."""
+    """Arrays as if they were read from a file of this name, by a temporary one. Raises ValueError as `write`."""
     with tempfile.TemporaryFile() as file:
         write(file, arrays)
         file.flush()

@@ -15,8 +15,7 @@ from .tables import ENDS, Side, is_coordinates, need_nodes
 
 
 class NodeIndex:
-    """Where the nodes of a network lie, for look-ups by place. Nodes are counted from 0; `osm`, `lon`, `lat` and `ends`
-    are columns."""
+    """Where the nodes of a network lie, for look-ups by place, from 0. `osm`, `lon`, `lat` and `ends` are columns."""
 
     def __init__(self, arrays: MappedNetwork, has_arcs: bool = True) -> None:
         """Those of a mapped file, which has no arcs where it was made of a table of nodes or of a DIMACS .co file alone."""
@@ -28,12 +27,10 @@ class NodeIndex:
         return belonging.Origin(name, len(self.lon), len(self._arrays.arc_from) if self._has_arcs else None)
 
     def keys(self) -> Sequence[str]:
-        """The keys of the nodes, none where they have none."""
         return self._arrays.keys()
 
     def nearest(self, lon: Floats, lat: Floats, side: Side) -> tuple[NDArray[np.int64], Floats]:
-        """The node nearest to each place in degrees, where routes may begin (`from`) or end (`to`), and the metres.
-        Raises NetworkError for none."""
+        """The nearest node where routes begin (`from`) or end (`to`), and the metres. Raises NetworkError for none."""
         places = unit_vectors(lon, lat)
 
         def away(rows: NDArray[np.int64], nodes: NDArray[np.int64]) -> Floats:

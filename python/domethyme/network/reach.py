@@ -36,8 +36,7 @@ T = TypeVar("T", bound=np.generic)
 
 
 class PlaceOnRoad(NamedTuple):
-    """A point of a road: its edge, the share of the edge's metres before it, and the arcs by which it is left, or come
-    to; None for all."""
+    """A point of a road: its edge, the share of its metres before it, and the arcs by which it is left or come to, or None."""
 
     edge: int
     fraction: float
@@ -45,8 +44,7 @@ class PlaceOnRoad(NamedTuple):
 
 
 class Plane(NamedTuple):
-    """Metres to the east of a meridian, `origin` in units of a degree, and to the north of the equator. `east` are those
-    of a degree."""
+    """Metres to the east of a meridian, in units of a degree, and north of the equator; and those of a degree of longitude."""
 
     origin: int
     east: float
@@ -128,7 +126,6 @@ class Shares(NamedTuple):
     parts: list[tuple[int, Floats, Floats]]
 
     def levels(self, rows: Ints, shares: Floats) -> Levels:
-        """The levels of points at shares of edges."""
         count = len(self.first)
         found = np.full(len(rows), count, np.uint8)
         for limit in range(count):
@@ -212,8 +209,7 @@ class Reach:
         return Plane(int(wrapped_difference(np.array([middle]))[0]), east)
 
     def _set_boxes(self, reached: Ints) -> None:
-        """Sets the boxes: around nodes and places, and what is reached of edges near by, but for those that are too
-        short for a grid."""
+        """Sets the boxes: around nodes and places, and what is reached of edges near by that aren't too short for a grid."""
         fractions = np.array([place.fraction for place in self._places])
         here = self.vertices(self._edges_of_places).at(np.arange(len(fractions)), fractions)
         boxes = [Box.around(here) for _ in self.limits]
@@ -339,8 +335,7 @@ class Reach:
         return Vertices(rows, self.plane.of(points), shares, is_last, metres)
 
     def roads(self, limit: int) -> list[list[Point]]:
-        """The lines of the roads that are reached within the limit of this number, with DECIMALS. None crosses the 180th
-        meridian."""
+        """The lines that are reached within the limit of this number, with DECIMALS. None crosses the 180th meridian."""
         box = self.boxes[limit]
         chunks = self.edges_near(box.grown(FARTHEST_END)) if box else ()
         return [line for edges in chunks for line in self._lines(edges, limit)]

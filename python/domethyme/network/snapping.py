@@ -3,8 +3,6 @@
 An edge is one line of a way, with arcs along it, against it, or both; nodes that turn restrictions split give several arcs of
 one direction. A point splits each arc of its edge: of an arc of weight w, the part before its fraction f weighs round(f w), and
 the rest what is left, so the parts are integers and sum to w.
-
-The network's file is memory-mapped: processes share its pages.
 """
 import bisect
 import functools

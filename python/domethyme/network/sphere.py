@@ -63,8 +63,7 @@ def unit_vector(lon: float, lat: float) -> tuple[float, float, float]:
 
 
 def local_components(place: Floats, points: Floats) -> tuple[Floats, Floats, Floats]:
-    """How far east, north and up of the earth's centre points lie, by the directions at a place, or one for each of the
-    last axis of points."""
+    """How far east, north and up of the earth's centre points are, by the directions at a place, or one for each point."""
     here, there = np.radians(place), np.radians(points)
     there[..., 0] -= here[..., 0]
     sine, cosine = np.sin(there), np.cos(there)

@@ -103,8 +103,7 @@ def first_line(path: StrPath, encoding: str) -> str:
 
 
 class Nodes(NamedTuple):
-    """Node n has its values at n - 1: the id in OpenStreetMap or None, degrees, which ends of routes it has (ENDS), and
-    its key if any has."""
+    """Node n has its values at n - 1: id of OpenStreetMap or None, degrees, ends of routes (ENDS), and its key if any has."""
 
     osm: list[int | None]
     lon: list[float]

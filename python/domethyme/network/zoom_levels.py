@@ -1,12 +1,10 @@
 """The steps of a network's lines as maps want them: by kind of road, and within it along a Z-order curve of Mercator's plane, so that
-what a square of a map shows of a kind is one slice. Needs numpy.
-
-A step leads from one point of a line to the next, and is in the cell of its middle. At zoom z the world is 2**z cells wide.
-"""
+what a square of a map shows of a kind is one slice. A step leads from one point of a line to the next, and is in the cell of its
+middle. At zoom z the world is 2**z cells wide. Needs numpy."""
 import itertools
 import math
 from collections.abc import Callable
-from typing import NamedTuple
+from typing import Any
 
 import numpy as np
 from numpy.typing import NDArray
@@ -27,17 +25,6 @@ Ints = NDArray[np.int64]
 Floats = NDArray[np.float64]
 # The cells that steps are in, and how many are in each.
 CellCounts = tuple[NDArray[np.uint32], Ints]
-
-
-class Levels(NamedTuple):
-    """Kind k, shown from zoom shown_from[k] on, has the steps begins[k]:begins[k + 1]: their cells, which rise, first
-    points and edges."""
-
-    begins: Ints
-    codes: NDArray[np.uint32]
-    steps: NDArray[np.int32]
-    edges: NDArray[np.int32]
-    shown_from: list[int]
 
 
 def road_class(highway: str) -> int:
@@ -61,15 +48,15 @@ def spread_bits(values: Ints) -> Ints:
 
 
 def morton_codes(plane: Floats) -> NDArray[np.uint32]:
-    """The cells of points of the plane."""
     cells = np.clip((plane * (1 << CODE_ZOOM)).astype(np.int64), 0, (1 << CODE_ZOOM) - 1)
     return (spread_bits(cells[:, 0]) | spread_bits(cells[:, 1]) << 1).astype(np.uint32)
 
 
 def sort_by_cell(
     codes: Callable[[slice], NDArray[np.uint32]], kinds: NDArray[np.uint8], steps: NDArray[np.int32], edges: NDArray[np.int32]
-) -> Levels:
-    """The levels of steps, by the cells of those in a slice, the kinds of edges, and the edge of each step."""
+) -> tuple[tuple[NDArray[Any], ...], list[int]]:
+    """By the cells of the steps in a slice, the kinds of edges, and the edge of each step: where the steps of each kind
+    begin, and in order their cells, first points and edges; and the zoom from which each kind is shown."""
     # a step's kind, cell and number, from the highest bits on
     order = np.empty(len(steps), np.uint64)
     found = np.empty(len(steps), np.uint32), np.empty(len(steps), np.int32), np.empty(len(steps), np.int32)
@@ -95,7 +82,7 @@ def sort_by_cell(
     for low, high in itertools.pairwise(begins.tolist()):
         places = np.flatnonzero(differs_from_previous(found[0][low:high]))
         crowds.append((found[0][low:high][places], np.diff(np.append(places, high - low))))
-    return Levels(begins, *found, min_zooms(crowds))
+    return (begins, *found), min_zooms(crowds)
 
 
 def min_zooms(crowds: list[CellCounts]) -> list[int]:
