@@ -193,19 +193,14 @@ def read_ways(folder: Folder, path: StrPath, keys: Sequence[str], conditional: S
     of `conditional` and ends with `:conditional`."""
     words = [f"{letter}:{key}" for letter, some in (("k", keys), ("p", conditional), ("t", TEXTS)) for key in some]
     folder.read_map("ways", path, ["s::conditional", *words])
+    of_relations, rows = folder.tags("relation_tags", path), folder.array("member", "i8", 3).tolist()
+    members = (Member(chr(kind), osm, ROLES[role]) for kind, role, osm in rows)
+    counts = zip(folder.array("relation_of", "u4").tolist(), folder.array("relation_count", "u4").tolist())
     return WayArrays(
         folder.array("way_osm", "i8"), folder.array("way_label", "u4"), folder.array("way_count", "u4"),
         folder.array("labels", "u4", 1 + len(TEXTS)), folder.tags("way_tags", path), ["", *folder.texts("texts", path)],
-        list(relations_of(folder, path)),
+        [(of_relations[number], list(itertools.islice(members, count))) for number, count in counts],
     )
-
-
-def relations_of(folder: Folder, path: StrPath) -> Iterator[tuple[Tags, list[Member]]]:
-    """The tags and members of each relation of a turn restriction."""
-    tags, rows = folder.tags("relation_tags", path), iter(folder.array("member", "i8", 3).tolist())
-    for number, count in zip(folder.array("relation_of", "u4").tolist(), folder.array("relation_count", "u4").tolist()):
-        members = itertools.islice(rows, count)
-        yield tags[number], [Member(chr(kind), osm, ROLES[role]) for kind, role, osm in members]
 
 
 class NodeArrays(NamedTuple):

@@ -42,7 +42,7 @@ import collections
 import contextlib
 import os
 import sys
-from collections.abc import Callable, Iterable
+from collections.abc import Callable, Iterator
 from typing import IO, Any, NamedTuple
 
 import numpy as np
@@ -65,7 +65,7 @@ from .road_network import (
     to_arrays,
 )
 from .table_files import bytes_of, tables_there, write_tables
-from .turn_restrictions import Bools, Int32s, Report, Restriction
+from .turn_restrictions import Bools, Report, Restriction
 from .vehicle_profile import (
     Profile, blocks_way, conditional_keys, judge, read_profile, structure_of, unsupported_tags, way_keys
 )
@@ -139,22 +139,14 @@ def judge_tags(ways: WayArrays, profile: Profile, report: Report) -> tuple[Bools
 
 
 def text_rows(ways: WayArrays) -> RowsOf:
-    """A function that gives a list of texts, and for each of some labels of ways its texts there, by net_file.TEXTS."""
-    labels, is_set = ways.labels, np.array([bool(text) for text in ways.texts], np.bool_)
-    known: dict[str, int] = {}
+    """A function that gives for each of some labels of ways its texts, by net_file.TEXTS."""
+    texts = [" ".join(text.split()) for text in ways.texts]
+    of_tags = [(tags["highway"], " ".join(tags.get("junction", "").split()), structure_of(tags)) for tags in ways.tags]
 
-    def numbers(texts: Iterable[str]) -> list[int]:
-        return [known.setdefault(text, len(known)) for text in texts]
-
-    of_text = np.array(numbers(" ".join(text.split()) for text in ways.texts), np.int32)
-    words = ((tags["highway"], " ".join(tags.get("junction", "").split()), structure_of(tags)) for tags in ways.tags)
-    of_tags = np.array(list(map(numbers, words)), np.int32).reshape(-1, 3)
-
-    def rows_of(used: NDArray[np.int64]) -> tuple[list[str], Int32s]:
-        tags, name, ref, destination = labels[used].T
-        highway, junction, structure = of_tags[tags].T
-        shown = of_text[np.where(is_set[name], name, ref)]
-        return list(known), np.column_stack((highway, shown, of_text[ref], junction, of_text[destination], structure))
+    def rows_of(used: NDArray[np.int64]) -> Iterator[tuple[str, ...]]:
+        for tags, name, ref, destination in ways.labels[used].tolist():
+            highway, junction, structure = of_tags[tags]
+            yield highway, texts[name if ways.texts[name] else ref], texts[ref], junction, texts[destination], structure
 
     return rows_of
 

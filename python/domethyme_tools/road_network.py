@@ -1,5 +1,5 @@
 """The nodes and arcs of a network in arrays, made of the runs of roads (map_arrays.py)."""
-from collections.abc import Callable, Sequence
+from collections.abc import Callable, Iterable, Sequence
 from typing import Any, NamedTuple
 
 import numpy as np
@@ -15,11 +15,12 @@ from domethyme.network.tables import ENDS
 
 from . import turn_restrictions
 from .map_arrays import NodeArrays, Runs
-from .turn_restrictions import Bools, Int32s, Report, Restriction, Turns, mask
+from .turn_restrictions import Bools, Int32s, Report, Restriction, Turns, mask, splitmix64
 
 Floats = NDArray[np.float64]
 Rules = dict[int, list[Restriction]]
-RowsOf = Callable[[Ints], tuple[list[str], Int32s]]
+# The texts of some rows, in the order of net_file.TEXTS.
+RowsOf = Callable[[Ints], Iterable[tuple[str, ...]]]
 # Degrees by which a turn may be off the line of the road, and off the way back
 STRAIGHT, BACK = 45, 15
 # What a weight counts, and how much of it a hundredth of a second is, where turns have penalties.
@@ -59,11 +60,6 @@ class RoadNetwork(NamedTuple):
     piece_run: Int32s
     runs: Runs
     roads: RoadTable
-
-    def road(self) -> NDArray[np.uint32]:
-        """The road of each arc."""
-        found: NDArray[np.uint32] = self.runs.road[self.piece_run[self.piece]]
-        return found
 
     def ways_of(self, pieces: "slice | int") -> Any:
         """The ids of the ways of pieces."""
@@ -180,8 +176,7 @@ def forbid(network: RoadNetwork, turns: Turns, rules: Rules, cost: Int32s) -> No
     """Sets the cost of the turns that the rules of their nodes don't allow to FORBIDDEN."""
     into, out = turns.into[turns.turn], turns.out
     there = np.flatnonzero(mask(len(network.node_osm), list(rules))[network.start[out]])
-    road = network.road()
-    ways = (network.roads.osm[road[arcs[there]]].tolist() for arcs in (into, out))
+    ways = (network.ways_of(network.piece[arcs[there]]).tolist() for arcs in (into, out))
     turn = zip(network.start[out[there]].tolist(), *ways)
     allowed = [turn_restrictions.allows(rules[node], start, end) for node, start, end in turn]
     cost[there[~np.array(allowed, np.bool_)]] = turn_restrictions.FORBIDDEN
@@ -254,7 +249,7 @@ def rounded_exactly(values: Floats, digits: int) -> Floats:
 
 
 def to_arrays(network: RoadNetwork, kind: str, rows_of: RowsOf, attribution: str, report: Report) -> net_file.Arrays:
-    """The network in arrays; `rows_of` gives texts, and the rows of their numbers that roads name, by net_file.TEXTS."""
+    """The network in arrays; `rows_of` gives the texts of the rows that roads name."""
     edge, along, edge_begin, points = edges_from_pieces(network)
     weight, seconds, metres, osm, row = arc_columns(network, kind, report)
     texts, row_texts, arc_row = texts_of(row, rows_of, attribution)
@@ -275,7 +270,8 @@ def arc_columns(network: RoadNetwork, kind: str, report: Report) -> list[NDArray
 
     def fill(part: slice) -> tuple[Any, ...]:
         chunk = network.with_arcs(part)
-        road, metres = chunk.road(), network.runs.metres[network.piece_run[chunk.piece]]
+        run = network.piece_run[chunk.piece]
+        road, metres = network.runs.road[run], network.runs.metres[run]
         milliseconds = metres * 3600 / np.where(chunk.is_back, network.roads.backward[road], network.roads.forward[road])
         weights = np.rint(milliseconds if kind == "time" else metres * 100).astype(np.int64)
         raised.append(int((weights == 0).sum()))
@@ -291,20 +287,13 @@ def arc_columns(network: RoadNetwork, kind: str, report: Report) -> list[NDArray
 def texts_of(row_of_arc: NDArray[np.uint32], rows_of: RowsOf, attribution: str) -> tuple[list[str], Int32s, Int32s]:
     """The list of texts, in the order in which arcs have them, and rows of texts and the row of each arc, as in Arrays."""
     first = first_index(row_of_arc, int(row_of_arc.max(initial=0)) + 1)
-    used = order_of_first_use(first)
-    texts, rows = rows_of(used)
-    come = order_of_first_use(first_index(rows.reshape(-1), len(texts)))
-    number = np.zeros(len(texts), np.int32)
-    number[come] = np.arange(1, len(come) + 1, dtype=np.int32)
-    of_row = np.zeros((len(first), len(net_file.TEXTS)), np.int32)
-    of_row[used] = number[rows]
-    return [attribution, *(texts[place] for place in come.tolist())], *unique_text_rows(of_row, row_of_arc)
-
-
-def order_of_first_use(first: NDArray[Any]) -> Ints:
-    """The numbers of what comes anywhere, by the place of each where it comes first, or -1."""
     used = np.flatnonzero(first >= 0)
-    return used[np.argsort(first[used])]
+    used = used[np.argsort(first[used])]
+    number: dict[str, int] = {}
+    numbers = (number.setdefault(text, len(number) + 1) for row in rows_of(used) for text in row)
+    of_row = np.zeros((len(first), len(net_file.TEXTS)), np.int32)
+    of_row[used] = np.fromiter(numbers, np.int32).reshape(-1, len(net_file.TEXTS))
+    return [attribution, *number], *unique_text_rows(of_row, row_of_arc)
 
 
 def edges_from_pieces(network: RoadNetwork) -> tuple[Int32s, Bools, Ints, Int32s]:
@@ -318,7 +307,7 @@ def edges_from_pieces(network: RoadNetwork) -> tuple[Int32s, Bools, Ints, Int32s
     first_of: dict[int, int] = {}
     known: dict[tuple[int, bytes], int] = {}
     for piece in (each for each in candidate_duplicates(keys) if is_used[each]):
-        points = line_of(runs, piece) if is_along[piece] else line_of(runs, piece)[::-1]
+        points = line_of(runs, piece)[:: 1 if is_along[piece] else -1]
         first = known.setdefault((int(network.ways_of(piece)), points.tobytes()), piece)
         if first != piece:
             first_of[piece] = first
@@ -341,10 +330,10 @@ def look_at_lines(network: RoadNetwork) -> list[NDArray[Any]]:
     runs = network.runs
 
     def look(part: slice) -> tuple[Any, ...]:
-        begin, end = runs.begin[part].astype(np.int64), runs.end[part].astype(np.int64)
-        head, tail = place_keys(runs.points[begin]), place_keys(runs.points[end - 1])
-        key = hash_rows(network.ways_of(part), np.minimum(head, tail), np.maximum(head, tail), end - begin)
-        return head < tail, head == tail, key
+        ends = (runs.points[place.astype(np.int64)] for place in (runs.begin[part], runs.end[part] - np.uint64(1)))
+        head, tail = ((places[:, 0].astype(np.int64) << 32) + places[:, 1] for places in ends)
+        mixes = (splitmix64(values.astype(np.uint64)) for values in (head, tail, network.ways_of(part)))
+        return head < tail, head == tail, np.add.reduce(list(mixes))
 
     return by_slices(len(network.piece_run), [np.bool_, np.bool_, np.uint64], look)
 
@@ -370,20 +359,6 @@ def chosen_lines(runs: Runs, chosen: Bools, is_along: Bools) -> tuple[Ints, Int3
 
     map_slices(fill, len(first))
     return line_begin, found
-
-
-def place_keys(places: Int32s) -> Ints:
-    """Numbers in the order of places, by longitude and then latitude."""
-    return (places[:, 0].astype(np.int64) << 32) + places[:, 1]
-
-
-def hash_rows(*values: Ints) -> NDArray[np.uint64]:
-    """A mix of 64 bits of the values of each row."""
-    found = np.zeros(len(values[0]), np.uint64)
-    for column in values:
-        found = (found ^ column.astype(np.uint64)) * np.uint64(0x9E3779B97F4A7C15)
-        found ^= found >> np.uint64(29)
-    return found
 
 
 def candidate_duplicates(keys: NDArray[np.uint64]) -> list[int]:

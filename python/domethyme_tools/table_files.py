@@ -1,7 +1,9 @@
 """The tables of a network in CSV, as the tools write them where --tables is given, and the files for GDAL beside them."""
+import contextlib
 import io
 import itertools
 import os
+import pathlib
 from collections.abc import Iterator, Sequence
 from typing import IO, Any, cast
 
@@ -30,24 +32,13 @@ def tables_there(names: Files, are_written: bool) -> list[str]:
     for path in kinds:
         if are_written and os.path.isfile(path) and path not in found:
             raise ToolError("is there, and no tool has written it: move it, or choose another OUT", path)
-    if found and os.path.exists(names.binary) and not is_current(names.path):
-        raise ToolError(f"has changed since {names.binary} was made of it: move it, or choose another OUT", found[0])
-    texts = [{f"{text}\n" for text in both} for both in zip(names.forms.values(), names.forms_of(has_keys=True).values())]
-    forms = [path for path, known in zip(names.forms, texts) if os.path.isfile(path) and text_at(path) in known]
+    # (a file of the network that is damaged doesn't say that they have changed)
+    with contextlib.suppress(NetworkError):
+        if found and os.path.exists(names.binary) and not net_file.is_current(names.path):
+            raise ToolError(f"has changed since {names.binary} was made of it: move it, or choose another OUT", found[0])
+    texts = {path: (f"{text}\n", f"{names.forms_of(has_keys=True)[path]}\n") for path, text in names.forms.items()}
+    forms = [path for path in filter(os.path.isfile, texts) if pathlib.Path(path).read_text("utf-8", "replace") in texts[path]]
     return [*found, *forms] if found else []
-
-
-def is_current(prefix: str) -> bool:
-    """Whether a network's tables are as its file was written with them; a file that is damaged doesn't say otherwise."""
-    try:
-        return net_file.is_current(prefix)
-    except NetworkError:
-        return True
-
-
-def text_at(path: str) -> str:
-    with open(path, encoding="utf-8", errors="replace") as file:
-        return file.read(1 << 12)
 
 
 def write_tables(files: Sequence[IO[str]], arrays: net_file.Arrays) -> NDArray[np.int64]:
