@@ -12,7 +12,7 @@ import subprocess
 import threading
 import time
 import uuid
-from collections.abc import Callable, Iterator
+from collections.abc import Callable
 from typing import Any, Union
 
 Task = dict[str, Any]
@@ -104,7 +104,9 @@ def answer(task: Task, text: str, size: int, answers: str) -> Result:
         if trouble is not None:
             return 1, trouble, 0
         for _ in range(ATTEMPTS):
-            with draft_in(task["drafts"]) as draft:
+            # (a program that lost its worker may still write to its own draft)
+            draft = os.path.join(task["drafts"], uuid.uuid4().hex)
+            try:
                 status, stderr = run_program(task, text, draft)
                 if status == 0:
                     # (they may have changed meanwhile)
@@ -113,6 +115,9 @@ def answer(task: Task, text: str, size: int, answers: str) -> Result:
                     count = os.stat(draft).st_size
                     os.replace(draft, answers)
                     return 0, None, count
+            finally:
+                with contextlib.suppress(FileNotFoundError):
+                    os.unlink(draft)
             if status > 0 or stopping.is_set():
                 break
         if 3 <= status <= 8:
@@ -129,17 +134,6 @@ def answer_on_worker(task: Task, text: str, size: int, answers: str) -> Result:
 
     status, line, count = answer(task, text, size, answers)
     return status, f"worker {get_worker().name}: {line}" if status == 1 else line, count
-
-
-@contextlib.contextmanager
-def draft_in(folder: str) -> Iterator[str]:
-    """A path for a file of this one attempt: a program that lost its worker may still write to its own."""
-    path = os.path.join(folder, uuid.uuid4().hex)
-    try:
-        yield path
-    finally:
-        with contextlib.suppress(FileNotFoundError):
-            os.unlink(path)
 
 
 def run_program(task: Task, text: str, draft: str) -> tuple[int, str]:

@@ -34,8 +34,9 @@ from domethyme.limits import MAX_LINES
 
 from .cli import ToolError
 
-PROBLEM_WORDS = [b"p", b"aux", b"sp", b"p2p"]
-BLANKS = re.compile(b"[ \t]+")
+# By docs/REFERENCE.md: spaces and tabs part the fields of a line, and one carriage return at its end is dropped.
+PAIR = re.compile(rb"[ \t]*q(?:[ \t]|\r?\n?\Z)")
+PROBLEM = re.compile(rb"[ \t]*p[ \t]+aux[ \t]+sp[ \t]+p2p[ \t]+0*([0-9]{1,9})[ \t]*\r?\n?")
 NAMES = re.compile(r"plan\.json(\..+\.new)?|whole\.pairs|\d{6,}\.(pairs|answers|new)|(drafts|gone)-[0-9a-f]{32}")
 
 
@@ -55,51 +56,32 @@ class Survey(NamedTuple):
 def spool(path: str, to: str) -> Survey:
     """Copies the query file (`-` is standard input) to the new file `to`, and gives its Survey."""
     digest, pairs, is_sound = hashlib.sha256(), 0, True
-    announced: int | None = None
+    announced: list[int] = []  # (by each line of another kind, -1 for one that is refused)
     origin: Origin | None = None
     with open_input(path) as text, open(to, "xb") as copy:
         for line in text:
             digest.update(line)
             copy.write(line)
-            if is_pair(line):
+            if PAIR.match(line):
                 pairs += 1
-                is_sound = is_sound and announced is not None
-                continue
-            fields = fields_of(line)
-            if fields[:2] == [b"c", b"network"]:
-                origin = origin or Origin.of(line)
-            elif fields and not fields[0].startswith(b"c"):
-                is_first, announced = announced is None, number_announced(fields)
-                is_sound = is_sound and is_first and announced is not None
-    return Survey(digest.hexdigest(), pairs if is_sound and pairs == announced else None, origin)
-
-
-def is_pair(line: bytes) -> bool:
-    """Whether the line has the kind of a pair: its first field is `q`."""
-    return line.startswith(b"q ") or fields_of(line)[:1] == [b"q"]
-
-
-def number_announced(fields: list[bytes]) -> int | None:
-    """The number of a problem line's fields; None where they are no problem line, or one that is refused."""
-    digits = re.fullmatch(b"0*([0-9]{1,9})", fields[-1])
-    if fields[:-1] != PROBLEM_WORDS or digits is None or int(digits[1]) > MAX_LINES:
-        return None
-    return int(digits[1])
-
-
-def fields_of(line: bytes) -> list[bytes]:
-    """The fields of a line by docs/REFERENCE.md: one carriage return at its end is dropped, spaces and tabs part them."""
-    return [field for field in BLANKS.split(line.removesuffix(b"\n").removesuffix(b"\r")) if field]
+                is_sound = is_sound and len(announced) > 0
+            elif fields := line.removesuffix(b"\n").removesuffix(b"\r").strip(b" \t"):
+                if fields.startswith(b"c"):
+                    origin = origin or Origin.of(line)
+                else:
+                    problem = PROBLEM.fullmatch(line)
+                    announced.append(int(problem[1]) if problem else -1)
+    is_sound = is_sound and announced == [pairs] and pairs <= MAX_LINES
+    return Survey(digest.hexdigest(), pairs if is_sound else None, origin)
 
 
 def iter_parts(lines: Iterable[bytes], size: int) -> Iterator[tuple[int, bytes]]:
-    """Of a query file that is in order: the number of pairs and the text of each part."""
-    pairs = filter(is_pair, lines)
+    """Of a query file that is in order: the number of pairs and the text of each part, of one without pairs too."""
+    pairs = filter(PAIR.match, lines)
     part = list(itertools.islice(pairs, size))
     while True:
         yield len(part), b"p aux sp p2p %d\n" % len(part) + b"".join(part)
-        part = list(itertools.islice(pairs, size))
-        if not part:
+        if not (part := list(itertools.islice(pairs, size))):
             return
 
 
@@ -134,37 +116,16 @@ class Folder:
         return self.at(f"{part:06}.answers")
 
     def clear(self, beginnings: tuple[str, ...] = ("",)) -> None:
-        """Removes what a run has made with these beginnings, but the lock; drafts first: files may come out of them."""
+        """Removes what a run has made with these beginnings, but the lock; drafts first: files may come out of them. A folder
+        is removed by another name, since a worker may still have to do with it."""
         names = [name for name in os.listdir(self.path) if NAMES.fullmatch(name) and name.startswith(beginnings)]
         for name in sorted(names, key=lambda name: (not name.startswith("drafts-"), name != "plan.json")):
-            self.remove(name)
-
-    def remove(self, name: str) -> None:
-        """Removes a file or folder of drafts; a folder by another name, since a worker may still have to do with it."""
-        path = self.at(name)
-        if os.path.isdir(path):
-            gone = self.at(f"gone-{uuid.uuid4().hex}")
-            os.rename(path, gone)
-            shutil.rmtree(gone, ignore_errors=True)
-        else:
-            unlink_missing_ok(path)
-
-    def begin(self, anew: bool) -> None:
-        """Removes the drafts of older runs, and all if there is no plan or it starts over; makes a folder of drafts."""
-        if anew or not os.path.exists(self.plan_file):
-            self.clear()
-        self.clear(("drafts-", "gone-"))
-        os.mkdir(self.drafts)
-
-    def end(self) -> None:
-        """Removes this run's drafts, and the whole folder where there is no plan: without one nothing is worth keeping."""
-        if os.path.exists(self.drafts):
-            self.remove(os.path.basename(self.drafts))
-        if not os.path.exists(self.plan_file):
-            self.clear()
-            os.unlink(self.lock)
-            with contextlib.suppress(OSError):
-                os.rmdir(self.path)
+            if os.path.isdir(path := self.at(name)):
+                gone = self.at(f"gone-{uuid.uuid4().hex}")
+                os.rename(path, gone)
+                shutil.rmtree(gone, ignore_errors=True)
+            else:
+                unlink_missing_ok(path)
 
     def load_plan(self) -> Plan | None:
         """The plan of an earlier call, or None."""
@@ -196,23 +157,33 @@ def open_folder(out: str, anew: bool) -> Iterator[Folder]:
     """The Folder of OUT, which is made where it isn't there, and locked by a file that says who has it; a ToolError where
     another run has it. If it starts over, nothing is left in it."""
     folder = Folder(out)
-    lock: IO[str] | None = None
     with contextlib.ExitStack() as opened:
-        while lock is None or not is_same_file(lock, folder.lock):
+        while True:
             with contextlib.suppress(FileExistsError):
                 os.mkdir(folder.path)
+            # (a run that ends removes its lock)
             with contextlib.suppress(FileNotFoundError):
                 check_ownership(folder.path)
                 file = os.open(folder.lock, os.O_RDWR | os.O_APPEND | os.O_CREAT | os.O_NOFOLLOW, 0o666)
                 lock = opened.enter_context(open(file, "a+", encoding="utf-8"))
                 take_lock(lock, out)
+                if os.path.samefile(lock.fileno(), folder.lock):
+                    break
         lock.truncate(0)
         print(f"process {os.getpid()} on {socket.gethostname()}", file=lock, flush=True)
-        folder.begin(anew)
+        is_empty = anew or not os.path.exists(folder.plan_file)
+        folder.clear(("",) if is_empty else ("drafts-", "gone-"))
+        os.mkdir(folder.drafts)
         try:
             yield folder
         finally:
-            folder.end()
+            folder.clear((os.path.basename(folder.drafts),))
+            # without a plan nothing is worth keeping
+            if not os.path.exists(folder.plan_file):
+                folder.clear()
+                os.unlink(folder.lock)
+                with contextlib.suppress(OSError):
+                    os.rmdir(folder.path)
 
 
 def check_ownership(path: str) -> None:
@@ -234,11 +205,3 @@ def take_lock(lock: IO[str], out: str) -> None:
             raise
         lock.seek(0)
         raise ToolError(f"another run works on it: {lock.read().strip()}", out) from error
-
-
-def is_same_file(file: IO[str], path: str) -> bool:
-    """Whether the open file is still the one at the path: a run that ends removes its lock."""
-    try:
-        return os.path.samestat(os.fstat(file.fileno()), os.stat(path))
-    except FileNotFoundError:
-        return False

@@ -17,6 +17,7 @@ import argparse
 import collections
 import concurrent.futures
 import contextlib
+import functools
 import logging
 import os
 import re
@@ -144,43 +145,35 @@ def make_plan(options: argparse.Namespace, folder: parts.Folder, workers: "Worke
 
 
 def answer_all(workers: "Workers", folder: parts.Folder, plan: parts.Plan, missing: list[int]) -> None:
-    """Has the missing parts answered; where one fails, ends this program as one process of routecli would."""
+    """Has the missing parts answered; where one fails, ends this program as one process of routecli would. No part begins
+    after one has failed, and those that are under way are waited for."""
     pairs = sum(pairs for pairs, _ in plan.parts)
     done = pairs - sum(plan.parts[number][0] for number in missing)
-    with tqdm.tqdm(total=pairs, initial=done, unit="pair", unit_scale=True, disable=None) as bar:
-        failed = answer_parts(workers, folder, plan, missing, bar)
-    if failed is not None and failed[0] in BAD_INPUT:
-        failed = refusal_of_whole(workers, folder.whole)
-    if failed is not None:
-        exit_with(folder, *failed)
-
-
-def answer_parts(
-    workers: "Workers", folder: parts.Folder, plan: parts.Plan, missing: list[int], bar: Any
-) -> tuple[int, str] | None:
-    """Has these parts answered. Gives None, or status and line of the first part that failed, bad input before all else: no
-    part begins after one has failed, and those that are under way are waited for."""
     waiting = collections.deque(missing)
     under_way: dict[Run, int] = {}
-    failed: dict[int, tuple[int, str]] = {}
-    while under_way or waiting and not failed:
-        room = 0 if failed else workers.capacity() - len(under_way)
-        for _ in range(min(room, len(waiting))):
-            number = waiting.popleft()
-            run = workers.begin(folder.text(number), plan.parts[number][1], folder.answers(number))
-            under_way[run] = number
-        # (workers may come meanwhile)
-        for run in concurrent.futures.wait(under_way, LOOK_AGAIN_SECONDS, concurrent.futures.FIRST_COMPLETED).done:
-            number = under_way.pop(run)
-            status, line, size = workers.result(run)
-            answers = folder.answers(number)
-            if status == 0 and not domethyme_part.has_come(answers, size):
-                status, line = 1, f"{answers} isn't seen here with the {size} bytes that a worker wrote"
-            if status != 0:
-                failed[number] = status, line or ""
-            else:
-                bar.update(plan.parts[number][0])
-    return min(failed.items(), key=lambda part: (part[1][0] not in BAD_INPUT, part[0]))[1] if failed else None
+    # (the least is the part to report: bad input comes before all else)
+    failed: list[tuple[bool, int, int, str]] = []
+    with tqdm.tqdm(total=pairs, initial=done, unit="pair", unit_scale=True, disable=None) as bar:
+        while under_way or waiting and not failed:
+            room = 0 if failed else workers.capacity() - len(under_way)
+            for _ in range(min(room, len(waiting))):
+                number = waiting.popleft()
+                run = workers.begin(folder.text(number), plan.parts[number][1], folder.answers(number))
+                under_way[run] = number
+            # (workers may come meanwhile)
+            for run in concurrent.futures.wait(under_way, LOOK_AGAIN_SECONDS, concurrent.futures.FIRST_COMPLETED).done:
+                number = under_way.pop(run)
+                status, line, size = workers.result(run)
+                answers = folder.answers(number)
+                if status == 0 and not domethyme_part.has_come(answers, size):
+                    status, line = 1, f"{answers} isn't seen here with the {size} bytes that a worker wrote"
+                if status != 0:
+                    failed.append((status not in BAD_INPUT, number, status, line or ""))
+                else:
+                    bar.update(plan.parts[number][0])
+    if failed:
+        is_other, _, status, line = min(failed)
+        exit_with(folder, *(status, line) if is_other else refusal_of_whole(workers, folder.whole))
 
 
 def refusal_of_whole(workers: "Workers", text: str) -> tuple[int, str]:
@@ -239,10 +232,7 @@ class Workers(NamedTuple):
 def threads(task: domethyme_part.Task, jobs: int) -> Iterator[Workers]:
     """Workers of this process, each of which waits for one program at a time; the programs end with the block."""
     pool = concurrent.futures.ThreadPoolExecutor(jobs)
-
-    def begin(text: str, size: int, answers: str) -> Run:
-        return pool.submit(domethyme_part.answer, task, text, size, answers)
-
+    begin = functools.partial(pool.submit, domethyme_part.answer, task)
     try:
         yield Workers(task, begin, lambda: jobs, concurrent.futures.Future.result)
     except BaseException:
