@@ -4,8 +4,8 @@ import math
 import os
 import pathlib
 import re
-from collections.abc import Iterable, Iterator
-from typing import Any, NamedTuple
+from collections.abc import Iterable, Iterator, Mapping
+from typing import Any, NamedTuple, TypeVar
 
 from domethyme.csv_tables import open_input
 from domethyme.program import StrPath
@@ -13,6 +13,7 @@ from domethyme.program import StrPath
 from .cli import ToolError
 
 Tags = dict[str, str]
+Value = TypeVar("Value")
 
 PROFILES = pathlib.Path(__file__).resolve().parent / "profiles"
 # km/h that are believed
@@ -111,15 +112,13 @@ def member_error(name: str, value: Any) -> str:
     if name == "fastest":
         return speed_error({"fastest": value}) and f"a speed from {SLOWEST} to {FASTEST}"
     if name in ("speeds", "maxspeed_words", "surfaces"):
-        wrong = speed_error(value)
-        return wrong and f"speeds from {SLOWEST} to {FASTEST} by names{wrong}"
+        return (wrong := speed_error(value)) and f"speeds from {SLOWEST} to {FASTEST} by names{wrong}"
     if name == "measures":
-        wrong = speed_error(value, 0)
-        return wrong and f"measures in metres or tonnes by names{wrong}"
-    are_words = isinstance(value, list) and all(isinstance(word, str) for word in value)
-    if name in ("both_ways", "closed_by"):
-        return "" if are_words and all(word.count("=") == 1 for word in value) else "a list of words KEY=VALUE"
-    return "" if are_words else "a list of words"
+        return (wrong := speed_error(value, 0)) and f"measures in metres or tonnes by names{wrong}"
+    are_tags = name in ("both_ways", "closed_by")
+    if isinstance(value, list) and all(isinstance(word, str) and (not are_tags or word.count("=") == 1) for word in value):
+        return ""
+    return "a list of words KEY=VALUE" if are_tags else "a list of words"
 
 
 def speed_error(value: Any, least: float = SLOWEST) -> str:
@@ -157,18 +156,16 @@ def judge(tags: Tags, profile: Profile) -> Judgement:
     reason = rejection_reason(tags, profile)
     if reason is not None:
         return Judgement(reason)
-    may_forward, may_backward = directions(tags, profile)
-    forward, forward_known = speed_of(tags, "forward", profile)
-    backward, backward_known = speed_of(tags, "backward", profile)
-    unknown = None
-    if may_forward and not forward_known or may_backward and not backward_known:
-        unknown = " and ".join(sorted({tags[key] for key in speed_keys(profile) if key in tags}))
+    found = {direction: speed_of(tags, direction, profile) for direction in directions(tags, profile)}
+    forward, backward = (found[direction][0] if direction in found else None for direction in DIRECTIONS)
+    is_known = all(known for _, known in found.values())
+    speeds = set() if is_known else {tags[key] for key in speed_keys(profile) if key in tags}
     limits = {tags[key] for key in profile.measures if key in tags and limit_of(key, tags[key]) is None}
-    speeds = forward if may_forward else None, backward if may_backward else None
-    return Judgement(None, *speeds, unknown, " and ".join(sorted(limits)) or None)
+    unknown = (" and ".join(sorted(values)) or None for values in (speeds, limits))
+    return Judgement(None, forward, backward, *unknown)
 
 
-def first_value(tags: Tags, keys: Iterable[str]) -> str | None:
+def first_value(tags: Mapping[str, Value], keys: Iterable[str]) -> Value | None:
     """The value of the first of the keys that is set."""
     return next((tags[key] for key in keys if key in tags), None)
 
@@ -186,8 +183,7 @@ def has_one(tags: Tags, words: list[str]) -> bool:
 
 def limit_of(key: str, text: str) -> float | None:
     """The metres or tonnes of a limit, infinite where there is none, or None where it isn't understood."""
-    text = text.strip()
-    if text in NO_LIMIT:
+    if (text := text.strip()) in NO_LIMIT:
         return math.inf
     is_weight = key.startswith(("maxweight", "maxaxleload"))
     if not is_weight and (feet := FEET.fullmatch(text)):
@@ -223,14 +219,12 @@ def rejection_reason(tags: Tags, profile: Profile) -> str | None:
     return None
 
 
-def directions(tags: Tags, profile: Profile) -> tuple[bool, bool]:
-    """Whether a way may be taken forward, and whether backward."""
-    if has_one(tags, profile.both_ways):
-        return True, True
+def directions(tags: Tags, profile: Profile) -> tuple[str, ...]:
+    """The directions in which a way may be taken."""
     one_way = tags["highway"] in profile.oneway_highways or tags.get("junction") in profile.oneway_junctions
     value = first_value(tags, reversed(profile.oneway))
     only = ONEWAY.get(value) if value is not None else "forward" if one_way else None
-    return only != "backward", only != "forward"
+    return DIRECTIONS if only is None or has_one(tags, profile.both_ways) else (only,)
 
 
 def speed_of(tags: Tags, direction: str, profile: Profile) -> tuple[float, bool]:
@@ -246,16 +240,12 @@ def speed_of(tags: Tags, direction: str, profile: Profile) -> tuple[float, bool]
 def maxspeed_of(text: str, profile: Profile) -> float | None:
     """The km/h that a value of maxspeed means, or None where it isn't understood. For a country's kind of road, as
     RO:urban, it is the country's where the profile has it, else that of all, *:urban; a zone has its own number."""
-    words, place = profile.maxspeed_words, COUNTRY.fullmatch(text)
-    for word in (text, f"*:{place[1]}") if place else (text,):
-        if word in words:
-            return words[word]
-    zone = ZONE.fullmatch(text)
-    found = SPEED.fullmatch(zone[1] if zone else text.strip())
-    if found is None:
-        return None
-    speed = float(found[1]) * UNITS[found[2]]
-    return speed if SLOWEST <= speed <= FASTEST else None
+    place, zone = COUNTRY.fullmatch(text), ZONE.fullmatch(text)
+    known = first_value(profile.maxspeed_words, (text, f"*:{place[1]}") if place else (text,))
+    if known is None and (found := SPEED.fullmatch(zone[1] if zone else text.strip())):
+        speed = float(found[1]) * UNITS[found[2]]
+        return speed if SLOWEST <= speed <= FASTEST else None
+    return known
 
 
 def unsupported_tags(tags: Tags, profile: Profile) -> Iterator[tuple[str, bool]]:
