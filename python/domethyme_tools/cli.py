@@ -1,15 +1,17 @@
-"""How the map tools take their arguments and end."""
+"""How the map tools take their arguments, write rows of CSV, and end."""
 import argparse
 import contextlib
+import csv
 import os
 import pathlib
 import signal
 import stat
 import sys
 from collections.abc import Callable, Iterable, Iterator, Mapping
-from typing import NoReturn
+from typing import IO, Any, NoReturn
 
 from domethyme import belonging
+from domethyme.csv_tables import escape_formula
 from domethyme.errors import DomethymeError, FileError
 
 
@@ -123,6 +125,13 @@ def file_at(path: str) -> os.stat_result | None:
     except (OSError, ValueError):
         return None
     return found if stat.S_ISREG(found.st_mode) else None
+
+
+def write_rows(file: IO[str], rows: Iterable[Iterable[Any]]) -> None:
+    """Writes rows of CSV, whose texts no program takes for formulas."""
+    csv.writer(file, lineterminator="\n").writerows(
+        [escape_formula(field) if isinstance(field, str) else field for field in row] for row in rows
+    )
 
 
 def tool_command(name: str) -> list[str]:

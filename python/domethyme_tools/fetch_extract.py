@@ -36,26 +36,16 @@ def fetch(folder: pathlib.Path) -> bytes:
     ]
     for lists in ("state/lists/partial", "cache/archives/partial"):
         (folder / lists).mkdir(parents=True)
-    options = [word for setting in settings for word in ("-o", setting)]
-    apt_get(folder, *options, "update")
-    apt_get(folder, *options, "source", "--download-only", "--tar-only", PACKAGE)
-    return extract_member(folder)
-
-
-def apt_get(folder: pathlib.Path, *words: str) -> None:
-    """Runs apt-get in the folder."""
+    apt_get = ["apt-get", "-qq", *(word for setting in settings for word in ("-o", setting))]
     try:
-        subprocess.run(["apt-get", "-qq", *words], cwd=folder, stdin=subprocess.DEVNULL, capture_output=True, check=True)
+        for words in (["update"], ["source", "--download-only", "--tar-only", PACKAGE]):
+            subprocess.run([*apt_get, *words], cwd=folder, stdin=subprocess.DEVNULL, capture_output=True, check=True)
     except FileNotFoundError as error:
         raise ToolError(f"{NAME} can't be had: there is no apt-get on this machine") from error
     except subprocess.CalledProcessError as error:
         errors = error.stderr.decode("utf-8", "replace").splitlines()
         reason = next((line.removeprefix("E: ") for line in errors if line.startswith("E: ")), "nothing")
         raise ToolError(f"{NAME} can't be had: apt-get says: {reason}") from error
-
-
-def extract_member(folder: pathlib.Path) -> bytes:
-    """The bytes of the extract in the source package that lies in the folder."""
     for package in folder.glob("osm2pgsql_*.tar.*"):
         with tarfile.open(package) as archive:
             for member in archive:

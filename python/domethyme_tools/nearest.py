@@ -28,7 +28,6 @@ Exit status: 0; 1 for bad input or a failed write, with one line on standard err
 arguments that are refused.
 """
 import argparse
-import csv
 import itertools
 import math
 import sys
@@ -36,22 +35,23 @@ from collections.abc import Collection, Iterable, Iterator, Sequence
 from typing import Any, NamedTuple
 
 import numpy
-from numpy.typing import NDArray
 
 from domethyme.atomic_files import atomic_write
-from domethyme.csv_tables import escape_formula, excerpt, open_table, parse_float
+from domethyme.csv_tables import excerpt, open_table, parse_float
 from domethyme.dimacs import write_pairs
 from domethyme.limits import MAX_LINES
 from domethyme.network.geo import Point
+from domethyme.network.groups import Ints
 from domethyme.network.node_index import NodeIndex, load_node_index
 from domethyme.network.reading import read_nodes
+from domethyme.network.sphere import Floats
 from domethyme.network.tables import ENDS, KEY, Side, is_coordinates, paths_of
 
-from .cli import ToolError, add_hierarchy, argument_parser, current_arguments, need_hierarchy, refuse_overwriting, warn
+from .cli import (
+    ToolError, add_hierarchy, argument_parser, current_arguments, need_hierarchy, refuse_overwriting, warn, write_rows
+)
 from .on_roads import request_lines
 
-Ints = NDArray[numpy.int64]
-Floats = NDArray[numpy.float64]
 SIDES: tuple[Side, Side] = ("from", "to")
 PREFIXES, NO_PREFIXES = ("from_", "to_"), ("", "")
 SWAPPED = "are longitude and latitude swapped?"
@@ -230,15 +230,6 @@ def snapped_rows(
         yield [*own, start, from_metres[source], end, to_metres[target], *of_nodes]
 
 
-def write_snapped(path: str, columns: list[str], rows: Iterable[list[Any]]) -> None:
-    """Writes the table of --snapped, whose texts no program takes for formulas."""
-    with atomic_write(path) as file:
-        csv.writer(file, lineterminator="\n").writerows(
-            [escape_formula(field) if isinstance(field, str) else field for field in row]
-            for row in itertools.chain([columns], rows)
-        )
-
-
 def main() -> None:
     options = parse_args()
     need_hierarchy(options)
@@ -260,7 +251,8 @@ def main() -> None:
     if len(pairs) > MAX_LINES:
         raise ToolError(f"has {len(fields)} places, which make more than {MAX_LINES} pairs", options.trips)
     if options.snapped:
-        write_snapped(options.snapped, columns, snapped_rows(fields, metres, pairs, options.matrix, keys))
+        with atomic_write(options.snapped) as file:
+            write_rows(file, itertools.chain([columns], snapped_rows(fields, metres, pairs, options.matrix, keys)))
     with atomic_write(options.output) as file:
         write_pairs(file, pairs, [index.origin(options.network).comment])
     if options.matrix:

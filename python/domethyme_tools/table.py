@@ -31,12 +31,13 @@ from domethyme import Hierarchy
 from domethyme.atomic_files import atomic_write
 from domethyme.csv_tables import escape_formula, need_columns
 from domethyme.limits import MAX_CELLS
+from domethyme.network.groups import Ints
 from domethyme.network.leg_tables import NodeTable, weight_rows
 from domethyme.network.node_index import NodeIndex, load_node_index
 from domethyme.network.tables import Side, paths_of
 
 from .cli import ToolError, add_compare_all, argument_parser, refuse_overwriting
-from .nearest import Ints, Trips, add_max_distance, begins_of, nodes_at, read_places, too_far_error
+from .nearest import Trips, add_max_distance, begins_of, nodes_at, read_places, too_far_error
 from .on_roads import open_road_index, snap_places
 
 # Lengths between nodes that are asked for together, 8 bytes each.

@@ -39,25 +39,26 @@ arguments that are refused.
 """
 import argparse
 import contextlib
-import csv
 import itertools
 import json
 from collections.abc import Iterable, Iterator
 from typing import IO, Any, NamedTuple
 
 import numpy
-from numpy.typing import NDArray
 
 from domethyme.atomic_files import atomic_write
-from domethyme.csv_tables import escape_formula, excerpt, open_table, parse_float
+from domethyme.csv_tables import excerpt, open_table, parse_float
 from domethyme.dimacs import read_answers
 from domethyme.network.from_tables import load_network_or_dimacs
 from domethyme.network.geo import Point, to_geojson_geometry, to_multilinestring
+from domethyme.network.groups import Ints
 from domethyme.network.net_file import TEXTS, UNITS, MappedNetwork
 from domethyme.network.tables import paths_of, read_attribution
 from domethyme.protocol import NO_PATH, RouteReply
 
-from .cli import ToolError, add_hierarchy, argument_parser, current_arguments, need_hierarchy, refuse_overwriting
+from .cli import (
+    ToolError, add_hierarchy, argument_parser, current_arguments, need_hierarchy, refuse_overwriting, write_rows
+)
 from .draw.geometry import join_lines
 from .on_roads import routes_on_roads
 
@@ -67,7 +68,6 @@ STEPS = "steps"
 LINE = "WKT"
 NAME = TEXTS.index("name")
 FORMS = ("collection", "lines", "csv")
-Ints = NDArray[numpy.int64]
 # A row of TRIPS: its number, and its fields by their columns.
 Trip = tuple[int | None, dict[str, str]]
 
@@ -188,11 +188,9 @@ def routes_between_places(options: argparse.Namespace) -> Iterator[Route]:
     """The routes between the places of TRIPS on roads."""
     with open_trips(options.trips) as (_, trips):
         rows = list(trips)
-    ends = []
-    for row, fields in rows:
-        lons_and_lats = [parse_float(fields.get(name, ""), name, options.trips, row, -most, most)
-                         for name, most in (("from_lon", 180), ("from_lat", 90), ("to_lon", 180), ("to_lat", 90))]
-        ends.append((row, (lons_and_lats[0], lons_and_lats[1]), (lons_and_lats[2], lons_and_lats[3])))
+    degrees = [[parse_float(fields.get(name, ""), name, options.trips, row, -most, most)
+                for name, most in (("from_lon", 180), ("from_lat", 90), ("to_lon", 180), ("to_lat", 90))] for row, fields in rows]
+    ends = [(row, (lon, lat), (to_lon, to_lat)) for (row, _), (lon, lat, to_lon, to_lat) in zip(rows, degrees)]
     routes = routes_on_roads(options.network, options.answers, options.trips, ends)
     for (_, fields), route in zip(rows, routes, strict=True):
         yield Route(fields, dict(zip(FIGURES, route)), route.steps, route.line)
@@ -200,11 +198,8 @@ def routes_between_places(options: argparse.Namespace) -> Iterator[Route]:
 
 def feature_of(route: Route, with_steps: bool) -> str:
     """The text of a route's feature, on one line; it has no geometry where there is no route."""
-    properties = route.fields | route.properties
-    if with_steps:
-        properties[STEPS] = route.steps
-    geometry = None if route.line is None else to_geojson_geometry(route.line)
-    feature = {"type": "Feature", "properties": properties, "geometry": geometry}
+    properties = route.fields | route.properties | ({STEPS: route.steps} if with_steps else {})
+    feature = {"type": "Feature", "properties": properties, "geometry": route.line and to_geojson_geometry(route.line)}
     return json.dumps(feature, ensure_ascii=False, separators=(",", ":"))
 
 
@@ -222,14 +217,12 @@ def write_features(file: IO[str], options: argparse.Namespace, routes: Iterable[
     file.write("\n]}\n")
 
 
-def write_table(file: IO[str], routes: Iterable[Route], columns: Iterable[str], has_keys: bool) -> None:
-    """Writes the routes as CSV, the user's columns first."""
-    rows, ours = csv.writer(file, lineterminator="\n"), (*PAIR, *(KEYS if has_keys else ()))
-    rows.writerow([*(escape_formula(name) for name in columns if name not in ours), *ours, *FIGURES, LINE])
+def table_rows(routes: Iterable[Route], columns: Iterable[str], has_keys: bool) -> Iterator[list[Any]]:
+    """The rows of the routes' table, its columns first, the user's before ours."""
+    ours = (*PAIR, *(KEYS if has_keys else ()))
+    yield [*(name for name in columns if name not in ours), *ours, *FIGURES, LINE]
     for route in routes:
-        values = [*route.fields.values(), *route.properties.values()]
-        line = None if route.line is None else to_multilinestring(route.line)
-        rows.writerow([*(escape_formula(value) if isinstance(value, str) else value for value in values), line])
+        yield [*route.fields.values(), *route.properties.values(), route.line and to_multilinestring(route.line)]
 
 
 def main() -> None:
@@ -247,6 +240,6 @@ def main() -> None:
     with open_trips(options.trips) as (columns, trips), atomic_write(options.output) as file:
         routes = routes_of(options, network, itertools.chain(first, answers), trips)
         if options.format == "csv":
-            write_table(file, routes, columns, network.has_keys)
+            write_rows(file, table_rows(routes, columns, network.has_keys))
         else:
             write_features(file, options, routes)

@@ -41,6 +41,7 @@ import numpy
 
 from domethyme.atomic_files import atomic_write_all
 from domethyme.belonging import older_hierarchy
+from domethyme.errors import raised_as
 from domethyme.network import from_tables, net_file
 from domethyme.network.tables import ARC_COLUMNS, ATTRIBUTION_COMMENT, NODE_COLUMNS, Files, has_columns, read_attribution
 
@@ -101,18 +102,14 @@ def main() -> None:
     sizes = numpy.array([0, 0] if options.tables else sizes_of(paths, options))
     nodes = from_tables.read_nodes(options.nodes, warn)
     arcs = from_tables.read_arcs(options.arcs, nodes, options.weight, warn)
-    try:
+    with raised_as(ToolError, options.arcs, ValueError):
         arrays = from_tables.build_arrays(nodes, arcs, attribution)
-    except ValueError as error:
-        raise ToolError(str(error), options.arcs) from error
     with atomic_write_all(*options.outputs) as (graph, *tables, network):
         if tables:
             sizes = write_tables(tables, arrays)
         write_graph(bytes_of(graph), arrays, attribution)
-        try:
+        with raised_as(ToolError, options.arcs, ValueError):
             net_file.write(bytes_of(network), arrays._replace(sizes=sizes))
-        except ValueError as error:
-            raise ToolError(str(error), options.arcs) from error
     kilometres = arrays.arc_metres[numpy.unique(arrays.arc_edge, return_index=True)[1]].sum() / 1000
     warn(f"{options.out}: {len(arrays.node_osm)} nodes, {len(arrays.arc_from)} arcs, {kilometres:.1f} km of road")
     if (older := older_hierarchy(options.out)) is not None:
