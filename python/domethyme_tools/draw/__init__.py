@@ -66,7 +66,6 @@ def parse_args() -> argparse.Namespace:
 
 
 def pixels(text: str) -> int:
-    """The value of --width."""
     value = int(text)
     if not 200 <= value <= 10_000:
         raise argparse.ArgumentTypeError(f"{text} isn't from 200 to 10000")

@@ -7,7 +7,7 @@ import collections
 import itertools
 import math
 from collections.abc import Iterable, Sequence
-from typing import NamedTuple, TypeVar
+from typing import NamedTuple
 
 from domethyme.network.geo import EARTH_RADIUS, Point
 
@@ -18,16 +18,11 @@ GREATEST_LATITUDE = 85.05
 MILLIONTHS = 1_000_000
 TENTHS = 10
 
-Value = TypeVar("Value")
-
 
 def to_mercator(places: Iterable[Point]) -> list[Point]:
     """The points of places on the plane. Latitudes beyond 85.05 degrees are taken as 85.05, as web maps do."""
-    points = []
-    for lon, lat in places:
-        phi = math.radians(max(-GREATEST_LATITUDE, min(GREATEST_LATITUDE, lat)))
-        points.append((0.5 + lon / 360, 0.5 - math.asinh(math.tan(phi)) / (2 * math.pi)))
-    return points
+    radians = ((lon, math.radians(max(-GREATEST_LATITUDE, min(GREATEST_LATITUDE, lat)))) for lon, lat in places)
+    return [(0.5 + lon / 360, 0.5 - math.asinh(math.tan(phi)) / (2 * math.pi)) for lon, phi in radians]
 
 
 def from_mercator(point: Point) -> Point:
@@ -42,17 +37,12 @@ def unwrapped(line: Iterable[Point], near: float = 0.0) -> list[Point]:
     for lon, lat in line:
         near = lon + 360 * round((near - lon) / 360)
         found.append((near, lat))
-    return without_repeats(found)
+    return join_lines([found])
 
 
 def join_lines(lines: Iterable[Iterable[Point]]) -> list[Point]:
     """One line through all places of several lines, in order, without a place that is the one before it again."""
-    return without_repeats(itertools.chain.from_iterable(lines))
-
-
-def without_repeats(values: Iterable[Value]) -> list[Value]:
-    """The values in order, but those that are equal to the one before."""
-    return [value for value, _ in itertools.groupby(values)]
+    return [place for place, _ in itertools.groupby(itertools.chain.from_iterable(lines))]
 
 
 def overlap_pieces(lines: Sequence[Line], most: int) -> list[list[Piece]]:
@@ -160,7 +150,8 @@ class View:
 
 def path_of(pixels: Iterable[Point]) -> str:
     """A line as the text of an SVG path, in steps from pixel to pixel; steps of less than a tenth are left out."""
-    begin, *steps = from_before(without_repeats((round(x * TENTHS), round(y * TENTHS)) for x, y in pixels))
+    tenths = itertools.groupby((round(x * TENTHS), round(y * TENTHS)) for x, y in pixels)
+    begin, *steps = from_before([place for place, _ in tenths])
     texts = [f"{x / TENTHS:g} {y / TENTHS:g}" for x, y in (begin, *(steps or [(0, 0)]))]
     return f"M{texts[0]}l{' '.join(texts[1:])}"
 

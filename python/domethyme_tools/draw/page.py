@@ -14,6 +14,7 @@ from .picture import FAINT, INK, MAX_WITH_ARROWS, PAPER, escaped
 from .roads import RoadLines, all_places
 from .routes import COLOURS, DrawnRoute
 
+HERE = pathlib.Path(__file__).parent
 LEAFLET = pathlib.Path("/usr/share/javascript/leaflet")
 LEAFLET_COPYRIGHT = pathlib.Path("/usr/share/doc/libjs-leaflet/copyright")
 # A link where OpenStreetMap is named, as it asks for.
@@ -25,8 +26,7 @@ LIGHT_COLOURS = ["#3aa0e0", "#f08a3c", "#2bc297", "#e38abb", "#dfae3a", "#7cc4ec
 
 
 def page_of(routes: list[DrawnRoute], roads: list[RoadLines], attribution: str, tiles: str | None) -> str:
-    """The text of the HTML file."""
-    page = string.Template(file_here("page.html")).substitute(
+    page = string.Template((HERE / "page.html").read_text(encoding="utf-8")).substitute(
         policy=POLICY,
         title=escaped(", ".join(route.label for route in routes[:3]) or "Roads"),
         leaflet_style=of_leaflet("leaflet.css"),
@@ -36,7 +36,7 @@ def page_of(routes: list[DrawnRoute], roads: list[RoadLines], attribution: str, 
             f".colour-{number} {{ --light: {light}; --dark: {dark}; }}"
             for number, (light, dark) in enumerate(zip(COLOURS, LIGHT_COLOURS))
         ),
-        script=file_here("page.js").rstrip("\n"), paper=PAPER, ink=INK, faint=FAINT,
+        script=(HERE / "page.js").read_text(encoding="utf-8").rstrip("\n"), paper=PAPER, ink=INK, faint=FAINT,
     )
     images = "data: file: http: https:" if tiles else "data:"
     scripts, styles = (digests_of(page, tag) for tag in ("script", "style"))
@@ -48,11 +48,6 @@ def digests_of(page: str, tag: str) -> str:
     texts = re.findall(rf"<{tag}>(.*?)</{tag}>", page, re.S)
     digests = (hashlib.sha256(text.encode()).digest() for text in texts)
     return " ".join(f"'sha256-{base64.b64encode(digest).decode()}'" for digest in digests)
-
-
-def file_here(name: str) -> str:
-    """The text of a file beside this one."""
-    return pathlib.Path(__file__).with_name(name).read_text(encoding="utf-8")
 
 
 def of_leaflet(name: str) -> str:

@@ -21,13 +21,14 @@ LONGEST_LABEL, SHORTEST_LABEL, MAX_ROWS = 48, 12, 40
 SECOND_LINE, ROUND_ENDS, CLOSE = 18, 8, 10
 MAX_OF_WIDTH, AREA_OPACITY = 0.4, 0.33
 BETWEEN_ARROWS, FROM_ENDS, MAX_WITH_ARROWS = 130, 16, 20
+# The corners of an arrow, ahead and aside of its place.
+ARROW = ((7, 0), (-5, 6), (-5, -6))
 # How much wider than a route its white edge is, which parts it from the roads.
 CASING = 2.5
 HALO = f' paint-order="stroke" stroke="{PAPER}" stroke-width="3" stroke-linejoin="round"'
 
 
 def picture_of(routes: list[DrawnRoute], roads: list[RoadLines], view: View, attribution: str) -> str:
-    """The text of the SVG file."""
     legend = legend_for(routes, roads, view)
     height = view.height + (legend.height + MARGIN if legend and legend.top >= view.height else 0)
     lines = [route for route in routes if not route.rings]
@@ -45,8 +46,7 @@ def picture_of(routes: list[DrawnRoute], roads: list[RoadLines], view: View, att
         *(draw_ends(in_picture([route.line[0], route.line[-1]], view), route.colour) for route in lines if route.line),
         "</g>",
         *(draw_legend(legend) if legend else ()),
-        *draw_scale(view),
-        *draw_attribution(attribution, view),
+        *draw_foot(attribution, view),
         "</svg>\n",
     ]
     return "\n".join(parts)
@@ -58,7 +58,6 @@ def escaped(text: str) -> str:
 
 
 def in_picture(places: Sequence[Point], view: View) -> list[Point]:
-    """Where places lie in the picture."""
     return view.pixels(to_mercator(places))
 
 
@@ -99,18 +98,12 @@ def draw_pieces(route: DrawnRoute, view: View, colour: str, more: float) -> str:
 
 def draw_arrows(line: list[Point], colour: str, view: View) -> str:
     """Arrows along a route, in its colour with a white edge."""
-    pixels = in_picture(line, view)
-    ends = pixels[0], pixels[-1]
-    far = [each for each in arrows(pixels, BETWEEN_ARROWS) if min(math.dist(each[0], end) for end in ends) >= FROM_ENDS]
-    data = "".join(arrow(*place, *towards) for place, towards in far)
+    pixels, data = in_picture(line, view), ""
+    for (x, y), (east, south) in arrows(pixels, BETWEEN_ARROWS):
+        if min(math.dist((x, y), end) for end in (pixels[0], pixels[-1])) >= FROM_ENDS:
+            points = [(x + ahead * east - aside * south, y + ahead * south + aside * east) for ahead, aside in ARROW]
+            data += "M" + "L".join(f"{right:.1f} {down:.1f}" for right, down in points) + "Z"
     return f'<path fill="{colour}" stroke="#fff" d="{data}"/>' if data else ""
-
-
-def arrow(x: float, y: float, east: float, south: float) -> str:
-    """A triangle that points that way."""
-    corners = ((7, 0), (-5, 6), (-5, -6))
-    points = [(x + ahead * east - aside * south, y + ahead * south + aside * east) for ahead, aside in corners]
-    return "M" + "L".join(f"{right:.1f} {down:.1f}" for right, down in points) + "Z"
 
 
 def draw_ends(ends: Sequence[Point], colour: str) -> str:
@@ -131,17 +124,13 @@ class Row(NamedTuple):
 
 
 class Legend(NamedTuple):
-    """The legend of a picture: its rows, whether figures are below labels, and where it is."""
+    """The legend of a picture: its rows, how high they are, above ROW with figures below labels, and where it is."""
 
     rows: list[Row]
-    is_tall: bool
+    row_height: int
     left: float
     top: float
     width: float
-
-    @property
-    def row_height(self) -> int:
-        return ROW + SECOND_LINE if self.is_tall else ROW
 
     @property
     def height(self) -> int:
@@ -157,20 +146,16 @@ def legend_for(routes: list[DrawnRoute], roads: list[RoadLines], view: View) -> 
     width = width_of(rows)
     hidden, left, top = corner_for(width, ROW * len(rows) + MARGIN, routes, roads, view)
     if not hidden and width <= view.width * MAX_OF_WIDTH:
-        return Legend(rows, False, left, top, width)
-    return legend_below(routes, view)
-
-
-def legend_below(routes: list[DrawnRoute], view: View) -> Legend:
-    """The legend below the map, as wide as it is; labels are shortened to the room, and have a line of their own where that
-    would be short."""
+        return Legend(rows, ROW, left, top, width)
+    # below the map labels are shortened to the room, and have a line of their own where that would be short
     room = view.width - 2 * MARGIN
     figures = max(len(route.figures) for route in routes) * LETTER
     beside = int((room - SWATCH - figures - 3 * MARGIN) / BOLD_LETTER)
     is_tall = beside < SHORTEST_LABEL
     letters = int((room - SWATCH - 2 * MARGIN) / BOLD_LETTER) if is_tall else beside
     rows = legend_rows(routes, MAX_ROWS, min(letters, LONGEST_LABEL))
-    return Legend(rows, is_tall, MARGIN, view.height, room if is_tall else min(room, width_of(rows)))
+    row_height, width = (ROW + SECOND_LINE, room) if is_tall else (ROW, min(room, width_of(rows)))
+    return Legend(rows, row_height, MARGIN, view.height, width)
 
 
 def width_of(rows: list[Row]) -> float:
@@ -199,7 +184,7 @@ def draw_row(row: Row, middle: float, legend: Legend) -> Iterator[str]:
         yield f'<path stroke="{colour}" stroke-width="{NARROWEST}" d="M{left} {middle:g}H{right}"/>'
         yield draw_ends([(left, middle), (right, middle)], colour)
     yield f'<text x="{MARGIN + SWATCH}" y="{middle + 5:g}" font-weight="bold">{escaped(label)}</text>'
-    if legend.is_tall:
+    if legend.row_height > ROW:
         has_room = SWATCH + 2 * MARGIN + len(figures) * LETTER <= legend.width
         indent = MARGIN + SWATCH if has_room else MARGIN
         yield f'<text x="{indent}" y="{middle + 5 + SECOND_LINE:g}">{escaped(figures)}</text>'
@@ -247,8 +232,8 @@ def densify(line: Sequence[Point]) -> list[Point]:
     return points
 
 
-def draw_scale(view: View) -> Iterator[str]:
-    """A bar of a round length, at most a fifth of the picture."""
+def draw_foot(attribution: str, view: View) -> Iterator[str]:
+    """A bar of a round length, at most a fifth of the picture, and what the data asks to be said, if anything."""
     pixel = view.metres_of_a_pixel
     bar = scale_bar_metres(pixel * view.width / 5)
     length, bottom = bar / pixel, view.height - MARGIN
@@ -256,9 +241,6 @@ def draw_scale(view: View) -> Iterator[str]:
     yield f'<path d="M{MARGIN} {bottom - 6}v6h{length:.1f}v-6" fill="none" stroke="{INK}" stroke-width="1.5"/>'
     yield f'<text x="{MARGIN + 6}" y="{bottom - 7}" font-size="12" fill="{INK}"{HALO}>{said}</text>'
 
-
-def draw_attribution(attribution: str, view: View) -> Iterator[str]:
-    """What the data asks to be said, where it asks for something."""
     if attribution:
         place = f'x="{view.width - MARGIN}" y="{view.height - MARGIN}" text-anchor="end"'
         yield f'<text {place} font-size="11" fill="{FAINT}"{HALO}>{escaped(attribution)}</text>'

@@ -63,14 +63,14 @@ def placed(routes: list[DrawnRoute]) -> list[DrawnRoute]:
     near = next((route.places[0][0] for route in routes if route.places), 0.0)
     lines = [unwrapped(route.line or [], near) for route in routes]
     lines = [line * 2 if len(line) == 1 else line for line in lines]
-    found = []
-    for route, line, pieces in zip(routes, lines, overlap_pieces(lines, MAX_NESTED)):
-        found.append(route._replace(
+    return [
+        route._replace(
             line=line or None, pieces=[(NARROWEST + STEP_OF_WIDTH * depth, piece) for depth, piece in pieces],
             names=[(name, unwrapped([place], near)[0]) for name, place in route.names],
             rings=[unwrapped(ring, near) for ring in route.rings],
-        ))
-    return found
+        )
+        for route, line, pieces in zip(routes, lines, overlap_pieces(lines, MAX_NESTED))
+    ]
 
 
 def features_in(text: str, path: str, said: list[str]) -> Iterator[Any]:
@@ -188,12 +188,10 @@ def read_steps(properties: dict[str, Any], place: FeatureRef) -> list[tuple[str,
 
 def names_along(line: list[Point], steps: list[tuple[str, float]]) -> list[tuple[str, Point]]:
     """Each street that has a name, with the place in the middle of it, the longest first."""
-    whole, behind, found = sum(way for _, way in steps), 0.0, []
-    for name, way in steps:
-        if name and way > 0:
-            found.append((way, name, point_at_fraction(line, (behind + way / 2) / whole)))
-        behind += way
-    return [(name, place) for _, name, place in sorted(found, key=lambda each: -each[0])]
+    *begins, whole = itertools.accumulate((way for _, way in steps), initial=0.0)
+    named = [(way, name, begin + way / 2) for (name, way), begin in zip(steps, begins) if name and way > 0]
+    named.sort(key=lambda each: -each[0])
+    return [(name, point_at_fraction(line, middle / whole)) for _, name, middle in named]
 
 
 def way_of(metres: float) -> str:
