@@ -21,7 +21,6 @@ import numpy as np
 from numpy.typing import NDArray
 from tqdm import tqdm
 
-from domethyme.atomic_files import unlink_missing_ok
 from domethyme.program import StrPath
 
 from .cli import ToolError
@@ -68,22 +67,18 @@ def build_folder() -> pathlib.Path:
 
 
 def build(path: pathlib.Path) -> None:
-    """Builds the program at the path."""
     compiler = shutil.which("g++")
     if compiler is None:
         raise ToolError(f"the converter has to be built, and g++ is missing: {TO_INSTALL}")
-    beside = f"{path}.{os.getpid()}"
-    command = [compiler, *OPTIONS, "-o", beside, str(SOURCE), *LIBRARIES]
-    try:
+    with tempfile.TemporaryDirectory(dir=path.parent) as folder:
+        command = [compiler, *OPTIONS, "-o", f"{folder}/built", str(SOURCE), *LIBRARIES]
         with progress("building the converter, once"):
             ended = subprocess.run(command, stdin=subprocess.DEVNULL, capture_output=True)
         if ended.returncode != 0:
             lines = ended.stderr.decode("utf-8", "replace").splitlines()
             wrong = next((line for line in lines if "error" in line), "g++ failed")
             raise ToolError(f"the converter can't be built: {wrong}: {TO_INSTALL}")
-        os.replace(beside, path)
-    finally:
-        unlink_missing_ok(beside)
+        os.replace(f"{folder}/built", path)
 
 
 def progress(what: str) -> Any:
@@ -238,8 +233,8 @@ class Runs(NamedTuple):
     parts: NDArray[np.uint32]
     metres: NDArray[np.float64]
     points: Int32s
-    begin: NDArray[np.uint64]
-    end: NDArray[np.uint64]
+    begin: NDArray[np.int64]
+    end: NDArray[np.int64]
 
 
 def cut_runs(folder: Folder, counts: NDArray[np.uint32], places: NodeArrays, longest: float) -> Runs:
@@ -250,6 +245,6 @@ def cut_runs(folder: Folder, counts: NDArray[np.uint32], places: NodeArrays, lon
     folder.run("pieces", repr(float(longest)))
     return Runs(
         folder.array("run_road", "u4"), folder.array("run_ends", "u4", 2), folder.array("run_parts", "u4"),
-        folder.array("run_metres", "f8"), folder.array("points", "i4", 2), folder.array("piece_begin", "u8"),
-        folder.array("piece_end", "u8"),
+        folder.array("run_metres", "f8"), folder.array("points", "i4", 2), folder.array("piece_begin", "i8"),
+        folder.array("piece_end", "i8"),
     )

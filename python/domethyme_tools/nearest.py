@@ -37,7 +37,7 @@ from typing import Any, NamedTuple
 import numpy
 
 from domethyme.atomic_files import atomic_write
-from domethyme.csv_tables import excerpt, open_table, parse_float
+from domethyme.csv_tables import Row, excerpt, open_table
 from domethyme.dimacs import write_pairs
 from domethyme.limits import MAX_LINES
 from domethyme.network.geo import Point
@@ -93,7 +93,6 @@ def add_max_distance(parser: argparse.ArgumentParser, what: str) -> None:
 
 
 def distance(text: str) -> float:
-    """The value of --max-distance, in metres."""
     value = float(text)
     if not (math.isfinite(value) and value >= 0):
         raise argparse.ArgumentTypeError(f"{text} isn't a distance")
@@ -119,19 +118,17 @@ def read_trips(path: str, prefixes: tuple[str, str]) -> Trips:
         trips = Trips(path, records.columns, [], [], prefixes, [places[prefix] for prefix in prefixes])
         for row, fields in records:
             for prefix, ends in places.items():
-                lon = parse_degrees(fields, f"{prefix}lon", 180, path, row)
-                ends.append((lon, parse_degrees(fields, f"{prefix}lat", 90, path, row)))
+                ends.append((parse_degrees(fields, f"{prefix}lon", 180), parse_degrees(fields, f"{prefix}lat", 90)))
             trips.rows.append(row)
             trips.fields.append(list(fields.values()))
     return trips
 
 
-def parse_degrees(fields: dict[str, str], column: str, most: float, path: str, row: int) -> float:
+def parse_degrees(fields: Row, column: str, most: float) -> float:
     """The number in a column of a row, from -most to most."""
-    value = parse_float(fields[column], column, path, row)
-    if abs(value) > most:
+    if abs(value := fields.read_float(column)) > most:
         doubt = SWAPPED if abs(value) <= 180 else "are these degrees?"
-        raise ToolError(f"{column} {excerpt(fields[column])} isn't from -{most} to {most}: {doubt}", path, row)
+        raise fields.error(f"{column} {excerpt(fields[column])} isn't from -{most} to {most}: {doubt}")
     return value
 
 
@@ -199,12 +196,7 @@ class Matrix(Collection[tuple[int, int]]):
 
     def __iter__(self) -> Iterator[tuple[int, int]]:
         for start in self.starts.tolist():
-            yield from zip(itertools.repeat(start), end_nodes(start, self.ends, self.begins).tolist())
-
-
-def end_nodes(starts: "Ints | int", ends: Ints, begins: Ints) -> Ints:
-    """The nodes at the ends of routes, where one that ends at the junction where it begins stays there."""
-    return numpy.where(begins == starts, starts, ends)
+            yield from zip(itertools.repeat(start), numpy.where(self.begins == start, start, self.ends).tolist())
 
 
 def snapped_columns(trips: Trips, is_matrix: bool, has_keys: bool) -> list[str]:
@@ -247,7 +239,8 @@ def main() -> None:
     begins = begins_of(index, ends)
     pairs: Collection[tuple[int, int]] = Matrix(starts, ends, begins)
     if not options.matrix:
-        pairs = list(zip(starts.tolist(), end_nodes(starts, ends, begins).tolist()))
+        # (a route that ends at the junction where it begins stays there)
+        pairs = list(zip(starts.tolist(), numpy.where(begins == starts, starts, ends).tolist()))
     if len(pairs) > MAX_LINES:
         raise ToolError(f"has {len(fields)} places, which make more than {MAX_LINES} pairs", options.trips)
     if options.snapped:

@@ -54,6 +54,7 @@ from domethyme.csv_tables import open_input
 from domethyme.limits import MAX_LINES, MAX_NODES
 from domethyme.network import net_file
 from domethyme.network.groups import offsets
+from domethyme.network.sphere import Floats
 from domethyme.network.tables import ATTRIBUTION_COMMENT, OSM_ATTRIBUTION, Files
 from domethyme.program import StrPath
 
@@ -61,8 +62,7 @@ from . import turn_restrictions
 from .cli import ToolError, argument_parser, current_arguments, refuse_overwriting
 from .map_arrays import Folder, NodeArrays, WayArrays, cut_runs, folder_beside, progress, read_places, read_ways
 from .road_network import (
-    WEIGHTS, Floats, RoadNetwork, RoadTable, RowsOf, Rules, build_network, keep_largest, metres_of_roads, split_junctions,
-    to_arrays,
+    WEIGHTS, RoadNetwork, RoadTable, RowsOf, Rules, build_network, keep_largest, metres_of_roads, split_junctions, to_arrays
 )
 from .table_files import bytes_of, tables_there, write_tables
 from .turn_restrictions import Bools, Report, Restriction
@@ -121,20 +121,19 @@ def judge_tags(ways: WayArrays, profile: Profile, report: Report) -> tuple[Bools
     """For each combination of tags whether such ways are taken, and their km/h in both directions, NaN for none, of shape
     (2, combinations); and the values that weren't understood, by what they are of. The rules are asked once for each."""
     counts = np.bincount(ways.labels[:, 0][ways.label], minlength=len(ways.tags)).tolist()
-    is_taken, speeds = np.zeros(len(ways.tags), np.bool_), np.full((2, len(ways.tags)), np.nan)
+    judged = [judge(tags, profile) for tags in ways.tags]
     unknown: dict[str, Report] = {"maxspeeds": collections.Counter(), "limits": collections.Counter()}
-    for number, (tags, count) in enumerate(zip(ways.tags, counts)):
-        found = judge(tags, profile)
+    for tags, found, count in zip(ways.tags, judged, counts):
         if found.refusal is not None:
             report[found.refusal] += count
             continue
-        is_taken[number] = True
-        speeds[:, number] = [np.nan if speed is None else speed for speed in (found.forward, found.backward)]
         for values, value in zip(unknown.values(), (found.unknown_speed, found.unknown_limit)):
             if value is not None:
                 values[value] += count
         for what, is_so in unsupported_tags(tags, profile):
             report[what] += is_so * count
+    is_taken = np.array([found.refusal is None for found in judged], np.bool_)
+    speeds = np.array([(found.forward, found.backward) for found in judged], np.float64).reshape(-1, 2).T
     return is_taken, speeds, unknown
 
 
@@ -206,7 +205,6 @@ def write_graph(file: IO[Any], arrays: net_file.Arrays, folder: Folder, attribut
 
 
 def longest_arc(text: str) -> float:
-    """The metres of the word."""
     with contextlib.suppress(ValueError):
         if 1 <= float(text) <= MAX_METRES:
             return float(text)

@@ -59,7 +59,6 @@ def parse_args() -> argparse.Namespace:
 
 
 def numbers(text: str) -> list[float]:
-    """The value of --minutes or --metres."""
     found = [distance(word) for word in text.split(",")]
     if any(low >= high for low, high in zip([0.0, *found], found)):
         raise argparse.ArgumentTypeError(f"{text} isn't a list of numbers above 0, each greater than the one before")
@@ -67,14 +66,12 @@ def numbers(text: str) -> list[float]:
 
 
 def share(text: str) -> float:
-    """The value of --denoise."""
     if not 0 <= float(text) <= 1:
         raise argparse.ArgumentTypeError(f"{text} isn't from 0 to 1")
     return float(text)
 
 
 def colours(text: str) -> list[str]:
-    """The value of --colors."""
     if not all(map(COLOR.fullmatch, text.split(","))):
         raise argparse.ArgumentTypeError(f"{text} isn't a list of six hexadecimal digits each")
     return text.split(",")

@@ -8,16 +8,15 @@ from scipy.sparse import coo_matrix
 from scipy.sparse.csgraph import connected_components
 
 from domethyme.network import net_file
-from domethyme.network.groups import Ints, offsets
+from domethyme.network.groups import Ints, first_of_equal, offsets
 from domethyme.network.indexes import unique_text_rows
-from domethyme.network.parallel import differs_from_previous as differs, map_slices, parallel_sort
-from domethyme.network.tables import ENDS
+from domethyme.network.parallel import differs_from_previous as differs, map_slices
+from domethyme.network.sphere import Floats
 
 from . import turn_restrictions
 from .map_arrays import NodeArrays, Runs
 from .turn_restrictions import Bools, Int32s, Report, Restriction, Turns, mask, splitmix64
 
-Floats = NDArray[np.float64]
 Rules = dict[int, list[Restriction]]
 # The texts of some rows, in the order of net_file.TEXTS.
 RowsOf = Callable[[Ints], Iterable[tuple[str, ...]]]
@@ -106,8 +105,7 @@ def build_network(runs: Runs, roads: RoadTable, places: NodeArrays) -> tuple[Roa
     is_new = mask(len(ends), first[first >= 0]) | is_apart
     node = np.cumsum(~mask(int(begin[-1]), stop[~is_new]), dtype=np.int32) - np.int32(1)
     count = int(node[-1]) + 1
-    known, = by_slices(len(ends), [np.int32], lambda part: [node[stop[first[ends[part]]]]])
-    node[stop] = np.where(is_apart, node[stop], known)
+    node[stop] = np.where(is_apart, node[stop], node[stop[first[ends]]])
     # the pieces: each ends where the next begins, but for the last of a run
     run = np.repeat(np.arange(len(runs.parts), dtype=np.int32), runs.parts)
     last = offsets(runs.parts)[1:] - 1
@@ -118,7 +116,7 @@ def build_network(runs: Runs, roads: RoadTable, places: NodeArrays) -> tuple[Roa
     osm, place, new = np.full(count, net_file.NO_OSM, np.int64), np.empty((count, 2), np.int32), node[stop[is_new]]
     osm[new], place[new] = places.osm[ends[is_new]], places.place[ends[is_new]]
     is_cut = ~mask(len(run), last)
-    place[end[is_cut]] = runs.points[runs.end[is_cut].astype(np.int64) - 1]
+    place[end[is_cut]] = runs.points[runs.end[is_cut] - 1]
     arcs = arcs_along(start, end, run, runs, roads)
     is_split, penalty = np.zeros(len(arcs[0]), np.bool_), np.zeros(len(arcs[0]), np.int32)
     found = RoadNetwork(osm, place, np.zeros(len(osm), np.uint8), *arcs, is_split, penalty, run, runs, roads)
@@ -133,16 +131,9 @@ def arcs_along(
     forward, backward = (~np.isnan(speed) for speed in (roads.forward, roads.backward))
     count = (forward.astype(np.int8) + backward)[runs.road][run]
     piece = np.repeat(np.arange(len(run), dtype=np.int32), count)
-    is_second = ~differs(piece)
-
-    def orient(part: slice) -> tuple[Int32s, Int32s, Bools]:
-        pieces = piece[part]
-        back = is_second[part] | ~forward[runs.road[run[pieces]]]
-        here, there = start[pieces], end[pieces]
-        return np.where(back, there, here), np.where(back, here, there), back
-
-    starts, ends, is_back = by_slices(len(piece), [np.int32, np.int32, np.bool_], orient)
-    return starts, ends, piece, is_back
+    is_back = ~differs(piece) | ~forward[runs.road[run]][piece]
+    here, there = start[piece], end[piece]
+    return np.where(is_back, there, here), np.where(is_back, here, there), piece, is_back
 
 
 # Turn restrictions
@@ -161,7 +152,7 @@ def split_junctions(network: RoadNetwork, rules: Rules, penalties: dict[str, int
     split, is_there = nodes[copies.is_split], copies.is_split[turns.node]
     report["nodes split by turns" if has_penalties else "junctions split by turn restrictions"] = len(split)
     ends = network.node_ends.copy()
-    ends[split] = ENDS.index(turn_restrictions.START)
+    ends[split] = turn_restrictions.START
     there = turns.into[is_there], turns.out[is_there[turns.turn]]
     is_apart = mask(len(network.piece_run), *(network.piece[arcs] for arcs in there))
     return network.with_arcs(arc)._replace(
@@ -199,8 +190,7 @@ def penalties_of(network: RoadNetwork, turns: Turns, penalties: dict[str, int]) 
 def headings(network: RoadNetwork, arcs: Ints, is_end: bool) -> tuple[Floats, Floats]:
     """Where each arc leads to in its last step, or in its first: east and north, of any length."""
     piece, is_back = network.piece[arcs], network.is_back[arcs]
-    begin, end = network.runs.begin[piece].astype(np.int64), network.runs.end[piece].astype(np.int64)
-    first = np.where(is_back ^ is_end, end - 2, begin)
+    first = np.where(is_back ^ is_end, network.runs.end[piece] - 2, network.runs.begin[piece])
     here, there = (network.runs.points[place].astype(np.float64) for place in (first, first + 1))
     half = 180 * net_file.UNITS
     east = ((there[:, 0] - here[:, 0] + half) % (2 * half) - half) * np.cos(np.radians(here[:, 1] / net_file.UNITS))
@@ -216,8 +206,7 @@ def keep_largest(network: RoadNetwork, report: Report) -> RoadNetwork:
     kept = labels == np.bincount(labels).argmax()
     # a route may begin or end at a node that it can't pass
     from_kept, to_kept, ends = mask(count, end[kept[start]]), mask(count, start[kept[end]]), network.node_ends
-    only_end, only_start = ENDS.index(turn_restrictions.END), ENDS.index(turn_restrictions.START)
-    kept |= (ends == only_end) & from_kept | (ends == only_start) & to_kept
+    kept |= (ends == turn_restrictions.END) & from_kept | (ends == turn_restrictions.START) & to_kept
     number = (np.cumsum(kept) - 1).astype(np.int32)
     found = network.with_arcs(kept[start] & kept[end])
     report["nodes outside the largest strongly connected component"] = count - int(kept.sum())
@@ -306,22 +295,19 @@ def edges_from_pieces(network: RoadNetwork) -> tuple[Int32s, Bools, Ints, Int32s
         is_along[piece], is_same[piece] = line <= line[::-1], line == line[::-1]
     first_of: dict[int, int] = {}
     known: dict[tuple[int, bytes], int] = {}
-    for piece in (each for each in candidate_duplicates(keys) if is_used[each]):
+    leader = first_of_equal(keys)
+    is_again = leader != np.arange(len(leader))
+    for piece in np.flatnonzero(is_used & (is_again | mask(len(leader), leader[is_again]))).tolist():
         points = line_of(runs, piece)[:: 1 if is_along[piece] else -1]
         first = known.setdefault((int(network.ways_of(piece)), points.tobytes()), piece)
         if first != piece:
             first_of[piece] = first
     is_edge = is_used & ~mask(len(keys), list(first_of))
-    del keys, known
+    del keys, known, leader, is_again
     number = np.cumsum(is_edge, dtype=np.int32) - np.int32(1)
     number[list(first_of)] = number[list(first_of.values())]
-
-    def of_arcs(part: slice) -> tuple[Int32s, Bools]:
-        piece = network.piece[part]
-        return number[piece], is_along[piece] ^ network.is_back[part] | is_same[piece]
-
-    edge, along = by_slices(len(network.piece), [np.int32, np.bool_], of_arcs)
-    return edge, along, *chosen_lines(runs, is_edge, is_along)
+    along = is_along[network.piece] ^ network.is_back | is_same[network.piece]
+    return number[network.piece], along, *chosen_lines(runs, is_edge, is_along)
 
 
 def look_at_lines(network: RoadNetwork) -> list[NDArray[Any]]:
@@ -330,7 +316,7 @@ def look_at_lines(network: RoadNetwork) -> list[NDArray[Any]]:
     runs = network.runs
 
     def look(part: slice) -> tuple[Any, ...]:
-        ends = (runs.points[place.astype(np.int64)] for place in (runs.begin[part], runs.end[part] - np.uint64(1)))
+        ends = (runs.points[place] for place in (runs.begin[part], runs.end[part] - 1))
         head, tail = ((places[:, 0].astype(np.int64) << 32) + places[:, 1] for places in ends)
         mixes = (splitmix64(values.astype(np.uint64)) for values in (head, tail, network.ways_of(part)))
         return head < tail, head == tail, np.add.reduce(list(mixes))
@@ -339,13 +325,12 @@ def look_at_lines(network: RoadNetwork) -> list[NDArray[Any]]:
 
 
 def line_of(runs: Runs, piece: int) -> Int32s:
-    """The points of a piece."""
-    return np.array(runs.points[int(runs.begin[piece]) : int(runs.end[piece])])
+    return np.array(runs.points[runs.begin[piece] : runs.end[piece]])
 
 
 def chosen_lines(runs: Runs, chosen: Bools, is_along: Bools) -> tuple[Ints, Int32s]:
     """The lines of chosen pieces one after the other, each along or against its points; and where they begin."""
-    begin, end = (bounds[chosen].astype(np.int64) for bounds in (runs.begin, runs.end))
+    begin, end = runs.begin[chosen], runs.end[chosen]
     line_begin = offsets(end - begin)
     found = np.empty((int(line_begin[-1]), 2), np.int32)
     step = np.where(is_along[chosen], 1, -1).astype(np.int8)
@@ -359,15 +344,3 @@ def chosen_lines(runs: Runs, chosen: Bools, is_along: Bools) -> tuple[Ints, Int3
 
     map_slices(fill, len(first))
     return line_begin, found
-
-
-def candidate_duplicates(keys: NDArray[np.uint64]) -> list[int]:
-    """The rows, in order, that have the upper half of their key in common with another row; the lower one is lost."""
-    half = np.uint64((1 << 32) - 1)
-    keys &= ~half
-    keys |= np.arange(len(keys), dtype=np.uint64)
-    parallel_sort(keys)
-    is_equal = ~differs(keys >> np.uint64(32))
-    is_equal[:-1] |= is_equal[1:]
-    found: list[int] = np.sort(keys[is_equal] & half).tolist()
-    return found

@@ -79,7 +79,6 @@ def arcs_in(arrays: net_file.Arrays) -> Iterator[Arc]:
 
 
 def texts_in(arrays: net_file.Arrays) -> list[str]:
-    """The list of texts."""
     whole = arrays.text_bytes.tobytes()
     return [whole[begin:end].decode() for begin, end in itertools.pairwise(arrays.text_begin.tolist())]
 

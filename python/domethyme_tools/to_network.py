@@ -71,7 +71,6 @@ def parse_args() -> argparse.Namespace:
 
 
 def write_graph(file: IO[bytes], arrays: net_file.Arrays, attribution: str) -> None:
-    """Writes the graph's text."""
     if attribution:
         file.write(f"{ATTRIBUTION_COMMENT}{attribution}\n".encode())
     file.write(b"p sp %d %d\n" % (len(arrays.node_osm), len(arrays.arc_from)))

@@ -27,7 +27,8 @@ Int32s = NDArray[np.int32]
 Bools = NDArray[np.bool_]
 Report = collections.Counter[str]
 NOT_LOOKED_AT = "turn restrictions not looked at: "
-START, PASSED, END = "from", "no", "to"
+# The places in ENDS of nodes where routes begin alone, neither begin nor end, and end alone.
+START, PASSED, END = (ENDS.index(word) for word in ("from", "no", "to"))
 # The cost of a turn that may not be taken
 FORBIDDEN = -1
 
@@ -165,8 +166,8 @@ def make_copies(nodes: Ints, turns: Turns, cost: Int32s, count: int) -> Copies:
     begin = count + offsets(np.where(is_split, 1 + made_at, 0))
     made = np.zeros(len(node), np.int64)
     made[is_made] = begin[node[is_made]] + 1 + expand(made_at)[1]
-    ends = np.full(int(begin[-1]) - count, ENDS.index(PASSED), np.uint8)
-    ends[begin[:-1][is_split] - count] = ENDS.index(END)
+    ends = np.full(int(begin[-1]) - count, PASSED, np.uint8)
+    ends[begin[:-1][is_split] - count] = END
     beside = np.repeat(nodes[is_split], 1 + made_at[is_split])
     return Copies(is_made, made, np.where(is_free, nodes[node], made[first]), begin[node], is_split, beside, ends)
 
