@@ -2,8 +2,7 @@
 use Rattle.std.proofs.Common.{◌≡◌, Option, Some, None, ap, refl, inl, inr}
 use Rattle.ch_cost.specs.declared.cost.Cost.{Cost}
 use Rattle.ch_cost.specs.Cost.Laws.{at_most_antisym, below_not_at_most}
-use Rattle.ch_graph.specs.Walk.{Walk, IsLeastOrNone}
-use Rattle.ch_graph.specs.Graph.{ArcOf, DistanceIsUnique}
+use Rattle.ch_graph.specs.Walk.{IsLeastOrNone}
 use Rattle.ch_graph.specs.Limits.{DistanceIsWithinBound}
 use Rattle.ch_graph.specs.Limits.Laws.{within_or_cheaper}
 use Rattle.ch_graph.specs.Hierarchy.{HasRiseFall, ValueIsUnique}
@@ -21,10 +20,6 @@ least_unique P (Some c) (Some d) least other = ap (λ (e : Cost). Some e) (at_mo
 least_unique P (Some c) None least none_is = absurd (none_is c least.0)
 least_unique P None (Some d) none_is least = absurd (none_is d least.0)
 least_unique P None None none_is other = refl
-
--- and two nodes have one
-pub distance_unique : DistanceIsUnique
-distance_unique g s t a b first second = least_unique (Walk (ArcOf g) s t) a b first second
 
 pub value_unique : ValueIsUnique
 value_unique h s t a b first second = least_unique (HasRiseFall h s t) a b first second

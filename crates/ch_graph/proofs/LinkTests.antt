@@ -1,11 +1,11 @@
 -- The tests of links: that each comes after the one before it, and is well made.
-use Rattle.std.proofs.Common.{ℕ, zero, suc, ◌≡◌, ◌+◌, ◌-◌, ◌<◌, ◌≤◌, List, length, get_or, Some, AllPairs, inl, inr, sym, ap, subst, ◌∙◌, arith}
+use Rattle.std.proofs.Common.{ℕ, zero, suc, ◌≡◌, ◌+◌, ◌<◌, List, length, get_or, Some, AllPairs, inl, inr, sym, ap, subst, ◌∙◌, arith}
 use Rattle.std.proofs.lemmas.Bool.{cases_lt}
 use Rattle.std.proofs.lemmas.List.{get_or_default}
 use Rattle.ch_cost.specs.Cost.{◌⊕◌}
 use Rattle.ch_graph.specs.declared.link.Link.{Link}
 use Rattle.ch_graph.specs.Hierarchy.{Hierarchy, AreHalves, ComesBefore, IsLinkAt, IsLinkWellMade}
-use Rattle.ch_graph.specs.Checking.{ComesNext, HaveSum, IsAllowed, IsFirstWithout, IsLow, IsWellMadeAt}
+use Rattle.ch_graph.specs.Checking.{HaveSum, IsAllowed, IsLow, IsWellMadeAt}
 use Rattle.ch_graph.proofs.LinkPlaces.{place_of}
 use Rattle.ch_graph.proofs.OneUnfolding.{not_before}
 
@@ -27,31 +27,6 @@ links_sorted ls next i (suc j) d less within =
       | inl below ↦ before-trans (get_or ls i d) (get_or ls j d) (get_or ls (suc j) d) (links_sorted ls next i j d below (omega arith)) here
       | inr at ↦ let e : j ≡ i = omega arith in subst (λ m. ComesBefore (get_or ls m d) (get_or ls (suc j) d)) e here
     ]
-
-module _ (ls : List Link) (place : ℕ) (a b c e : Link) (behind : 1 ≤ place) (within : place < length ls) (a_is : a ≡ get_or ls (place - 1) c) (b_is : b ≡ get_or ls place e)
-    (before : (k : ℕ) (d : Link) → k + 1 < place → ComesBefore (get_or ls k d) (get_or ls (k + 1) d)) where
-  pub next_in_order : ComesBefore a b → (k : ℕ) (d : Link) → k + 1 < place + 1 → ComesBefore (get_or ls k d) (get_or ls (k + 1) d)
-  next_in_order h k d low = elim (cases_lt (k + 1) place) [
-    | inl less ↦ before k d less
-    | inr more ↦
-        let at : place ≡ k + 1 = omega arith in
-        let at_last : place - 1 ≡ k = omega arith in
-        let last_in : place - 1 < length ls = omega arith in
-        let first : a ≡ get_or ls k d = a_is ∙ get_or_default ls (place - 1) c d last_in ∙ ap (λ n. get_or ls n d) at_last in
-        let second : b ≡ get_or ls (k + 1) d = b_is ∙ get_or_default ls place e d within ∙ ap (λ n. get_or ls n d) at in
-        subst (λ (l : Link). ComesBefore (get_or ls k d) l) second (subst (λ (l : Link). ComesBefore l b) first h)
-  ]
-
-  pub out_of_order : (ComesBefore a b → ⊥) → IsFirstWithout (ComesNext ls) (length ls) place
-  out_of_order h = record {
-    within = within;
-    without = λ next.
-        let at : place - 1 + 1 ≡ place = omega arith in
-        let pair : ComesBefore (get_or ls (place - 1) c) (get_or ls place c) = next (place - 1) c at in
-        let second : get_or ls place c ≡ b = get_or_default ls place c e within ∙ sym b_is in
-        h (subst (λ (l : Link). ComesBefore a l) second (subst (λ (l : Link). ComesBefore l (get_or ls place c)) (sym a_is) pair));
-    before = λ k low j d at. subst (λ n. ComesBefore (get_or ls j d) (get_or ls n d)) at (before j d (omega arith));
-  }
 
 -- One link
 
@@ -151,6 +126,3 @@ module _ (h : Hierarchy) (place : ℕ) (l c : Link) (within : place < length h.l
         let at : place ≡ k = omega arith in
         subst (IsWellMadeAt h) at (λ (d : Link). subst (IsLinkWellMade h) (is ∙ get_or_default h.links place c d within) made)
   ]
-
-  pub bad_link : (IsLinkWellMade h l → ⊥) → IsFirstWithout (IsWellMadeAt h) (length h.links) place
-  bad_link bad = record { within = within; without = λ made. bad (subst (IsLinkWellMade h) (sym is) (made c)); before = before }

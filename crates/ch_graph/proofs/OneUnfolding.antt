@@ -3,7 +3,7 @@ use Rattle.std.proofs.Common.{ℕ, ◌≡◌, ◌<◌, List, ◌++◌, get_or, a
 use Rattle.std.proofs.lemmas.Bool.{cases_lt}
 use Rattle.std.proofs.lemmas.List.{get_or_default}
 use Rattle.ch_graph.specs.declared.link.Link.{Link}
-use Rattle.ch_graph.specs.Hierarchy.{Hierarchy, IsLink, Unfolds, Unfolds.whole, Unfolds.halves, UnfoldsAll, UnfoldsAll.done, UnfoldsAll.more, ComesBefore, IsWellMade}
+use Rattle.ch_graph.specs.Hierarchy.{Hierarchy, IsLink, Unfolds, Unfolds.whole, Unfolds.halves, ComesBefore, IsWellMade}
 use Rattle.ch_graph.specs.Unfolding.{LinksUnfold}
 use Rattle.ch_graph.proofs.Unfolding.{HasUnfolding, link-unfolds}
 
@@ -47,11 +47,6 @@ one_unfolding h made (halves {l = l} {a = a} {b = b} {m = m} {ls = ls} {rs = rs}
     let left_is : ls ≡ us = one_unfolding h made left (subst (λ (k : Link). Unfolds h k us) a_is below) in
     let right_is : rs ≡ vs = one_unfolding h made right (subst (λ (k : Link). Unfolds h k vs) b_is above) in
     ap (λ (k : List Link). k ++ rs) left_is ∙ ap (λ (k : List Link). us ++ k) right_is
-
-pub one_unfolding-all : (h : Hierarchy) → IsWellMade h → {ls us vs : List Link} → UnfoldsAll h ls us → UnfoldsAll h ls vs → us ≡ vs
-one_unfolding-all h made done done = refl
-one_unfolding-all h made (more {us = us} {vs = ts} first rest) (more {us = ws} {vs = vs} other others) =
-    ap (λ (k : List Link). k ++ ts) (one_unfolding h made first other) ∙ ap (λ (k : List Link). ws ++ k) (one_unfolding-all h made rest others)
 
 pub links_unfold : LinksUnfold
 links_unfold h l made among =

@@ -30,7 +30,3 @@ IsShortest g nodes s t c = IsLeastLength g s t (Some (length_of c)) × ((d : Cos
 -- the least cost over all walks from s to t, or none where there is no walk
 abbrev pub IsDistance : Graph → ℕ → ℕ → Option Cost → Type 0
 IsDistance g s t = IsLeastOrNone (Walk (ArcOf g) s t)
-
--- two nodes have one distance at most
-abbrev pub DistanceIsUnique : Type 0
-DistanceIsUnique = (g : Graph) (s t : ℕ) (a b : Option Cost) → IsDistance g s t a → IsDistance g s t b → a ≡ b

@@ -1,4 +1,3 @@
-ghost use Rattle.ch_graph.specs.Graph.{DistanceIsUnique};
 ghost use Rattle.ch_graph.specs.Limits.{DistanceIsWithinBound};
 ghost use Rattle.ch_graph.specs.Search.{SettledIsLeast};
 ghost use Rattle.ch_graph.specs.Hierarchy.{ValueIsUnique};
@@ -8,11 +7,6 @@ ghost use Rattle.ch_graph.specs.Unfolding.{LinksUnfold, PlacesNameLinks, RiseFal
 /// are nodes.
 pub fn distance_is_within_bound()
     ensures { DistanceIsWithinBound }
-{}
-
-/// Two nodes have one distance, or none.
-pub fn distance_is_unique()
-    ensures { DistanceIsUnique }
 {}
 
 /// In a search of a graph by marks the cost of each settled node is its distance from the source: it follows from what

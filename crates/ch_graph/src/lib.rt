@@ -38,8 +38,8 @@ pub use error::{GraphError, HierarchyError};
 pub use graph::Graph;
 pub use hierarchy::{Hierarchy, LinkId};
 pub use laws::{
-    distance_is_unique, distance_is_within_bound, links_unfold, places_name_links, rise_fall_joins,
-    settled_is_least, value_is_unique,
+    distance_is_within_bound, links_unfold, places_name_links, rise_fall_joins, settled_is_least,
+    value_is_unique,
 };
 pub use link::Link;
 pub use link_halves::{LinkHalves, Parts};

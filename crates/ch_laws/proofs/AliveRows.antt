@@ -3,7 +3,7 @@ use Rattle.std.proofs.Common.{ℕ, ◌≡◌, ◌<◌, ◌⊎◌, Option, Some, 
 use Rattle.ch_cost.specs.declared.cost.Cost.{Cost}
 use Rattle.ch_laws.specs.Contraction.{State, Before, IsAlive, HasArc, Remains, IsNeighbour}
 use Rattle.ch_laws.specs.Rows.{Entry, IsPlain, Row, IsRow, Lists, ShowsRemaining}
-use Rattle.ch_laws.specs.Theorems.{RowOfAlive, RowTellsAlive}
+use Rattle.ch_laws.specs.Theorems.{RowOfAlive}
 use Rattle.ch_laws.proofs.Order.{before-out, before_not_alive}
 use Rattle.ch_laws.specs.Members.{contains_place, place_of}
 
@@ -13,7 +13,7 @@ no_rank row out None is = refl
 no_rank {s} {x} row out (Some k) is = let place = (row.rank k).0 is in absurd (out (contains_place s.order k 0 x place.0 place.1))
 
 -- a node without a rank is alive
-pub row_tells_alive : RowTellsAlive
+pub row_tells_alive : (s : State) (x : ℕ) (r : Row) → x < s.nodes → IsRow s x r → r.rank ≡ None → IsAlive s x
 row_tells_alive s x r low row none = record {
   in_range = low;
   waits = λ among.

@@ -7,7 +7,7 @@ use Rattle.ch_cost.specs.Cost.{zero_cost, ◌≺◌}
 use Rattle.ch_cost.specs.Cost.Laws.{at_most_sum_left, below_trans_at_most}
 use Rattle.ch_laws.specs.Contraction.{State, StateArc, Before, IsAlive, HasArc, Shortcut, IsFor, NoShortcut, IsPlan, IsNeighbour, contracted, or_else}
 use Rattle.ch_laws.specs.Rows.{Entry, Row, arc_of, IsPlain, IsPlainArc, IsRow, IsOfShortcut, IsChanged, AreRows, AreUpdated, row_at}
-use Rattle.ch_laws.specs.Theorems.{RowKept, RowsChange, RowsGoOn}
+use Rattle.ch_laws.specs.Theorems.{RowsGoOn}
 use Rattle.ch_laws.proofs.Order.{before-contains, before-push, before-last, before-back, place-kept, place-last}
 use Rattle.ch_laws.proofs.Steps.{one_arc_there, find_shortcut}
 use Rattle.ch_laws.proofs.Lawful.{no_shortcut_arc, its_shortcut_arc}
@@ -248,14 +248,6 @@ module _ (bound : Cost) (s : State) (v : ℕ) (put : List Shortcut) (plain : IsP
           ]
         ];
   }
-
--- the law of rows that stay
-pub row_kept : RowKept
-row_kept bound s v put x r plain plan apart far row = row-kept bound s v put plain plan x r apart far row
-
--- the law of rows that change
-pub rows_change : RowsChange
-rows_change bound s v put plain plan = (row-contracted bound s v put plain plan, row-changed bound s v put plain plan)
 
 -- and the law of all rows
 pub rows_go_on : RowsGoOn

@@ -6,7 +6,7 @@ use Rattle.std.proofs.lemmas.List.{get_or_past}
 use Rattle.ch_cost.specs.declared.cost.Cost.{Cost}
 use Rattle.ch_laws.specs.Contraction.{State, StateArc, Before, or_else}
 use Rattle.ch_laws.specs.Rows.{Entry, IsPlain, Row, arc_of, arc_to, shown, no_arcs, row_at, arc_by_rows, IsRow, AreRows}
-use Rattle.ch_laws.specs.Theorems.{RowsShow, RowsAreState}
+use Rattle.ch_laws.specs.Theorems.{RowsAreState}
 use Rattle.ch_laws.specs.Orders.{before_not_both}
 use Rattle.ch_laws.specs.Members.{contains_first, contains_later, contains_cases}
 
@@ -85,10 +85,6 @@ module _ {s : State} {x y : ℕ} {q r : Row} (row_x : IsRow s x q) (row_y : IsRo
               not_in_either no_out no_inn (s.arc x y) refl ∙ sym inn ∙ sym (ap (λ (o : Option StateArc). or_else o (arc_to x r.inn)) out)
         ]
   ]
-
--- the law of two rows
-pub rows_show : RowsShow
-rows_show s x y q r row_x row_y = arc-shown row_x row_y
 
 -- All rows
 

@@ -14,7 +14,6 @@ use Rattle.ch_graph.specs.Limits.Laws.{arc-sound, arc-within}
 use Rattle.ch_laws.specs.declared.shortcut.Shortcut.{Shortcut}
 use Rattle.ch_laws.specs.Contraction.{State, StateArc, Before, IsAlive, HasArc, Remains, IsStartArc, IsStart, Through, Avoids, Puts, Contraction, Run, Run.rest, Run.next, IsReached}
 use Rattle.ch_laws.specs.Rows.{IsPlain}
-use Rattle.ch_laws.specs.Theorems.{ReachedIsPlain}
 use Rattle.ch_laws.proofs.Order.{before_not_alive, before-push, before-last}
 use Rattle.ch_laws.proofs.Steps.{IsPut, one_arc_there, has_arc-same, pair_cases, kept_unless_through, kept_from, kept_to}
 
@@ -209,7 +208,3 @@ sound-plain {g} {s} sound = record {
       let is = sound.arcs x y arc here in
       record { from_in = omega (arith, is.from_in, sound.nodes); to_in = omega (arith, is.to_in, sound.nodes); apart = is.apart; above = is.above; within = is.within };
 }
-
--- the law of reached states
-pub reached_is_plain : ReachedIsPlain
-reached_is_plain g log s is reached = sound-plain (reached-sound is reached)

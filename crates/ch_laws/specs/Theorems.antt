@@ -1,5 +1,5 @@
 -- The laws of contraction, as statements.
-use Rattle.std.specs.Prelude.{ℕ, ◌≡◌, ◌≢◌, ◌-◌, ◌^◌, ◌<◌, ◌≤◌, List, [], ◌∷◌, ◌++◌, length, Option, Some, None, map}
+use Rattle.std.specs.Prelude.{ℕ, ◌≡◌, ◌-◌, ◌^◌, ◌<◌, ◌≤◌, List, [], ◌∷◌, ◌++◌, length, Option, Some, map}
 use Rattle.ch_cost.specs.declared.cost.Cost.{Cost}
 use Rattle.ch_cost.specs.Cost.{cost_of_arcs, IsWithin}
 use Rattle.ch_graph.specs.declared.link.Link.{Link}
@@ -7,8 +7,8 @@ use Rattle.ch_graph.specs.Walk.{Along}
 use Rattle.ch_graph.specs.Graph.{Graph, ArcOf, IsDistance}
 use Rattle.ch_graph.specs.Limits.{IsGraph, bound_of}
 use Rattle.ch_graph.specs.Hierarchy.{Hierarchy, Chain, IsRiseFall, IsValue, UnfoldsAll, IsWellMade, IsArcOf, IsRight}
-use Rattle.ch_laws.specs.Contraction.{State, IsAlive, Shortcut, IsPlan, IsWitnessed, Puts, contracted, IsNeighbour, Contraction, Step, IsStart, IsReached, IsOver, IsMade}
-use Rattle.ch_laws.specs.Rows.{IsPlain, Row, IsRow, ShowsRemaining, IsChanged, AreRows, AreUpdated, IsStartRow, shown, row_at, state_by}
+use Rattle.ch_laws.specs.Contraction.{State, IsAlive, Shortcut, IsPlan, IsWitnessed, Puts, contracted, Contraction, Step, IsStart, IsReached, IsOver, IsMade}
+use Rattle.ch_laws.specs.Rows.{IsPlain, Row, IsRow, ShowsRemaining, AreRows, AreUpdated, IsStartRow, row_at, state_by}
 use Rattle.ch_laws.specs.Verdicts.{AreRead, AreVerdicts}
 
 -- the bound of a graph is at most that of the largest graph with the heaviest arcs
@@ -49,33 +49,11 @@ PlanIsLawful = (bound : Cost) (s : State) (v : ℕ) (put : List Shortcut) → Is
 abbrev pub VerdictsAreLawful : Type 0
 VerdictsAreLawful = (g : Graph) (log : List Contraction) (s : State) (seen : ℕ → Option Row) (v : ℕ) (put : List Shortcut) → IsGraph g → IsReached g log s → v < s.nodes → AreRead s seen → AreVerdicts (bound_of g) seen v put → IsPlan (bound_of g) s v put × IsWitnessed (bound_of g) s v put
 
--- a reached state is plain, which is all that the laws of rows ask for
-abbrev pub ReachedIsPlain : Type 0
-ReachedIsPlain = (g : Graph) (log : List Contraction) (s : State) → IsGraph g → IsReached g log s → IsPlain (bound_of g) s
-
--- the row of a node that is neither contracted nor an alive neighbour of the contracted one stays
-abbrev pub RowKept : Type 0
-RowKept = (bound : Cost) (s : State) (v : ℕ) (put : List Shortcut) (x : ℕ) (r : Row) → IsPlain bound s → IsPlan bound s v put → x ≢ v → (IsNeighbour s v x → ⊥) → IsRow s x r → IsRow (contracted s v put) x r
-
--- the row of the contracted node keeps its arcs and gets its rank; that of a neighbour, changed, is its row afterwards
-abbrev pub RowsChange : Type 0
-RowsChange = (bound : Cost) (s : State) (v : ℕ) (put : List Shortcut) → IsPlain bound s → IsPlan bound s v put
-    → ((r : Row) → IsRow s v r → IsRow (contracted s v put) v (record r { rank = Some (length s.order) }))
-    × ((x : ℕ) (r q : Row) → IsAlive s x → x ≢ v → IsRow s x r → IsChanged put v x r q → IsRow (contracted s v put) x q)
-
 -- the row of an alive node shows the remaining graph there
 abbrev pub RowOfAlive : Type 0
 RowOfAlive = (bound : Cost) (s : State) (x : ℕ) (r : Row) → IsPlain bound s → IsRow s x r → IsAlive s x → ShowsRemaining s x r
 
--- and a node whose row has no rank is alive
-abbrev pub RowTellsAlive : Type 0
-RowTellsAlive = (s : State) (x : ℕ) (r : Row) → x < s.nodes → IsRow s x r → r.rank ≡ None → IsAlive s x
-
--- the rows of two nodes show the arc between them
-abbrev pub RowsShow : Type 0
-RowsShow = (s : State) (x y : ℕ) (q r : Row) → IsRow s x q → IsRow s y r → s.arc x y ≡ shown q r x y
-
--- so the rows of all nodes, with the order, are the state
+-- the rows of all nodes, with the order, are the state
 abbrev pub RowsAreState : Type 0
 RowsAreState = (bound : Cost) (s : State) (rows : List Row) → IsPlain bound s → AreRows s rows → state_by rows s.order ≡ s
 

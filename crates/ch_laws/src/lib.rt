@@ -35,9 +35,7 @@ pub use right::{
 };
 pub use routes::{bounds_fit, least_route_is_a_least_walk, least_route_is_never_too_long};
 pub use rows::{
-    reached_states_are_plain, row_of_others_stays, rows_are_the_state,
-    rows_of_alive_nodes_show_what_remains, rows_of_least_arcs_are_the_start,
-    rows_of_neighbours_change, rows_show_arcs, rows_without_rank_are_of_alive_nodes,
+    rows_are_the_state, rows_of_alive_nodes_show_what_remains, rows_of_least_arcs_are_the_start,
     updated_rows_are_the_next,
 };
 pub use shortcut::Shortcut;

@@ -9,7 +9,7 @@ use Rattle.std.proofs.lemmas.Map.Made.{IsDistinct-from_AllPairs}
 use Rattle.std.proofs.lemmas.Map.Steps.{length-le_from_distinct_below}
 use Rattle.ch_cost.specs.declared.cost.Cost.{Cost}
 use Rattle.ch_cost.specs.Cost.{zero_cost, ◌⊕◌, ◌≼◌, ◌≺◌}
-use Rattle.ch_cost.specs.Cost.Laws.{sum_assoc, zero_cost-sum, sum-zero_cost, at_most_refl, at_most_trans, at_most_trans_below, below_trans_at_most, at_most_sum_right, below_sum_left, sum_below_left, sum_below_right}
+use Rattle.ch_cost.specs.Cost.Laws.{sum_assoc, zero_cost-sum, sum-zero_cost, at_most_refl, at_most_trans, at_most_trans_below, at_most_sum_right, below_sum_left, sum_below_left, sum_below_right}
 use Rattle.ch_graph.specs.Walk.{Walk, Walk.stay, Walk.go, visited}
 
 -- a walk with the same ends that costs less
@@ -41,10 +41,6 @@ module _ {Arc : ℕ → ℕ → Cost → Type 0} where
   -- the same with the walk after it
   pub cheaper-before : {x y z : ℕ} {c d : Cost} → Cheaper Arc x y c → Walk Arc y z d → Cheaper Arc x z (c ⊕ d)
   cheaper-before {d = d} less w = record { cost = less.cost ⊕ d; walk = join less.walk w; below = sum_below_left less.below (at_most_refl d) }
-
-  -- cheaper than a cost is cheaper than what is above it
-  pub cheaper_at_most : {x z : ℕ} {c d : Cost} → Cheaper Arc x z c → c ≼ d → Cheaper Arc x z d
-  cheaper_at_most less h = record { cost = less.cost; walk = less.walk; below = below_trans_at_most less.below h }
 
   -- a walk that never comes to x, or what is left of it from x on
   avoids_or_rest : (x : ℕ) {y z : ℕ} {c : Cost} (w : Walk Arc y z c) → All (λ n. x ≢ n) (y ∷ visited w) ⊎ NoDearer Arc x z c
