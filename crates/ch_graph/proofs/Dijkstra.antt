@@ -31,8 +31,8 @@ by_costs g = record {
 any_downward : IsDownward Any
 any_downward c d most counts = tt
 
-arc-fits : (g : Graph) (x y : ℕ) (c : Cost) → IsGraph g → ArcOf g x y c → IsOfArcs 1 c
-arc-fits g x y c graph arc = subst (IsOfArcs 1) arc.costs (of_arcs_arc (All-contains (IsRoad g.nodes) g.arcs arc.road graph.roads arc.among).weighs)
+arc-fits : {g : Graph} {x y : ℕ} {c : Cost} → IsGraph g → ArcOf g x y c → IsOfArcs 1 c
+arc-fits {g} graph arc = subst (IsOfArcs 1) arc.costs (of_arcs_arc (All-contains (IsRoad g.nodes) g.arcs arc.road graph.roads arc.among).weighs)
 
 -- what is settled has its distance
 pub settled_is_least : SettledIsLeast
@@ -112,7 +112,7 @@ module _ (g : Graph) (s t : ℕ) (old : List (Mark Cost)) (v : ℕ) (c : Cost) (
     turn-new_fits : IsGraph g → (u : ℕ) (d : Cost) → HasLabel (mark new u) d → IsOfArcs (settled_count new) d
     turn-new_fits graph u d has = subst (λ n. IsOfArcs n d) (sym (opened.count ∙ turn-count)) (elim (turn-label own_cost IsNoDearer (LeadsTo (ArcOf g) v c) turn u d has) [
       | inl there ↦ of_arcs_more {m = settled_count old} {n = settled_count old + 1} {a = d} (omega arith) (search.fits u d there)
-      | inr leads ↦ subst (IsOfArcs (settled_count old + 1)) leads.sum (of_arcs_sum turn-fits (arc-fits g v u leads.arc graph leads.goes))
+      | inr leads ↦ subst (IsOfArcs (settled_count old + 1)) leads.sum (of_arcs_sum turn-fits (arc-fits graph leads.goes))
     ])
 
     turn-unsettled : (v ≡ t → ⊥) → (d : Cost) → mark new t ≡ Settled d → ⊥
@@ -131,7 +131,7 @@ module _ (g : Graph) (s t : ℕ) (old : List (Mark Cost)) (v : ℕ) (c : Cost) (
 
 -- The end
 
-module _ (g : Graph) (s t : ℕ) (marks : List (Mark Cost)) (search : IsSearchTo g s t marks) where
+module _ {g : Graph} {s t : ℕ} {marks : List (Mark Cost)} (search : IsSearchTo g s t marks) where
   -- where no node is open, no walk leads to the target
   pub search-not_found : NoneOpen marks → IsDistance g s t None
   search-not_found none d walk = none_open-no_walk own_cost any_downward search.is none search.unsettled (only-started walk) tt

@@ -41,7 +41,7 @@ module _ (mid new : List (Mark Cost)) (u : ℕ) (e : Cost) (place : u < length m
     | inr same ↦ subst (λ (ls : List (Mark Cost)). length ls ≡ length mid) (sym same.1) refl
   ]
 
-  module _ (g : Graph) (v : ℕ) (c : Cost) (leads : LeadsTo (ArcOf g) v c u e) where
+  module _ (g : Graph) {v : ℕ} {c : Cost} (leads : LeadsTo (ArcOf g) v c u e) where
     pub offer-opened : IsOpenedBy own_cost (LeadsTo (ArcOf g) v c) (mark mid) (mark new)
     offer-opened = elim offered [
       | inl put ↦ subst (λ (ls : List (Mark Cost)). IsOpenedBy own_cost (LeadsTo (ArcOf g) v c) (mark mid) (mark ls)) (sym put.1) (opened-one own_cost (LeadsTo (ArcOf g) v c) u e leads put.0 (put-set mid u (Open e) place))
@@ -49,29 +49,29 @@ module _ (mid new : List (Mark Cost)) (u : ℕ) (e : Cost) (place : u < length m
     ]
 
     -- one more arc was followed
-    pub opened-more : (old : List (Mark Cost)) → IsOpenedFrom g v c old mid → IsOpenedFrom g v c old new
-    opened-more old before = record {
+    pub opened-more : {old : List (Mark Cost)} → IsOpenedFrom g v c old mid → IsOpenedFrom g v c old new
+    opened-more before = record {
       nodes = offer-nodes ∙ before.nodes;
       count = offer-count ∙ before.count;
       is = searching.opened-more own_cost (LeadsTo (ArcOf g) v c) before.is offer-opened;
     }
 
 -- the arc at a place leads from its node on
-pub leads-road : (g : Graph) (v : ℕ) (c : Cost) (k : ℕ) → k < length g.arcs → (road_at g.arcs k).from ≡ v → LeadsTo (ArcOf g) v c (road_at g.arcs k).to (c ⊕ of_weight (road_at g.arcs k).weight)
-leads-road g v c k h leaves = record {
+pub leads-road : (g : Graph) {v : ℕ} (c : Cost) (k : ℕ) → k < length g.arcs → (road_at g.arcs k).from ≡ v → LeadsTo (ArcOf g) v c (road_at g.arcs k).to (c ⊕ of_weight (road_at g.arcs k).weight)
+leads-road g c k h leaves = record {
   arc = of_weight (road_at g.arcs k).weight;
   goes = record { road = road_at g.arcs k; among = Contains-get_or g.arcs k (record { from = 0; to = 0; weight = 0 }) h; from = leaves; to = refl; costs = refl };
   sum = refl;
 }
 
 -- the arc at j was followed, and with it each from j on
-pub followed-more : (g : Graph) (v : ℕ) (c : Cost) (from j : ℕ) (mid new : List (Mark Cost)) → IsLastFrom g.arcs v from (Some j)
+pub followed-more : (g : Graph) {v : ℕ} (c : Cost) {from : ℕ} (j : ℕ) (mid new : List (Mark Cost)) → IsLastFrom g.arcs v from (Some j)
     → ((u : ℕ) (d : Cost) → IsAtMost own_cost (mark mid u) d → IsAtMost own_cost (mark new u) d)
     → IsAtMost own_cost (mark new (road_at g.arcs j).to) (c ⊕ of_weight (road_at g.arcs j).weight)
     → ((k : ℕ) → from ≤ k → k < length g.arcs → (road_at g.arcs k).from ≡ v
     → IsAtMost own_cost (mark mid (road_at g.arcs k).to) (c ⊕ of_weight (road_at g.arcs k).weight)) → (k : ℕ) → j ≤ k → k < length g.arcs
     → (road_at g.arcs k).from ≡ v → IsAtMost own_cost (mark new (road_at g.arcs k).to) (c ⊕ of_weight (road_at g.arcs k).weight)
-followed-more g v c from j mid new last kept this before k later h leaves = elim (cases_lt k from) [
+followed-more g c {from} j mid new last kept this before k later h leaves = elim (cases_lt k from) [
   | inl below ↦ let same : j ≡ k = omega (arith, last.latest k below leaves) in subst (λ i. IsAtMost own_cost (mark new (road_at g.arcs i).to) (c ⊕ of_weight (road_at g.arcs i).weight)) same this
   | inr above ↦ kept (road_at g.arcs k).to (c ⊕ of_weight (road_at g.arcs k).weight) (before k above h leaves)
 ]

@@ -13,8 +13,8 @@ abbrev head : List Link → ℕ → ℕ
 head links k = (get_or links k some_link).to
 
 -- from the place of a lower head on, or of the head itself
-pub upper_half : (links : List Link) (y begin end middle : ℕ) (e : Link) → AllPairs ComesToLower links → IsHeadWithin links y begin end → middle < end → (get_or links middle e).to ≤ y → IsHeadWithin links y middle end
-upper_half links y begin end middle e sorted near inside low = record {
+pub upper_half : {links : List Link} {y begin end : ℕ} (middle : ℕ) (e : Link) → AllPairs ComesToLower links → IsHeadWithin links y begin end → middle < end → (get_or links middle e).to ≤ y → IsHeadWithin links y middle end
+upper_half {links} {y} middle e sorted near inside low = record {
   ordered = omega arith;
   within = near.within;
   holds = λ place at. elim (cases_lt place middle) [
@@ -27,8 +27,8 @@ upper_half links y begin end middle e sorted near inside low = record {
 }
 
 -- before the place of a higher head
-pub lower_half : (links : List Link) (y begin end middle : ℕ) (e : Link) → AllPairs ComesToLower links → IsHeadWithin links y begin end → begin ≤ middle → middle < end → y < (get_or links middle e).to → IsHeadWithin links y begin middle
-lower_half links y begin end middle e sorted near inside below_end high = record {
+pub lower_half : {links : List Link} {y begin end : ℕ} (middle : ℕ) (e : Link) → AllPairs ComesToLower links → IsHeadWithin links y begin end → begin ≤ middle → middle < end → y < (get_or links middle e).to → IsHeadWithin links y begin middle
+lower_half {links} {y} middle e sorted near inside below_end high = record {
   ordered = inside;
   within = omega (arith, near.within);
   holds = λ place at. elim (cases_lt place middle) [

@@ -22,8 +22,8 @@ part_length links b e b≤e within =
 part_at : (links : List Link) (b e k : ℕ) (d : Link) → k < e - b → get_or (part links b e) k d ≡ get_or links (b + k) d
 part_at links b e k d k< = get_or-take (e - b) (drop b links) k d k< ∙ get_or-drop b links k d
 
-pub part_rises : (links : List Link) (x b e : ℕ) → IsPartOf links x b e → AllPairs ComesBefore links → AllPairs ComesToLower (part links b e)
-part_rises links x b e is_part sorted i j d i<j j< =
+pub part_rises : {links : List Link} {x b e : ℕ} → IsPartOf links x b e → AllPairs ComesBefore links → AllPairs ComesToLower (part links b e)
+part_rises {links} {b} {e} is_part sorted i j d i<j j< =
     let inside : j < e - b = omega (arith, part_length links b e is_part.ordered is_part.within) in
     let first : get_or (part links b e) i d ≡ get_or links (b + i) d = part_at links b e i d (omega arith) in
     let second : get_or (part links b e) j d ≡ get_or links (b + j) d = part_at links b e j d inside in
@@ -34,8 +34,8 @@ part_rises links x b e is_part sorted i j d i<j j< =
     rw (first, second) below
 
 -- a place in the part is a place in the whole, and the other way round
-pub found_in_part : (links : List Link) (b e x y p : ℕ) → IsPartOf links x b e → IsHeadAt (part links b e) y p → IsLinkAt links x y (b + p)
-found_in_part links b e x y p is_part at =
+pub found_in_part : {links : List Link} {b e x y p : ℕ} → IsPartOf links x b e → IsHeadAt (part links b e) y p → IsLinkAt links x y (b + p)
+found_in_part {links} {b} {e} {p} is_part at =
     let inside : p < e - b = omega (arith, part_length links b e is_part.ordered is_part.within, at.within) in
     record {
       within = omega (arith, is_part.within);
@@ -43,8 +43,8 @@ found_in_part links b e x y p is_part at =
       to = λ (d : Link). ap (λ (l : Link). l.to) (sym (part_at links b e p d inside)) ∙ at.to d;
     }
 
-pub not_in_part : (links : List Link) (b e x y : ℕ) → IsPartOf links x b e → ((p : ℕ) → IsHeadAt (part links b e) y p → ⊥) → (p : ℕ) → IsLinkAt links x y p → ⊥
-not_in_part links b e x y is_part nowhere p at =
+pub not_in_part : {links : List Link} {b e x : ℕ} (y : ℕ) → IsPartOf links x b e → ((p : ℕ) → IsHeadAt (part links b e) y p → ⊥) → (p : ℕ) → IsLinkAt links x y p → ⊥
+not_in_part {links} {b} {e} y is_part nowhere p at =
     let there = is_part.whole p some_link at.within (at.from some_link) in
     let low : b ≤ p = there.0 in
     let high : p < e = there.1 in
@@ -58,8 +58,8 @@ not_in_part links b e x y is_part nowhere p at =
 
 -- The part of a node
 
-pub part_of : (links : List Link) (firsts : List ℕ) (x : ℕ) → IsIndexOf links firsts → x + 1 < length firsts → IsPartOf links x (slice_index firsts x) (slice_index firsts (x + 1))
-part_of links firsts x is_index x< =
+pub part_of : {links : List Link} {firsts : List ℕ} (x : ℕ) → IsIndexOf links firsts → x + 1 < length firsts → IsPartOf links x (slice_index firsts x) (slice_index firsts (x + 1))
+part_of {links} {firsts} x is_index x< =
     let here : IsFirstFrom links x (slice_index firsts x) = is_index.first x (omega arith) in
     let next : IsFirstFrom links (x + 1) (slice_index firsts (x + 1)) = is_index.first (x + 1) x< in
     let b : ℕ = slice_index firsts x in

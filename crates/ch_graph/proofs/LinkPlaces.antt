@@ -11,8 +11,8 @@ use Rattle.ch_graph.specs.LinkHalves.{ArePartsOf, AreHalvesOf, parts_in}
 
 -- A link with a middle has halves
 
-pub place_of : (h : Hierarchy) (x y : ℕ) (l : Link) (is : IsLink h x y l) → IsLinkAt h.links x y is.among.0
-place_of h x y l is =
+pub place_of : {h : Hierarchy} {x y : ℕ} {l : Link} (is : IsLink h x y l) → IsLinkAt h.links x y is.among.0
+place_of {h} {l} is =
     let same : (d : Link) → get_or h.links is.among.0 d ≡ l = λ (d : Link). get_or_default h.links is.among.0 d l is.among.1 ∙ is.among.2 in
     record {
       within = is.among.1;
@@ -28,18 +28,18 @@ module _ (h : Hierarchy) (made : IsWellMade h) (place : ℕ) (l : Link) (within 
   first_is_there nowhere =
       let parts = (All-contains (IsLinkWellMade h) h.links l made.links among).middle m by_way in
       let both : AreHalves h l m parts.0 parts.1 = parts.2 in
-      nowhere both.first.among.0 (place_of h l.from m parts.0 both.first)
+      nowhere both.first.among.0 (place_of both.first)
 
   pub second_is_there : ((k : ℕ) → IsLinkAt h.links m l.to k → ⊥) → ⊥
   second_is_there nowhere =
       let parts = (All-contains (IsLinkWellMade h) h.links l made.links among).middle m by_way in
       let both : AreHalves h l m parts.0 parts.1 = parts.2 in
-      nowhere both.second.among.0 (place_of h m l.to parts.1 both.second)
+      nowhere both.second.among.0 (place_of both.second)
 
 -- What is kept
 
-pub one_more : (links : List Link) (kept : List KeptHalves) (place : ℕ) (last : KeptHalves) (parts : Parts) → length kept ≡ place → AreHalvesOf links kept → ((d : Link) → ArePartsOf links (get_or links place d) parts) → parts_in place last ≡ parts → AreHalvesOf links (kept ++ last ∷ [])
-one_more links kept place last parts count are found is = record {
+pub one_more : {links : List Link} {kept : List KeptHalves} {place : ℕ} (last : KeptHalves) {parts : Parts} → length kept ≡ place → AreHalvesOf links kept → ((d : Link) → ArePartsOf links (get_or links place d) parts) → parts_in place last ≡ parts → AreHalvesOf links (kept ++ last ∷ [])
+one_more {links} {kept} {place} last count are found is = record {
   each = λ k (d : Link) (e : KeptHalves) k<. elim (cases_lt k (length kept)) [
     | inl low ↦ subst (λ (x : KeptHalves). ArePartsOf links (get_or links k d) (parts_in k x)) (sym (get_or_append_left kept (last ∷ []) e k low)) (are.each k d e low)
     | inr high ↦

@@ -17,8 +17,8 @@ ends_cmp a b x y = ordering_then (nat_cmp a x) (nat_cmp b y)
 pub cmp-less : (a x : ℕ) → a < x → nat_cmp a x ≡ Less
 cmp-less a x h = grind (arith, nat_tests)
 
-pub cmp-equal : (a x : ℕ) → a ≡ x → nat_cmp a x ≡ Equal
-cmp-equal a x h = grind (arith, nat_tests)
+pub cmp-equal : {a x : ℕ} → a ≡ x → nat_cmp a x ≡ Equal
+cmp-equal h = grind (arith, nat_tests)
 
 pub cmp-greater : (a x : ℕ) → x < a → nat_cmp a x ≡ Greater
 cmp-greater a x h = grind (arith, nat_tests)
@@ -30,11 +30,11 @@ by_ends P a b x y less then_less equal then_greater greater =
       | inl h ↦ rw cmp-less (less h)
       | inr h ↦ elim (cases_lt x a) [
         | inl k ↦ rw cmp-greater (greater k)
-        | inr k ↦ let e : a ≡ x = omega arith in rw (cmp-equal a x e) (elim (cases_lt b y) [
+        | inr k ↦ let e : a ≡ x = omega arith in rw (cmp-equal e) (elim (cases_lt b y) [
           | inl m ↦ rw cmp-less (then_less e m)
           | inr m ↦ elim (cases_lt y b) [
             | inl n ↦ rw cmp-greater (then_greater e n)
-            | inr n ↦ let f : b ≡ y = omega arith in rw (cmp-equal b y f) (equal e f)
+            | inr n ↦ let f : b ≡ y = omega arith in rw (cmp-equal f) (equal e f)
           ]
         ])
       ]
@@ -81,7 +81,7 @@ pub nowhere : (links : List Link) (x y i : ℕ) → IsPartitionPoint (λ (l : Li
 nowhere links x y i split place at =
     let some : Link = record { from = 0; to = 0; cost = zero_cost; middle = None } in
     let l : Link = get_or links place some in
-    let equal : ends_cmp l.from l.to x y ≡ Equal = rw (cmp-equal l.from x (at.from some), cmp-equal l.to y (at.to some)) refl in
+    let equal : ends_cmp l.from l.to x y ≡ Equal = rw (cmp-equal (at.from some), cmp-equal (at.to some)) refl in
     elim (cases_lt place i) [
       | inl h ↦ let less : ends_cmp l.from l.to x y ≡ Less = split.0 place some (omega arith) h in cc
       | inr h ↦ let greater : ends_cmp l.from l.to x y ≡ Greater = split.1 place some h at.within in cc

@@ -31,11 +31,11 @@ links_sorted ls next i (suc j) d less within =
 -- One link
 
 -- among links in order there is one place for two ends
-pub one_place : (ls : List Link) (d : Link) (x y i j : ℕ) → AllPairs ComesBefore ls → IsLinkAt ls x y i → IsLinkAt ls x y j → i ≡ j
-one_place ls d x y i j sorted first second = elim (cases_lt i j) [
-  | inl low ↦ absurd (not_before x y (get_or ls i d) (get_or ls j d) (first.from d) (first.to d) (second.from d) (second.to d) (sorted i j d low second.within))
+pub one_place : {ls : List Link} (d : Link) {x y i j : ℕ} → AllPairs ComesBefore ls → IsLinkAt ls x y i → IsLinkAt ls x y j → i ≡ j
+one_place {ls} d {x} {y} {i} {j} sorted first second = elim (cases_lt i j) [
+  | inl low ↦ absurd (not_before (get_or ls i d) (get_or ls j d) (first.from d) (first.to d) (second.from d) (second.to d) (sorted i j d low second.within))
   | inr more ↦ elim (cases_lt j i) [
-    | inl low ↦ absurd (not_before x y (get_or ls j d) (get_or ls i d) (second.from d) (second.to d) (first.from d) (first.to d) (sorted j i d low first.within))
+    | inl low ↦ absurd (not_before (get_or ls j d) (get_or ls i d) (second.from d) (second.to d) (first.from d) (first.to d) (sorted j i d low first.within))
     | inr level ↦ omega arith
   ]
 ]
@@ -57,8 +57,8 @@ module _ (ls : List Link) (l : Link) (m i j : ℕ) (a b c e : Link) (first_at : 
   -- are all that there are
   pub sum_of_found : AllPairs ComesBefore ls → HaveSum ls l m → l.cost ≡ a.cost ⊕ b.cost
   sum_of_found sorted have =
-      let at_i : have.first ≡ i = one_place ls l l.from m have.first i sorted have.first_at first_at in
-      let at_j : have.second ≡ j = one_place ls l m l.to have.second j sorted have.second_at second_at in
+      let at_i : have.first ≡ i = one_place l sorted have.first_at first_at in
+      let at_j : have.second ≡ j = one_place l sorted have.second_at second_at in
       let first : get_or ls have.first l ≡ a = ap (λ n. get_or ls n l) at_i ∙ get_or_default ls i l c first_at.within ∙ sym a_is in
       let second : get_or ls have.second l ≡ b = ap (λ n. get_or ls n l) at_j ∙ get_or_default ls j l e second_at.within ∙ sym b_is in
       have.sum l ∙ ap (λ (k : Link). k.cost ⊕ (get_or ls have.second l).cost) first ∙ ap (λ (k : Link). a.cost ⊕ k.cost) second
@@ -67,8 +67,8 @@ module _ (ls : List Link) (l : Link) (m i j : ℕ) (a b c e : Link) (first_at : 
 abbrev pub AreTested : Hierarchy → Link → Type 0
 AreTested h l = (m : ℕ) → l.middle ≡ Some m → IsLow h.ranks l m × HaveSum h.links l m
 
-halves_of : (h : Hierarchy) (l : Link) (m : ℕ) → IsLow h.ranks l m → HaveSum h.links l m → (a : Link) × (b : Link) × AreHalves h l m a b
-halves_of h l m low have =
+halves_of : (h : Hierarchy) {l : Link} {m : ℕ} → IsLow h.ranks l m → HaveSum h.links l m → (a : Link) × (b : Link) × AreHalves h l m a b
+halves_of h {l} low have =
     let a : Link = get_or h.links have.first l in
     let b : Link = get_or h.links have.second l in (
       a,
@@ -82,39 +82,39 @@ halves_of h l m low have =
       },
     )
 
-pub well_made : (h : Hierarchy) (l : Link) → IsAllowed h.version (length h.ranks) h.bound l → AreTested h l → IsLinkWellMade h l
-well_made h l allowed tested = record {
+pub well_made : (h : Hierarchy) {l : Link} → IsAllowed h.version (length h.ranks) h.bound l → AreTested h l → IsLinkWellMade h l
+well_made h {l} allowed tested = record {
   from_in = allowed.from_in;
   to_in = allowed.to_in;
   apart = allowed.apart;
   counts = allowed.counts;
   within = allowed.within;
-  middle = λ m is. halves_of h l m (tested m is).0 (tested m is).1;
+  middle = λ m is. halves_of h (tested m is).0 (tested m is).1;
 }
 
-read_at : (ls : List Link) (place : ℕ) (l d : Link) → place < length ls → get_or ls place l ≡ l → get_or ls place d ≡ l
-read_at ls place l d within is = get_or_default ls place d l within ∙ is
+read_at : (ls : List Link) (place : ℕ) {l : Link} (d : Link) → place < length ls → get_or ls place l ≡ l → get_or ls place d ≡ l
+read_at ls place {l} d within is = get_or_default ls place d l within ∙ is
 
-sum_of_halves : (h : Hierarchy) (l : Link) (m : ℕ) (a b : Link) → AreHalves h l m a b → HaveSum h.links l m
-sum_of_halves h l m a b halves = record {
+sum_of_halves : {h : Hierarchy} {l : Link} {m : ℕ} {a b : Link} → AreHalves h l m a b → HaveSum h.links l m
+sum_of_halves {h} {l} {m} {a} {b} halves = record {
   first = halves.first.among.0;
   second = halves.second.among.0;
-  first_at = place_of h l.from m a halves.first;
-  second_at = place_of h m l.to b halves.second;
+  first_at = place_of halves.first;
+  second_at = place_of halves.second;
   sum = λ (d : Link).
-      let first : get_or h.links halves.first.among.0 d ≡ a = read_at h.links halves.first.among.0 a d halves.first.among.1 halves.first.among.2 in
-      let second : get_or h.links halves.second.among.0 d ≡ b = read_at h.links halves.second.among.0 b d halves.second.among.1 halves.second.among.2 in
+      let first : get_or h.links halves.first.among.0 d ≡ a = read_at h.links halves.first.among.0 d halves.first.among.1 halves.first.among.2 in
+      let second : get_or h.links halves.second.among.0 d ≡ b = read_at h.links halves.second.among.0 d halves.second.among.1 halves.second.among.2 in
       halves.sum ∙ ap (λ (k : Link). k.cost ⊕ b.cost) (sym first) ∙ ap (λ (k : Link). (get_or h.links halves.first.among.0 d).cost ⊕ k.cost) (sym second);
 }
 
-pub allowed-from_made : (h : Hierarchy) (l : Link) → IsLinkWellMade h l → IsAllowed h.version (length h.ranks) h.bound l
-allowed-from_made h l made = record { from_in = made.from_in; to_in = made.to_in; apart = made.apart; counts = made.counts; within = made.within }
+pub allowed-from_made : {h : Hierarchy} {l : Link} → IsLinkWellMade h l → IsAllowed h.version (length h.ranks) h.bound l
+allowed-from_made made = record { from_in = made.from_in; to_in = made.to_in; apart = made.apart; counts = made.counts; within = made.within }
 
-pub tested-from_made : (h : Hierarchy) (l : Link) → IsLinkWellMade h l → AreTested h l
-tested-from_made h l made m is =
+pub tested-from_made : {h : Hierarchy} {l : Link} → IsLinkWellMade h l → AreTested h l
+tested-from_made {h} {l} made m is =
     let parts = made.middle m is in
     let halves : AreHalves h l m parts.0 parts.1 = parts.2 in
-    (record { below_from = halves.below_from; below_to = halves.below_to }, sum_of_halves h l m parts.0 parts.1 halves)
+    (record { below_from = halves.below_from; below_to = halves.below_to }, sum_of_halves halves)
 
 -- Each link
 

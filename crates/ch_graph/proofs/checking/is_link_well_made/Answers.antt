@@ -10,6 +10,6 @@ returns c =
       λ test.
           let allowed : c.is_allowed.result ≡ true = grind (arith, nat_tests, test) in
           let tested : c.has_halves.result ≡ true = grind (arith, nat_tests, test) in
-          well_made h c.args.link.now (c.is_allowed.ensures.0 allowed) (c.has_halves.ensures.0 tested),
-      λ made. grind (arith, nat_tests, c.is_allowed.ensures.1 (allowed-from_made h c.args.link.now made), c.has_halves.ensures.1 (tested-from_made h c.args.link.now made)),
+          well_made h (c.is_allowed.ensures.0 allowed) (c.has_halves.ensures.0 tested),
+      λ made. grind (arith, nat_tests, c.is_allowed.ensures.1 (allowed-from_made made), c.has_halves.ensures.1 (tested-from_made made)),
     )

@@ -57,14 +57,14 @@ arcs-preserved c =
     (c.plus.ensures ∙ ap (λ (d : Cost). c.args.reached.cost ⊕ d) c.of_weight.ensures) c.in_ok-offer.ensures) in
     let v : ℕ = c.args.reached.node in
     let to : ℕ = (road_at graph.arcs at).to in
-    let leads : LeadsTo (ArcOf graph) v c.args.reached.cost to cost = leads-road graph v c.args.reached.cost at at_in leaves in
-    let kept : (u : ℕ) (d : Cost) → IsAtMost own_cost (mark c.arcs.frontier u) d → IsAtMost own_cost (mark c.offer.new.self u) d = (offer-opened c.arcs.frontier c.offer.new.self to cost place offered graph v c.args.reached.cost leads).kept in
+    let leads : LeadsTo (ArcOf graph) v c.args.reached.cost to cost = leads-road graph c.args.reached.cost at at_in leaves in
+    let kept : (u : ℕ) (d : Cost) → IsAtMost own_cost (mark c.arcs.frontier u) d → IsAtMost own_cost (mark c.offer.new.self u) d = (offer-opened c.arcs.frontier c.offer.new.self to cost place offered graph leads).kept in
     record {
-      opened = opened-more c.arcs.frontier c.offer.new.self to cost place offered graph v c.args.reached.cost leads c.args.frontier.now c.arcs.invariant.opened;
+      opened = opened-more c.arcs.frontier c.offer.new.self to cost place offered graph leads c.arcs.invariant.opened;
       from = at;
       within = omega (arith, at_in);
       next = subst (λ (n : ℕ). IsLastFrom graph.arcs n at c.index-next-in-Some.result.now) leaves (subst (λ (o : Option ℕ). IsLastFrom graph.arcs (road_at graph.arcs at).from at o) (sym read) (c.requires.links.befores at at_in));
-      followed = followed-more graph v c.args.reached.cost c.arcs.invariant.from at c.arcs.frontier c.offer.new.self last kept
+      followed = followed-more graph c.args.reached.cost at c.arcs.frontier c.offer.new.self last kept
           (offer-at_most c.arcs.frontier c.offer.new.self to cost place offered
           (λ d is. at_most_trans (c.requires.latest to d (c.arcs.invariant.opened.is.settled to d is))
           (at_most_sum_left c.args.reached.cost (of_weight (road_at graph.arcs at).weight)))) c.arcs.invariant.followed;

@@ -59,7 +59,7 @@ nodes-preserved c =
     search-turn c.args.graph.now c.args.source c.args.target c.nodes.frontier c.in-Some.reached.node c.in-Some.reached.cost c.nodes.invariant c.in-Some.ensures.least c.follow.new.frontier opened c.requires.graph c.if-reached-target.false c.in_ok-follow.ensures.followed
 
 pub returns-clause-distance : goal.returns-clause-distance
-returns-clause-distance c = search-not_found c.args.graph.now c.args.source c.args.target c.nodes.frontier c.nodes.invariant c.in_default.ensures.none
+returns-clause-distance c = search-not_found c.nodes.invariant c.in_default.ensures.none
 
 pub returns-clause-settled : goal.returns-clause-settled
 returns-clause-settled c = subst (λ (ls : List (Mark Cost)). AreDistances c.args.graph.now c.args.source (mark ls)) (sym c.in_default.ensures.unchanged) (settled_is_least c.args.graph.now c.args.source (mark c.nodes.frontier) c.nodes.invariant.is)

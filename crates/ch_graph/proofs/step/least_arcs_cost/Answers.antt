@@ -17,7 +17,7 @@ returns-in_default c =
     let split : drop c.loop-node.node-index nodes ≡ get_or nodes c.loop-node.node-index 0 ∷ drop (c.loop-node.node-index + 1) nodes = drop_more nodes c.loop-node.node-index 0 c.loop-node-test.true in (
       λ e. absurd (cc (e)),
       λ through. absurd
-          (goes_on-blocked c.args.graph.now c.loop-node.spent c.args.cost c.loop-node.at (get_or nodes c.loop-node.node-index 0)
+          (goes_on-blocked c.args.graph.now c.loop-node.at (get_or nodes c.loop-node.node-index 0)
           (drop (c.loop-node.node-index + 1) nodes) c.in_default.ensures.none
           (subst (λ (ns : List ℕ). GoesOn c.args.graph.now c.loop-node.spent (c.loop-node.at ∷ ns) c.args.cost) split
           (c.loop-node.invariant.left (goes_on-from c.args.graph.now (c.args.first ∷ nodes) c.args.cost through)))),
@@ -33,10 +33,10 @@ loop-node-preserved c =
     record {
       whole = λ h. c.loop-node.invariant.whole
           (subst (λ (ns : List ℕ). GoesOn c.args.graph.now c.loop-node.spent (c.loop-node.at ∷ ns) c.args.cost) (sym split)
-          (goes_on-step c.args.graph.now c.loop-node.spent c.args.cost arc c.loop-node.at next after c.in-Some.ensures.sum.1
+          (goes_on-step c.args.graph.now c.loop-node.spent arc c.loop-node.at next after c.in-Some.ensures.sum.1
           (subst (λ (d : Cost). GoesOn c.args.graph.now d (next ∷ after) c.args.cost) c.in-Some.ensures.sum.2 h)));
       left = λ h. subst (λ (d : Cost). GoesOn c.args.graph.now d (next ∷ after) c.args.cost) (sym c.in-Some.ensures.sum.2)
-          (goes_on-onward c.args.graph.now c.loop-node.spent c.args.cost arc c.loop-node.at next after c.in-Some.ensures.sum.1
+          (goes_on-onward c.args.graph.now arc c.loop-node.at next after c.in-Some.ensures.sum.1
           (subst (λ (ns : List ℕ). GoesOn c.args.graph.now c.loop-node.spent (c.loop-node.at ∷ ns) c.args.cost) split
           (c.loop-node.invariant.left h)));
     }
@@ -45,12 +45,12 @@ pub returns : goal.returns
 returns c =
     let nodes : List ℕ = c.args.rest.now in
     let over : drop c.loop-node.node-index nodes ≡ [] = drop_all c.loop-node.node-index nodes (omega (arith, c.loop-node-test.false)) in (
-      λ e. goes_on-to c.args.graph.now (c.args.first ∷ nodes) c.args.cost
+      λ e. goes_on-to c.args.graph.now
           (c.loop-node.invariant.whole (subst (λ (ns : List ℕ). GoesOn c.args.graph.now c.loop-node.spent (c.loop-node.at ∷ ns) c.args.cost)
-          (sym over) (goes_on-stop c.args.graph.now c.loop-node.spent c.args.cost c.loop-node.at
+          (sym over) (goes_on-stop c.args.graph.now c.loop-node.at
           (equal-from_same c.loop-node.spent c.args.cost (sym c.eq.ensures ∙ e))))),
       λ through. c.eq.ensures ∙ same-from_equal c.loop-node.spent c.args.cost
-          (goes_on-end c.args.graph.now c.loop-node.spent c.args.cost c.loop-node.at
+          (goes_on-end c.args.graph.now c.loop-node.at
           (subst (λ (ns : List ℕ). GoesOn c.args.graph.now c.loop-node.spent (c.loop-node.at ∷ ns) c.args.cost) over
           (c.loop-node.invariant.left (goes_on-from c.args.graph.now (c.args.first ∷ nodes) c.args.cost through)))),
     )

@@ -10,4 +10,4 @@ returns-in_ok-push c = λ (links : List Link) are found.
     let kept : List KeptHalves = c.self.inside.kept.items in
     let before : AreHalvesOf links kept = subst (AreHalvesOf links) (sym c.self.view_is) are in
     let count : length kept ≡ c.args.id.0 = omega (arith, c.if-id-len.false, c.len.ensures, c.self.inside.kept.ok) in
-    subst (AreHalvesOf links) (sym c.in_ok-push.ensures.items) (one_more links kept c.args.id.0 c.in-Some.kept c.args.parts count before found c.in-Some.ensures)
+    subst (AreHalvesOf links) (sym c.in_ok-push.ensures.items) (one_more c.in-Some.kept count before found c.in-Some.ensures)

@@ -14,4 +14,4 @@ returns-then-node-len c =
     let is_index : IsIndexOf links firsts = subst (λ (n : List ℕ). IsIndexOf links n) (sym c.self.view_is) c.requires in
     let begin : c.index.result.now ≡ slice_index firsts from = get_or_read firsts from c.index.result.now here c.index.ensures 0 in
     let end : c.index-then-node-len.result.now ≡ slice_index firsts (from + 1) = get_or_read firsts (from + 1) c.index-then-node-len.result.now there c.index-then-node-len.ensures 0 in
-    subst (λ n. IsPartOf links from n c.index-then-node-len.result.now) (sym begin) (subst (λ n. IsPartOf links from (slice_index firsts from) n) (sym end) (part_of links firsts from is_index there))
+    subst (λ n. IsPartOf links from n c.index-then-node-len.result.now) (sym begin) (subst (λ n. IsPartOf links from (slice_index firsts from) n) (sym end) (part_of from is_index there))

@@ -19,7 +19,7 @@ loop-at-preserved c =
       nodes = length-set last (road_at arcs at).from (Some at) ∙ c.loop-at.invariant.nodes;
       arcs = length-set before at c.index.result.now ∙ c.loop-at.invariant.arcs;
       lasts = λ v h. lasts-more arcs last at place (λ u k. c.loop-at.invariant.lasts u (omega (arith, k, c.loop-at.invariant.nodes))) v (omega (arith, h, c.loop-at.invariant.nodes));
-      befores = befores-more arcs before at c.index.result.now (omega (arith, c.loop-at-test.true, c.loop-at.invariant.arcs))
+      befores = befores-more before (omega (arith, c.loop-at-test.true, c.loop-at.invariant.arcs))
           (subst (λ (o : Option ℕ). IsLastFrom arcs (road_at arcs at).from at o)
           (sym (get_or_read last (road_at arcs at).from c.index.result.now place c.index.ensures None))
           (c.loop-at.invariant.lasts (road_at arcs at).from from_in)) c.loop-at.invariant.befores;
