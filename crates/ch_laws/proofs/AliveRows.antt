@@ -13,8 +13,8 @@ no_rank row out None is = refl
 no_rank {s} {x} row out (Some k) is = let place = (row.rank k).0 is in absurd (out (contains_place s.order k 0 x place.0 place.1))
 
 -- a node without a rank is alive
-pub row_tells_alive : (s : State) (x : ℕ) (r : Row) → x < s.nodes → IsRow s x r → r.rank ≡ None → IsAlive s x
-row_tells_alive s x r low row none = record {
+pub row_tells_alive : {s : State} {x : ℕ} {r : Row} → x < s.nodes → IsRow s x r → r.rank ≡ None → IsAlive s x
+row_tells_alive {s} {x} {r} low row none = record {
   in_range = low;
   waits = λ among.
       let some : r.rank ≡ Some among.0 = (row.rank among.0).1 (among.1, place_of s.order x among) in

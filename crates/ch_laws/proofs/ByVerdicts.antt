@@ -23,7 +23,7 @@ module _ {g : Graph} {s : State} (sound : IsSound g s) where
     seen-avoids : {v : ℕ} (x y : ℕ) (c : Cost) → SeenArc seen v x y c → Avoids s v x y c
     seen-avoids x y c arc =
         let row : IsRow s x arc.row = are x arc.row arc.read in
-        let alive : IsAlive s x = row_tells_alive s x arc.row (listing_in_range row arc.listed) row arc.unranked in
+        let alive : IsAlive s x = row_tells_alive (listing_in_range row arc.listed) row arc.unranked in
         record { remains = ((shows-remaining (sound-plain sound) row alive).out y c).1 arc.listed; from_other = arc.from_other; to_other = arc.to_other }
 
     -- so a way is a witness
@@ -36,7 +36,7 @@ module _ {g : Graph} {s : State} (sound : IsSound g s) where
       its_row = are v verdicts.row verdicts.read
 
       its_alive : IsAlive s v
-      its_alive = row_tells_alive s v verdicts.row low its_row verdicts.unranked
+      its_alive = row_tells_alive low its_row verdicts.unranked
 
       -- the pairs that it lists are those by way of v
       through-listed : {u w : ℕ} {sum : Cost} → Through s v u w sum → ListsThrough verdicts.row u w sum
@@ -50,8 +50,8 @@ module _ {g : Graph} {s : State} (sound : IsSound g s) where
           record { into = h.into; out = h.out; apart = h.apart; first = (shows.inn u h.into).1 h.first; second = (shows.out w h.out).1 h.second; adds = h.adds }
 
       -- a verdict for a shortcut allows it
-      verdict-allowed : (p : Shortcut) → IsForShortcut bound seen verdicts.row p → IsAllowed bound s v p
-      verdict-allowed p is =
+      verdict-allowed : {p : Shortcut} → IsForShortcut bound seen verdicts.row p → IsAllowed bound s v p
+      verdict-allowed {p} is =
           let through : Through s v p.from p.to p.cost = listed-through is.through in
           let first = shows-remaining (sound-plain sound) (are p.from is.first_row is.first_read) through.first.from_alive in
           record {
@@ -61,7 +61,7 @@ module _ {g : Graph} {s : State} (sound : IsSound g s) where
           }
 
       verdicts-plan : IsPlan bound s v put
-      verdicts-plan = record { alive = its_alive; once = verdicts.once; allowed = λ p among. verdict-allowed p (verdicts.shortcuts p among) }
+      verdicts-plan = record { alive = its_alive; once = verdicts.once; allowed = λ p among. verdict-allowed (verdicts.shortcuts p among) }
 
       -- and each other pair has a witness
       verdicts-witnessed : IsWitnessed bound s v put

@@ -96,8 +96,8 @@ counts-none stay = arcs_of-zero_cost
 counts-none (go {c = c} {d = d} arc rest) = omega (arith, arcs_of-sum c d, arc.none, counts-none rest)
 
 -- so a cheaper one is shorter, and a walk of the least length has fewer arcs than there are nodes
-few-by-weight : (g : Graph) → IsGraph g → {s t : ℕ} {c : Cost} → s < g.nodes → IsLeastLength g s t (Some (length_of c)) → (w : Walk (WeighsSome g) s t c) → length (visited w) ≤ g.nodes - 1
-few-by-weight g is {c = c} from_in least w = elim (short_or_cheaper g.nodes (λ x y d arc. (above-from_length d arc.some, (arc-sound g is x y arc.weighs.cost arc.weighs.arc).to_in)) w from_in) [
+few-by-weight : {g : Graph} → IsGraph g → {s t : ℕ} {c : Cost} → s < g.nodes → IsLeastLength g s t (Some (length_of c)) → (w : Walk (WeighsSome g) s t c) → length (visited w) ≤ g.nodes - 1
+few-by-weight {g} is {c = c} from_in least w = elim (short_or_cheaper g.nodes (λ x y d arc. (above-from_length d arc.some, (arc-sound g is x y arc.weighs.cost arc.weighs.arc).to_in)) w from_in) [
   | inl few ↦ omega (arith, few)
   | inr less ↦
       let shorter : length_of less.cost < length_of c = lengths-from_below less.cost c less.below (omega (arith, counts-none w)) in
@@ -127,6 +127,6 @@ pub never_too_long_by_weight : NeverTooLongByWeight
 never_too_long_by_weight g h s t c links arcs is right one made from_in to_in route =
     let chain : Chain (λ l. IsArcByWeight g l × CountsWeight l) arcs s t c = route-chain (λ l us among unfolds. chain-both (right.unfolded l us among unfolds) (All-weaker (Contains h.links) CountsWeight (link-counts one made) us (unfolded-among among unfolds))) route in
     let along = chain-along {Arc = WeighsSome g} (λ l both. record { weighs = link-weighs l both.0; some = both.1.some; none = both.1.none }) chain in
-    let few : length (visited along.0) ≤ g.nodes - 1 = few-by-weight g is from_in (route-length right from_in to_in route) along.0 in
+    let few : length (visited along.0) ≤ g.nodes - 1 = few-by-weight is from_in (route-length right from_in to_in route) along.0 in
     let same : length (s ∷ map (λ (l : Link). l.to) arcs) ≡ length (s ∷ visited along.0) = ap (λ (nodes : List ℕ). length nodes) along.1 in
     omega (arith, few, same, length-map arcs (λ (l : Link). l.to))

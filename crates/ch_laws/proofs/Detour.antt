@@ -135,8 +135,8 @@ module _ {g : Graph} {old new : State} {v : ℕ} {put : List Shortcut} (sound : 
       })
 
   -- an arc into v, another out of it, and on outside
-  by_way : {x z : ℕ} {a b d : Cost} (y : ℕ) → Remains old x v a → Remains old v y b → Lead new y z d → IsWithin (a ⊕ (b ⊕ d)) (bound_of g) → Detour g old v new x z (a ⊕ (b ⊕ d))
-  by_way {x} {z} {a} {b} {d} y first second lead within = elim (cases_eq x y) [
+  by_way : {x z : ℕ} {a b d : Cost} {y : ℕ} → Remains old x v a → Remains old v y b → Lead new y z d → IsWithin (a ⊕ (b ⊕ d)) (bound_of g) → Detour g old v new x z (a ⊕ (b ⊕ d))
+  by_way {x} {z} {a} {b} {d} {y} first second lead within = elim (cases_eq x y) [
     | inl back ↦ dearer (record {
       cost = d;
       walk = subst (λ n. Walk (ArcOf g) n z d) (sym back) (lead-walk (puts-sound sound puts) lead);
@@ -165,7 +165,7 @@ module _ {g : Graph} {old new : State} {v : ℕ} {put : List Shortcut} (sound : 
   extend {x} {y} {z} {a} {d} arc (leaves at_v w b e second lead sum) within =
       let first : Remains old x v a = subst (λ n. Remains old x n a) at_v arc in
       let same : a ⊕ d ≡ a ⊕ (b ⊕ e) = ap (λ (c : Cost). a ⊕ c) sum in
-      detour-same (sym same) (by_way w first second lead (subst (λ (c : Cost). IsWithin c (bound_of g)) same within))
+      detour-same (sym same) (by_way first second lead (subst (λ (c : Cost). IsWithin c (bound_of g)) same within))
 
   -- so a walk of the remaining graph that isn't heavy makes a detour
   pub detour : {x z : ℕ} {c : Cost} → Walk (Remains old) x z c → IsWithin c (bound_of g) → Detour g old v new x z c

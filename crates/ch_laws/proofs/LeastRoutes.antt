@@ -45,8 +45,8 @@ module _ {g : Graph} {h : Hierarchy} (right : IsRight g h) where
   route-along route = chain-along (λ l arc. arc) (route-chain right.unfolded route)
 
 -- a least walk has fewer arcs than there are nodes
-few_arcs : (g : Graph) → IsGraph g → {s t : ℕ} {c : Cost} → IsDistance g s t (Some c) → (w : Walk (ArcOf g) s t c) → length (visited w) ≤ g.nodes - 1
-few_arcs g is distance w = elim (few_arcs_or_cheaper g is w) [
+few_arcs : {g : Graph} → IsGraph g → {s t : ℕ} {c : Cost} → IsDistance g s t (Some c) → (w : Walk (ArcOf g) s t c) → length (visited w) ≤ g.nodes - 1
+few_arcs {g} is distance w = elim (few_arcs_or_cheaper g is w) [
   | inl few ↦ few
   | inr less ↦ absurd (below_not_at_most less.below (distance.1 less.cost less.walk))
 ]
@@ -55,7 +55,7 @@ few_arcs g is distance w = elim (few_arcs_or_cheaper g is w) [
 pub never_too_long : NeverTooLong
 never_too_long g h s t c links arcs is right from_in to_in route =
     let along = route-along right route in
-    let few : length (visited along.0) ≤ g.nodes - 1 = few_arcs g is (route-distance right from_in to_in route) along.0 in
+    let few : length (visited along.0) ≤ g.nodes - 1 = few_arcs is (route-distance right from_in to_in route) along.0 in
     let same : suc (length (map (λ (l : Link). l.to) arcs)) ≡ suc (length (visited along.0)) = ap (λ (nodes : List ℕ). length nodes) along.1 in
     (route-chain right.unfolded route, omega (arith, few, same, length-map arcs (λ (l : Link). l.to)))
 

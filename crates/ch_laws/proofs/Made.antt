@@ -32,16 +32,16 @@ module _ {g : Graph} {s : State} {h : Hierarchy} (sound : IsSound g s) (over : I
   -- Ranks
 
   -- a node's rank is its place in the order
-  pub rank-place : (x : ℕ) (k : ℕ) → k < length s.order → get_or s.order k 0 ≡ x → rank_of h x ≡ k
-  rank-place x k low here = subst (λ n. rank_of h n ≡ k) here (made.ranks k low)
+  pub rank-place : {x : ℕ} (k : ℕ) → k < length s.order → get_or s.order k 0 ≡ x → rank_of h x ≡ k
+  rank-place k low here = subst (λ n. rank_of h n ≡ k) here (made.ranks k low)
 
   -- what comes before another node ranks below it
   pub before-rank : {x y : ℕ} → Before s.order x y → y < s.nodes → rank_of h x < rank_of h y
   before-rank {x} {y} b low =
       let place = over y low in
       let at_y : get_or s.order place.0 0 ≡ y = place_of s.order y place in
-      let rank_x : rank_of h x ≡ b.place = rank-place x b.place b.within b.here in
-      let rank_y : rank_of h y ≡ place.0 = rank-place y place.0 place.1 at_y in
+      let rank_x : rank_of h x ≡ b.place = rank-place b.place b.within b.here in
+      let rank_y : rank_of h y ≡ place.0 = rank-place place.0 place.1 at_y in
       elim (cases_lt b.place place.0) [
         | inl after ↦ omega (arith, after, rank_x, rank_y)
         | inr before ↦ absurd (b.not_yet place.0 before at_y)
@@ -56,7 +56,7 @@ module _ {g : Graph} {s : State} {h : Hierarchy} (sound : IsSound g s) (over : I
   rank-in_range x low =
       let inside : x < s.nodes = omega (arith, low, made.nodes) in
       let place = over x inside in
-      let rank : rank_of h x ≡ place.0 = rank-place x place.0 place.1 (place_of s.order x place) in
+      let rank : rank_of h x ≡ place.0 = rank-place place.0 place.1 (place_of s.order x place) in
       let early : place.0 < length s.order = place.1 in
       omega (arith, rank, early, order-few, made.nodes)
 
@@ -69,7 +69,7 @@ module _ {g : Graph} {s : State} {h : Hierarchy} (sound : IsSound g s) (over : I
       let y_place = over y y_in in
       let x_here : get_or s.order x_place.0 0 ≡ x = place_of s.order x x_place in
       let y_here : get_or s.order y_place.0 0 ≡ y = place_of s.order y y_place in
-      let places : x_place.0 ≡ y_place.0 = sym (rank-place x x_place.0 x_place.1 x_here) ∙ same ∙ rank-place y y_place.0 y_place.1 y_here in
+      let places : x_place.0 ≡ y_place.0 = sym (rank-place x_place.0 x_place.1 x_here) ∙ same ∙ rank-place y_place.0 y_place.1 y_here in
       let equal : x ≡ y = sym x_here ∙ ap (λ k. get_or s.order k 0) places ∙ y_here in
       omega (arith, less, equal)
 
@@ -91,14 +91,14 @@ module _ {g : Graph} {s : State} {h : Hierarchy} (sound : IsSound g s) (over : I
       subst (λ n. HasArc s x n l.cost) is.to from_x
 
   -- and the other way round
-  half-link : (x y : ℕ) (c : Cost) (has : HasArc s x y c) → (l : Link) × IsLink h x y l × (l.cost ≡ c)
-  half-link x y c has = (record { from = x; to = y; cost = has.arc.cost; middle = has.arc.middle }, record { among = arc-link x y has.arc has.here; from = refl; to = refl }, has.costs)
+  half-link : {x y : ℕ} {c : Cost} (has : HasArc s x y c) → (l : Link) × IsLink h x y l × (l.cost ≡ c)
+  half-link {x} {y} has = (record { from = x; to = y; cost = has.arc.cost; middle = has.arc.middle }, record { among = arc-link x y has.arc has.here; from = refl; to = refl }, has.costs)
 
   -- a link with a middle has halves
-  link-halves : (l : Link) (m : ℕ) → l.from < s.nodes → l.to < s.nodes → IsSplit s l.from l.to m l.cost → (a : Link) × (b : Link) × AreHalves h l m a b
-  link-halves l m from_in to_in split =
-      let first = half-link l.from m split.into split.first in
-      let second = half-link m l.to split.out split.second in
+  link-halves : (l : Link) {m : ℕ} → l.from < s.nodes → l.to < s.nodes → IsSplit s l.from l.to m l.cost → (a : Link) × (b : Link) × AreHalves h l m a b
+  link-halves l {m} from_in to_in split =
+      let first = half-link split.first in
+      let second = half-link split.second in
       let into : first.0.cost ≡ split.into = first.2 in
       let out : second.0.cost ≡ split.out = second.2 in (
         first.0,
@@ -124,7 +124,7 @@ module _ {g : Graph} {s : State} {h : Hierarchy} (sound : IsSound g s) (over : I
         apart = is.apart;
         counts = subst (λ (v : Version). Counts v l) (sym made.version) (record { some = walk-some g is.walk is.apart; one = λ none. arc-one g l.from l.to l.cost (is.whole none) });
         within = subst (λ (b : Cost). IsWithin l.cost b) (sym made.bound) is.within;
-        middle = λ m some. link-halves l m from_in to_in (is.split m some);
+        middle = λ m some. link-halves l from_in to_in (is.split m some);
       }
 
   -- so it is well made

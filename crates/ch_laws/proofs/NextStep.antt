@@ -200,16 +200,16 @@ next_row {bound} {s} {v} {m} plan = record {
 
 module _ {g : Graph} {s : State} (bound : Cost) (sound : IsSound g s) (v : ℕ) where
   -- one more pair, whichever it is
-  next_pair : (m k : ℕ) → PlanSoFar bound s v m k → PlanSoFar bound s v m (suc k)
-  next_pair m k plan = elim (cases_wanted bound sound v m k) [
+  next_pair : {m k : ℕ} → PlanSoFar bound s v m k → PlanSoFar bound s v m (suc k)
+  next_pair {m} {k} plan = elim (cases_wanted bound sound v m k) [
     | inl wanted ↦ with_shortcut plan wanted
     | inr is_cared ↦ without_shortcut plan is_cared
   ]
 
   -- all pairs from m
-  plan_row : (m k : ℕ) → PlanSoFar bound s v m 0 → PlanSoFar bound s v m k
-  plan_row m zero plan = plan
-  plan_row m (suc k) plan = next_pair m k (plan_row m k plan)
+  plan_row : {m : ℕ} (k : ℕ) → PlanSoFar bound s v m 0 → PlanSoFar bound s v m k
+  plan_row zero plan = plan
+  plan_row {m} (suc k) plan = next_pair (plan_row k plan)
 
   -- all pairs from nodes below m
   plan_rows : (m : ℕ) → PlanSoFar bound s v m 0
@@ -220,7 +220,7 @@ module _ {g : Graph} {s : State} (bound : Cost) (sound : IsSound g s) (v : ℕ) 
     covered = λ p among. absurd (omega (arith, among.1));
     cared = λ u w is none. elim is [ inl low ↦ absurd (omega (arith, low)) | inr here ↦ absurd (omega (arith, here.1)) ];
   }
-  plan_rows (suc m) = next_row (plan_row m s.nodes (plan_rows m))
+  plan_rows (suc m) = next_row (plan_row s.nodes (plan_rows m))
 
   -- each pair of alive nodes is cared for
   plan-witnessed : IsWitnessed bound s v (plan_rows s.nodes).put
@@ -295,8 +295,8 @@ neighbours_below s v (suc k) = elim (cases_neighbour s v k) [
 -- The contraction
 
 -- a plan for all pairs and the list of neighbours make a step
-pub next-step : {g : Graph} {s : State} → IsSound g s → (v : ℕ) → IsAlive s v → (e : Contraction) × (new : State) × Step (bound_of g) s e new × (e.node ≡ v)
-next-step {g} {s} sound v alive =
+pub next-step : {g : Graph} {s : State} → IsSound g s → {v : ℕ} → IsAlive s v → (e : Contraction) × (new : State) × Step (bound_of g) s e new × (e.node ≡ v)
+next-step {g} {s} sound {v} alive =
     let plan = plan_rows (bound_of g) sound v s.nodes in
     let neighbours = neighbours_below s v s.nodes in
     let e : Contraction = record { node = v; rank = length s.order; neighbours = neighbours.nodes; shortcuts = length plan.put } in
@@ -316,4 +316,4 @@ next-step {g} {s} sound v alive =
 
 -- the law that contraction goes on
 pub goes_on : GoesOn
-goes_on g log s v is reached alive = next-step (reached-sound is reached) v alive
+goes_on g log s v is reached alive = next-step (reached-sound is reached) alive

@@ -28,8 +28,8 @@ same_first x y xs ys x_sorted y_sorted x_among y_among = elim (contains_cases y 
 ]
 
 -- what follows the first
-among_rest : (x y : Link) (xs ys : List Link) → AllPairs ComesBefore (x ∷ xs) → x ≡ y → ((l : Link) → Contains (x ∷ xs) l → Contains (y ∷ ys) l) → (l : Link) → Contains xs l → Contains ys l
-among_rest x y xs ys sorted same within l among = elim (contains_cases y ys l (within l (contains_later x xs l among))) [
+among_rest : {x y : Link} (xs ys : List Link) → AllPairs ComesBefore (x ∷ xs) → x ≡ y → ((l : Link) → Contains (x ∷ xs) l → Contains (y ∷ ys) l) → (l : Link) → Contains xs l → Contains ys l
+among_rest {x} {y} xs ys sorted same within l among = elim (contains_cases y ys l (within l (contains_later x xs l among))) [
   | inr later ↦ later
   | inl first ↦
       let before : ComesBefore x l = pairs_first ComesBefore x xs sorted l among in
@@ -44,7 +44,7 @@ same_sorted [] (y ∷ ys) x_sorted y_sorted within back = absurd (omega (arith, 
 same_sorted (x ∷ xs) [] x_sorted y_sorted within back = absurd (omega (arith, (within x (contains_first x xs)).1))
 same_sorted (x ∷ xs) (y ∷ ys) x_sorted y_sorted within back =
     let first : x ≡ y = same_first x y xs ys x_sorted y_sorted (within x (contains_first x xs)) (back y (contains_first y ys)) in
-    let rest : xs ≡ ys = same_sorted xs ys (pairs_later ComesBefore x xs x_sorted) (pairs_later ComesBefore y ys y_sorted) (among_rest x y xs ys x_sorted first within) (among_rest y x ys xs y_sorted (sym first) back) in
+    let rest : xs ≡ ys = same_sorted xs ys (pairs_later ComesBefore x xs x_sorted) (pairs_later ComesBefore y ys y_sorted) (among_rest xs ys x_sorted first within) (among_rest ys xs y_sorted (sym first) back) in
     ap₂ (λ (l : Link) (ls : List Link). l ∷ ls) first rest
 
 -- so two hierarchies of a state are the same
@@ -53,7 +53,7 @@ one_made {g} {s} {h} {k} sound over first second =
     let ranks : h.ranks ≡ k.ranks = ext_get_or 0 h.ranks k.ranks (first.nodes ∙ sym second.nodes) (λ x low.
     let place = over x (omega (arith, low, first.nodes)) in
     let at_x : get_or s.order place.0 0 ≡ x = place_of s.order x place in
-    rank-place sound over first x place.0 place.1 at_x ∙ sym (rank-place sound over second x place.0 place.1 at_x)) in
+    rank-place sound over first place.0 place.1 at_x ∙ sym (rank-place sound over second place.0 place.1 at_x)) in
     let links : h.links ≡ k.links = same_sorted h.links k.links first.sorted second.sorted (λ l among. (second.links l).1 ((first.links l).0 among)) (λ l among. (first.links l).1 ((second.links l).0 among)) in
     λ i. record { version = (first.version ∙ sym second.version) i; ranks = ranks i; links = links i; bound = (first.bound ∙ sym second.bound) i }
 

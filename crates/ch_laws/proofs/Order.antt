@@ -46,8 +46,8 @@ before-last order v y out apart = record {
 }
 
 -- what comes before a node when one is added did so already, or is the one that is added
-pub before-back : (order : List ℕ) (v x y : ℕ) → Before (order ++ v ∷ []) x y → Before order x y ⊎ ((x ≡ v) × (Contains order y → ⊥) × (x ≢ y))
-before-back order v x y b = elim (cases_lt b.place (length order)) [
+pub before-back : (order : List ℕ) (v : ℕ) {x y : ℕ} → Before (order ++ v ∷ []) x y → Before order x y ⊎ ((x ≡ v) × (Contains order y → ⊥) × (x ≢ y))
+before-back order v {y} b = elim (cases_lt b.place (length order)) [
   | inl inside ↦ inl (record {
     place = b.place;
     within = inside;

@@ -56,9 +56,9 @@ module _ {g : Graph} {s : State} (is : IsGraph g) (start : IsStart g s) where
   }
 
   -- an arc of the graph, against the least of its pair
-  start-least : (x y : ℕ) (c : Cost) → ArcOf g x y c → (o : Option StateArc) → s.arc x y ≡ o → IsStartArc g x y o → Remains s x y c ⊎ Cheaper (ArcOf g) x y c
-  start-least x y c arc None none_is none = absurd (none c arc)
-  start-least x y c arc (Some least) here is_least = elim (cases_cost least.cost c) [
+  start-least : {x y : ℕ} {c : Cost} → ArcOf g x y c → (o : Option StateArc) → s.arc x y ≡ o → IsStartArc g x y o → Remains s x y c ⊎ Cheaper (ArcOf g) x y c
+  start-least {c} arc None none_is none = absurd (none c arc)
+  start-least {x} {y} {c} arc (Some least) here is_least = elim (cases_cost least.cost c) [
     | inl less ↦ inr (record { cost = least.cost; walk = one_arc is_least.0.0; below = less })
     | inr at_least ↦
         let same : least.cost ≡ c = at_most_antisym (is_least.0.1 c arc) at_least in
@@ -71,16 +71,16 @@ module _ {g : Graph} {s : State} (is : IsGraph g) (start : IsStart g s) where
   ]
 
   -- an arc of the graph remains at the start, or there is a cheaper walk
-  start-arc : (x y : ℕ) (c : Cost) → ArcOf g x y c → Remains s x y c ⊎ Cheaper (ArcOf g) x y c
-  start-arc x y c arc = elim (cases_eq x y) [
+  start-arc : {x y : ℕ} {c : Cost} → ArcOf g x y c → Remains s x y c ⊎ Cheaper (ArcOf g) x y c
+  start-arc {x} {y} {c} arc = elim (cases_eq x y) [
     | inl same ↦ inr (record { cost = zero_cost; walk = subst (λ n. Walk (ArcOf g) x n zero_cost) same stay; below = (arc-sound g is x y c arc).above })
-    | inr apart ↦ start-least x y c arc (s.arc x y) refl (start.arcs x y apart)
+    | inr apart ↦ start-least arc (s.arc x y) refl (start.arcs x y apart)
   ]
 
   -- so a walk of the graph is one of the start, or there is a cheaper one
   start-walk : {x z : ℕ} {c : Cost} → Walk (ArcOf g) x z c → Walk (Remains s) x z c ⊎ Cheaper (ArcOf g) x z c
   start-walk stay = inl stay
-  start-walk (go {x = x} {y = y} {c = c} arc more) = elim (start-arc x y c arc) [
+  start-walk (go {x = x} {y = y} {c = c} arc more) = elim (start-arc arc) [
     | inr less ↦ inr (cheaper-before less more)
     | inl kept ↦ elim (start-walk more) [
       | inl kept_more ↦ inl (go kept kept_more)

@@ -32,7 +32,7 @@ lists-kept order v x arc new es old same far e = (
   λ h.
       let before = (old e).0 h in (
         same e.other ∙ before.0,
-        λ b. elim (before-back order v e.other x b) [
+        λ b. elim (before-back order v b) [
           | inl earlier ↦ before.1 earlier
           | inr last ↦ far last.1 e last.0 before.0
         ],
@@ -53,7 +53,7 @@ lists-changed order v x arc new old_es new_es Short Without old alive apart shor
     | inl is ↦
         let facts = short e is in (
           facts.0,
-          λ b. elim (before-back order v e.other x b) [
+          λ b. elim (before-back order v b) [
             | inl earlier ↦ facts.1 (before-contains earlier)
             | inr last ↦ facts.2 last.0
           ],
@@ -61,7 +61,7 @@ lists-changed order v x arc new old_es new_es Short Without old alive apart shor
     | inr is ↦
         let before = (old e).0 is.2 in (
           kept e.other is.0 ∙ before.0,
-          λ b. elim (before-back order v e.other x b) [
+          λ b. elim (before-back order v b) [
             | inl earlier ↦ before.1 earlier
             | inr last ↦ is.1 last.0
           ],
@@ -123,14 +123,14 @@ module _ (bound : Cost) (s : State) (v : ℕ) (put : List Shortcut) (plain : IsP
       record { alive = second.to_alive; joined = inl (_, second.arc) }
 
   -- and these aren't v
-  neighbour_apart : (x : ℕ) → IsNeighbour s v x → x ≢ v
-  neighbour_apart x near same = elim near.joined [
+  neighbour_apart : {x : ℕ} → IsNeighbour s v x → x ≢ v
+  neighbour_apart {x} near same = elim near.joined [
     | inl has ↦ (plain.arcs v x has.1.arc has.1.here).apart (sym same)
     | inr has ↦ (plain.arcs x v has.1.arc has.1.here).apart same
   ]
 
   itself_far : IsNeighbour s v v → ⊥
-  itself_far near = neighbour_apart v near refl
+  itself_far near = neighbour_apart near refl
 
   -- a node that isn't a neighbour gets no shortcut
   none_from : (x y : ℕ) → (IsNeighbour s v x → ⊥) → NoShortcut put x y
@@ -140,39 +140,39 @@ module _ (bound : Cost) (s : State) (v : ℕ) (put : List Shortcut) (plain : IsP
   none_to x y far p among joins = far (subst (λ z. IsNeighbour s v z) joins.1 (to_neighbour p among))
 
   -- a row without shortcuts keeps its entries
-  out-kept : (x : ℕ) (r : Row) → (IsNeighbour s v x → ⊥) → IsRow s x r → Lists (s.order ++ v ∷ []) x (λ y. after.arc x y) r.out
-  out-kept x r far row = lists-kept s.order v x (λ y. s.arc x y) (λ y. after.arc x y) r.out row.out (λ y. kept-arc x y (none_from x y far)) (λ waits e same is.
+  out-kept : {x : ℕ} {r : Row} → (IsNeighbour s v x → ⊥) → IsRow s x r → Lists (s.order ++ v ∷ []) x (λ y. after.arc x y) r.out
+  out-kept {x} {r} far row = lists-kept s.order v x (λ y. s.arc x y) (λ y. after.arc x y) r.out row.out (λ y. kept-arc x y (none_from x y far)) (λ waits e same is.
       let arc = has_arc s x v e (subst (λ y. s.arc x y ≡ arc_of e) same is) in
       far (record { alive = record { in_range = (plain.arcs x v arc.arc arc.here).from_in; waits = waits }; joined = inr (e.cost, arc) }))
 
-  inn-kept : (x : ℕ) (r : Row) → (IsNeighbour s v x → ⊥) → IsRow s x r → Lists (s.order ++ v ∷ []) x (λ y. after.arc y x) r.inn
-  inn-kept x r far row = lists-kept s.order v x (λ y. s.arc y x) (λ y. after.arc y x) r.inn row.inn (λ y. kept-arc y x (none_to y x far)) (λ waits e same is.
+  inn-kept : {x : ℕ} {r : Row} → (IsNeighbour s v x → ⊥) → IsRow s x r → Lists (s.order ++ v ∷ []) x (λ y. after.arc y x) r.inn
+  inn-kept {x} {r} far row = lists-kept s.order v x (λ y. s.arc y x) (λ y. after.arc y x) r.inn row.inn (λ y. kept-arc y x (none_to y x far)) (λ waits e same is.
       let arc = has_arc s v x e (subst (λ y. s.arc y x ≡ arc_of e) same is) in
       far (record { alive = record { in_range = (plain.arcs v x arc.arc arc.here).to_in; waits = waits }; joined = inl (e.cost, arc) }))
 
   -- The row of the contracted node keeps its entries and gets its rank.
-  row-contracted : (r : Row) → IsRow s v r → IsRow after v (record r { rank = Some (length s.order) })
-  row-contracted r row = record {
+  row-contracted : {r : Row} → IsRow s v r → IsRow after v (record r { rank = Some (length s.order) })
+  row-contracted {r} row = record {
     rank = rank-last s.order v plan.alive.waits;
     out_rises = row.out_rises;
     inn_rises = row.inn_rises;
-    out = out-kept v r itself_far row;
-    inn = inn-kept v r itself_far row;
+    out = out-kept itself_far row;
+    inn = inn-kept itself_far row;
   }
 
   -- The row of a node that is neither the contracted one nor a neighbour stays.
-  row-kept : (x : ℕ) (r : Row) → x ≢ v → (IsNeighbour s v x → ⊥) → IsRow s x r → IsRow after x r
-  row-kept x r apart far row = record {
+  row-kept : {x : ℕ} {r : Row} → x ≢ v → (IsNeighbour s v x → ⊥) → IsRow s x r → IsRow after x r
+  row-kept {x} {r} apart far row = record {
     rank = rank-kept s.order v x r.rank apart row.rank;
     out_rises = row.out_rises;
     inn_rises = row.inn_rises;
-    out = out-kept x r far row;
-    inn = inn-kept x r far row;
+    out = out-kept far row;
+    inn = inn-kept far row;
   }
 
   -- what the entry of a shortcut says, and which entries are those of shortcuts
-  entry_arc : (u w : ℕ) (e : Entry) → IsOfShortcut put v u w e → after.arc u w ≡ arc_of e
-  entry_arc u w e is =
+  entry_arc : {u w : ℕ} {e : Entry} → IsOfShortcut put v u w e → after.arc u w ≡ arc_of e
+  entry_arc {u} {w} {e} is =
       put-arc u w is.shortcut is.among is.joins
       ∙ ap (λ (c : Cost). Some (record { cost = c; middle = Some v })) (sym is.cost)
       ∙ ap (λ (m : Option ℕ). Some (record { cost = e.cost; middle = m })) (sym is.middle)
@@ -182,13 +182,13 @@ module _ (bound : Cost) (s : State) (v : ℕ) (put : List Shortcut) (plain : IsP
     | inr none ↦ inr none
     | inl found ↦
         let p : Shortcut = found.shortcut in
-        let same = one_arc_there (after.arc u w) (record { cost = e.cost; middle = e.middle }) (record { cost = p.cost; middle = Some v }) is (put-arc u w p found.among found.joins) in
+        let same = one_arc_there (record { cost = e.cost; middle = e.middle }) (record { cost = p.cost; middle = Some v }) is (put-arc u w p found.among found.joins) in
         inl (record { shortcut = p; among = found.among; joins = found.joins; cost = ap (λ (a : StateArc). a.cost) same; middle = ap (λ (a : StateArc). a.middle) same })
   ]
 
   -- The changed row of an alive node is its row.
-  row-changed : (x : ℕ) (r q : Row) → IsAlive s x → x ≢ v → IsRow s x r → IsChanged put v x r q → IsRow after x q
-  row-changed x r q alive other row change =
+  row-changed : {x : ℕ} {r q : Row} → IsAlive s x → x ≢ v → IsRow s x r → IsChanged put v x r q → IsRow after x q
+  row-changed {x} {r} {q} alive other row change =
       let apart : v ≢ x = λ same. other (sym same) in
       record {
         rank = subst (λ (k : Option ℕ). RankIs (s.order ++ v ∷ []) x k) (sym change.rank) (rank-kept s.order v x r.rank other row.rank);
@@ -198,13 +198,13 @@ module _ (bound : Cost) (s : State) (v : ℕ) (put : List Shortcut) (plain : IsP
             row.out alive.waits apart
             (λ e is.
             let near = subst (λ y. IsNeighbour s v y) is.joins.1 (to_neighbour is.shortcut is.among) in
-            (entry_arc x e.other e is, near.alive.waits, neighbour_apart e.other near))
+            (entry_arc is, near.alive.waits, neighbour_apart near))
             (λ y none. kept-arc x y none) (λ e is. find_entry x e.other e is) change.out;
         inn = lists-changed s.order v x (λ y. s.arc y x) (λ y. after.arc y x) r.inn q.inn (λ e. IsOfShortcut put v e.other x e) (λ y. NoShortcut put y x)
             row.inn alive.waits apart
             (λ e is.
             let near = subst (λ y. IsNeighbour s v y) is.joins.0 (from_neighbour is.shortcut is.among) in
-            (entry_arc e.other x e is, near.alive.waits, neighbour_apart e.other near))
+            (entry_arc is, near.alive.waits, neighbour_apart near))
             (λ y none. kept-arc y x none) (λ e is. find_entry e.other x e is) change.inn;
       }
 
@@ -226,29 +226,29 @@ module _ (bound : Cost) (s : State) (v : ℕ) (put : List Shortcut) (plain : IsP
     arcs = λ x y arc is. elim (find_shortcut put x y) [
       | inr none ↦ plain.arcs x y arc (sym (kept-arc x y none) ∙ is)
       | inl found ↦ subst (λ (a : StateArc). IsPlainArc s.nodes bound x y a)
-          (one_arc_there (after.arc x y) (record { cost = found.shortcut.cost; middle = Some v }) arc (put-arc x y found.shortcut found.among found.joins) is)
+          (one_arc_there (record { cost = found.shortcut.cost; middle = Some v }) arc (put-arc x y found.shortcut found.among found.joins) is)
           (put-plain x y found.shortcut found.among found.joins)
     ];
   }
 
   -- All rows
 
-  rows-next : (old new : List Row) → AreRows s old → AreUpdated s put v old new → AreRows after new
-  rows-next old new are updated = record {
+  rows-next : {old new : List Row} → AreRows s old → AreUpdated s put v old new → AreRows after new
+  rows-next {old} {new} are updated = record {
     many = updated.many ∙ are.many;
     each = λ x low.
         let was : IsRow s x (row_at old x) = are.each x low in
         elim (cases_eq x v) [
           | inl same ↦
-              let row : IsRow after v (record (row_at old v) { rank = Some (length s.order) }) = row-contracted (row_at old v) (are.each v plan.alive.in_range) in
+              let row : IsRow after v (record (row_at old v) { rank = Some (length s.order) }) = row-contracted (are.each v plan.alive.in_range) in
               subst (λ n. IsRow after n (row_at new n)) (sym same) (subst (λ (r : Row). IsRow after v r) (sym updated.contracted) row)
           | inr apart ↦ elim (cases_neighbour s v x) [
-            | inl near ↦ row-changed x (row_at old x) (row_at new x) near.alive apart was (updated.neighbours x near)
-            | inr far ↦ subst (λ (r : Row). IsRow after x r) (sym (updated.others x apart far)) (row-kept x (row_at old x) apart far was)
+            | inl near ↦ row-changed near.alive apart was (updated.neighbours x near)
+            | inr far ↦ subst (λ (r : Row). IsRow after x r) (sym (updated.others x apart far)) (row-kept apart far was)
           ]
         ];
   }
 
 -- and the law of all rows
 pub rows_go_on : RowsGoOn
-rows_go_on bound s v put old new plain plan are updated = (rows-next bound s v put plain plan old new are updated, after-plain bound s v put plain plan)
+rows_go_on bound s v put old new plain plan are updated = (rows-next bound s v put plain plan are updated, after-plain bound s v put plain plan)

@@ -1,5 +1,5 @@
 -- The rows of a state show each of its arcs.
-use Rattle.std.proofs.Common.{ℕ, ◌≡◌, ◌≢◌, ◌≤◌, ◌⊎◌, true, false, nat_eq, List, [], ◌∷◌, length, Option, Some, None, Contains, arith, refl, sym, ◌∙◌, ap, subst, inl, inr}
+use Rattle.std.proofs.Common.{ℕ, ◌≡◌, ◌≢◌, ◌≤◌, ◌⊎◌, true, false, nat_eq, List, [], ◌∷◌, Option, Some, None, Contains, arith, refl, sym, ◌∙◌, ap, subst, inl, inr}
 use Rattle.std.proofs.lemmas.Bool.{cases_eq, cases_lt}
 use Rattle.std.proofs.lemmas.Bool.Decides.{nat_tests}
 use Rattle.std.proofs.lemmas.List.{get_or_past}
@@ -13,8 +13,8 @@ use Rattle.ch_laws.specs.Members.{contains_first, contains_later, contains_cases
 -- Entries
 
 -- at an entry for the node, and at one for another
-arc_to-first : (y : ℕ) (e : Entry) (es : List Entry) → e.other ≡ y → arc_to y (e ∷ es) ≡ arc_of e
-arc_to-first y e es same = let test : nat_eq e.other y ≡ true = grind (arith, nat_tests, same) in rw test refl
+arc_to-first : {y : ℕ} (e : Entry) (es : List Entry) → e.other ≡ y → arc_to y (e ∷ es) ≡ arc_of e
+arc_to-first {y} e es same = let test : nat_eq e.other y ≡ true = grind (arith, nat_tests, same) in rw test refl
 
 -- the same where it is for another
 arc_to-later : (y : ℕ) (e : Entry) (es : List Entry) → e.other ≢ y → arc_to y (e ∷ es) ≡ arc_to y es
@@ -36,7 +36,7 @@ pub record HasEntry (y : ℕ) (es : List Entry) : Type 0 where
 pub find_entry : (y : ℕ) (es : List Entry) → HasEntry y es ⊎ ((e : Entry) → Contains es e → e.other ≢ y)
 find_entry y [] = inr (λ e among. absurd (omega (arith, among.1)))
 find_entry y (e ∷ es) = elim (cases_eq e.other y) [
-  | inl same ↦ inl (record { entry = e; among = contains_first e es; other = same; here = arc_to-first y e es same })
+  | inl same ↦ inl (record { entry = e; among = contains_first e es; other = same; here = arc_to-first e es same })
   | inr other ↦ elim (find_entry y es) [
     | inl found ↦ inl (record { entry = found.entry; among = contains_later e es found.entry found.among; other = found.other; here = arc_to-later y e es other ∙ found.here })
     | inr none ↦ inr (λ d among. elim (contains_cases e es d among) [
@@ -106,12 +106,12 @@ every-row {bound} {s} {rows} plain are x = elim (cases_lt x s.nodes) [
 ]
 
 -- states with the same nodes, order and arcs are the same
-same_state : (nodes : ℕ) (arc : ℕ → ℕ → Option StateArc) (s : State) → nodes ≡ s.nodes → ((x y : ℕ) → s.arc x y ≡ arc x y) → record { nodes = nodes; order = s.order; arc = arc } ≡ s
-same_state nodes arc s same arcs = λ i. record { nodes = same i; order = s.order; arc = λ x y. (sym (arcs x y)) i }
+same_state : {nodes : ℕ} (arc : ℕ → ℕ → Option StateArc) (s : State) → nodes ≡ s.nodes → ((x y : ℕ) → s.arc x y ≡ arc x y) → record { nodes = nodes; order = s.order; arc = arc } ≡ s
+same_state {nodes} arc s same arcs = λ i. record { nodes = same i; order = s.order; arc = λ x y. (sym (arcs x y)) i }
 
 -- the law of all rows
 pub rows_are_state : RowsAreState
 unfolding arc_by_rows
 rows_are_state bound s rows plain are =
     let every = every-row plain are in
-    same_state (length rows) (λ x y. shown (row_at rows x) (row_at rows y) x y) s are.many (λ x y. arc-shown (every x) (every y))
+    same_state (λ x y. shown (row_at rows x) (row_at rows y) x y) s are.many (λ x y. arc-shown (every x) (every y))

@@ -71,8 +71,8 @@ module _ {g : Graph} {s : State} (sound : IsSound g s) where
 -- The start
 
 -- the least arc of a pair is sound
-start-arc : (g : Graph) (s : State) → IsGraph g → (x y : ℕ) → x ≢ y → (arc : StateArc) → IsStartArc g x y (Some arc) → IsSoundArc g s x y arc
-start-arc g s is x y apart arc least =
+start-arc : {g : Graph} (s : State) → IsGraph g → (x y : ℕ) → x ≢ y → (arc : StateArc) → IsStartArc g x y (Some arc) → IsSoundArc g s x y arc
+start-arc {g} s is x y apart arc least =
     let sound = arc-sound g is x y arc.cost least.0.0 in
     record {
       walk = one_arc least.0.0;
@@ -86,8 +86,8 @@ start-arc g s is x y apart arc least =
     }
 
 -- so the start is
-pub start-sound : (g : Graph) (s : State) → IsGraph g → IsStart g s → IsSound g s
-start-sound g s is start = record {
+pub start-sound : {g : Graph} {s : State} → IsGraph g → IsStart g s → IsSound g s
+start-sound {g} {s} is start = record {
   nodes = start.nodes;
   in_range = λ x among. absurd (omega (arith, (subst (λ (order : List ℕ). Contains order x) start.order among).1));
   once = subst (λ (order : List ℕ). AllPairs (λ x y. x ≢ y) order) (sym start.order) (λ i j d low high. absurd (omega (arith, high)));
@@ -95,7 +95,7 @@ start-sound g s is start = record {
     | inl same ↦
         let none : s.arc x y ≡ None = subst (λ n. s.arc x n ≡ None) same (start.loops x) in
         absurd (cc)
-    | inr apart ↦ start-arc g s is x y apart arc (subst (λ (o : Option StateArc). IsStartArc g x y o) here (start.arcs x y apart))
+    | inr apart ↦ start-arc s is x y apart arc (subst (λ (o : Option StateArc). IsStartArc g x y o) here (start.arcs x y apart))
   ];
 }
 
@@ -186,7 +186,7 @@ module _ {g : Graph} {old new : State} {v : ℕ} {put : List Shortcut} (sound : 
     once = subst (λ (order : List ℕ). AllPairs (λ x y. x ≢ y) order) (sym puts.order)
         (all_pairs_push (λ x y. x ≢ y) old.order v sound.once (λ k d low same. puts.plan.alive.waits (subst (λ n. Contains old.order n) same (Contains-get_or old.order k d low))));
     arcs = λ x y arc here. elim (pair_cases puts x y) [
-      | inl is_put ↦ subst (λ (a : StateArc). IsSoundArc g new x y a) (one_arc_there (new.arc x y) is_put.arc arc is_put.here here) (put-arc is_put)
+      | inl is_put ↦ subst (λ (a : StateArc). IsSoundArc g new x y a) (one_arc_there is_put.arc arc is_put.here here) (put-arc is_put)
       | inr none ↦ kept-arc (sound.arcs x y arc (sym (puts.others x y none) ∙ here))
     ];
   }
@@ -198,7 +198,7 @@ run-sound (next step run) sound = run-sound run (puts-sound sound step.puts)
 
 -- every state that is reached is sound
 pub reached-sound : {g : Graph} {log : List Contraction} {s : State} → IsGraph g → IsReached g log s → IsSound g s
-reached-sound {g} is reached = run-sound reached.run (start-sound g reached.start is reached.starts)
+reached-sound {g} is reached = run-sound reached.run (start-sound is reached.starts)
 
 -- and a sound state is plain
 pub sound-plain : {g : Graph} {s : State} → IsSound g s → IsPlain (bound_of g) s

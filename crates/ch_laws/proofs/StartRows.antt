@@ -19,8 +19,8 @@ none_before : {x y : ℕ} → Before [] x y → ⊥
 none_before b = omega (arith, b.within)
 
 -- the empty row is that of a number that is no node
-no_start-row : (g : Graph) → IsGraph g → (x : ℕ) → g.nodes ≤ x → IsStartRow g x (no_arcs)
-no_start-row g is x past = record {
+no_start-row : {g : Graph} → IsGraph g → (x : ℕ) → g.nodes ≤ x → IsStartRow g x (no_arcs)
+no_start-row {g} is x past = record {
   rank = refl;
   out_rises = λ i j d less low. absurd (omega (arith, low));
   inn_rises = λ i j d less low. absurd (omega (arith, low));
@@ -35,7 +35,7 @@ one_least d e first second d_whole e_whole =
     let middles : d.middle ≡ e.middle = d_whole ∙ sym e_whole in
     λ i. Some (record { cost = costs i; middle = middles i })
 
-module _ (g : Graph) (rows : List Row) (is : IsGraph g) (each : (x : ℕ) → IsStartRow g x (row_at rows x)) where
+module _ {g : Graph} (rows : List Row) (is : IsGraph g) (each : (x : ℕ) → IsStartRow g x (row_at rows x)) where
   -- the entry that a row has for another node
   entry-least : {x y : ℕ} → x ≢ y → (found : HasEntry y (row_at rows x).out) → IsStartArc g x y (arc_of found.entry)
   entry-least {x} {y} apart found =
@@ -113,16 +113,16 @@ module _ (g : Graph) (rows : List Row) (is : IsGraph g) (each : (x : ℕ) → Is
   }
 
 -- every number has its row
-every-start_row : (g : Graph) → IsGraph g → (rows : List Row) → length rows ≡ g.nodes → ((x : ℕ) → x < g.nodes → IsStartRow g x (row_at rows x)) → (x : ℕ) → IsStartRow g x (row_at rows x)
-every-start_row g is rows many are x = elim (cases_lt x g.nodes) [
+every-start_row : {g : Graph} → IsGraph g → (rows : List Row) → length rows ≡ g.nodes → ((x : ℕ) → x < g.nodes → IsStartRow g x (row_at rows x)) → (x : ℕ) → IsStartRow g x (row_at rows x)
+every-start_row {g} is rows many are x = elim (cases_lt x g.nodes) [
   | inl low ↦ are x low
-  | inr past ↦ subst (λ (r : Row). IsStartRow g x r) (sym (get_or_past rows x (no_arcs) (omega (arith, past, many)))) (no_start-row g is x past)
+  | inr past ↦ subst (λ (r : Row). IsStartRow g x r) (sym (get_or_past rows x (no_arcs) (omega (arith, past, many)))) (no_start-row is x past)
 ]
 
 -- the law of rows at the start
 pub rows_start : RowsStart
 unfolding arc_by_rows
 rows_start g rows is many are =
-    let each = every-start_row g is rows many are in
-    let start : IsStart g (state_by rows []) = record { nodes = many; order = refl; loops = shown-loop g rows is each; arcs = shown-least g rows is each } in
-    (start, record { many = refl; each = λ x low. start-row g rows is each x }, sound-plain (start-sound g (state_by rows []) is start))
+    let each = every-start_row is rows many are in
+    let start : IsStart g (state_by rows []) = record { nodes = many; order = refl; loops = shown-loop rows is each; arcs = shown-least rows is each } in
+    (start, record { many = refl; each = λ x low. start-row rows is each x }, sound-plain (start-sound is start))

@@ -8,13 +8,13 @@ use Rattle.ch_laws.specs.Contraction.{State, StateArc, IsAlive, HasArc, Through,
 use Rattle.ch_laws.specs.Members.{contains_first, contains_later, contains_cases}
 
 -- a pair has one arc
-pub one_arc_there : (o : Option StateArc) (a b : StateArc) → o ≡ Some a → o ≡ Some b → a ≡ b
-one_arc_there o a b e f = cc
+pub one_arc_there : {o : Option StateArc} (a b : StateArc) → o ≡ Some a → o ≡ Some b → a ≡ b
+one_arc_there a b e f = cc
 
 -- and it has one cost
 pub one_cost : {s : State} {x y : ℕ} {c d : Cost} → HasArc s x y c → HasArc s x y d → c ≡ d
 one_cost {s} {x} {y} first second =
-    sym first.costs ∙ ap (λ (a : StateArc). a.cost) (one_arc_there (s.arc x y) first.arc second.arc first.here second.here) ∙ second.costs
+    sym first.costs ∙ ap (λ (a : StateArc). a.cost) (one_arc_there first.arc second.arc first.here second.here) ∙ second.costs
 
 -- the arc stays where the state has the same for the pair
 pub has_arc-same : {old new : State} {x y : ℕ} {c : Cost} → new.arc x y ≡ old.arc x y → HasArc old x y c → HasArc new x y c

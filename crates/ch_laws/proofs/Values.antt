@@ -96,7 +96,7 @@ module _ {g : Graph} {log : List Contraction} {s : State} {h : Hierarchy} (is : 
       record { cost = found.cost; rise_fall = found.rise_fall; at_most = at_most_trans found.at_most (at_most-from_below less.below) } in
       elim (within_or_cheaper g is w) [
         | inr less ↦ by_cheaper less
-        | inl within ↦ elim (over-progress over (run-progress reached.run (start-sound g reached.start is reached.starts) within (start-progress is reached.starts w))) [
+        | inl within ↦ elim (over-progress over (run-progress reached.run (start-sound is reached.starts) within (start-progress is reached.starts w))) [
           | inl crest ↦ record { cost = c; rise_fall = crest-rise_fall (reached-sound is reached) over made within crest; at_most = at_most_refl c }
           | inr less ↦ by_cheaper less
         ]

@@ -37,8 +37,8 @@ find_alive s (suc k) low = elim (cases_contains s.order k) [
 ]
 
 -- where a node is alive, the order has fewer nodes than there are
-room_for : {g : Graph} {s : State} → IsSound g s → (x : ℕ) → IsAlive s x → length s.order < s.nodes
-room_for {g} {s} sound x alive =
+room_for : {g : Graph} {s : State} → IsSound g s → {x : ℕ} → IsAlive s x → length s.order < s.nodes
+room_for {g} {s} sound {x} alive =
     let once : AllPairs (λ a b. a ≢ b) (s.order ++ x ∷ []) = all_pairs_push (λ a b. a ≢ b) s.order x sound.once (λ k d low same. alive.waits (subst (λ n. Contains s.order n) same (Contains-get_or s.order k d low))) in
     let few : length (s.order ++ x ∷ []) ≤ s.nodes = few_below s.nodes (s.order ++ x ∷ []) once (λ y among. elim (Contains-push_cases s.order x y among) [
       | inl before ↦ omega (arith, sound.in_range y before, sound.nodes)
@@ -54,20 +54,20 @@ record IsDone (g : Graph) : Type 0 where
   over : IsOver state
 
 -- so contraction ends after as many steps as nodes are left
-run_on : (g : Graph) → IsGraph g → (fuel : ℕ) (log : List Contraction) (s : State) → IsReached g log s → s.nodes ≤ length s.order + fuel → IsDone g
-run_on g is zero log s reached enough = elim (find_alive s s.nodes (omega arith)) [
+run_on : {g : Graph} → IsGraph g → (fuel : ℕ) (log : List Contraction) (s : State) → IsReached g log s → s.nodes ≤ length s.order + fuel → IsDone g
+run_on is zero log s reached enough = elim (find_alive s s.nodes (omega arith)) [
   | inr all ↦ record { log = log; state = s; reached = reached; over = all }
-  | inl alive ↦ absurd (omega (arith, enough, room_for (reached-sound is reached) alive.0 alive.1))
+  | inl alive ↦ absurd (omega (arith, enough, room_for (reached-sound is reached) alive.1))
 ]
-run_on g is (suc fuel) log s reached enough = elim (find_alive s s.nodes (omega arith)) [
+run_on {g} is (suc fuel) log s reached enough = elim (find_alive s s.nodes (omega arith)) [
   | inr all ↦ record { log = log; state = s; reached = reached; over = all }
   | inl alive ↦
-      let more = next-step (reached-sound is reached) alive.0 alive.1 in
+      let more = next-step (reached-sound is reached) alive.1 in
       let e : Contraction = more.0 in
       let new : State = more.1 in
       let step : Step (bound_of g) s e new = more.2 in
       let longer : length new.order ≡ length s.order + 1 = ap (λ (order : List ℕ). length order) step.puts.order ∙ length_push s.order e.node in
-      run_on g is fuel (log ++ e ∷ []) new (reaches_on g log s e new reached step) (omega (arith, enough, longer, step.puts.nodes))
+      run_on is fuel (log ++ e ∷ []) new (reaches_on g log s e new reached step) (omega (arith, enough, longer, step.puts.nodes))
 ]
 
 -- Ranks
@@ -127,8 +127,8 @@ before_next m k l n is from to = elim is [
 ]
 
 -- a link between two nodes, known by its arc
-same_link : (m k : ℕ) (a : StateArc) (l : Link) → l.from ≡ m → l.to ≡ k → Some a ≡ Some (record { cost = l.cost; middle = l.middle }) → record { from = m; to = k; cost = a.cost; middle = a.middle } ≡ l
-same_link m k a l from to same =
+same_link : {m k : ℕ} (a : StateArc) (l : Link) → l.from ≡ m → l.to ≡ k → Some a ≡ Some (record { cost = l.cost; middle = l.middle }) → record { from = m; to = k; cost = a.cost; middle = a.middle } ≡ l
+same_link a l from to same =
     let arcs : a ≡ record { cost = l.cost; middle = l.middle } = same_Some a (record { cost = l.cost; middle = l.middle }) same in
     λ i. record { from = (sym from) i; to = (sym to) i; cost = (arcs i).cost; middle = (arcs i).middle }
 
@@ -150,7 +150,7 @@ with_link {s} {m} {k} a here sofar =
           | inl before ↦ Contains-append_left sofar.links (n ∷ []) l ((sofar.are l).1 (before, h.1))
           | inr last ↦
               let at_pair : s.arc m k ≡ Some (record { cost = l.cost; middle = l.middle }) = subst (λ j. s.arc m j ≡ Some (record { cost = l.cost; middle = l.middle })) last.1 (subst (λ i. s.arc i l.to ≡ Some (record { cost = l.cost; middle = l.middle })) last.0 h.1) in
-              subst (λ (r : Link). Contains (sofar.links ++ n ∷ []) r) (same_link m k a l last.0 last.1 (sym here ∙ at_pair)) (Contains-push sofar.links n)
+              subst (λ (r : Link). Contains (sofar.links ++ n ∷ []) r) (same_link a l last.0 last.1 (sym here ∙ at_pair)) (Contains-push sofar.links n)
         ],
       );
     }
@@ -177,13 +177,13 @@ next_link None none sofar = without_link none sofar
 next_link (Some a) here sofar = with_link a here sofar
 
 -- all links from m
-link_row : (s : State) (m k : ℕ) → LinksSoFar s m 0 → LinksSoFar s m k
-link_row s m zero sofar = sofar
-link_row s m (suc k) sofar = next_link (s.arc m k) refl (link_row s m k sofar)
+link_row : {s : State} {m : ℕ} (k : ℕ) → LinksSoFar s m 0 → LinksSoFar s m k
+link_row zero sofar = sofar
+link_row {s} {m} (suc k) sofar = next_link (s.arc m k) refl (link_row k sofar)
 
 -- from the links from m to those from the next node
-next_link_row : {g : Graph} {s : State} → IsSound g s → (m : ℕ) → LinksSoFar s m s.nodes → LinksSoFar s (suc m) 0
-next_link_row {g} {s} sound m sofar = record {
+next_link_row : {g : Graph} {s : State} → IsSound g s → {m : ℕ} → LinksSoFar s m s.nodes → LinksSoFar s (suc m) 0
+next_link_row {g} {s} sound {m} sofar = record {
   links = sofar.links;
   sorted = sofar.sorted;
   are = λ l. (
@@ -210,7 +210,7 @@ link_rows sound zero = record {
   sorted = λ i j d less low. absurd (omega (arith, low));
   are = λ l. (λ among. absurd (omega (arith, among.1)), λ h. elim (h.0) [ inl low ↦ absurd (omega (arith, low)) | inr here ↦ absurd (omega (arith, here.1)) ]);
 }
-link_rows {s = s} sound (suc m) = next_link_row sound m (link_row s m s.nodes (link_rows sound m))
+link_rows {s = s} sound (suc m) = next_link_row sound (link_row s.nodes (link_rows sound m))
 
 -- The hierarchy
 
@@ -237,6 +237,6 @@ has_made {g} {s} sound over =
 pub has_run : HasRun
 has_run g is =
     let start = has_start g in
-    let done = run_on g is start.0.nodes [] start.0 (record { start = start.0; starts = start.1; run = rest }) (omega arith) in
+    let done = run_on is start.0.nodes [] start.0 (record { start = start.0; starts = start.1; run = rest }) (omega arith) in
     let made = has_made (reached-sound is done.reached) done.over in
     (done.log, done.state, made.0, done.reached, done.over, made.1)
