@@ -1,9 +1,8 @@
 -- The rows of a graph in which no node is contracted.
-use Rattle.std.proofs.Common.{ℕ, ◌≡◌, ◌≢◌, ◌+◌, ◌-◌, ◌<◌, cond, nat_eq, true, false, Bool, List, [], ◌∷◌, ◌++◌, length, get_or, set, take, map, replicate, None, arith, refl, sym, ◌∙◌, ap, subst, inl, inr}
+use Rattle.std.proofs.Common.{ℕ, ◌≡◌, ◌+◌, ◌-◌, ◌<◌, cond, nat_eq, true, false, Bool, List, [], ◌∷◌, ◌++◌, length, get_or, take, map, replicate, None, arith, refl, sym, ◌∙◌, ap, inl, inr}
 use Rattle.std.specs.List.{filter}
-use Rattle.std.proofs.lemmas.Bool.{cases_eq, cases_lt}
-use Rattle.std.proofs.lemmas.Bool.Decides.{nat_tests}
-use Rattle.std.proofs.lemmas.List.{get_or-set_same, get_or-set_other, append-nil, map-append, length-append, length-replicate, get_or-replicate, get_or_append_left, get_or-append_right}
+use Rattle.std.proofs.lemmas.Bool.{cases_lt}
+use Rattle.std.proofs.lemmas.List.{map-append, length-append, length-replicate, get_or-replicate, get_or_append_left, get_or-append_right}
 use Rattle.std.proofs.lemmas.List.Elements.{filter_more}
 use Rattle.ch_graph.specs.declared.road.Road.{Road}
 use Rattle.ch_laws.specs.declared.entry.Entry.{Entry}
@@ -12,38 +11,6 @@ use Rattle.ch_overlay.specs.Overlay.{no_arcs, row_at}
 use Rattle.ch_overlay.specs.Opening.{out_entry, in_entry, opening_row, with_out, with_in, with_arc, AreOpening}
 
 -- One more arc
-
-same_test : (a b : ℕ) → a ≡ b → nat_eq a b ≡ true
-same_test a b e = grind (arith, nat_tests, e)
-
-other_test : (a b : ℕ) → a ≢ b → nat_eq a b ≡ false
-other_test a b e = grind (arith, nat_tests, e)
-
--- an arc with another end
-pub out_kept : (r : Road) (x : ℕ) (row : Row) → r.from ≢ x → row ≡ with_out r x row
-out_kept r x row apart = rw (other_test r.from x apart, append-nil row.out) refl
-
-pub in_kept : (r : Road) (x : ℕ) (row : Row) → r.to ≢ x → row ≡ with_in r x row
-in_kept r x row apart = rw (other_test r.to x apart, append-nil row.inn) refl
-
--- the rows are of the nodes from one on
-pub out_written : (rows : List Row) (r : Road) (from at k : ℕ) → at < length rows → r.from ≡ from + at
-    → row_at (set rows at (record (row_at rows at) { out = (row_at rows at).out ++ out_entry r ∷ [] })) k ≡ with_out r (from + k) (row_at rows k)
-out_written rows r from at k inside is = elim (cases_eq at k) [
-  | inl same ↦ rw (same_test r.from (from + k) (is ∙ ap (λ n. from + n) same))
-      (subst (λ z. get_or (set rows at (record (row_at rows at) { out = (row_at rows at).out ++ out_entry r ∷ [] })) z no_arcs ≡ record (row_at rows z) { out = (row_at rows z).out ++ out_entry r ∷ [] }) same
-      (get_or-set_same rows at _ no_arcs inside))
-  | inr apart ↦ rw (other_test r.from (from + k) (λ same. apart (omega (arith, same, is))), append-nil (row_at rows k).out) (get_or-set_other rows at k _ no_arcs (λ same. apart (sym same)))
-]
-
-pub in_written : (rows : List Row) (r : Road) (from at k : ℕ) → at < length rows → r.to ≡ from + at
-    → row_at (set rows at (record (row_at rows at) { inn = (row_at rows at).inn ++ in_entry r ∷ [] })) k ≡ with_in r (from + k) (row_at rows k)
-in_written rows r from at k inside is = elim (cases_eq at k) [
-  | inl same ↦ rw (same_test r.to (from + k) (is ∙ ap (λ n. from + n) same))
-      (subst (λ z. get_or (set rows at (record (row_at rows at) { inn = (row_at rows at).inn ++ in_entry r ∷ [] })) z no_arcs ≡ record (row_at rows z) { inn = (row_at rows z).inn ++ in_entry r ∷ [] }) same
-      (get_or-set_same rows at _ no_arcs inside))
-  | inr apart ↦ rw (other_test r.to (from + k) (λ same. apart (omega (arith, same, is))), append-nil (row_at rows k).inn) (get_or-set_other rows at k _ no_arcs (λ same. apart (sym same)))
-]
 
 map_one : {A B : Type 0} (f : A → B) (b : Bool) (a : A) → map f (cond b (a ∷ []) []) ≡ cond b (f a ∷ []) []
 map_one f true a = refl

@@ -1,5 +1,5 @@
 -- A half that climbs as far as its links lead lists the least climb to each node.
-use Rattle.std.proofs.Common.{ℕ, ◌≡◌, List, [], ◌∷◌, ◌++◌, length, get_or, Some, None, All, ap, refl, sym, subst, ◌∙◌, inl, inr, arith}
+use Rattle.std.proofs.Common.{ℕ, ◌≡◌, List, [], ◌∷◌, ◌++◌, length, get_or, None, All, ap, refl, sym, subst, ◌∙◌, inl, inr, arith}
 use Rattle.std.proofs.lemmas.List.{get_or_append_left, get_or_push, length-append}
 use Rattle.std.proofs.lemmas.List.Elements.{All-nil, All-push}
 use Rattle.ch_cost.specs.declared.cost.Cost.{Cost}
@@ -15,23 +15,13 @@ use Rattle.ch_query.specs.declared.climb.Climbed.{Climbed}
 use Rattle.ch_query.specs.declared.label.Label.{Label}
 use Rattle.ch_query.specs.declared.seed.Seed.{Seed}
 use Rattle.ch_query.specs.declared.side.Side.{Side}
-use Rattle.ch_query.specs.Climbing.{IsClimbedOn, IsEnd, AreListed}
+use Rattle.ch_query.specs.Climbing.{IsClimbedOn, AreListed}
 use Rattle.ch_query.specs.Beginning.{NoneSettled}
-use Rattle.ch_query.specs.Marks.{label_cost, IsStopped}
+use Rattle.ch_query.specs.Marks.{label_cost}
 use Rattle.ch_query.specs.Searching.{IsClimbing, IsSearching}
 use Rattle.ch_query.specs.Ways.{IsClimb, AreLeastClimbs}
 use Rattle.ch_query.proofs.Following.{counts-short}
 use Rattle.ch_query.proofs.LeastSum.{counts_less}
-
--- where no limit stops it, there is no open node
-pub end-stopped : {old new : List (Mark Label)} → new ≡ old → IsStopped old None → IsEnd old new
-end-stopped same stopped = record {
-  same = same;
-  none = λ v e opens. never ((stopped v e (subst (λ (ms : List (Mark Label)). mark ms v ≡ Open e) same opens)).1);
-}
-  where
-    never : {b : Cost} → None ≡ Some b → ⊥
-    never is = cc
 
 -- nothing is listed where nothing is settled
 pub listed-none : {marks : List (Mark Label)} {climbs : List Climbed} → climbs ≡ [] → NoneSettled marks → AreListed marks climbs

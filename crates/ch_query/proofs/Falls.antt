@@ -2,7 +2,7 @@
 use Rattle.std.proofs.Common.{ℕ, ◌≡◌, ◌+◌, ◌<◌, ◌≤◌, List, [], ◌∷◌, ◌++◌, length, get_or, map, slice_index, All, Contains, ap, sym, subst, ◌∙◌, inl, inr, arith}
 use Rattle.std.proofs.lemmas.Bool.{cases_lt}
 use Rattle.std.proofs.lemmas.List.{map_push}
-use Rattle.std.proofs.lemmas.List.Elements.{All-nil, All-push, Contains-push, Contains-append_left}
+use Rattle.std.proofs.lemmas.List.Elements.{All-push, Contains-push, Contains-append_left}
 use Rattle.ch_cost.specs.declared.cost.Cost.{Cost}
 use Rattle.ch_cost.specs.Cost.{length_of}
 use Rattle.ch_cost.specs.Cost.Laws.{cost_of_arcs_in_limit, in_limit-from_within, within_trans}
@@ -27,15 +27,6 @@ pub record IsListing (h : Hierarchy) (r : ℕ) (links : List ℕ) (begin next : 
   pub only : All (FallsTo h r) listed
   pub above : All (IsFallAbove h r) falls
   pub each : (i : ℕ) → begin ≤ i → i < next → Contains listed (slice_index links i)
-
-pub listing-none : {h : Hierarchy} {r : ℕ} {links : List ℕ} {begin : ℕ} {falls : List Fall} → falls ≡ [] → IsListing h r links begin begin falls
-listing-none {h} {r} is = record {
-  listed = [];
-  along = is;
-  only = All-nil (FallsTo h r);
-  above = subst (All (IsFallAbove h r)) (sym is) (All-nil (IsFallAbove h r));
-  each = λ i from low. absurd (omega (arith, from, low));
-}
 
 fall-above : {h : Hierarchy} → IsWellMade h → {r k : ℕ} → FallsTo h r k → IsFallAbove h r (fall_along h k)
 fall-above {h} made {k} to = record {

@@ -1,6 +1,5 @@
 -- Seeds by their places in a list.
-use Rattle.std.proofs.Common.{ℕ, ◌≡◌, ◌+◌, ◌<◌, ◌≤◌, List, length, Option, Some, Contains, slice_get, ap, sym, subst, ◌∙◌, inl, inr, arith}
-use Rattle.std.proofs.lemmas.Bool.{cases_eq}
+use Rattle.std.proofs.Common.{ℕ, ◌≡◌, ◌≤◌, List, Option, Some, Contains, slice_get, ap, sym, ◌∙◌, arith}
 use Rattle.std.proofs.lemmas.List.Elements.{All-contains}
 use Rattle.std.proofs.lemmas.Option.{slice_get-get_or, slice_get_within, get_or_from_slice_get}
 use Rattle.ch_cost.specs.declared.cost.Cost.{Cost}
@@ -37,24 +36,3 @@ seed_ahead-first {seeds} is one = record {
   is = get-from_among seeds one.among;
   there = (one.rank, is ∙ ap (λ (d : Cost). Some d) (sym one.cost));
 }
-
-some_seed : {a b : Seed} → Some a ≡ Some b → a ≡ b
-some_seed is = cc
-
--- where it isn't that at this place, it is a later one
-pub seed_ahead-next : {h : Hierarchy} {seeds : List Seed} {rank : ℕ} {cost : Option Cost} {place : ℕ} {seed : Seed} → slice_get seeds place ≡ Some seed → (IsThere h rank cost seed → ⊥) → IsSeedAhead h seeds rank cost place → IsSeedAhead h seeds rank cost (place + 1)
-seed_ahead-next {h} {seeds} {rank} {cost} {place} {seed} is other ahead = elim (cases_eq place ahead.at) [
-  | inl here ↦
-      let same : ahead.seed ≡ seed = some_seed (sym ahead.is ∙ (ap (slice_get seeds) (sym here) ∙ is)) in
-      absurd (other (subst (IsThere h rank cost) same ahead.there))
-  | inr later ↦ record {
-    at = ahead.at;
-    still = omega (arith, later, ahead.still);
-    seed = ahead.seed;
-    is = ahead.is;
-    there = ahead.there;
-  }
-]
-
-pub seed_ahead-within : {h : Hierarchy} {seeds : List Seed} {rank : ℕ} {cost : Option Cost} {place : ℕ} → IsSeedAhead h seeds rank cost place → place < length seeds
-seed_ahead-within {seeds = seeds} ahead = omega (arith, ahead.still, slice_get_within seeds ahead.at ahead.seed ahead.is)

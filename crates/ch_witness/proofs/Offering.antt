@@ -1,6 +1,5 @@
 -- What an offer does to the labels.
-use Rattle.std.proofs.Common.{ℕ, ◌≡◌, ◌≢◌, ◌⊎◌, false, true, Option, Some, None, refl, subst, arith, inl, inr, nat_eq}
-use Rattle.std.proofs.lemmas.Bool.Decides.{nat_tests}
+use Rattle.std.proofs.Common.{ℕ, ◌≡◌, ◌≢◌, ◌⊎◌, false, true, Option, Some, None, refl, subst, inl, inr}
 use Rattle.ch_cost.specs.declared.cost.Cost.{Cost}
 use Rattle.ch_cost.specs.Cost.{◌≼◌}
 use Rattle.ch_cost.specs.Cost.Laws.{cases_cost, at_most-from_below}
@@ -8,9 +7,6 @@ use Rattle.ch_witness.specs.declared.label.Label.{Label}
 use Rattle.ch_witness.specs.Tree.{Labels, IsSettled, IsAtMost}
 use Rattle.ch_witness.specs.Frontier.{Improves, IsOffered}
 use Rattle.ch_witness.proofs.Options.{some-same}
-
-pub differ : (k q : ℕ) → q ≢ k → nat_eq k q ≡ false
-differ k q apart = grind (arith, nat_tests, apart)
 
 open_or_settled : (l : Label) → (l.settled ≡ true) ⊎ (l.settled ≡ false)
 open_or_settled l = elim l.settled as (λ b. (b ≡ true) ⊎ (b ≡ false)) [ true ↦ inl refl | false ↦ inr refl ]

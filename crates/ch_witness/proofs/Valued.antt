@@ -2,7 +2,7 @@
 use Rattle.std.proofs.Common.{ℕ, ◌≡◌, ◌≢◌, ◌<◌, List, [], ◌∷◌, ◌++◌, get_or, length, set, slice_index, Option, Some, None, zero, suc, true, false, Bool, cond, refl, ap, sym, subst, ◌∙◌, arith, nat_eq, get_or-set_same}
 use Rattle.std.proofs.lemmas.Bool.Decides.{nat_tests}
 use Rattle.std.specs.List.{slice_get}
-use Rattle.std.proofs.lemmas.List.{get_or_push, length-set, length_push}
+use Rattle.std.proofs.lemmas.List.{length-set}
 use Rattle.std.proofs.lemmas.Option.{slice_get-get_or}
 use Rattle.ch_witness.specs.Places.{IsFirstAt, value_in}
 
@@ -50,12 +50,6 @@ module _ {X : Type 0} where
   read_written values k y within =
       slice_get-get_or (set values k y) k y (omega (arith, within, length-set values k y))
       ∙ ap (λ (z : X). Some z) (get_or-set_same values k y y within)
-
-  -- and the last one behind the others
-  pub read_put : (values : List X) (k : ℕ) (y : X) → length values ≡ k → slice_get (values ++ y ∷ []) k ≡ Some y
-  read_put values k y last =
-      slice_get-get_or (values ++ y ∷ []) k y (omega (arith, last, length_push values y))
-      ∙ ap (λ (z : X). Some z) (get_or_push values y y k last)
 
   -- those of the other nodes stay
   pub value_elsewhere : (nodes : List ℕ) (values : List X) (u k : ℕ) (y : X) → slice_index nodes k ≢ u → value_in nodes (set values k y) u ≡ value_in nodes values u

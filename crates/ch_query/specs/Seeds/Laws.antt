@@ -1,6 +1,6 @@
 -- Seeds as callers make them: one by one, and in a list.
-use Rattle.std.proofs.Common.{ℕ, ◌<◌, ◌^◌, List, [], ◌∷◌, ◌++◌, length, arith}
-use Rattle.std.proofs.lemmas.List.Elements.{All-nil, All-cons, All-push}
+use Rattle.std.proofs.Common.{ℕ, ◌<◌, ◌^◌, List, [], ◌∷◌, length, arith}
+use Rattle.std.proofs.lemmas.List.Elements.{All-nil, All-cons}
 use Rattle.ch_cost.specs.Cost.{zero_cost, of_weight}
 use Rattle.ch_cost.specs.Cost.Laws.{length_of-zero_cost, arcs_of-zero_cost, length_of-of_weight, arcs_of-of_weight}
 use Rattle.ch_graph.specs.Hierarchy.{Hierarchy}
@@ -15,12 +15,9 @@ seed-node h v low = record { node_in = low; length = omega (arith, length_of-zer
 pub seed-arc : (h : Hierarchy) (v w : ℕ) → v < length h.ranks → w < 2 ^ 32 → IsSeed h (record { node = v; cost = of_weight w })
 seed-arc h v w low fits = record { node_in = low; length = omega (arith, length_of-of_weight w, fits); arcs = omega (arith, arcs_of-of_weight w) }
 
--- none, and one more before or behind others
+-- none, and one more before others
 pub seeds-none : (h : Hierarchy) → AreSeeds h []
 seeds-none h = All-nil (IsSeed h)
 
 pub seeds-cons : (h : Hierarchy) (seed : Seed) (seeds : List Seed) → IsSeed h seed → AreSeeds h seeds → AreSeeds h (seed ∷ seeds)
 seeds-cons h seed seeds first rest = All-cons (IsSeed h) seed seeds first rest
-
-pub seeds-push : (h : Hierarchy) (seeds : List Seed) (seed : Seed) → AreSeeds h seeds → IsSeed h seed → AreSeeds h (seeds ++ seed ∷ [])
-seeds-push h seeds seed are last = All-push (IsSeed h) seeds seed are last
