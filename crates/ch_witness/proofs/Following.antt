@@ -1,5 +1,5 @@
 -- The arcs out of a step, as they are followed one after the other.
-use Rattle.std.proofs.Common.{ℕ, Bool, ◌≡◌, ◌≢◌, ◌+◌, ◌<◌, ◌≤◌, ◌⊎◌, false, true, List, length, Option, Some, None, refl, ap, sym, subst, ◌∙◌, arith, inl, inr, slice_index_or}
+use Rattle.std.proofs.Common.{ℕ, ◌≡◌, ◌≢◌, ◌+◌, ◌<◌, ◌≤◌, ◌⊎◌, false, true, List, length, Option, Some, None, refl, ap, sym, subst, ◌∙◌, arith, inl, inr, slice_index_or}
 use Rattle.std.proofs.lemmas.Bool.{cases_eq, cases_lt, true≢false}
 use Rattle.std.proofs.lemmas.List.{get_or_read}
 use Rattle.ch_cost.specs.declared.cost.Cost.{Cost}
@@ -20,14 +20,14 @@ pub record AreFollowedSoFar (r : Rule) (entries : List Entry) (c : Cost) (step :
   pub told : (k : ℕ) (e : Entry) → k < n → slice_index_or entries k e ≡ e → e.other ≢ r.avoid → c ⊕ e.cost ≼ r.cutoff → IsSettled (old e.other) ⊎ IsAtMost (new e.other) (c ⊕ e.cost)
 
 -- an entry read at its place is one and the same
-same_entry : (entries : List Entry) (k n : ℕ) (e f : Entry) → n < length entries → slice_index_or entries n e ≡ e → slice_index_or entries k f ≡ f → k ≡ n → f ≡ e
-same_entry entries k n e f within here is at = get_or_read entries n f within (sym (subst (λ (j : ℕ). slice_index_or entries j f ≡ f) at is)) e ∙ here
+same_entry : (entries : List Entry) (k n : ℕ) {e f : Entry} → n < length entries → slice_index_or entries n e ≡ e → slice_index_or entries k f ≡ f → k ≡ n → f ≡ e
+same_entry entries k n {e} {f} within here is at = get_or_read entries n f within (sym (subst (λ (j : ℕ). slice_index_or entries j f ≡ f) at is)) e ∙ here
 
 -- an arc that isn't to be followed
-pub followed_past : (r : Rule) (entries : List Entry) (c : Cost) (step : Option ℕ) (n : ℕ) (old new : Labels) (e : Entry) → n < length entries
+pub followed_past : {r : Rule} {entries : List Entry} {c : Cost} {step : Option ℕ} {n : ℕ} {old new : Labels} {e : Entry} → n < length entries
     → slice_index_or entries n e ≡ e → (e.other ≢ r.avoid → c ⊕ e.cost ≼ r.cutoff → ⊥) → AreFollowedSoFar r entries c step n old new
     → AreFollowedSoFar r entries c step (n + 1) old new
-followed_past r entries c step n old new e within here out h = record {
+followed_past {r} {entries} {c} {n} {e} within here out h = record {
   opened = h.opened;
   settled = h.settled;
   kept = h.kept;
@@ -39,7 +39,7 @@ followed_past r entries c step n old new e within here out h = record {
   not_this : (k : ℕ) (f : Entry) → k < n + 1 → slice_index_or entries k f ≡ f → f.other ≢ r.avoid → c ⊕ f.cost ≼ r.cutoff → n ≤ k → ⊥
   not_this k f below is apart most least =
       let at : k ≡ n = omega (arith, below, least) in
-      subst (λ (g : Entry). g.other ≢ r.avoid → c ⊕ g.cost ≼ r.cutoff → ⊥) (sym (same_entry entries k n e f within here is at)) out apart most
+      subst (λ (g : Entry). g.other ≢ r.avoid → c ⊕ g.cost ≼ r.cutoff → ⊥) (sym (same_entry entries k n within here is at)) out apart most
 
 -- what is known at most this
 known_at_most : (o : Option Label) (d : Cost) → IsAtMost o d → (l : Label) × (o ≡ Some l) × (l.cost ≼ d)
@@ -51,8 +51,8 @@ known_settled None h = absurd h
 known_settled (Some l) h = (l, refl, h)
 
 -- an offer makes no label worse
-offer_kept : (new next : Labels) (v : ℕ) (c : Cost) (step : Option ℕ) → IsOffered new v c step next → (u : ℕ) (d : Cost) → IsAtMost (new u) d → IsAtMost (next u) d
-offer_kept new next v c step offered u d h = elim (cases_eq u v) [
+offer_kept : {new next : Labels} {v : ℕ} {c : Cost} {step : Option ℕ} → IsOffered new v c step next → (u : ℕ) (d : Cost) → IsAtMost (new u) d → IsAtMost (next u) d
+offer_kept {new} {next} {v} {c} offered u d h = elim (cases_eq u v) [
   | inl e ↦ subst (λ (w : ℕ). IsAtMost (next w) d) (sym e) (elim offered.here [
     | inl o ↦ subst (λ (l : Option Label). IsAtMost l d) (sym o.0) (better o.1 e)
     | inr s ↦ subst (λ (l : Option Label). IsAtMost l d) (sym s.0) (subst (λ (w : ℕ). IsAtMost (new w) d) e h)
@@ -65,8 +65,8 @@ offer_kept new next v c step offered u d h = elim (cases_eq u v) [
       at_most_trans (was k.0 k.1).1 k.2
 
 -- an offer leaves what is settled
-offer_settled : (new next : Labels) (v : ℕ) (c : Cost) (step : Option ℕ) → IsOffered new v c step next → (u : ℕ) → IsSettled (new u) → next u ≡ new u
-offer_settled new next v c step offered u h = elim (cases_eq u v) [
+offer_settled : {new next : Labels} {v : ℕ} {c : Cost} {step : Option ℕ} → IsOffered new v c step next → (u : ℕ) → IsSettled (new u) → next u ≡ new u
+offer_settled {new} {next} {v} {c} offered u h = elim (cases_eq u v) [
   | inl e ↦ subst (λ (w : ℕ). next w ≡ new w) (sym e) (elim offered.here [
     | inl o ↦ absurd (not_open o.1 (subst (λ (w : ℕ). IsSettled (new w)) e h))
     | inr s ↦ s.0
@@ -79,19 +79,19 @@ offer_settled new next v c step offered u h = elim (cases_eq u v) [
       true≢false (sym k.2 ∙ (was k.0 k.1).0)
 
 -- the arc at the next place is offered
-pub followed_offer : (r : Rule) (entries : List Entry) (c : Cost) (step : Option ℕ) (n : ℕ) (old new next : Labels) (e : Entry) → n < length entries
+pub followed_offer : {r : Rule} {entries : List Entry} {c : Cost} {step : Option ℕ} {n : ℕ} {old new next : Labels} {e : Entry} → n < length entries
     → slice_index_or entries n e ≡ e → e.other ≢ r.avoid → c ⊕ e.cost ≼ r.cutoff → IsOffered new e.other (c ⊕ e.cost) step next
     → AreFollowedSoFar r entries c step n old new → AreFollowedSoFar r entries c step (n + 1) old next
-followed_offer r entries c step n old new next e within here apart most offered h = record {
+followed_offer {r} {entries} {c} {step} {n} {old} {new} {next} {e} within here apart most offered h = record {
   opened = opened;
-  settled = λ v s. offer_settled new next e.other (c ⊕ e.cost) step offered v (subst IsSettled (sym (h.settled v s)) s) ∙ h.settled v s;
-  kept = λ v d k. offer_kept new next e.other (c ⊕ e.cost) step offered v d (h.kept v d k);
+  settled = λ v s. offer_settled offered v (subst IsSettled (sym (h.settled v s)) s) ∙ h.settled v s;
+  kept = λ v d k. offer_kept offered v d (h.kept v d k);
   told = λ k f below is other at_most. elim (cases_lt k n) [
     | inl less ↦ elim (h.told k f less is other at_most) [
       | inl s ↦ inl s
-      | inr m ↦ inr (offer_kept new next e.other (c ⊕ e.cost) step offered f.other (c ⊕ f.cost) m)
+      | inr m ↦ inr (offer_kept offered f.other (c ⊕ f.cost) m)
     ]
-    | inr least ↦ subst (λ (g : Entry). IsSettled (old g.other) ⊎ IsAtMost (next g.other) (c ⊕ g.cost)) (sym (same_entry entries k n e f within here is (omega (arith, below, least)))) this
+    | inr least ↦ subst (λ (g : Entry). IsSettled (old g.other) ⊎ IsAtMost (next g.other) (c ⊕ g.cost)) (sym (same_entry entries k n within here is (omega (arith, below, least)))) this
   ];
 } where
   opens : (v : ℕ) (l : Label) → v ≡ e.other → next v ≡ Some l → next e.other ≡ Some (record { cost = c ⊕ e.cost; before = step; settled = false }) → IsOpened r entries c step v l
@@ -134,10 +134,10 @@ followed_offer r entries c step n old new next e within here apart most offered 
   ]
 
 -- one more arc is followed
-pub followed_more : (r : Rule) (entries : List Entry) (c : Cost) (step : Option ℕ) (n : ℕ) (old new next : Labels) (e : Entry) → n < length entries
+pub followed_more : {r : Rule} {entries : List Entry} {c : Cost} {step : Option ℕ} {n : ℕ} {old new : Labels} (next : Labels) {e : Entry} → n < length entries
     → slice_index_or entries n e ≡ e → IsFollowed r e c step new next → AreFollowedSoFar r entries c step n old new
     → AreFollowedSoFar r entries c step (n + 1) old next
-followed_more r entries c step n old new next e within here one h = elim one [
-  | inl o ↦ followed_offer r entries c step n old new next e within here o.0 o.1 o.2 h
-  | inr p ↦ subst (λ (ls : Labels). AreFollowedSoFar r entries c step (n + 1) old ls) (sym p.1) (followed_past r entries c step n old new e within here p.0 h)
+followed_more {r} {entries} {c} {step} {n} {old} {new} next {e} within here one h = elim one [
+  | inl o ↦ followed_offer within here o.0 o.1 o.2 h
+  | inr p ↦ subst (λ (ls : Labels). AreFollowedSoFar r entries c step (n + 1) old ls) (sym p.1) (followed_past within here p.0 h)
 ]

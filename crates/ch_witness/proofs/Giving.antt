@@ -64,22 +64,22 @@ found seen avoid from to c (Some l) ways k None is h m = absurd h
 found seen avoid from to c (Some l) ways k (Some w) is h m = subst (λ (o : Option Way). IsSomeAnd o (λ v. v.cost ≼ c)) (sym is) (subst (λ (d : Cost). d ≼ c) (sym h.0) m)
 
 -- the ways of the labels
-pub ways_given : (r : Rule) (steps : List TreeNode) (labels : Labels) (targets : List ℕ) (ways : List (Option Way)) → IsTree r steps labels
+pub ways_given : {r : Rule} (steps : List TreeNode) (labels : Labels) (targets : List ℕ) (ways : List (Option Way)) → IsTree r steps labels
     → length ways ≡ length targets → ((k : ℕ) → k < length targets
     → IsWayOf (seen_of steps) r.avoid r.from (slice_index targets k) (labels (slice_index targets k)) (way_at ways k))
     → AreWays (seen_of steps) r.from r.avoid r.cutoff targets ways
-ways_given r steps labels targets ways tree many each = record {
+ways_given {r} steps labels targets ways tree many each = record {
   many = many;
   leads = λ k h. leads (seen_of steps) r.avoid r.from (slice_index targets k) (labels (slice_index targets k)) (way_at ways k) (each k h);
   at_most = λ k h. at_most (seen_of steps) r.avoid r.from (slice_index targets k) r.cutoff (labels (slice_index targets k)) (way_at ways k) (λ l is. (tree.reached (slice_index targets k) l is).at_most) (each k h);
 }
 
 -- the start's row, and the targets that it has an arc to
-pub start_given : (r : Rule) (steps : List TreeNode) (labels : Labels) (targets : List ℕ) (ways : List (Option Way)) (s : Seen)
+pub start_given : {r : Rule} (steps : List TreeNode) (labels : Labels) (targets : List ℕ) (ways : List (Option Way)) (s : Seen)
     → (Contains targets r.avoid → ⊥) → ((k : ℕ) → k < length targets
     → IsWayOf (seen_of steps) r.avoid r.from (slice_index targets k) (labels (slice_index targets k)) (way_at ways k)) → IsStartSeen r s steps labels
     → IsStartRead (seen_of steps) r.from r.cutoff targets ways s
-start_given r steps labels targets ways s free each start = record {
+start_given {r} steps labels targets ways s free each start = record {
   node = start.node;
   among = among;
   direct = λ unranked k c h listed most. found (seen_of steps) r.avoid r.from (slice_index targets k) c (labels (slice_index targets k)) ways k (way_at ways k) refl (each k h) (start.direct unranked (slice_index targets k) c listed (allowed k h) most);

@@ -1,5 +1,5 @@
 -- The tree of a search, as it grows.
-use Rattle.std.proofs.Common.{ℕ, Bool, ◌≡◌, ◌≢◌, ◌+◌, ◌⊎◌, false, true, List, [], ◌∷◌, ◌++◌, length, Option, Some, None, zero, suc, refl, ap, sym, subst, ◌∙◌, arith, inl, inr}
+use Rattle.std.proofs.Common.{ℕ, ◌≡◌, ◌≢◌, ◌+◌, ◌⊎◌, false, true, List, [], ◌∷◌, ◌++◌, length, Option, Some, None, zero, suc, refl, ap, sym, subst, ◌∙◌, arith, inl, inr}
 use Rattle.std.specs.List.{slice_get}
 use Rattle.std.proofs.lemmas.List.{length-append}
 use Rattle.std.proofs.lemmas.Bool.{cases_eq}
@@ -52,8 +52,8 @@ reached_still from xs y n (Some k) v c h = (h.0, (h.1.0, old_step xs y k h.1.0 h
 nothing : (k : ℕ) (s : TreeNode) → slice_get {X = TreeNode} [] k ≡ Some s → ⊥
 nothing k s is = absurd (cc)
 
-pub tree_start : (r : Rule) (labels : Labels) → IsStartAlone r.from labels → r.from ≢ r.avoid → IsTree r [] labels
-tree_start r labels start apart = record {
+pub tree_start : (r : Rule) {labels : Labels} → IsStartAlone r.from labels → r.from ≢ r.avoid → IsTree r [] labels
+tree_start r {labels} start apart = record {
   grown = record { each = λ k s is. absurd (nothing k s is); once = λ j k a b at_j at_k e. absurd (nothing j a at_j) };
   reached = reached;
   settled = λ k s is. absurd (nothing k s is);
@@ -76,8 +76,8 @@ tree_start r labels start apart = record {
 
 -- A node is settled
 
-pub tree_settled : (r : Rule) (steps : List TreeNode) (labels new : Labels) (at : Reached) → IsSettledNow labels at new → IsTree r steps labels → IsTree r steps new
-tree_settled r steps labels new at now tree = record {
+pub tree_settled : {r : Rule} (steps : List TreeNode) (labels new : Labels) (at : Reached) → IsSettledNow labels at new → IsTree r steps labels → IsTree r steps new
+tree_settled {r} steps labels new at now tree = record {
   grown = tree.grown;
   reached = reached;
   settled = λ k s is. settled s (tree.settled k s is);
@@ -102,15 +102,15 @@ tree_settled r steps labels new at now tree = record {
   ]
 
 -- it isn't that of a step
-pub settled_new : (r : Rule) (steps : List TreeNode) (labels new : Labels) (at : Reached) → IsSettledNow labels at new → IsTree r steps labels → IsNew at.node steps
-settled_new r steps labels new at now tree k s is e =
+pub settled_new : {r : Rule} (steps : List TreeNode) (labels new : Labels) (at : Reached) → IsSettledNow labels at new → IsTree r steps labels → IsNew at.node steps
+settled_new steps labels new at now tree k s is e =
     false-true (subst IsSettled now.was (subst (λ (w : ℕ). IsSettled (labels w)) e (tree.settled k s is))) where
       false-true : false ≡ true → ⊥
       false-true h = absurd (cc)
 
 -- labels get no worse
-pub settled_kept : (labels new : Labels) (at : Reached) → IsSettledNow labels at new → (v : ℕ) (d : Cost) → IsAtMost (labels v) d → IsAtMost (new v) d
-settled_kept labels new at now v d h = elim (cases_eq v at.node) [
+pub settled_kept : {labels new : Labels} {at : Reached} → IsSettledNow labels at new → (v : ℕ) (d : Cost) → IsAtMost (labels v) d → IsAtMost (new v) d
+settled_kept {labels} {new} {at} now v d h = elim (cases_eq v at.node) [
   | inl e ↦ subst (λ (w : ℕ). IsAtMost (new w) d) (sym e) (subst (λ (o : Option Label). IsAtMost o d) (sym now.here) (here (subst (λ (w : ℕ). IsAtMost (labels w) d) e h)))
   | inr other ↦ subst (λ (o : Option Label). IsAtMost o d) (sym (now.others v other)) h
 ] where
@@ -119,11 +119,11 @@ settled_kept labels new at now v d h = elim (cases_eq v at.node) [
 
 -- A node becomes a step
 
-pub tree_grown : (r : Rule) (steps : List TreeNode) (labels new : Labels) (s : TreeNode) → IsTree r steps labels
+pub tree_grown : {r : Rule} (steps : List TreeNode) (labels new : Labels) (s : TreeNode) → IsTree r steps labels
     → labels (node_of s) ≡ Some (record { cost = s.cost; before = s.before; settled = true }) → IsNew (node_of s) steps → (step_row s).rank ≡ None
     → ((v : ℕ) (d : Cost) → Lists (step_row s).out v d → IsOfWalks 1 d) → AreFollowed r (step_row s).out s.cost (Some (length steps)) labels new
     → IsTree r (steps ++ s ∷ []) new
-tree_grown r steps labels new s tree label fresh unranked light followed = record {
+tree_grown {r} steps labels new s tree label fresh unranked light followed = record {
   grown = record { each = each; once = once };
   reached = reached;
   settled = settled;
@@ -190,22 +190,22 @@ step_later steps s labels new kept = record { steps = λ k t is. old_step steps 
 
 -- Nodes of one kind
 
-pub names_kept : (r : Rule) (IsKind IsKindNow : ℕ → Type 0) → ((v : ℕ) → IsKind v → IsKindNow v) → (row : Row) (c : Cost) (step : Option ℕ) (labels new : Labels) → NamesAlone IsKindNow row → AllAre IsKind labels → AreFollowed r row.out c step labels new → AllAre IsKindNow new
-names_kept r IsKind IsKindNow still row c step labels new names all followed v l is = elim (followed.opened v l is) [
+pub names_kept : {r : Rule} (IsKind IsKindNow : ℕ → Type 0) → ((v : ℕ) → IsKind v → IsKindNow v) → {row : Row} {c : Cost} {step : Option ℕ} {labels new : Labels} → NamesAlone IsKindNow row → AllAre IsKind labels → AreFollowed r row.out c step labels new → AllAre IsKindNow new
+names_kept IsKind IsKindNow still names all followed v l is = elim (followed.opened v l is) [
   | inl was ↦ still v (all v l was)
   | inr o ↦ subst IsKindNow (ap (λ (e : Entry). e.other) o.listed.among.2 ∙ o.listed.other) (names.out o.listed.among.0 o.listed.entry o.listed.among.1)
 ]
 
-pub all_settled : (IsKind : ℕ → Type 0) (labels new : Labels) (at : Reached) → IsSettledNow labels at new → AllAre IsKind labels → AllAre IsKind new
-all_settled IsKind labels new at now all v l is = elim (cases_eq v at.node) [
+pub all_settled : (IsKind : ℕ → Type 0) {labels new : Labels} {at : Reached} → IsSettledNow labels at new → AllAre IsKind labels → AllAre IsKind new
+all_settled IsKind {at} now all v l is = elim (cases_eq v at.node) [
   | inl e ↦ subst IsKind (sym e) (all at.node _ now.was)
   | inr other ↦ all v l (sym (now.others v other) ∙ is)
 ]
 
 -- Where nothing changes
 
-pub tree_same : (r : Rule) (steps : List TreeNode) (labels new : Labels) → ((v : ℕ) → new v ≡ labels v) → IsTree r steps labels → IsTree r steps new
-tree_same r steps labels new same tree = record {
+pub tree_same : {r : Rule} (steps : List TreeNode) (labels new : Labels) → ((v : ℕ) → new v ≡ labels v) → IsTree r steps labels → IsTree r steps new
+tree_same steps labels new same tree = record {
   grown = tree.grown;
   reached = λ v l is. tree.reached v l (sym (same v) ∙ is);
   settled = λ k s is. subst IsSettled (sym (same (node_of s))) (tree.settled k s is);
@@ -216,21 +216,21 @@ tree_same r steps labels new same tree = record {
 pub later_start : (steps : List TreeNode) (labels : Labels) → IsLater steps steps labels labels
 later_start steps labels = record { steps = λ k s is. is; kept = λ v d h. h }
 
-pub later_more : (a b c : List TreeNode) (k l m : Labels) → IsLater a b k l → IsLater b c l m → IsLater a c k m
-later_more a b c k l m h i = record {
+pub later_more : {a b c : List TreeNode} {k l m : Labels} → IsLater a b k l → IsLater b c l m → IsLater a c k m
+later_more h i = record {
   steps = λ j s is. i.steps j s (h.steps j s is);
   kept = λ v d at_most. i.kept v d (h.kept v d at_most);
 }
 
 pub later_settled : (steps : List TreeNode) (labels new : Labels) (at : Reached) → IsSettledNow labels at new → IsLater steps steps labels new
-later_settled steps labels new at now = record { steps = λ k s is. is; kept = settled_kept labels new at now }
+later_settled steps labels new at now = record { steps = λ k s is. is; kept = settled_kept now }
 
 pub later_same : (steps : List TreeNode) (labels new : Labels) → ((v : ℕ) → new v ≡ labels v) → IsLater steps steps labels new
 later_same steps labels new same = record { steps = λ k s is. is; kept = λ v d h. subst (λ (o : Option Label). IsAtMost o d) (sym (same v)) h }
 
 -- each row that was seen is of the kind, the new one too
-pub seen_gone : (IsKind : Seen → Type 0) (r : Rule) (at : Reached) (seen : Seen) (old new : List TreeNode) (known labels : Labels) → IsKind seen → AllSeen IsKind old → IsGoneOn r at seen old new known labels → AllSeen IsKind new
-seen_gone IsKind r at seen old new known labels this all gone k s is = elim gone.steps [
+pub seen_gone : (IsKind : Seen → Type 0) {r : Rule} {at : Reached} {seen : Seen} {old new : List TreeNode} {known labels : Labels} → IsKind seen → AllSeen IsKind old → IsGoneOn r at seen old new known labels → AllSeen IsKind new
+seen_gone IsKind {old} this all gone k s is = elim gone.steps [
   | inl more ↦ elim (step_cases old more.1.0 k s (subst (λ (ss : List TreeNode). slice_get ss k ≡ Some s) more.1.2 is)) [
     | inl h ↦ all k s h
     | inr h ↦ subst (λ (t : TreeNode). IsKind t.seen.value) h.1 (subst IsKind (sym more.1.1.seen_is) this)
@@ -239,10 +239,10 @@ seen_gone IsKind r at seen old new known labels this all gone k s is = elim gone
 ]
 
 -- The start's row is the first that is read, so what it shows is offered, and stays so.
-pub start_seen : (r : Rule) (z : Cost) → z ≡ zero_cost → (seen : Seen) (mid steps : List TreeNode) (labels between new : Labels)
+pub start_seen : {r : Rule} {z : Cost} → z ≡ zero_cost → {seen : Seen} {mid : List TreeNode} (steps : List TreeNode) (labels between new : Labels)
     → IsStartAlone r.from labels → IsLater [] mid labels between → IsGoneOn r
     (record { node = r.from; cost = z; before = None }) seen [] mid labels between → IsLater mid steps between new → IsStartSeen r seen steps new
-start_seen r z zero_is seen mid steps labels between new start begun gone later = record { node = gone.node; step = step; direct = direct } where
+start_seen {r} {z} zero_is {seen} steps labels between new start begun gone later = record { node = gone.node; step = step; direct = direct } where
   step : (row_in seen).rank ≡ None → (k : ℕ) × ((s : TreeNode) × (slice_get steps k ≡ Some s) × (s.seen.value ≡ seen))
   step unranked = elim gone.steps [
     | inl more ↦ (0, (more.1.0, later.steps 0 more.1.0 (subst (λ (ss : List TreeNode). slice_get ss 0 ≡ Some more.1.0) (sym more.1.2) refl), more.1.1.seen_is))
@@ -271,8 +271,8 @@ pub seen_none : (IsKind : Seen → Type 0) (steps : List TreeNode) → steps ≡
 seen_none IsKind steps none k s is = absurd (nothing k s (subst (λ (ss : List TreeNode). slice_get ss k ≡ Some s) none is))
 
 -- only the start is known
-pub all_start : (IsKind : ℕ → Type 0) (from : ℕ) (labels : Labels) → IsStartAlone from labels → IsKind from → AllAre IsKind labels
-all_start IsKind from labels start kind v l is = elim (cases_eq v from) [
+pub all_start : (IsKind : ℕ → Type 0) {from : ℕ} {labels : Labels} → IsStartAlone from labels → IsKind from → AllAre IsKind labels
+all_start IsKind {from} {labels} start kind v l is = elim (cases_eq v from) [
   | inl at ↦ subst IsKind (sym at) kind
   | inr other ↦ absurd (none-some (labels v) l is (start.others v other))
 ] where

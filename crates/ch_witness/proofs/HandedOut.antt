@@ -22,7 +22,7 @@ nodes_of seen = map (λ s. s.node) seen
 seen-same : (a b : Seen) → Some a ≡ Some b → a ≡ b
 seen-same a b e = cc
 
-module _ (kept : Kept) (rows listed : List Seen) (are : All (IsKept kept) rows) (listing : AreListed kept (nodes_of rows) listed) where
+module _ {kept : Kept} (rows : List Seen) {listed : List Seen} (are : All (IsKept kept) rows) (listing : AreListed kept (nodes_of rows) listed) where
   -- what is among the rows is returned
   among_listed : (s : Seen) → Contains rows s → Contains listed s
   among_listed s among = listing.every s.node s (contains-map (λ (t : Seen). t.node) rows s among) (subst (IsKept kept) among.2 (are among.0 s among.1))
@@ -55,8 +55,8 @@ module _ (kept : Kept) (rows listed : List Seen) (are : All (IsKept kept) rows) 
   way_still : (avoid from to : ℕ) (w : Way) → IsWay rows avoid from to w → IsWay listed avoid from to w
   way_still avoid from to w way = along_moved (SeenArc (row_of rows) avoid) (SeenArc (row_of listed) avoid) w.nodes.items from to w.cost (arc_still avoid) way
 
-  pub ways_still : (from avoid : ℕ) (cutoff : Cost) (targets : List ℕ) (ways : List (Option Way)) → AreWays rows from avoid cutoff targets ways → AreWays listed from avoid cutoff targets ways
-  ways_still from avoid cutoff targets ways w = record {
+  pub ways_still : {from avoid : ℕ} {cutoff : Cost} {targets : List ℕ} {ways : List (Option Way)} → AreWays rows from avoid cutoff targets ways → AreWays listed from avoid cutoff targets ways
+  ways_still {from} {avoid} {targets} {ways} w = record {
     many = w.many;
     leads = λ k h. IfSome_then (way_at ways k) {P = IsWay rows avoid from (slice_index targets k)} {Q = IsWay listed avoid from (slice_index targets k)} (w.leads k h) (way_still avoid from (slice_index targets k));
     at_most = w.at_most;
@@ -72,8 +72,8 @@ module _ (kept : Kept) (rows listed : List Seen) (are : All (IsKept kept) rows) 
         let among = among_rows (get_or listed k d) (Contains-get_or listed k d h) in
         subst (λ (u : Seen). (row_in u).rank ≡ None) among.2 (unlisted.unranked among.0 (get_or listed k d) among.1)
 
-  pub start_still : (from : ℕ) (cutoff : Cost) (targets : List ℕ) (ways : List (Option Way)) (s : Seen) → IsStartRead rows from cutoff targets ways s → IsStartRead listed from cutoff targets ways s
-  start_still from cutoff targets ways s start = record {
+  pub start_still : {from : ℕ} {cutoff : Cost} {targets : List ℕ} {ways : List (Option Way)} {s : Seen} → IsStartRead rows from cutoff targets ways s → IsStartRead listed from cutoff targets ways s
+  start_still {s} start = record {
     node = start.node;
     among = λ unranked. among_listed s (start.among unranked);
     direct = start.direct;

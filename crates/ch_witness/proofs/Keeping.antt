@@ -13,7 +13,7 @@ use Rattle.ch_witness.specs.declared.rows.Rows.{Rows}
 use Rattle.ch_witness.proofs.Options.{some-same}
 use Rattle.ch_witness.proofs.Valued.{value_found}
 
-module _ (Bears Shows Now : Seen → Type 0) (bound now : Cost) (kept : Kept) (same : now ≡ bound) (still : (s : Seen) → Shows s → Now s) (are : AreKept Bears Shows bound kept) where
+module _ (Bears Shows Now : Seen → Type 0) {bound now : Cost} (kept : Kept) (same : now ≡ bound) (still : (s : Seen) → Shows s → Now s) (are : AreKept Bears Shows bound kept) where
   -- the source moves
   pub kept_moved : AreKept Bears Now now kept
   kept_moved x s is =
@@ -46,10 +46,10 @@ pub more_trans : (a b c : Kept) → IsMore a b → IsMore b c → IsMore a c
 more_trans a b c h k x s is = k x s (h x s is)
 
 -- what is at the place of a node is what is kept for it, if anything is
-pub stands : (r : Rows) (v k : ℕ) (o : Option Seen) → length r.kept.items ≡ length r.nodes → IsFirstAt r.nodes v k → o ≡ get_or r.kept.items k o → (slice_get r.kept.items k ≡ Some o) × (kept_of r v ≡ o)
-stands r v k o paired at is = (
+pub stands : (r : Rows) {v k : ℕ} {o : Option Seen} → length r.kept.items ≡ length r.nodes → IsFirstAt r.nodes v k → o ≡ get_or r.kept.items k o → (slice_get r.kept.items k ≡ Some o) × (kept_of r v ≡ o)
+stands r {v} {k} {o} paired at is = (
   slice_get-get_or r.kept.items k o (omega (arith, paired, at.within)) ∙ ap (λ (p : Option Seen). Some p) (sym is),
-  ap joined (value_found r.nodes r.kept.items v k o paired at) ∙ sym is,
+  ap joined (value_found r.kept.items o paired at) ∙ sym is,
 )
 
 pub some_there : (o : Option Seen) → true ≡ is_some o → (s : Seen) × (o ≡ Some s)

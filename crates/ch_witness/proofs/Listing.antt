@@ -10,8 +10,8 @@ use Rattle.ch_witness.specs.Kept.{HasAll, Kept, AreListed, IsListedFrom, OfTheir
 use Rattle.ch_witness.proofs.Options.{some-same}
 use Rattle.ch_witness.proofs.FirstPlaces.{first_places-new, first_places-old}
 
-some-none : (a : Seen) (o : Option Seen) → o ≡ Some a → o ≡ None → ⊥
-some-none a o e f = cc
+some-none : (a : Seen) {o : Option Seen} → o ≡ Some a → o ≡ None → ⊥
+some-none a e f = cc
 
 -- The list so far: what isn't in it is still kept, and what is in it isn't.
 pub record Listing (whole kept : Kept) (nodes : List ℕ) (listed : List Seen) : Type 0 where
@@ -56,24 +56,24 @@ not-nothing : (xs : List ℕ) (v : ℕ) → xs ++ v ∷ [] ≡ [] → ⊥
 not-nothing [] v e = absurd (cc)
 not-nothing (x ∷ xs) v e = absurd (cc)
 
-among-nothing : (xs : List Seen) (s : Seen) → xs ≡ [] → Contains xs s → ⊥
-among-nothing xs s e among = empty s (subst (λ (ys : List Seen). Contains ys s) e among)
+among-nothing : {xs : List Seen} (s : Seen) → xs ≡ [] → Contains xs s → ⊥
+among-nothing s e among = empty s (subst (λ (ys : List Seen). Contains ys s) e among)
 
 -- none is kept for the node
 module _ (whole kept new : Kept) (own : OfTheirNodes whole) (v : ℕ) where
   -- none is kept for the node
-  first-none : (nodes : List ℕ) (listed : List Seen) → kept v ≡ None → Listing whole kept nodes listed → (x : ℕ) (others : List ℕ) (s : Seen) → nodes ++ v ∷ [] ≡ x ∷ others → whole x ≡ Some s → (more : List Seen) × (listed ≡ s ∷ more)
-  first-none [] listed none l x others s e is = elim (l.rest v s (subst (λ (y : ℕ). whole y ≡ Some s) (sym (first-of v x others e)) is)) [
-    | inl k ↦ absurd (some-none s (kept v) k none)
-    | inr among ↦ absurd (among-nothing listed s (l.none refl) among)
+  first-none : (nodes : List ℕ) {listed : List Seen} → kept v ≡ None → Listing whole kept nodes listed → (x : ℕ) (others : List ℕ) (s : Seen) → nodes ++ v ∷ [] ≡ x ∷ others → whole x ≡ Some s → (more : List Seen) × (listed ≡ s ∷ more)
+  first-none [] {listed} none l x others s e is = elim (l.rest v s (subst (λ (y : ℕ). whole y ≡ Some s) (sym (first-of v x others e)) is)) [
+    | inl k ↦ absurd (some-none s k none)
+    | inr among ↦ absurd (among-nothing s (l.none refl) among)
   ]
-  first-none (n ∷ nodes) listed none l x others s e is = l.is.first n nodes s refl (subst (λ (y : ℕ). whole y ≡ Some s) (sym (first-of-more n v x nodes others e)) is)
+  first-none (n ∷ nodes) none l x others s e is = l.is.first n nodes s refl (subst (λ (y : ℕ). whole y ≡ Some s) (sym (first-of-more n v x nodes others e)) is)
 
-  every-none : (nodes : List ℕ) (listed : List Seen) → kept v ≡ None → Listing whole kept nodes listed → (x : ℕ) (s : Seen) → Contains (nodes ++ v ∷ []) x → whole x ≡ Some s → Contains listed s
-  every-none nodes listed none l x s among is = elim (Contains-push_cases nodes v x among) [
+  every-none : {nodes : List ℕ} {listed : List Seen} → kept v ≡ None → Listing whole kept nodes listed → (x : ℕ) (s : Seen) → Contains (nodes ++ v ∷ []) x → whole x ≡ Some s → Contains listed s
+  every-none {nodes} none l x s among is = elim (Contains-push_cases nodes v x among) [
     | inl old ↦ l.is.every x s old is
     | inr here ↦ elim (l.rest v s (subst (λ (y : ℕ). whole y ≡ Some s) (sym here) is)) [
-      | inl k ↦ absurd (some-none s (kept v) k none)
+      | inl k ↦ absurd (some-none s k none)
       | inr there ↦ there
     ]
   ]
@@ -81,19 +81,19 @@ module _ (whole kept new : Kept) (own : OfTheirNodes whole) (v : ℕ) where
   has-first : (nodes : List ℕ) → HasAll whole (nodes ++ v ∷ []) → HasAll whole nodes
   has-first nodes all x among = all x (Contains-append_left nodes (v ∷ []) x among)
 
-  order-none : (nodes : List ℕ) (listed : List Seen) → kept v ≡ None → Listing whole kept nodes listed → HasAll whole (nodes ++ v ∷ []) → map (λ s. s.node) listed ≡ first_places (nodes ++ v ∷ [])
-  order-none nodes listed none l all =
+  order-none : {nodes : List ℕ} {listed : List Seen} → kept v ≡ None → Listing whole kept nodes listed → HasAll whole (nodes ++ v ∷ []) → map (λ s. s.node) listed ≡ first_places (nodes ++ v ∷ [])
+  order-none {nodes} none l all =
       let has = all v (Contains-push nodes v) in
       elim (l.rest v has.0 has.1) [
-        | inl k ↦ absurd (some-none has.0 (kept v) k none)
+        | inl k ↦ absurd (some-none has.0 k none)
         | inr among ↦
             let node : has.0.node ≡ v = own v has.0 has.1 in
             l.is.in_order (has-first nodes all) ∙ sym (first_places-old nodes v (subst (λ (x : ℕ). Contains nodes x) node (l.is.of_nodes has.0 among)))
       ]
 
-  listing-none : (nodes : List ℕ) (listed : List Seen) → kept v ≡ None → ((y : ℕ) → new y ≡ kept y) → Listing whole kept nodes listed → Listing whole new (nodes ++ v ∷ []) listed
-  listing-none nodes listed none same l = record {
-    is = record { once = l.is.once; from_kept = l.is.from_kept; of_nodes = λ s among. Contains-append_left nodes (v ∷ []) s.node (l.is.of_nodes s among); every = every-none nodes listed none l; first = first-none nodes listed none l; in_order = order-none nodes listed none l };
+  listing-none : {nodes : List ℕ} {listed : List Seen} → kept v ≡ None → ((y : ℕ) → new y ≡ kept y) → Listing whole kept nodes listed → Listing whole new (nodes ++ v ∷ []) listed
+  listing-none {nodes} {listed} none same l = record {
+    is = record { once = l.is.once; from_kept = l.is.from_kept; of_nodes = λ s among. Contains-append_left nodes (v ∷ []) s.node (l.is.of_nodes s among); every = every-none none l; first = first-none nodes none l; in_order = order-none none l };
     gone = λ s among. same s.node ∙ l.gone s among;
     left = λ x s is. l.left x s (sym (same x) ∙ is);
     none = λ e. absurd (not-nothing nodes v e);
@@ -104,16 +104,16 @@ module _ (whole kept new : Kept) (own : OfTheirNodes whole) (v : ℕ) where
   }
 
   -- or one is, and it is listed
-  first-some : (t : Seen) (nodes : List ℕ) (listed : List Seen) → kept v ≡ Some t → Listing whole kept nodes listed → (x : ℕ) (others : List ℕ) (s : Seen) → nodes ++ v ∷ [] ≡ x ∷ others → whole x ≡ Some s → (more : List Seen) × (listed ++ t ∷ [] ≡ s ∷ more)
-  first-some t [] listed some l x others s e is =
+  first-some : (t : Seen) (nodes : List ℕ) {listed : List Seen} → kept v ≡ Some t → Listing whole kept nodes listed → (x : ℕ) (others : List ℕ) (s : Seen) → nodes ++ v ∷ [] ≡ x ∷ others → whole x ≡ Some s → (more : List Seen) × (listed ++ t ∷ [] ≡ s ∷ more)
+  first-some t [] some l x others s e is =
       let it : t ≡ s = some-same t s (sym (l.left v t some) ∙ subst (λ (y : ℕ). whole y ≡ Some s) (sym (first-of v x others e)) is) in
       ([], ap (λ (ys : List Seen). ys ++ t ∷ []) (l.none refl) ∙ ap (λ (u : Seen). u ∷ []) it)
-  first-some t (n ∷ nodes) listed some l x others s e is =
+  first-some t (n ∷ nodes) some l x others s e is =
       let old = l.is.first n nodes s refl (subst (λ (y : ℕ). whole y ≡ Some s) (sym (first-of-more n v x nodes others e)) is) in
       (old.0 ++ t ∷ [], ap (λ (ys : List Seen). ys ++ t ∷ []) old.1)
 
-  listing-some : (t : Seen) (nodes : List ℕ) (listed : List Seen) → kept v ≡ Some t → new v ≡ None → ((y : ℕ) → y ≢ v → new y ≡ kept y) → Listing whole kept nodes listed → Listing whole new (nodes ++ v ∷ []) (listed ++ t ∷ [])
-  listing-some t nodes listed some none others l = record {
+  listing-some : (t : Seen) {nodes : List ℕ} {listed : List Seen} → kept v ≡ Some t → new v ≡ None → ((y : ℕ) → y ≢ v → new y ≡ kept y) → Listing whole kept nodes listed → Listing whole new (nodes ++ v ∷ []) (listed ++ t ∷ [])
+  listing-some t {nodes} {listed} some none others l = record {
     is = record {
       once = all_pairs_push (λ a b. a.node ≢ b.node) listed t l.is.once (λ k d inside. apart (get_or listed k d) (Contains-get_or listed k d inside));
       from_kept = λ s among. elim (Contains-push_cases listed t s among) [
@@ -128,7 +128,7 @@ module _ (whole kept new : Kept) (own : OfTheirNodes whole) (v : ℕ) where
         | inl old ↦ Contains-append_left listed (t ∷ []) s (l.is.every x s old is)
         | inr here ↦ subst (λ (u : Seen). Contains (listed ++ t ∷ []) u) (some-same t s (sym (l.left v t some) ∙ subst (λ (y : ℕ). whole y ≡ Some s) (sym here) is)) (Contains-push listed t)
       ];
-      first = first-some t nodes listed some l;
+      first = first-some t nodes some l;
       in_order = λ all.
           map-append (λ (s : Seen). s.node) listed (t ∷ [])
           ∙ ap (λ ns. ns ++ t.node ∷ []) (l.is.in_order (has-first nodes all))
@@ -140,7 +140,7 @@ module _ (whole kept new : Kept) (own : OfTheirNodes whole) (v : ℕ) where
       | inr here ↦ subst (λ (u : Seen). new u.node ≡ None) here (subst (λ (y : ℕ). new y ≡ None) (sym node) none)
     ];
     left = λ x s is. elim (cases_eq x v) [
-      | inl e ↦ absurd (some-none s (new v) (subst (λ (y : ℕ). new y ≡ Some s) e is) none)
+      | inl e ↦ absurd (some-none s (subst (λ (y : ℕ). new y ≡ Some s) e is) none)
       | inr other ↦ l.left x s (sym (others x other) ∙ is)
     ];
     none = λ e. absurd (not-nothing nodes v e);
@@ -159,12 +159,12 @@ module _ (whole kept new : Kept) (own : OfTheirNodes whole) (v : ℕ) where
     at = subst (λ (y : ℕ). whole y ≡ Some t) (sym node) (l.left v t some)
 
     absent : Contains nodes v → ⊥
-    absent among = some-none t (kept v) some (subst (λ (y : ℕ). kept y ≡ None) node (l.gone t (l.is.every v t among (l.left v t some))))
+    absent among = some-none t some (subst (λ (y : ℕ). kept y ≡ None) node (l.gone t (l.is.every v t among (l.left v t some))))
 
     apart : (s : Seen) → Contains listed s → s.node ≢ t.node
-    apart s among e = some-none t (kept v) some (subst (λ (y : ℕ). kept y ≡ None) (e ∙ node) (l.gone s among))
+    apart s among e = some-none t some (subst (λ (y : ℕ). kept y ≡ None) (e ∙ node) (l.gone s among))
 
   -- whichever it is
-  pub listing-more : (nodes : List ℕ) (listed more : List Seen) → (o : Option Seen) → kept v ≡ o → IsListedFrom o kept v listed new more → Listing whole kept nodes listed → Listing whole new (nodes ++ v ∷ []) more
-  listing-more nodes listed more None is step l = subst (Listing whole new (nodes ++ v ∷ [])) (sym step.1) (listing-none nodes listed is step.0 l)
-  listing-more nodes listed more (Some t) is step l = subst (Listing whole new (nodes ++ v ∷ [])) (sym step.2) (listing-some t nodes listed is step.0 step.1 l)
+  pub listing-more : {nodes : List ℕ} {listed : List Seen} (more : List Seen) → (o : Option Seen) → kept v ≡ o → IsListedFrom o kept v listed new more → Listing whole kept nodes listed → Listing whole new (nodes ++ v ∷ []) more
+  listing-more {nodes} {listed} more None is step l = subst (Listing whole new (nodes ++ v ∷ [])) (sym step.1) (listing-none is step.0 l)
+  listing-more {nodes} {listed} more (Some t) is step l = subst (Listing whole new (nodes ++ v ∷ [])) (sym step.2) (listing-some t is step.0 step.1 l)

@@ -1,5 +1,5 @@
 -- Values that are there.
-use Rattle.std.proofs.Common.{◌≡◌, Option, Some}
+use Rattle.std.proofs.Common.{◌≡◌, Some}
 
 pub some-same : {A : Type 0} (a b : A) → Some a ≡ Some b → a ≡ b
 some-same a b e = cc

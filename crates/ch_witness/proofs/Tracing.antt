@@ -33,11 +33,11 @@ pub record IsTraced (r : Rule) (steps : List TreeNode) (target : ℕ) (c : Cost)
 
 -- Rows of the steps
 
-true-case : (b : Bool) (x y : Option Row) → b ≡ true → cond b x y ≡ x
-true-case b x y e = subst (λ (t : Bool). cond t x y ≡ x) (sym e) refl
+true-case : {b : Bool} (x y : Option Row) → b ≡ true → cond b x y ≡ x
+true-case x y e = subst (λ (t : Bool). cond t x y ≡ x) (sym e) refl
 
-false-case : (b : Bool) (x y : Option Row) → b ≡ false → cond b x y ≡ y
-false-case b x y e = subst (λ (t : Bool). cond t x y ≡ y) (sym e) refl
+false-case : {b : Bool} (x y : Option Row) → b ≡ false → cond b x y ≡ y
+false-case x y e = subst (λ (t : Bool). cond t x y ≡ y) (sym e) refl
 
 equal : (x y : ℕ) → x ≡ y → nat_eq x y ≡ true
 equal x y e = grind (arith, nat_tests, e)
@@ -49,9 +49,9 @@ unlike x y apart = grind (arith, nat_tests, apart)
 row_at_place : (steps : List TreeNode) (k : ℕ) (s : TreeNode) → slice_get steps k ≡ Some s → ((j : ℕ) (t : TreeNode) → j < k → slice_get steps j ≡ Some t → node_of t ≢ node_of s) → row_of (seen_of steps) (node_of s) ≡ Some (step_row s)
 row_at_place [] k s is first = absurd (cc)
 row_at_place (t ∷ ts) zero s is first =
-    subst (λ (u : TreeNode). row_of (u.seen.value ∷ seen_of ts) (node_of s) ≡ Some (step_row s)) (sym (some-same t s is)) (true-case (nat_eq (node_of s) (node_of s)) (Some (step_row s)) (row_of (seen_of ts) (node_of s)) (equal (node_of s) (node_of s) refl))
+    subst (λ (u : TreeNode). row_of (u.seen.value ∷ seen_of ts) (node_of s) ≡ Some (step_row s)) (sym (some-same t s is)) (true-case (Some (step_row s)) (row_of (seen_of ts) (node_of s)) (equal (node_of s) (node_of s) refl))
 row_at_place (t ∷ ts) (suc k) s is first =
-    false-case (nat_eq (node_of t) (node_of s)) (Some (step_row t)) (row_of (seen_of ts) (node_of s)) (unlike (node_of t) (node_of s) (first 0 t (omega arith) refl))
+    false-case (Some (step_row t)) (row_of (seen_of ts) (node_of s)) (unlike (node_of t) (node_of s) (first 0 t (omega arith) refl))
     ∙ row_at_place ts k s is (λ j u h at. first (suc j) u (omega (arith, h)) at)
 
 pub row_of_step : (r : Rule) (steps : List TreeNode) → AreSteps r steps → (k : ℕ) (s : TreeNode) → slice_get steps k ≡ Some s → row_of (seen_of steps) (node_of s) ≡ Some (step_row s)
@@ -76,19 +76,19 @@ traced_start r steps target c before reached apart = record {
 }
 
 -- the step before is one of those that were made
-pub traced_place : (r : Rule) (steps : List TreeNode) (target : ℕ) (c : Cost) (backward : List ℕ) (k : ℕ) → IsTraced r steps target c backward (Some k) → k < length steps
-traced_place r steps target c backward k h = h.reached.0
+pub traced_place : {r : Rule} (steps : List TreeNode) (target : ℕ) (c : Cost) (backward : List ℕ) (k : ℕ) → IsTraced r steps target c backward (Some k) → k < length steps
+traced_place steps target c backward k h = h.reached.0
 
 -- the step before that one comes earlier
-pub traced_earlier : (r : Rule) (steps : List TreeNode) → AreSteps r steps → (k : ℕ) (s : TreeNode) → slice_get steps k ≡ Some s → places_to s.before < k + 1
-traced_earlier r steps are k s is = earlier s.before (are.each k s is).reached where
+pub traced_earlier : {r : Rule} (steps : List TreeNode) → AreSteps r steps → (k : ℕ) (s : TreeNode) → slice_get steps k ≡ Some s → places_to s.before < k + 1
+traced_earlier {r} steps are k s is = earlier s.before (are.each k s is).reached where
   earlier : (before : Option ℕ) → IsReachedBy r.from steps k before (node_of s) s.cost → places_to before < k + 1
   earlier None h = omega arith
   earlier (Some j) h = omega (arith, h.0)
 
 -- the way goes back over a step
-pub traced_more : (r : Rule) (steps : List TreeNode) → AreSteps r steps → (target : ℕ) (c : Cost) (backward : List ℕ) (k : ℕ) (s : TreeNode) → slice_get steps k ≡ Some s → IsTraced r steps target c backward (Some k) → IsTraced r steps target c (backward ++ node_of s ∷ []) s.before
-traced_more r steps are target c backward k s is h = record {
+pub traced_more : {r : Rule} (steps : List TreeNode) → AreSteps r steps → (target : ℕ) (c : Cost) (backward : List ℕ) (k : ℕ) (s : TreeNode) → slice_get steps k ≡ Some s → IsTraced r steps target c backward (Some k) → IsTraced r steps target c (backward ++ node_of s ∷ []) s.before
+traced_more {r} steps are target c backward k s is h = record {
   node = node_of s;
   known = s.cost;
   rest = leads.arc ⊕ h.rest;
@@ -114,8 +114,8 @@ traced_more r steps are target c backward k s is h = record {
   }
 
 -- the way is whole
-pub traced_whole : (r : Rule) (steps : List TreeNode) (target : ℕ) (c : Cost) (backward : List ℕ) → IsTraced r steps target c backward None → Along (SeenArc (row_of (seen_of steps)) r.avoid) (reverse backward) r.from target c
-traced_whole r steps target c backward h =
+pub traced_whole : {r : Rule} (steps : List TreeNode) (target : ℕ) (c : Cost) (backward : List ℕ) → IsTraced r steps target c backward None → Along (SeenArc (row_of (seen_of steps)) r.avoid) (reverse backward) r.from target c
+traced_whole {r} steps target c backward h =
     subst (λ (d : Cost). Along (SeenArc (row_of (seen_of steps)) r.avoid) (reverse backward) r.from target d)
     (sym (zero_cost-sum h.rest) ∙ ap (λ (x : Cost). x ⊕ h.rest) (sym h.reached.1) ∙ h.sum)
     (subst (λ (x : ℕ). Along (SeenArc (row_of (seen_of steps)) r.avoid) (reverse backward) x target h.rest) h.reached.0 h.way)

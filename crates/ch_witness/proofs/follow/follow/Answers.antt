@@ -1,7 +1,6 @@
 use Rattle.std.proofs.Common.{◌<◌, length, arith, sym, subst}
 use Rattle.ch_cost.specs.Cost.{IsInLimit}
 use Rattle.ch_laws.specs.declared.entry.Entry.{Entry}
-use Rattle.ch_witness.specs.Tree.{labels_of}
 use Rattle.ch_witness.proofs.Following.{followed_more}
 use Rattle.ch_witness.proofs.follow.follow.Goals as goal
 
@@ -10,6 +9,6 @@ follow_arc-requires-clause-entry c =
     subst (λ (e : Entry). IsInLimit e.cost) (sym c.entry-item.is) (c.requires.entries c.loop-entry.entry-index c.entry-item.result (omega (arith, c.loop-entry-test.true)))
 
 pub loop-entry-preserved : goal.loop-entry-preserved
-loop-entry-preserved c = followed_more c.args.rule c.args.entries.now c.args.cost c.args.before c.loop-entry.entry-index (labels_of c.args.frontier.now) (labels_of c.loop-entry.frontier) _ _ within (sym c.entry-item.is) c.in_ok-follow_arc.ensures c.loop-entry.invariant where
+loop-entry-preserved c = followed_more _ within (sym c.entry-item.is) c.in_ok-follow_arc.ensures c.loop-entry.invariant where
   within : c.loop-entry.entry-index < length c.args.entries.now
   within = omega (arith, c.loop-entry-test.true)

@@ -13,7 +13,7 @@ returns-clause-ways g c =
     let listing : AreListed (kept_of c.search.new.self.rows) (nodes_of (seen_of c.in_ok-traced.traced.steps.items)) c.in_ok-seen.seen.items =
     (subst (λ (ns : List ℕ). AreListed (kept_of c.search.new.self.rows) ns c.in_ok-seen.seen.items)
     (c.deref-2.ensures.value ∙ c.in_ok-nodes.ensures ∙ ap (λ ss. nodes_of (seen_of ss)) c.deref.ensures.value) c.in_ok-seen.ensures) in
-    ways_still (kept_of c.search.new.self.rows) (seen_of c.in_ok-traced.traced.steps.items) c.in_ok-seen.seen.items c.in_ok-traced.ensures.kept_rows listing c.args.from c.args.avoid c.args.cutoff c.args.targets.now c.in_ok-traced.traced.ways.items c.in_ok-traced.ensures.ways
+    ways_still (seen_of c.in_ok-traced.traced.steps.items) c.in_ok-traced.ensures.kept_rows listing c.in_ok-traced.ensures.ways
 
 pub returns-clause-direct : goal.returns-clause-direct
 returns-clause-direct g c = λ k h other.
@@ -25,7 +25,7 @@ returns-clause-direct g c = λ k h other.
       start.0,
       answer.bears,
       answer.shows,
-      start_still (kept_of c.search.new.self.rows) (seen_of c.in_ok-traced.traced.steps.items) c.in_ok-seen.seen.items c.in_ok-traced.ensures.kept_rows listing c.args.from c.args.cutoff c.args.targets.now c.in_ok-traced.traced.ways.items start.0 start.2,
+      start_still (seen_of c.in_ok-traced.traced.steps.items) c.in_ok-traced.ensures.kept_rows listing start.2,
     )
 
 pub returns-clause-rows : goal.returns-clause-rows
@@ -33,7 +33,7 @@ returns-clause-rows g c =
     let listing : AreListed (kept_of c.search.new.self.rows) (nodes_of (seen_of c.in_ok-traced.traced.steps.items)) c.in_ok-seen.seen.items =
     (subst (λ (ns : List ℕ). AreListed (kept_of c.search.new.self.rows) ns c.in_ok-seen.seen.items)
     (c.deref-2.ensures.value ∙ c.in_ok-nodes.ensures ∙ ap (λ ss. nodes_of (seen_of ss)) c.deref.ensures.value) c.in_ok-seen.ensures) in
-    rows_still (kept_of c.search.new.self.rows) (seen_of c.in_ok-traced.traced.steps.items) c.in_ok-seen.seen.items c.in_ok-traced.ensures.kept_rows listing c.in_ok-traced.ensures.rows
+    rows_still (seen_of c.in_ok-traced.traced.steps.items) c.in_ok-traced.ensures.kept_rows listing c.in_ok-traced.ensures.rows
 
 pub returns-clause-bears : goal.returns-clause-bears
 returns-clause-bears g c = all_listed_are g.S.RowSource.bears (g.S.RowSource.shows c.search.new.source) g.S.RowSource.bears

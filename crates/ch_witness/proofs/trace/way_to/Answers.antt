@@ -18,13 +18,13 @@ steps-init c =
 at_place : (c : goal.After-place-before-in-Some) → slice_get c.args.steps.now c.in-Some.place ≡ Some c.index-steps-place.result
 at_place c =
     let traced : IsTraced c.args.rule c.args.steps.now c.args.target c.args.label.cost c.steps.backward.items (Some c.in-Some.place) = subst (IsTraced c.args.rule c.args.steps.now c.args.target c.args.label.cost c.steps.backward.items) c.in-Some.is c.steps.invariant in
-    slice_get_read c.args.steps.now (length c.args.steps.now) c.in-Some.place c.index-steps-place.result refl (traced_place c.args.rule c.args.steps.now c.args.target c.args.label.cost c.steps.backward.items c.in-Some.place traced) c.index-steps-place.is
+    slice_get_read c.args.steps.now (length c.args.steps.now) c.in-Some.place c.index-steps-place.result refl (traced_place c.args.steps.now c.args.target c.args.label.cost c.steps.backward.items c.in-Some.place traced) c.index-steps-place.is
 
 pub steps-smaller : goal.steps-smaller
 steps-smaller c =
     subst (λ (o : Option ℕ). places_to c.place-before-in-Some.result < places_to o) (sym c.in-Some.is)
     (subst (λ (o : Option ℕ). places_to o < c.in-Some.place + 1) (sym c.place-before-in-Some.ensures)
-    (traced_earlier c.args.rule c.args.steps.now c.requires.steps c.in-Some.place c.index-steps-place.result (at_place c)))
+    (traced_earlier c.args.steps.now c.requires.steps c.in-Some.place c.index-steps-place.result (at_place c)))
 
 pub steps-preserved : goal.steps-preserved
 steps-preserved c =
@@ -32,7 +32,7 @@ steps-preserved c =
     subst (λ (xs : List ℕ). IsTraced c.args.rule c.args.steps.now c.args.target c.args.label.cost xs c.place-before-in-Some.result) (sym c.in_ok-push-2.ensures.ok)
     (subst (λ (x : ℕ). IsTraced c.args.rule c.args.steps.now c.args.target c.args.label.cost (c.steps.backward.items ++ x ∷ []) c.place-before-in-Some.result) (sym c.index-steps-place.result.of_node)
     (subst (IsTraced c.args.rule c.args.steps.now c.args.target c.args.label.cost (c.steps.backward.items ++ node_of c.index-steps-place.result ∷ [])) (sym c.place-before-in-Some.ensures)
-    (traced_more c.args.rule c.args.steps.now c.requires.steps c.args.target c.args.label.cost c.steps.backward.items c.in-Some.place c.index-steps-place.result (at_place c) traced)))
+    (traced_more c.args.steps.now c.requires.steps c.args.target c.args.label.cost c.steps.backward.items c.in-Some.place c.index-steps-place.result (at_place c) traced)))
 
 -- what is left when there is no step before
 done : {r : _} {steps : _} {target : _} {cost : _} {nodes : _} (before : Option ℕ) → ((k : ℕ) → before ≡ Some k → ⊥) → IsTraced r steps target cost nodes before → IsTraced r steps target cost nodes None
@@ -42,4 +42,4 @@ done (Some k) none h = absurd (none k refl)
 pub returns-clause-leads : goal.returns-clause-leads
 returns-clause-leads c =
     subst (λ (xs : List ℕ). Along (SeenArc (row_of (seen_of c.args.steps.now)) c.args.rule.avoid) xs c.args.rule.from c.args.target c.args.label.cost) (sym c.reversed.ensures)
-    (traced_whole c.args.rule c.args.steps.now c.args.target c.args.label.cost c.steps.backward.items (done c.steps.before c.in_default.not-Some c.steps.invariant))
+    (traced_whole c.args.steps.now c.args.target c.args.label.cost c.steps.backward.items (done c.steps.before c.in_default.not-Some c.steps.invariant))

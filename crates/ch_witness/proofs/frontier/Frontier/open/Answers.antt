@@ -11,7 +11,7 @@ pub returns : goal.returns
 returns c =
     let nodes = c.args.self.now.nodes in
     let labels : List Label = c.args.self.now.labels.items in
-    let put = values_put nodes c.push-2.new.self labels c.push_reserved.new.self.items c.args.node c.opened.result c.in_ok-push-2.ensures.put (c.push_reserved.ensures.items ∙ ap (λ (ls : List Label). ls ++ c.opened.result ∷ []) c.reserve.ensures.items) c.args.self.now.paired c.requires in
+    let put = values_put nodes labels c.args.node c.opened.result c.in_ok-push-2.ensures.put (c.push_reserved.ensures.items ∙ ap (λ (ls : List Label). ls ++ c.opened.result ∷ []) c.reserve.ensures.items) c.args.self.now.paired c.requires in
     offer_better (labels_of c.args.self.now) _ c.args.node c.args.cost c.args.before
     (subst (Improves c.args.cost) (sym (value_absent nodes labels c.args.node c.requires)) tt)
     (put.0 ∙ ap (λ (l : Label). Some l) c.opened.ensures)

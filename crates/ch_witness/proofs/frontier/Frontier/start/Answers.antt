@@ -7,7 +7,7 @@ use Rattle.ch_witness.proofs.frontier.Frontier.start.Goals as goal
 
 pub returns : goal.returns
 returns c =
-    let put = values_put [] c.push.new.self [] c.push_reserved.new.self.items c.args.start _
+    let put = values_put [] [] c.args.start _
     (c.in_ok-push.ensures.put ∙ ap (λ (ns : List ℕ). ns ++ c.args.start ∷ []) c.clear-3.ensures)
     (c.push_reserved.ensures.items ∙ ap (λ (ls : List Label). ls ++ _ ∷ []) (c.reserve.ensures.items ∙ c.clear-2.ensures.items))
     refl (λ k h. absurd (omega (arith, h))) in

@@ -1,4 +1,4 @@
-use Rattle.std.proofs.Common.{ℕ, List, [], take, get_or, subst, sym, refl}
+use Rattle.std.proofs.Common.{ℕ, List, [], get_or, subst, sym, refl}
 use Rattle.std.proofs.lemmas.List.{take_all, take_more}
 use Rattle.ch_overlay.specs.declared.source.Seen.{Seen}
 use Rattle.ch_witness.specs.Kept.{kept_of, AreListed}
@@ -14,7 +14,7 @@ nodes-preserved c =
     subst (λ (ns : List ℕ). Listing (kept_of c.args.self.now) (kept_of c.list.new.self) ns c.list.new.listed.items)
     (sym (take_more c.args.nodes.now c.nodes.node-index 0 c.nodes-test.true))
     (listing-more (kept_of c.args.self.now) (kept_of c.nodes.self) (kept_of c.list.new.self) c.requires.nodes v
-    (take c.nodes.node-index c.args.nodes.now) c.nodes.listed.items c.list.new.listed.items (kept_of c.nodes.self v) refl
+    c.list.new.listed.items (kept_of c.nodes.self v) refl
     (c.in_ok-list.ensures) c.nodes.invariant)
 
 pub returns : goal.returns

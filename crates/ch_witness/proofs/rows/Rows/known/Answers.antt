@@ -13,12 +13,12 @@ returns-in_err-place-clause-none c =
 pub returns-then-is_some-clause-here : goal.returns-then-is_some-clause-here
 returns-then-is_some-clause-here c =
     let at = subst (λ (o : Option ℕ). IfSome o (IsFirstAt c.args.self.now.nodes c.args.node)) c.in_ok-place.was c.requires.found in
-    let there = stands c.args.self.now c.args.node c.in_ok-place.place c.index.result.now c.args.self.now.paired at c.index.ensures in
+    let there = stands c.args.self.now c.args.self.now.paired at c.index.ensures in
     let some = some_there c.index.result.now c.if-is_some.ensures in
     (some.0, there.0 ∙ ap Some some.1, there.1 ∙ some.1)
 
 pub returns-clause-none : goal.returns-clause-none
 returns-clause-none c =
     let at = subst (λ (o : Option ℕ). IfSome o (IsFirstAt c.args.self.now.nodes c.args.node)) c.in_ok-place.was c.requires.found in
-    let there = stands c.args.self.now c.args.node c.in_ok-place.place c.index.result.now c.args.self.now.paired at c.index.ensures in
+    let there = stands c.args.self.now c.args.self.now.paired at c.index.ensures in
     there.1 ∙ none_there c.index.result.now c.if-is_some.ensures

@@ -7,7 +7,7 @@ use Rattle.ch_witness.proofs.rows.Rows.push.Goals as goal
 
 pub returns-clause-here : goal.returns-clause-here
 returns-clause-here c =
-    let put = values_put c.args.self.now.nodes c.push.new.self c.args.self.now.kept.items c.push_reserved.new.self.items c.args.node
+    let put = values_put c.args.self.now.nodes c.args.self.now.kept.items c.args.node
     (Some c.args.seen) c.in_ok-push.ensures.put
     (c.push_reserved.ensures.items ∙ ap (λ (ks : List
     (Option Seen)). ks ++ Some c.args.seen ∷ []) c.reserve.ensures.items) c.args.self.now.paired c.requires.absent in
@@ -15,7 +15,7 @@ returns-clause-here c =
 
 pub returns-clause-others : goal.returns-clause-others
 returns-clause-others c =
-    let put = values_put c.args.self.now.nodes c.push.new.self c.args.self.now.kept.items c.push_reserved.new.self.items c.args.node
+    let put = values_put c.args.self.now.nodes c.args.self.now.kept.items c.args.node
     (Some c.args.seen) c.in_ok-push.ensures.put
     (c.push_reserved.ensures.items ∙ ap (λ (ks : List
     (Option Seen)). ks ++ Some c.args.seen ∷ []) c.reserve.ensures.items) c.args.self.now.paired c.requires.absent in

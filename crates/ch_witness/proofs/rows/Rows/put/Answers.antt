@@ -12,7 +12,7 @@ pub returns-in-Some-clause-there : goal.returns-in-Some-clause-there
 returns-in-Some-clause-there c = read_written c.args.self.now.kept.items c.in-Some.place _ (omega (arith, c.args.self.now.paired, (at_place c.args.self.now.nodes c.args.node c.in-Some.place c.args.found c.in-Some.is c.requires.found).within))
 
 pub returns-in-Some-clause-here : goal.returns-in-Some-clause-here
-returns-in-Some-clause-here c = ap joined (value_written c.args.self.now.nodes c.args.self.now.kept.items c.args.node c.in-Some.place _ c.args.self.now.paired (at_place c.args.self.now.nodes c.args.node c.in-Some.place c.args.found c.in-Some.is c.requires.found))
+returns-in-Some-clause-here c = ap joined (value_written c.args.self.now.kept.items _ c.args.self.now.paired (at_place c.args.self.now.nodes c.args.node c.in-Some.place c.args.found c.in-Some.is c.requires.found))
 
 pub returns-in-Some-clause-others : goal.returns-in-Some-clause-others
 returns-in-Some-clause-others c = λ x apart. ap joined (value_elsewhere c.args.self.now.nodes c.args.self.now.kept.items x c.in-Some.place _ (λ e. apart (sym e ∙ (at_place c.args.self.now.nodes c.args.node c.in-Some.place c.args.found c.in-Some.is c.requires.found).here)))

@@ -16,7 +16,7 @@ returns-in-Some-clause-found g c = λ named whole. named
 pub returns-in_err-seen-clause-read : goal.returns-in_err-seen-clause-read
 returns-in_err-seen-clause-read g c = record {
   kept = kept_moved g.S.RowSource.bears (g.S.RowSource.shows c.args.source.now) (g.S.RowSource.shows c.row_of.new.self)
-      (g.S.RowSource.bound_of c.args.source.now) (g.S.RowSource.bound_of c.row_of.new.self) (kept_of c.args.self.now)
+      (kept_of c.args.self.now)
       (g.met.S.RowSource.same_bound c.args.source.now c.row_of.new.self c.in_err-seen.ensures.stays)
       (λ s h. g.met.S.RowSource.still_shows c.args.source.now c.row_of.new.self s c.in_err-seen.ensures.stays h) c.requires.kept;
   more = λ x s is. is;
@@ -32,7 +32,7 @@ returns-in_err-seen-clause-unseen g c = λ missing. c.in_err-seen.ensures.kept
 pub returns-in_err-put-clause-read : goal.returns-in_err-put-clause-read
 returns-in_err-put-clause-read g c = record {
   kept = λ x s is. (kept_moved g.S.RowSource.bears (g.S.RowSource.shows c.args.source.now) (g.S.RowSource.shows c.row_of.new.self)
-      (g.S.RowSource.bound_of c.args.source.now) (g.S.RowSource.bound_of c.row_of.new.self) (kept_of c.args.self.now)
+      (kept_of c.args.self.now)
       (g.met.S.RowSource.same_bound c.args.source.now c.row_of.new.self c.in_ok-seen.ensures.stays)
       (λ s h. g.met.S.RowSource.still_shows c.args.source.now c.row_of.new.self s c.in_ok-seen.ensures.stays h) c.requires.kept) x s
       (sym (c.in_err-put.ensures.stays x) ∙ is);
@@ -46,7 +46,7 @@ some-none o s e f = cc
 pub returns-clause-read : goal.returns-clause-read
 returns-clause-read g c = record {
   kept = kept_put g.S.RowSource.bears (g.S.RowSource.shows c.args.source.now) (g.S.RowSource.shows c.row_of.new.self)
-      (g.S.RowSource.bound_of c.args.source.now) (g.S.RowSource.bound_of c.row_of.new.self) (kept_of c.args.self.now)
+      (kept_of c.args.self.now)
       (g.met.S.RowSource.same_bound c.args.source.now c.row_of.new.self c.in_ok-seen.ensures.stays)
       (λ s h. g.met.S.RowSource.still_shows c.args.source.now c.row_of.new.self s c.in_ok-seen.ensures.stays h) c.requires.kept
       (kept_of c.put.new.self) c.args.node c.in_ok-seen.seen (record {

@@ -4,14 +4,14 @@ use Rattle.ch_witness.proofs.Giving.{all_seen, rows, ways_given, start_given}
 use Rattle.ch_witness.proofs.searcher.Searcher.search.Goals as goal
 
 pub returns-clause-ways : goal.returns-clause-ways
-returns-clause-ways g c = ways_given _ c.in_ok-tree.tree.steps.items (labels_of c.in_ok-tree.tree.frontier) c.args.targets.now c.in_ok-ways.ways.items c.in_ok-tree.ensures.tree c.in_ok-ways.ensures.many c.in_ok-ways.ensures.ways
+returns-clause-ways g c = ways_given c.in_ok-tree.tree.steps.items (labels_of c.in_ok-tree.tree.frontier) c.args.targets.now c.in_ok-ways.ways.items c.in_ok-tree.ensures.tree c.in_ok-ways.ensures.many c.in_ok-ways.ensures.ways
 
 pub returns-clause-direct : goal.returns-clause-direct
 returns-clause-direct g c = λ k h other.
     let start = c.in_ok-tree.ensures.start k h other in (
       start.0,
       start.1,
-      start_given _ c.in_ok-tree.tree.steps.items (labels_of c.in_ok-tree.tree.frontier) c.args.targets.now c.in_ok-ways.ways.items start.0 c.requires.targets c.in_ok-ways.ensures.ways start.2,
+      start_given c.in_ok-tree.tree.steps.items (labels_of c.in_ok-tree.tree.frontier) c.args.targets.now c.in_ok-ways.ways.items start.0 c.requires.targets c.in_ok-ways.ensures.ways start.2,
     )
 
 pub returns-clause-rows : goal.returns-clause-rows

@@ -1,5 +1,4 @@
-use Rattle.std.proofs.Common.{ℕ, ◌≡◌, ◌<◌, List, length, Option, None, Some, false, slice_index_or, refl, sym, inl, subst, ap, ◌∙◌, arith}
-use Rattle.std.specs.Option.{is_some}
+use Rattle.std.proofs.Common.{ℕ, ◌≡◌, ◌<◌, List, length, Option, None, Some, slice_index_or, refl, sym, inl, subst, ap, ◌∙◌, arith}
 use Rattle.std.proofs.lemmas.Grind.{common_steps}
 use Rattle.ch_cost.specs.declared.cost.Cost.{Cost}
 use Rattle.ch_cost.specs.Cost.{IsInLimit, IsOfWalks}
@@ -20,13 +19,13 @@ use Rattle.ch_witness.proofs.tree.Tree.go_on_from.Goals as goal
 pub follow-requires-clause-fits : goal.follow-requires-clause-fits
 follow-requires-clause-fits g c =
     let answer = c.in_ok-kept_at.ensures.here.answer in
-    reached_fits c.args.rule c.args.self.now.steps.items _ c.args.reached.node _ (omega (arith, c.requires.few)) c.requires.cutoff answer.limit (c.requires.tree.reached c.args.reached.node _ c.requires.label)
+    reached_fits c.args.self.now.steps.items _ c.args.reached.node _ (omega (arith, c.requires.few)) c.requires.cutoff answer.limit (c.requires.tree.reached c.args.reached.node _ c.requires.label)
 
 pub follow-requires-clause-entries : goal.follow-requires-clause-entries
 follow-requires-clause-entries g c =
     let answer = (read_there g.S.RowSource.bears (g.S.RowSource.shows c.read.new.source) (g.S.RowSource.bound_of c.args.source.now) c.args.reached.node c.read.new.self c.in_ok-kept_at.kept_at c.at-seen.result.now c.in_ok-kept_at.ensures.here c.at-seen.ensures).1 in
     let out : c.deref-3.result.now ≡ (row_in c.at-seen.result.now).out = c.deref-3.ensures.value ∙ ap (λ (r : Row). r.out) (c.behind-seen-2.view_is ∙ c.deref-2.ensures) in
-    subst (λ (es : List Entry). (k : ℕ) (d : Entry) → k < length es → IsInLimit (slice_index_or es k d).cost) (sym out) (entries_fit _ c.at-seen.result.now answer.limit answer.row)
+    subst (λ (es : List Entry). (k : ℕ) (d : Entry) → k < length es → IsInLimit (slice_index_or es k d).cost) (sym out) (entries_fit c.at-seen.result.now answer.limit answer.row)
 
 -- the answer that was read is kept, and the source vouches for it
 there : (g : given.Over) (c : goal.In_ok-push g) → IsKept (kept_of c.read.new.self) c.at-seen.result.now × IsAnswer g.S.RowSource.bears (g.S.RowSource.shows c.read.new.source) (g.S.RowSource.bound_of c.args.source.now) c.args.reached.node c.at-seen.result.now
@@ -46,11 +45,11 @@ pub returns-clause-tree : goal.returns-clause-tree
 returns-clause-tree g c =
     let answer = (there g c).1 in
     subst (λ (ss : List TreeNode). IsTree c.args.rule ss (labels_of c.follow.new.frontier)) (sym c.in_ok-push.ensures.items)
-    (tree_grown c.args.rule c.args.self.now.steps.items (labels_of c.args.self.now.frontier) (labels_of c.follow.new.frontier) _ c.requires.tree
+    (tree_grown c.args.self.now.steps.items (labels_of c.args.self.now.frontier) (labels_of c.follow.new.frontier) _ c.requires.tree
     (ap (λ (s : Seen). labels_of c.args.self.now.frontier s.node) c.of.ensures ∙ ap (λ (v : ℕ). labels_of c.args.self.now.frontier v) answer.node ∙ c.requires.label)
     (λ k t is e. c.requires.new k t is (e ∙ ap (λ (s : Seen). s.node) c.of.ensures ∙ answer.node))
     (ap (λ (s : Seen). (row_in s).rank) c.of.ensures ∙ unranked g c)
-    (subst (λ (s : Seen). (v : ℕ) (d : Cost) → Lists (row_in s).out v d → IsOfWalks 1 d) (sym c.of.ensures) (entries_light _ c.at-seen.result.now answer.limit answer.row))
+    (subst (λ (s : Seen). (v : ℕ) (d : Cost) → Lists (row_in s).out v d → IsOfWalks 1 d) (sym c.of.ensures) (entries_light c.at-seen.result.now answer.limit answer.row))
     (subst (λ (s : Seen). AreFollowed c.args.rule (row_in s).out c.args.reached.cost (Some (length c.args.self.now.steps.items)) (labels_of c.args.self.now.frontier) (labels_of c.follow.new.frontier)) (sym c.of.ensures) (followed g c)))
 
 pub returns-clause-later : goal.returns-clause-later
@@ -62,10 +61,9 @@ pub returns-clause-whole : goal.returns-clause-whole
 returns-clause-whole g c = λ named all.
     let seen = c.at-seen.result.now in
     let now = c.in_ok-kept_at.ensures.found named (all c.args.reached.node _ c.requires.label) seen.node seen (there g c).0 in
-    names_kept c.args.rule (g.S.RowSource.whole c.args.source.now) (g.S.RowSource.whole c.read.new.source)
+    names_kept (g.S.RowSource.whole c.args.source.now) (g.S.RowSource.whole c.read.new.source)
     (λ v h. g.met.S.RowSource.still_whole c.args.source.now c.read.new.source v c.in_ok-kept_at.ensures.read.stays h)
-    (row_in seen) c.args.reached.cost (Some (length c.args.self.now.steps.items)) (labels_of c.args.self.now.frontier)
-    (labels_of c.follow.new.frontier) now all (followed g c)
+    now all (followed g c)
 
 pub returns-clause-gone : goal.returns-clause-gone
 returns-clause-gone g c = (

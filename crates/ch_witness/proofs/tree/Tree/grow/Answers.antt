@@ -20,10 +20,10 @@ turns-init g c = record {
 }
 
 pub go_on_from-requires-clause-tree : goal.go_on_from-requires-clause-tree
-go_on_from-requires-clause-tree g c = tree_settled c.args.rule c.turns.self.steps.items (labels_of c.turns.self.frontier) (labels_of c.settle_next.new.self) c.in-Some.reached c.in-Some.ensures.settled c.turns.invariant.tree
+go_on_from-requires-clause-tree g c = tree_settled c.turns.self.steps.items (labels_of c.turns.self.frontier) (labels_of c.settle_next.new.self) c.in-Some.reached c.in-Some.ensures.settled c.turns.invariant.tree
 
 pub go_on_from-requires-clause-new : goal.go_on_from-requires-clause-new
-go_on_from-requires-clause-new g c = settled_new c.args.rule c.turns.self.steps.items (labels_of c.turns.self.frontier) (labels_of c.settle_next.new.self) c.in-Some.reached c.in-Some.ensures.settled c.turns.invariant.tree
+go_on_from-requires-clause-new g c = settled_new c.turns.self.steps.items (labels_of c.turns.self.frontier) (labels_of c.settle_next.new.self) c.in-Some.reached c.in-Some.ensures.settled c.turns.invariant.tree
 
 pub go_on_from-requires-clause-few : goal.go_on_from-requires-clause-few
 go_on_from-requires-clause-few g c = omega (arith, c.turns.invariant.few, c.requires.few, c.turns-test.true)
@@ -49,7 +49,7 @@ returns-in_err-go_on_from-clause-found g c = λ named all.
     let inv = c.turns.invariant in
     let p = err_from_is_err_and c.from_residual.result c.from_residual.ensures.1 in
     let same = p.2 in
-    let other = c.in_err-go_on_from.ensures.found (inv.names named all) (all_settled (g.S.RowSource.whole c.turns.source) _ _ c.in-Some.reached c.in-Some.ensures.settled (inv.whole named all)) in
+    let other = c.in_err-go_on_from.ensures.found (inv.names named all) (all_settled (g.S.RowSource.whole c.turns.source) c.in-Some.ensures.settled (inv.whole named all)) in
     finds_unless _ _ _ _ _ p.1 (λ unseen. other (cc (same, unseen)))
 
 pub turns-preserved : goal.turns-preserved
@@ -60,15 +60,15 @@ turns-preserved g c =
     record {
       tree = c.in_ok-go_on_from.ensures.tree;
       few = omega (arith, c.in_ok-go_on_from.ensures.few, c.turns.invariant.few);
-      later = later_more _ _ _ _ _ _ (later_more _ _ _ _ _ _ inv.later (later_settled c.turns.self.steps.items _ _ c.in-Some.reached now)) c.in_ok-go_on_from.ensures.later;
+      later = later_more (later_more inv.later (later_settled c.turns.self.steps.items _ _ c.in-Some.reached now)) c.in_ok-go_on_from.ensures.later;
       read = record {
         kept = c.in_ok-go_on_from.ensures.read.kept;
         more = more_trans _ _ _ inv.read.more c.in_ok-go_on_from.ensures.read.more;
         stays = g.met.S.RowSource.stays_more c.args.source.now c.turns.source c.go_on_from.new.source inv.read.stays c.in_ok-go_on_from.ensures.read.stays;
       };
-      kept_rows = λ h. seen_gone (IsKept (kept_of c.go_on_from.new.rows)) c.args.rule c.in-Some.reached gone.0 _ _ _ _ gone.1 (λ k s is. kept_still (kept_of c.turns.rows) (kept_of c.go_on_from.new.rows) s.seen.value c.in_ok-go_on_from.ensures.read.more (inv.kept_rows h k s is)) gone.2;
-      names = λ h k. c.in_ok-go_on_from.ensures.found (inv.names h k) (all_settled (g.S.RowSource.whole c.turns.source) _ _ c.in-Some.reached now (inv.whole h k));
-      whole = λ h k. c.in_ok-go_on_from.ensures.whole (inv.names h k) (all_settled (g.S.RowSource.whole c.turns.source) _ _ c.in-Some.reached now (inv.whole h k));
+      kept_rows = λ h. seen_gone (IsKept (kept_of c.go_on_from.new.rows)) gone.1 (λ k s is. kept_still (kept_of c.turns.rows) (kept_of c.go_on_from.new.rows) s.seen.value c.in_ok-go_on_from.ensures.read.more (inv.kept_rows h k s is)) gone.2;
+      names = λ h k. c.in_ok-go_on_from.ensures.found (inv.names h k) (all_settled (g.S.RowSource.whole c.turns.source) now (inv.whole h k));
+      whole = λ h k. c.in_ok-go_on_from.ensures.whole (inv.names h k) (all_settled (g.S.RowSource.whole c.turns.source) now (inv.whole h k));
     }
 
 pub returns-after-turns-clause-tree : goal.returns-after-turns-clause-tree
@@ -87,10 +87,10 @@ pub returns-after-turns-clause-found : goal.returns-after-turns-clause-found
 returns-after-turns-clause-found g c = c.turns.invariant.names
 
 pub returns-in_default-clause-tree : goal.returns-in_default-clause-tree
-returns-in_default-clause-tree g c = tree_same c.args.rule c.turns.self.steps.items (labels_of c.turns.self.frontier) (labels_of c.settle_next.new.self) c.in_default.ensures.stays c.turns.invariant.tree
+returns-in_default-clause-tree g c = tree_same c.turns.self.steps.items (labels_of c.turns.self.frontier) (labels_of c.settle_next.new.self) c.in_default.ensures.stays c.turns.invariant.tree
 
 pub returns-in_default-clause-later : goal.returns-in_default-clause-later
-returns-in_default-clause-later g c = later_more _ _ _ _ _ _ c.turns.invariant.later (later_same c.turns.self.steps.items _ _ c.in_default.ensures.stays)
+returns-in_default-clause-later g c = later_more c.turns.invariant.later (later_same c.turns.self.steps.items _ _ c.in_default.ensures.stays)
 
 pub returns-in_default-clause-kept_rows : goal.returns-in_default-clause-kept_rows
 returns-in_default-clause-kept_rows g c = c.turns.invariant.kept_rows
@@ -102,10 +102,10 @@ pub returns-in_default-clause-found : goal.returns-in_default-clause-found
 returns-in_default-clause-found g c = c.turns.invariant.names
 
 pub returns-then-done-targets-clause-tree : goal.returns-then-done-targets-clause-tree
-returns-then-done-targets-clause-tree g c = tree_settled c.args.rule c.turns.self.steps.items (labels_of c.turns.self.frontier) (labels_of c.settle_next.new.self) c.in-Some.reached c.in-Some.ensures.settled c.turns.invariant.tree
+returns-then-done-targets-clause-tree g c = tree_settled c.turns.self.steps.items (labels_of c.turns.self.frontier) (labels_of c.settle_next.new.self) c.in-Some.reached c.in-Some.ensures.settled c.turns.invariant.tree
 
 pub returns-then-done-targets-clause-later : goal.returns-then-done-targets-clause-later
-returns-then-done-targets-clause-later g c = later_more _ _ _ _ _ _ c.turns.invariant.later (later_settled c.turns.self.steps.items _ _ c.in-Some.reached c.in-Some.ensures.settled)
+returns-then-done-targets-clause-later g c = later_more c.turns.invariant.later (later_settled c.turns.self.steps.items _ _ c.in-Some.reached c.in-Some.ensures.settled)
 
 pub returns-then-done-targets-clause-kept_rows : goal.returns-then-done-targets-clause-kept_rows
 returns-then-done-targets-clause-kept_rows g c = c.turns.invariant.kept_rows

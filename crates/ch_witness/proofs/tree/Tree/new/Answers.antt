@@ -11,10 +11,10 @@ use Rattle.ch_witness.proofs.Growing.{all_start, tree_start, start_seen, seen_go
 use Rattle.ch_witness.proofs.tree.Tree.new.Goals as goal
 
 pub returns-then-are_all-clause-tree : goal.returns-then-are_all-clause-tree
-returns-then-are_all-clause-tree g c = subst (λ (ss : List TreeNode). IsTree c.args.rule ss (labels_of c.start.new.self)) (sym c.in_ok-steps.ensures) (tree_start c.args.rule (labels_of c.start.new.self) c.in_ok-start.ensures c.requires.start)
+returns-then-are_all-clause-tree g c = subst (λ (ss : List TreeNode). IsTree c.args.rule ss (labels_of c.start.new.self)) (sym c.in_ok-steps.ensures) (tree_start c.args.rule c.in_ok-start.ensures c.requires.start)
 
 pub go_on_from-requires-clause-tree : goal.go_on_from-requires-clause-tree
-go_on_from-requires-clause-tree g c = subst (λ (ss : List TreeNode). IsTree c.args.rule ss (labels_of c.start.new.self)) (sym c.in_ok-steps.ensures) (tree_start c.args.rule (labels_of c.start.new.self) c.in_ok-start.ensures c.requires.start)
+go_on_from-requires-clause-tree g c = subst (λ (ss : List TreeNode). IsTree c.args.rule ss (labels_of c.start.new.self)) (sym c.in_ok-steps.ensures) (tree_start c.args.rule c.in_ok-start.ensures c.requires.start)
 
 pub go_on_from-requires-clause-label : goal.go_on_from-requires-clause-label
 go_on_from-requires-clause-label g c = c.in_ok-start.ensures.here ∙ ap begun (sym ZERO-is)
@@ -25,14 +25,14 @@ grow-requires-clause-cutoff g c = subst (λ (b : Cost). c.args.rule.cutoff ≼ b
 pub returns-clause-kept_rows : goal.returns-clause-kept_rows
 returns-clause-kept_rows g c =
     let gone = c.in_ok-go_on_from.ensures.gone in
-    c.in_ok-grow.ensures.kept_rows (seen_gone (IsKept (kept_of c.go_on_from.new.rows)) c.args.rule _ gone.0 c.in_ok-steps.steps.items _ _ _ gone.1 (seen_none (IsKept (kept_of c.go_on_from.new.rows)) c.in_ok-steps.steps.items c.in_ok-steps.ensures) gone.2)
+    c.in_ok-grow.ensures.kept_rows (seen_gone (IsKept (kept_of c.go_on_from.new.rows)) gone.1 (seen_none (IsKept (kept_of c.go_on_from.new.rows)) c.in_ok-steps.steps.items c.in_ok-steps.ensures) gone.2)
 
 pub returns-clause-start : goal.returns-clause-start
 returns-clause-start g c = λ k h other.
     let gone = c.in_ok-go_on_from.ensures.gone in (
       gone.0,
       kept_still (kept_of c.go_on_from.new.rows) (kept_of c.grow.new.rows) gone.0 c.in_ok-grow.ensures.read.more gone.1,
-      start_seen c.args.rule _ ZERO-is gone.0 _ _ (labels_of c.start.new.self) _ _ c.in_ok-start.ensures
+      start_seen ZERO-is _ (labels_of c.start.new.self) _ _ c.in_ok-start.ensures
           (subst (λ (ss : List TreeNode). IsLater ss c.go_on_from.new.self.steps.items (labels_of c.start.new.self)
           (labels_of c.go_on_from.new.self.frontier)) c.in_ok-steps.ensures c.in_ok-go_on_from.ensures.later)
           (subst (λ (ss : List TreeNode). IsGoneOn c.args.rule
@@ -49,7 +49,7 @@ returns-clause-read g c = record {
 
 pub returns-clause-found : goal.returns-clause-found
 returns-clause-found g c = λ named whole.
-    let all = all_start (g.S.RowSource.whole c.args.source.now) c.args.rule.from (labels_of c.start.new.self) c.in_ok-start.ensures whole in
+    let all = all_start (g.S.RowSource.whole c.args.source.now) c.in_ok-start.ensures whole in
     c.in_ok-grow.ensures.found (c.in_ok-go_on_from.ensures.found named all) (c.in_ok-go_on_from.ensures.whole named all)
 
 pub returns-then-are_all-clause-start : goal.returns-then-are_all-clause-start
