@@ -91,9 +91,9 @@ module _ {E : Type 0} (grammar : Grammar E) (sizes : (n : ℕ) (fields : List (L
 
   -- where the lines before it were read, no fault is of an earlier line
   pub first_of : {B : Type 0} (view : Listing E → Result B GrError) → ((read : Listing E) → IfErr (view read) (λ _. ⊥))
-      → (told : List ℕ → Result (Listing E) GrError) (e : GrError) → IsReadTo grammar told e → (found : GrError)
+      → {told : List ℕ → Result (Listing E) GrError} {e : GrError} → IsReadTo grammar told e → (found : GrError)
       → ((rest : List ℕ) → (told rest >>= view) ≡ Err found) → e.line ≤ found.line
-  first_of view whole told e to found all =
+  first_of view whole {told} {e} to found all =
       let rest : List ℕ = 0 ∷ [] in
       let some = some_line to.begun to.back in
       let lines : List (List ℕ) = lines_after to.begun (to.back ++ rest) in
@@ -130,7 +130,7 @@ pairs_text nodes = record { sizes = λ n fields. pairs_size-at n nodes fields; e
 pub first_taken : {E B : Type 0} {grammar : Grammar E} {view : Listing E → Result B GrError} {told : List ℕ → Result B GrError} → IsText grammar view told → (taken : Taken E) (piece : List ℕ) (r : Result ⊤ GrError)
     → IfErr r (IsReadTo grammar (λ rest. told_with grammar taken (piece ++ rest))) → IfErr r (ComesFirst (λ rest. told_with grammar taken rest >>= view) piece)
 first_taken {grammar = grammar} {view = view} is taken piece r h = IfErr-weaker r _ (ComesFirst (λ rest. told_with grammar taken rest >>= view) piece)
-    (λ e to. first_of grammar is.sizes is.each view is.whole (λ rest. told_with grammar taken (piece ++ rest)) e to) h
+    (λ e to. first_of grammar is.sizes is.each view is.whole to) h
 
 -- Where a reader stops
 
@@ -162,10 +162,10 @@ module _ {E B : Type 0} {grammar : Grammar E} {view : Listing E → Result B GrE
   known_fault None e fault = tt
   known_fault (Some text) e fault = from_text_map e.kind (λ h. sym (is.seen text) ∙ ap (λ (r : Result (Listing E) GrError). r >>= view) h) fault
 
-  pub text_read : {S A : Type 0} (step : S → S → Result ℕ Error → Type 0) (remaining : S → Option (List ℕ)) {most : ℕ} {from to : S} (shown : A → B) (listing : Listing E) (x : A)
+  pub text_read : {S A : Type 0} {step : S → S → Result ℕ Error → Type 0} {remaining : S → Option (List ℕ)} {most : ℕ} {from to : S} (shown : A → B) (listing : Listing E) (x : A)
       → IfSome (remaining from) (λ text. listed grammar text ≡ Ok listing) → view listing ≡ Ok (shown x) → ReachesEnd step remaining most from to
       → ReadsText step remaining told shown most from to (Ok x)
-  text_read step remaining {from = from} shown listing x read made end = record {
+  text_read {remaining} {from = from} shown listing x read made end = record {
     reading = known_read (remaining from) listing (shown x) read made;
     ended = end.ended;
     few = end.few;
@@ -175,11 +175,11 @@ module _ {E B : Type 0} {grammar : Grammar E} {view : Listing E → Result B GrE
     before = tt;
   }
 
-  pub text_refused : {S A : Type 0} (step : S → S → Result ℕ Error → Type 0) (remaining : S → Option (List ℕ)) {most : ℕ} {from to : S} (shown : A → B) (r : Result A GrError) (e : GrError)
+  pub text_refused : {S A : Type 0} {step : S → S → Result ℕ Error → Type 0} {remaining : S → Option (List ℕ)} {most : ℕ} {from to : S} (shown : A → B) (r : Result A GrError) {e : GrError}
       → IsErrAnd r (λ d. d ≡ e) → IfSome (remaining from) (λ text. FromText e.kind (listed grammar text ≡ Err e)) → StopsBefore step remaining most from to e
       → StopsWith (ReadTo grammar (listed grammar)) (remaining from) (remaining to) e → ReadsText step remaining told shown most from to r
-  text_refused step remaining shown (Ok x) e propagated fault stops before = absurd propagated
-  text_refused step remaining {from = from} {to = to} shown (Err d) e propagated fault stops before =
+  text_refused shown (Ok x) propagated fault stops before = absurd propagated
+  text_refused {remaining} {from = from} {to = to} shown (Err d) {e} propagated fault stops before =
       let same : d ≡ e = propagated in
       rw same (record {
         reading = known_fault (remaining from) e fault;
@@ -189,14 +189,14 @@ module _ {E B : Type 0} {grammar : Grammar E} {view : Listing E → Result B GrE
         reached = stops.reached;
         stopped = stops.calls;
         before = stops_with (ReadTo grammar (listed grammar)) (ComesFirst told) (remaining from) (remaining to) e
-            (λ taken to found all. first_of grammar is.sizes is.each view is.whole (λ rest. listed grammar (taken ++ rest)) e to found (λ rest. is.seen (taken ++ rest) ∙ all rest)) before;
+            (λ taken to found all. first_of grammar is.sizes is.each view is.whole to found (λ rest. is.seen (taken ++ rest) ∙ all rest)) before;
       })
 
 -- How far the lines were read
 
 module _ {E : Type 0} (grammar : Grammar E) where
-  pub read_then : (told later : List ℕ → Result (Listing E) GrError) (e : GrError) → ((rest : List ℕ) → told rest ≡ later rest) → IsReadTo grammar later e → IsReadTo grammar told e
-  read_then told later e same to = record { number = to.number; listing = to.listing; begun = to.begun; back = to.back; so_far = λ rest. same rest ∙ to.so_far rest; line_is = to.line_is }
+  pub read_then : (told : List ℕ → Result (Listing E) GrError) {later : List ℕ → Result (Listing E) GrError} {e : GrError} → ((rest : List ℕ) → told rest ≡ later rest) → IsReadTo grammar later e → IsReadTo grammar told e
+  read_then told same to = record { number = to.number; listing = to.listing; begun = to.begun; back = to.back; so_far = λ rest. same rest ∙ to.so_far rest; line_is = to.line_is }
 
   pub read_kept : (r : Result ⊤ GrError) (told : List ℕ → Result (Listing E) GrError) (n : ℕ) (listing : Option (Listing E)) (begun back : List ℕ)
       → ((rest : List ℕ) → told rest ≡ listing_from grammar n listing (lines_after begun (back ++ rest)))
@@ -211,17 +211,17 @@ module _ {E : Type 0} (grammar : Grammar E) where
   pub read_so_far : (first mid : Taken E) (bytes : List ℕ) (e : GrError) → mid.failed ≡ None → ((rest : List ℕ) → told_with grammar mid rest ≡ told_with grammar first (bytes ++ rest)) → e.line ≡ next_line mid.line → IsReadTo grammar (λ rest. told_with grammar first (bytes ++ rest)) e
   read_so_far first mid bytes e fresh told line_is = record { number = mid.line; listing = mid.listing; begun = mid.begun; back = []; so_far = λ rest. sym (told rest) ∙ told_fresh mid rest fresh; line_is = line_is }
 
-  pub read_in_piece : (first mid : Taken E) (bytes piece : List ℕ) (e : GrError)
+  pub read_in_piece : (first mid : Taken E) (bytes piece : List ℕ) {e : GrError}
       → ((rest : List ℕ) → told_with grammar mid rest ≡ told_with grammar first (bytes ++ rest))
       → IsReadTo grammar (λ rest. told_with grammar mid (piece ++ rest)) e
       → IsReadTo grammar (λ rest. told_with grammar first ((bytes ++ piece) ++ rest)) e
-  read_in_piece first mid bytes piece e told to = read_then _ (λ rest. told_with grammar mid (piece ++ rest)) e (λ rest. ap (told_with grammar first) (append_assoc bytes piece rest) ∙ sym (told (piece ++ rest))) to
+  read_in_piece first mid bytes piece {e} told to = read_then _ (λ rest. ap (told_with grammar first) (append_assoc bytes piece rest) ∙ sym (told (piece ++ rest))) to
 
   -- what a reader says at first is what the text says
-  pub stops_listed : (first : Taken E) (had left : Option (List ℕ)) (e : GrError) → first ≡ record { line = 0; listing = None; begun = []; failed = None } → StopsWith (ReadTo grammar (told_with grammar first)) had left e → StopsWith (ReadTo grammar (listed grammar)) had left e
-  stops_listed first had left e begins = stops_with (ReadTo grammar (told_with grammar first)) (ReadTo grammar (listed grammar)) had left e
-      (λ taken to. read_then (λ rest. listed grammar (taken ++ rest)) (λ rest. told_with grammar first (taken ++ rest)) e
-      (λ rest. sym (told_first grammar first (taken ++ rest) begins)) to)
+  pub stops_listed : {first : Taken E} (had left : Option (List ℕ)) (e : GrError) → first ≡ record { line = 0; listing = None; begun = []; failed = None } → StopsWith (ReadTo grammar (told_with grammar first)) had left e → StopsWith (ReadTo grammar (listed grammar)) had left e
+  stops_listed {first} had left e begins = stops_with (ReadTo grammar (told_with grammar first)) (ReadTo grammar (listed grammar)) had left e
+      (λ taken to. read_then (λ rest. listed grammar (taken ++ rest))
+      (λ rest. sym (told_first grammar (taken ++ rest) begins)) to)
 
   -- and at the end
   pub read_at_end : {A : Type 0} (r : Result A GrError) (first last : Taken E) (had left : Option (List ℕ)) → last.failed ≡ None

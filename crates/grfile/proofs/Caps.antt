@@ -73,9 +73,9 @@ road-capped nodes line from to weight h =
 
 -- the lines, read from numbers with the cap
 
-pub graph_size-three : (line : ℕ) (fields : List (List ℕ)) (word n m : List ℕ) → fields ≡ word ∷ n ∷ m ∷ [] → graph_size line fields ≡ (if bytes_eq word (codes "sp") then capped_in line n >>= (λ nodes. capped_in line m >>= (λ arcs. size_in_range line nodes arcs)) else fault UnknownLine line)
+pub graph_size-three : (line : ℕ) {fields : List (List ℕ)} (word n m : List ℕ) → fields ≡ word ∷ n ∷ m ∷ [] → graph_size line fields ≡ (if bytes_eq word (codes "sp") then capped_in line n >>= (λ nodes. capped_in line m >>= (λ arcs. size_in_range line nodes arcs)) else fault UnknownLine line)
 unfolding graph_size
-graph_size-three line fields word n m are = rw are
+graph_size-three line word n m are = rw are
     (ap (λ (read : Result Size GrError). if bytes_eq word (codes "sp") then read else fault UnknownLine line)
     (capped_step line n (λ nodes. number_in line m >>= (λ arcs. size_in_range line nodes arcs))
     (λ nodes. capped_in line m >>= (λ arcs. size_in_range line nodes arcs))
@@ -90,9 +90,9 @@ graph_size-other line (a ∷ b ∷ []) other = refl
 graph_size-other line (a ∷ b ∷ c ∷ []) other = absurd (other refl)
 graph_size-other line (a ∷ b ∷ c ∷ d ∷ more) other = refl
 
-pub road_of-three : (nodes line : ℕ) (fields : List (List ℕ)) (u v w : List ℕ) → nodes < 2 ^ 32 → fields ≡ u ∷ v ∷ w ∷ [] → road_of nodes line fields ≡ (capped_in line u >>= (λ from. capped_in line v >>= (λ to. capped_in line w >>= (λ weight. road_in_range nodes line from to weight))))
+pub road_of-three : (nodes line : ℕ) {fields : List (List ℕ)} (u v w : List ℕ) → nodes < 2 ^ 32 → fields ≡ u ∷ v ∷ w ∷ [] → road_of nodes line fields ≡ (capped_in line u >>= (λ from. capped_in line v >>= (λ to. capped_in line w >>= (λ weight. road_in_range nodes line from to weight))))
 unfolding road_of
-road_of-three nodes line fields u v w h are = rw are
+road_of-three nodes line u v w h are = rw are
     (capped_step line u (λ from. number_in line v >>= (λ to. number_in line w >>= (λ weight. road_in_range nodes line from to weight)))
     (λ from. capped_in line v >>= (λ to. capped_in line w >>= (λ weight. road_in_range nodes line from to weight)))
     (λ from. capped_step line v (λ to. number_in line w >>= (λ weight. road_in_range nodes line from to weight))
@@ -122,11 +122,11 @@ pair-capped nodes line source target h =
     (λ source. if is_outside nodes (capped target) then fault NodeRange line else Ok (source - 1, capped target - 1)) h
     (λ _. node-capped nodes line target (λ target. Ok (source - 1, target - 1)) (λ target. Ok (source - 1, target - 1)) h (λ _. refl))
 
-pub pairs_size-four : (nodes line : ℕ) (fields : List (List ℕ)) (first second third k : List ℕ) → fields ≡ first ∷ second ∷ third ∷ k ∷ []
+pub pairs_size-four : (nodes line : ℕ) {fields : List (List ℕ)} (first second third k : List ℕ) → fields ≡ first ∷ second ∷ third ∷ k ∷ []
     → pairs_size nodes line fields ≡ (if bytes_eq first (codes "aux") && bytes_eq second (codes "sp") && bytes_eq third
     (codes "p2p") then capped_in line k >>= (λ count. count_in_range nodes line count) else fault UnknownLine line)
 unfolding pairs_size
-pairs_size-four nodes line fields first second third k are = rw are
+pairs_size-four nodes line first second third k are = rw are
     (ap (λ (read : Result Size GrError). if bytes_eq first (codes "aux") && bytes_eq second (codes "sp") && bytes_eq third
     (codes "p2p") then read else fault UnknownLine line)
     (capped_step line k (λ count. count_in_range nodes line count) (λ count. count_in_range nodes line count)
@@ -141,9 +141,9 @@ pairs_size-other nodes line (a ∷ b ∷ c ∷ []) other = refl
 pairs_size-other nodes line (a ∷ b ∷ c ∷ d ∷ []) other = absurd (other refl)
 pairs_size-other nodes line (a ∷ b ∷ c ∷ d ∷ e ∷ more) other = refl
 
-pub pair_of-two : (nodes line : ℕ) (fields : List (List ℕ)) (s t : List ℕ) → nodes < 2 ^ 32 → fields ≡ s ∷ t ∷ [] → pair_of nodes line fields ≡ (capped_in line s >>= (λ source. capped_in line t >>= (λ target. pair_in_range nodes line source target)))
+pub pair_of-two : (nodes line : ℕ) {fields : List (List ℕ)} (s t : List ℕ) → nodes < 2 ^ 32 → fields ≡ s ∷ t ∷ [] → pair_of nodes line fields ≡ (capped_in line s >>= (λ source. capped_in line t >>= (λ target. pair_in_range nodes line source target)))
 unfolding pair_of
-pair_of-two nodes line fields s t h are = rw are
+pair_of-two nodes line s t h are = rw are
     (capped_step line s (λ source. number_in line t >>= (λ target. pair_in_range nodes line source target))
     (λ source. capped_in line t >>= (λ target. pair_in_range nodes line source target))
     (λ source. capped_step line t (λ target. pair_in_range nodes line source target) (λ target. pair_in_range nodes line (capped source) target)

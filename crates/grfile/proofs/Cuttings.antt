@@ -28,12 +28,12 @@ pub counts_kept : (r : Result ⊤ GrError) (old feeds new : ℕ) → IfErr r (λ
 counts_kept (Ok x) old feeds new h count fits = omega arith
 counts_kept (Err e) old feeds new h count fits = record { from = omega arith; to = omega arith; line_is = ap (λ (e : GrError). e.line) h; no_read = λ is. absurd (cc) }
 
-pub counts_after : (old mid new feeds more : ℕ) (e : GrError) → mid ≡ capped (old + 1) → feeds ≡ more + 1 → IsLineReached mid (mid + more) new e → IsLineReached old (old + feeds) new e
-counts_after old mid new feeds more e mid_is feeds_are reached = record { from = omega (arith, reached.from); to = omega (arith, reached.to); line_is = reached.line_is; no_read = reached.no_read }
+pub counts_after : (old : ℕ) {mid new feeds : ℕ} (more : ℕ) {e : GrError} → mid ≡ capped (old + 1) → feeds ≡ more + 1 → IsLineReached mid (mid + more) new e → IsLineReached old (old + feeds) new e
+counts_after old more mid_is feeds_are reached = record { from = omega (arith, reached.from); to = omega (arith, reached.to); line_is = reached.line_is; no_read = reached.no_read }
 
 -- what a reader says at first
-pub told_first : {E : Type 0} (grammar : Grammar E) (taken : Taken E) (rest : List ℕ) → taken ≡ record { line = 0; listing = None; begun = []; failed = None } → told_with grammar taken rest ≡ listing_after grammar 0 (lines_of rest)
-told_first {E} grammar taken rest is = ap (λ (t : Taken E). told_with grammar t rest) is ∙ ap (λ (lines : List (List ℕ)). listing_after grammar 0 lines) (lines_first rest)
+pub told_first : {E : Type 0} (grammar : Grammar E) {taken : Taken E} (rest : List ℕ) → taken ≡ record { line = 0; listing = None; begun = []; failed = None } → told_with grammar taken rest ≡ listing_after grammar 0 (lines_of rest)
+told_first {E} grammar rest is = ap (λ (t : Taken E). told_with grammar t rest) is ∙ ap (λ (lines : List (List ℕ)). listing_after grammar 0 lines) (lines_first rest)
 
 -- after a refusal
 pub told_failed : {E : Type 0} (grammar : Grammar E) (taken : Taken E) (e : GrError) (rest : List ℕ) → taken.failed ≡ Some e → told_with grammar taken rest ≡ Err e
@@ -61,16 +61,16 @@ known_more bytes chunk (Some text) None later known consumes = absurd known
 known_more bytes chunk (Some text) (Some xs) None known consumes = absurd consumes
 known_more bytes chunk (Some text) (Some xs) (Some ys) known consumes = append_assoc bytes chunk ys ∙ ap (λ (rest : List ℕ). bytes ++ rest) (sym consumes) ∙ known
 
-count_more : (bytes chunk : List ℕ) (mid new : ℕ) → mid ≡ capped (line_feeds bytes) → new ≡ capped (mid + line_feeds chunk) → new ≡ capped (line_feeds (bytes ++ chunk))
-count_more bytes chunk mid new mid_is new_is = omega (arith, mid_is, new_is, feeds_both bytes chunk)
+count_more : (bytes chunk : List ℕ) {mid new : ℕ} → mid ≡ capped (line_feeds bytes) → new ≡ capped (mid + line_feeds chunk) → new ≡ capped (line_feeds (bytes ++ chunk))
+count_more bytes chunk mid_is new_is = omega (arith, mid_is, new_is, feeds_both bytes chunk)
 
-pub taken_more : {B : Type 0} (old mid new : List ℕ → Result B GrError) (line more : ℕ) (had left later : Option (List ℕ)) (chunk : List ℕ)
+pub taken_more : {B : Type 0} (old mid new : List ℕ → Result B GrError) (line : ℕ) {more : ℕ} (had left later : Option (List ℕ)) (chunk : List ℕ)
     → HasTaken old mid line had left → ((rest : List ℕ) → new rest ≡ mid (chunk ++ rest)) → more ≡ capped (line + line_feeds chunk)
     → Consumes left later chunk → HasTaken old new more had later
-taken_more old mid new line more had left later chunk taken told count consumes = (
+taken_more old mid new line {more} had left later chunk taken told count consumes = (
   taken.0 ++ chunk,
   λ rest. told rest ∙ taken.1 (chunk ++ rest) ∙ ap old (sym (append_assoc taken.0 chunk rest)),
-  count_more taken.0 chunk line more taken.2 count,
+  count_more taken.0 chunk taken.2 count,
   known_more taken.0 chunk had left later taken.3 consumes,
 )
 
@@ -91,10 +91,10 @@ stops_after taken (Some text) None e known reached nothing = absurd known
 stops_after taken (Some text) (Some rest) e known reached nothing = (taken, known, reached)
 
 -- in a piece that was taken last
-pub stops_in_piece : {B : Type 0} (old mid : List ℕ → Result B GrError) (line new : ℕ) (had left later : Option (List ℕ)) (chunk : List ℕ)
-    (e : GrError) → HasTaken old mid line had left → Consumes left later chunk → length chunk ≤ 65536
+pub stops_in_piece : {B : Type 0} (old mid : List ℕ → Result B GrError) {line new : ℕ} (had left later : Option (List ℕ)) (chunk : List ℕ)
+    {e : GrError} → HasTaken old mid line had left → Consumes left later chunk → length chunk ≤ 65536
     → IsLineReached line (line + line_feeds chunk) new e → StopsAtReached had later e
-stops_in_piece old mid line new had left later chunk e taken consumes short reached =
+stops_in_piece old mid had left later chunk {e} taken consumes short reached =
     stops_after (taken.0 ++ chunk) had later e (known_more taken.0 chunk had left later taken.3 consumes) (record {
       before = taken.0;
       last = chunk;
@@ -154,12 +154,12 @@ nothing_taken None = tt
 nothing_taken (Some text) = refl
 
 -- what is said of the end is refused by no failed read
-pub reads_at_end : {S A B : Type 0} (step : S → S → Result ℕ Error → Type 0) (remaining : S → Option (List ℕ)) {most : ℕ} {from to : S}
+pub reads_at_end : {S A B : Type 0} {step : S → S → Result ℕ Error → Type 0} {remaining : S → Option (List ℕ)} {most : ℕ} {from to : S}
     (r : Result A GrError) (old mid : List ℕ → Result B GrError) (line : ℕ) → HasTaken old mid line (remaining from) (remaining to)
     → IfErr r (IsAtEndOf line) → ReachesEnd step remaining most from to
     → ReadsToEnd step remaining most from to r
-reads_at_end step remaining (Ok x) old mid line taken refused whole = whole
-reads_at_end step remaining {from = from} {to = to} (Err e) old mid line taken refused whole = record {
+reads_at_end (Ok x) old mid line taken refused whole = whole
+reads_at_end {remaining} {from = from} {to = to} (Err e) old mid line taken refused whole = record {
   reached = stops_between old mid line (remaining from) (remaining to) e taken (λ nothing. refused.memory (wants_memory e.kind nothing refused.no_read));
   calls = ReadsWithin.reads_on refused.no_read whole.calls;
 }
@@ -182,13 +182,13 @@ within_end (Some text) (Some xs) (Some ys) after mid before within keeps ended f
 
 -- From what a reader says at first to what the text says
 
-module _ {E : Type 0} (grammar : Grammar E) (first : Taken E) (begins : first ≡ record { line = 0; listing = None; begun = []; failed = None }) where
+module _ {E : Type 0} (grammar : Grammar E) {first : Taken E} (begins : first ≡ record { line = 0; listing = None; begun = []; failed = None }) where
   pub first_fault : (had : Option (List ℕ)) (e : GrError) → IfSome had (λ text. FromText e.kind (told_with grammar first text ≡ Err e)) → IfSome had (λ text. FromText e.kind (listing_after grammar 0 (lines_of text) ≡ Err e))
   first_fault None e told = tt
-  first_fault (Some text) e told = from_text_map e.kind (λ h. sym (told_first grammar first text begins) ∙ h) told
+  first_fault (Some text) e told = from_text_map e.kind (λ h. sym (told_first grammar text begins) ∙ h) told
 
-  reading_all : {A : Type 0} (view : A → Listing E) (r : Result A GrError) (told : Result (Listing E) GrError) (text : List ℕ) → IsReading view r told → told ≡ listing_after grammar 0 (lines_of text) → IsReading view r (listing_after grammar 0 (lines_of text))
-  reading_all view r told text reading same = subst (λ (told : Result (Listing E) GrError). IsReading view r told) same reading
+  reading_all : {A : Type 0} (view : A → Listing E) (r : Result A GrError) {told : Result (Listing E) GrError} (text : List ℕ) → IsReading view r told → told ≡ listing_after grammar 0 (lines_of text) → IsReading view r (listing_after grammar 0 (lines_of text))
+  reading_all view r {told} text reading same = subst (λ (told : Result (Listing E) GrError). IsReading view r told) same reading
 
   pub told_all : {A : Type 0} (view : A → Listing E) (last : Taken E) (r : Result A GrError) (had left : Option (List ℕ))
       → HasTaken (told_with grammar first) (told_with grammar last) last.line had left → IsAtEnd left → IsReading view r (told_with grammar last [])
@@ -197,13 +197,13 @@ module _ {E : Type 0} (grammar : Grammar E) (first : Taken E) (begins : first �
   told_all view last r (Some text) None taken ended reading = absurd taken.3
   told_all view last r (Some text) (Some xs) taken ended reading =
       let whole : taken.0 ++ [] ≡ text = ap (λ (rest : List ℕ). taken.0 ++ rest) (sym ended) ∙ taken.3 in
-      reading_all view r (told_with grammar last []) text reading (taken.1 [] ∙ ap (λ (bytes : List ℕ). told_with grammar first bytes) whole ∙ told_first grammar first text begins)
+      reading_all view r text reading (taken.1 [] ∙ ap (λ (bytes : List ℕ). told_with grammar first bytes) whole ∙ told_first grammar text begins)
 
-  told_by : {A : Type 0} (view : A → Listing E) (r : Result A GrError) (told : Result (Listing E) GrError) (text : List ℕ) → told ≡ listing_after grammar 0 (lines_of text) → IsReading view r told → IfOk r (λ x. (text : List ℕ) × (listing_after grammar 0 (lines_of text) ≡ Ok (view x)))
-  told_by view (Ok x) told text same reading = (text, sym same ∙ reading)
-  told_by view (Err e) told text same reading = tt
+  told_by : {A : Type 0} (view : A → Listing E) (r : Result A GrError) {told : Result (Listing E) GrError} (text : List ℕ) → told ≡ listing_after grammar 0 (lines_of text) → IsReading view r told → IfOk r (λ x. (text : List ℕ) × (listing_after grammar 0 (lines_of text) ≡ Ok (view x)))
+  told_by view (Ok x) text same reading = (text, sym same ∙ reading)
+  told_by view (Err e) text same reading = tt
 
   pub told_some : {A : Type 0} (view : A → Listing E) (last : Taken E) (r : Result A GrError) (had left : Option (List ℕ))
       → HasTaken (told_with grammar first) (told_with grammar last) last.line had left → IsReading view r (told_with grammar last [])
       → IfOk r (λ x. (text : List ℕ) × (listing_after grammar 0 (lines_of text) ≡ Ok (view x)))
-  told_some view last r had left taken reading = told_by view r (told_with grammar last []) (taken.0 ++ []) (taken.1 [] ∙ told_first grammar first (taken.0 ++ []) begins) reading
+  told_some view last r had left taken reading = told_by view r (taken.0 ++ []) (taken.1 [] ∙ told_first grammar (taken.0 ++ []) begins) reading

@@ -26,10 +26,10 @@ road_three nodes n road u v w from to weight u_is v_is w_is is =
     (number_at n v to v_is) ∙ ap (λ (r : Result ℕ GrError). r >>= (λ weight. road_in_range nodes n from to weight)) (number_at n w weight w_is)
     ∙ is
 
-pub road_before : (size : Size) (n : ℕ) (text rest after_u after_v after_w : List ℕ) (from to weight : ℕ) (road : Road) → text ≡ 97 ∷ 32 ∷ rest
+pub road_before : (size : Size) (n : ℕ) {text rest after_u after_v after_w : List ℕ} {from to weight : ℕ} (road : Road) → text ≡ 97 ∷ 32 ∷ rest
     → IsNumberBefore 32 rest from after_u → IsNumberBefore 32 after_u to after_v → IsNumberBefore 10 after_v weight after_w
     → road_in_range size.nodes n from to weight ≡ Ok road → IsEntryBefore graph_grammar size n text road after_w
-road_before size n text rest after_u after_v after_w from to weight road text_is u v w is =
+road_before size n {rest} {after_u} {after_v} {after_w} {from} {to} {weight} road text_is u v w is =
     let fields : List (List ℕ) = u.field ∷ v.field ∷ w.field ∷ [] in
     let u_is = spelled u.field from u.spells in
     let v_is = spelled v.field to v.spells in
@@ -51,10 +51,10 @@ unfolding pair_of
 pair_two nodes n pair u v source target u_is v_is is =
     ap (λ (r : Result ℕ GrError). r >>= (λ source. number_in n v >>= (λ target. pair_in_range nodes n source target))) (number_at n u source u_is) ∙ ap (λ (r : Result ℕ GrError). r >>= (λ target. pair_in_range nodes n source target)) (number_at n v target v_is) ∙ is
 
-pub pair_before : (nodes : ℕ) (size : Size) (n : ℕ) (text rest after_u after_v : List ℕ) (source target : ℕ) (pair : ℕ × ℕ) → text ≡ 113 ∷ 32 ∷ rest
+pub pair_before : (nodes : ℕ) (size : Size) (n : ℕ) {text rest after_u after_v : List ℕ} {source target : ℕ} (pair : ℕ × ℕ) → text ≡ 113 ∷ 32 ∷ rest
     → IsNumberBefore 32 rest source after_u → IsNumberBefore 10 after_u target after_v → pair_in_range size.nodes n source target ≡ Ok pair
     → IsEntryBefore (pair_grammar nodes) size n text pair after_v
-pair_before nodes size n text rest after_u after_v source target pair text_is u v is =
+pair_before nodes size n {rest} {after_u} {after_v} {source} {target} pair text_is u v is =
     let fields : List (List ℕ) = u.field ∷ v.field ∷ [] in
     let u_is = spelled u.field source u.spells in
     let v_is = spelled v.field target v.spells in

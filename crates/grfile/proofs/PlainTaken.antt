@@ -31,8 +31,8 @@ cut_line begun (b ∷ line) rest none =
     cond-false (eqb b 10) (begun ∷ cut_after [] (line ++ 10 ∷ rest)) (cut_after (begun ++ b ∷ []) (line ++ 10 ∷ rest)) free.0 ∙ cut_line (begun ++ b ∷ []) line rest free.1 ∙ ap (λ (first : List ℕ). first ∷ cut_after [] rest) (append_assoc begun (b ∷ []) line)
 
 -- the lines of a text that begins with this one
-lines_front : (text line rest more : List ℕ) → text ≡ line ++ 10 ∷ rest → line_feeds line ≡ 0 → lines_after [] (text ++ more) ≡ strip_carriage_return line ∷ lines_after [] (rest ++ more)
-lines_front text line rest more text_is none =
+lines_front : {text : List ℕ} (line rest more : List ℕ) → text ≡ line ++ 10 ∷ rest → line_feeds line ≡ 0 → lines_after [] (text ++ more) ≡ strip_carriage_return line ∷ lines_after [] (rest ++ more)
+lines_front line rest more text_is none =
     ap (λ (t : List ℕ). lines_after [] (t ++ more)) text_is ∙ ap (λ (t : List ℕ). lines_after [] t) (append_assoc line (10 ∷ rest) more) ∙ ap (λ (lines : List (List ℕ)). map strip_carriage_return lines) (cut_line [] line (rest ++ more) none)
 
 module _ {E : Type 0} (grammar : Grammar E) (n : ℕ) (listing : Listing E) (fields : List (List ℕ)) (entry : E) (rest : List (List ℕ)) where
@@ -60,7 +60,7 @@ module _ {E : Type 0} (grammar : Grammar E) (n number : ℕ) (old new : Listed E
             ∙ ap (λ (m : ℕ). entry_then grammar m (listing_of old) fields after) number_is
             ∙ sym (step-entry grammar n line fields after (listing_of old) (record { kind_is = plain.kind_is; more_are = refl }))
             ∙ sym (ap (λ (lines : List (List ℕ)). listing_from grammar n (Some (listing_of old)) lines)
-            (lines_front text plain.line rest more plain.text_is plain.one_line));
+            (lines_front plain.line rest more plain.text_is plain.one_line));
         line = number_is;
         feeds = omega (arith, feeds, plain.one_line);
         shorter = omega (arith, long, length-append plain.line (10 ∷ rest));

@@ -35,18 +35,18 @@ pub record IsRead {E : Type 0} (grammar : Grammar E) (line : List ℕ) (kind : L
   pub kind_is : kind_of grammar.letter (fields_of line) ≡ kind
   pub more_are : drop 1 (fields_of line) ≡ more
 
-pub read_first : {E : Type 0} (grammar : Grammar E) (line : List ℕ) (letter : ℕ) (fields more : List (List ℕ)) (first : List ℕ)
-    (found kind : LineKind) → letter ≡ grammar.letter → fields ≡ fields_of line → fields ≡ first ∷ more
+pub read_first : {E : Type 0} (grammar : Grammar E) (line : List ℕ) {letter : ℕ} {fields : List (List ℕ)} (more : List (List ℕ)) (first : List ℕ)
+    {found kind : LineKind} → letter ≡ grammar.letter → fields ≡ fields_of line → fields ≡ first ∷ more
     → ((rest : List (List ℕ)) → found ≡ kind_of letter (first ∷ rest)) → found ≡ kind → IsRead grammar line kind more
-read_first grammar line letter fields more first found kind letter_is fields_are parts found_is kind_is =
+read_first grammar line more first {kind} letter_is fields_are parts found_is kind_is =
     let whole : fields_of line ≡ first ∷ more = sym fields_are ∙ parts in
     record {
       kind_is = rw whole (subst (λ (l : ℕ). kind_of l (first ∷ more) ≡ kind) letter_is (sym (found_is more) ∙ kind_is));
       more_are = ap (drop 1) whole;
     }
 
-pub read_nothing : {E : Type 0} (grammar : Grammar E) (line : List ℕ) (fields : List (List ℕ)) → fields ≡ fields_of line → fields ≡ [] → IsRead grammar line Skipped []
-read_nothing grammar line fields fields_are none =
+pub read_nothing : {E : Type 0} (grammar : Grammar E) (line : List ℕ) {fields : List (List ℕ)} → fields ≡ fields_of line → fields ≡ [] → IsRead grammar line Skipped []
+read_nothing grammar line fields_are none =
     let whole : fields_of line ≡ [] = sym fields_are ∙ none in
     record { kind_is = rw whole refl; more_are = ap (drop 1) whole }
 
@@ -121,11 +121,11 @@ some_of None some = absurd (false≢true some)
 some_of (Some x) some = (x, refl)
 
 module _ {E : Type 0} (grammar : Grammar E) (n : ℕ) (line : List ℕ) (more : List (List ℕ)) (o : Option (Listed E)) (rest : List (List ℕ)) where
-  pub step-opens : (size : Size) (entries : List E) → is_some o ≡ false → IsRead grammar line Problem more
+  pub step-opens : (size : Size) {entries : List E} → is_some o ≡ false → IsRead grammar line Problem more
       → grammar.size_of (next_line n) more ≡ Ok size → entries ≡ []
       → listing_from grammar (next_line n) (Some (record { size = size; entries = entries })) rest ≡ listing_from grammar n (option_map listing_of o)
       (line ∷ rest)
-  step-opens size entries none read says empty =
+  step-opens size {entries} none read says empty =
       rw (empty, none_of o none) (sym (step-problem grammar n line more rest read ∙ ap (λ (r : Result Size GrError). r >>= (λ size. listing_from grammar (next_line n) (Some (record { size = size; entries = [] })) rest)) says))
 
   pub step-refuses : (e : GrError) → is_some o ≡ false → IsRead grammar line Problem more → grammar.size_of (next_line n) more ≡ Err e → listing_from grammar n (option_map listing_of o) (line ∷ rest) ≡ Err e
@@ -150,12 +150,12 @@ taken_along {B = B} (Err e) old new old' new' taken olds news = λ rest. subst (
 -- The end of a text
 
 module _ {E : Type 0} (grammar : Grammar E) (n : ℕ) where
-  pub ends-none : (o : Option (Listed E)) (d e : GrError) → d ≡ record { kind = NoProblemLine; line = n } → ok_or o d ≡ Err e → FromText e.kind (listing_from grammar n (option_map listing_of o) [] ≡ Err e)
+  pub ends-none : (o : Option (Listed E)) {d : GrError} (e : GrError) → d ≡ record { kind = NoProblemLine; line = n } → ok_or o d ≡ Err e → FromText e.kind (listing_from grammar n (option_map listing_of o) [] ≡ Err e)
   unfolding listing_after
-  ends-none None d e d_is none =
+  ends-none None e d_is none =
       let e_is : record { kind = NoProblemLine; line = n } ≡ e = cc in
       subst (λ (e : GrError). FromText e.kind (listing_from grammar n None [] ≡ Err e)) e_is refl
-  ends-none (Some listed) d e d_is none = absurd (cc)
+  ends-none (Some listed) e d_is none = absurd (cc)
 
   pub ends-short : (listing : Listing E) → length listing.entries < listing.size.entries → listing_from grammar n (Some listing) [] ≡ fault ArcCount n
   unfolding entries_after

@@ -8,7 +8,7 @@ use Rattle.grfile.proofs.graph_reader.read_graph_within.Goals as goal
 
 pub returns-in_err-size : goal.returns-in_err-size
 returns-in_err-size g c = record {
-  reads = text_refused graph_text g.R.StepRead.step g.R.Read.remaining (λ (g : Graph). g) c.from_residual.result _ c.from_residual.ensures.1 c.in_err-size.ensures.told c.in_err-size.ensures.reads c.in_err-size.ensures.before;
+  reads = text_refused graph_text (λ (g : Graph). g) c.from_residual.result c.from_residual.ensures.1 c.in_err-size.ensures.told c.in_err-size.ensures.reads c.in_err-size.ensures.before;
 }
 
 pub new-requires : goal.new-requires
@@ -17,5 +17,5 @@ new-requires g c = let listed = c.in_ok-size.ensures.listed in
 
 pub returns : goal.returns
 returns g c = record {
-  reads = text_read graph_text g.R.StepRead.step g.R.Read.remaining (λ (g : Graph). g) _ c.new.result c.in_ok-size.ensures.told (ap (λ (g : Graph). Ok g) (sym c.new.ensures)) c.in_ok-size.ensures.reads;
+  reads = text_read graph_text (λ (g : Graph). g) _ c.new.result c.in_ok-size.ensures.told (ap (λ (g : Graph). Ok g) (sym c.new.ensures)) c.in_ok-size.ensures.reads;
 }

@@ -10,16 +10,16 @@ returns-in_default c =
 pub returns-in_err-source : goal.returns-in_err-source
 returns-in_err-source c =
     let exit = err_from_is_err_and c.from_residual.result c.from_residual.ensures.1 in
-    let read = pair_of-two c.args.nodes c.args.line c.args.fields _ _ c.ranges.nodes.fits c.in-Some.ensures in
+    let read = pair_of-two c.args.nodes c.args.line _ _ c.ranges.nodes.fits c.in-Some.ensures in
     rw (exit.1, exit.2, read, sym c.number_in.ensures ∙ c.in_err-source.was) refl
 
 pub returns-in_err-target : goal.returns-in_err-target
 returns-in_err-target c =
     let exit = err_from_is_err_and c.from_residual-in_err-target.result c.from_residual-in_err-target.ensures.1 in
-    let read = pair_of-two c.args.nodes c.args.line c.args.fields _ _ c.ranges.nodes.fits c.in-Some.ensures in
+    let read = pair_of-two c.args.nodes c.args.line _ _ c.ranges.nodes.fits c.in-Some.ensures in
     rw (exit.1, exit.2, read, sym c.number_in.ensures ∙ c.in_ok-source.was, sym c.number_in-2.ensures ∙ c.in_err-target.was) refl
 
 pub returns : goal.returns
 returns c =
-    let read = pair_of-two c.args.nodes c.args.line c.args.fields _ _ c.ranges.nodes.fits c.in-Some.ensures in
+    let read = pair_of-two c.args.nodes c.args.line _ _ c.ranges.nodes.fits c.in-Some.ensures in
     rw (c.pair_in_range.ensures, read, sym c.number_in.ensures ∙ c.in_ok-source.was, sym c.number_in-2.ensures ∙ c.in_ok-target.was) refl

@@ -13,4 +13,4 @@ returns-in-Err-clause-before g c = λ fresh.
     let grammar = g.F.Form.grammar c.args.form in
     let old = taken_of c.args.pieces.now in
     let judged = λ (rest : List ℕ). told_with grammar old (c.args.piece.now ++ rest) in
-    IfErr-at_err (IsReadTo grammar judged) c.in-Err.is (IfErr-weaker c.take-answer.result _ (IsReadTo grammar judged) (λ e to. read_then grammar judged _ e (λ rest. told_fresh grammar old (c.args.piece.now ++ rest) fresh) to) c.take-answer.ensures.before)
+    IfErr-at_err (IsReadTo grammar judged) c.in-Err.is (IfErr-weaker c.take-answer.result _ (IsReadTo grammar judged) (λ e to. read_then grammar judged (λ rest. told_fresh grammar old (c.args.piece.now ++ rest) fresh) to) c.take-answer.ensures.before)

@@ -24,7 +24,7 @@ loop-count-preserved g c =
     record {
       fresh = c.in_ok-feed.ensures.stays ∙ kept.fresh;
       told = taken_more (told_with grammar (taken_of c.args.pieces.now)) (told_with grammar (taken_of c.loop-count.pieces))
-          (told_with grammar (taken_of c.feed.new.pieces)) c.loop-count.pieces.progress.line c.feed.new.pieces.progress.line had left later chunk kept.told c.in_ok-feed.ensures.takes
+          (told_with grammar (taken_of c.feed.new.pieces)) c.loop-count.pieces.progress.line had left later chunk kept.told c.in_ok-feed.ensures.takes
           (c.in_ok-feed.ensures.lines kept.fresh) given.1;
       few = within_more had left later chunk c.read_piece.new.calls.left c.loop-count.calls.left _ kept.few given.1 short c.in_ok-count.ensures.counted;
       calls = read_then g.R.StepRead.step kept.calls c.in_ok-count.ensures.calls;
@@ -42,8 +42,8 @@ returns-in_err-feed-clause-reads g c =
     let reached = c.in_err-feed.ensures.lines kept.fresh in
     rw (exit.1, exit.2) (record {
       reached = stops_in_piece (told_with grammar (taken_of c.args.pieces.now))
-          (told_with grammar (taken_of c.loop-count.pieces)) c.loop-count.pieces.progress.line _ (g.R.Read.remaining c.args.reader.now)
-          (g.R.Read.remaining c.loop-count.reader) (g.R.Read.remaining c.read_piece.new.reader) chunk _ kept.told given.1 short reached;
+          (told_with grammar (taken_of c.loop-count.pieces)) (g.R.Read.remaining c.args.reader.now)
+          (g.R.Read.remaining c.loop-count.reader) (g.R.Read.remaining c.read_piece.new.reader) chunk kept.told given.1 short reached;
       calls = refused_after step (read_then step kept.calls c.in_ok-count.ensures.calls) reached.no_read;
     })
 
@@ -126,4 +126,4 @@ returns-in_err-feed-clause-before g c =
     let first = taken_of c.args.pieces.now in
     let e = c.in_err-feed.field-0.0 in
     rw (exit.1, exit.2) (stops_there (ReadTo grammar (told_with grammar first)) (kept.told.0 ++ chunk) had later e (known_more kept.told.0 chunk had (g.R.Read.remaining c.loop-count.reader) later kept.told.3 given.1)
-    (λ _. read_in_piece grammar first (taken_of c.loop-count.pieces) kept.told.0 chunk e kept.told.1 (c.in_err-feed.ensures.before kept.fresh)))
+    (λ _. read_in_piece grammar first (taken_of c.loop-count.pieces) kept.told.0 chunk kept.told.1 (c.in_err-feed.ensures.before kept.fresh)))

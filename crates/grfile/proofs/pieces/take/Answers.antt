@@ -11,7 +11,7 @@ use Rattle.grfile.proofs.pieces.take.Goals as goal
 pub returns-in_err-rest-clause-lines : goal.returns-in_err-rest-clause-lines
 returns-in_err-rest-clause-lines g c =
     let exit = err_from_is_err_and c.from_residual-in_err-rest.result c.from_residual-in_err-rest.ensures.1 in
-    rw (exit.1, exit.2) (counts_after c.args.progress.now.line _ _ _ _ _ c.in_ok-end_line.ensures.lines c.in-Some.ensures.feeds c.in_err-rest.ensures.lines)
+    rw (exit.1, exit.2) (counts_after c.args.progress.now.line _ c.in_ok-end_line.ensures.lines c.in-Some.ensures.feeds c.in_err-rest.ensures.lines)
 
 pub returns-clause-lines : goal.returns-clause-lines
 returns-clause-lines g c =
@@ -40,7 +40,7 @@ pub returns-in_err-rest-clause-before : goal.returns-in_err-rest-clause-before
 returns-in_err-rest-clause-before g c =
     let exit = err_from_is_err_and c.from_residual-in_err-rest.result c.from_residual-in_err-rest.ensures.1 in
     let grammar = g.F.Form.grammar c.args.form in
-    rw (exit.1, exit.2) (read_then grammar _ _ _ (λ rest. ap (λ (lines : List (List ℕ)). told_from grammar c.args.progress.now (map strip_carriage_return lines)) (c.in-Some.ensures.lines c.args.begun.now.items rest) ∙ sym (c.in_ok-end_line.ensures.takes _)) c.in_err-rest.ensures.before)
+    rw (exit.1, exit.2) (read_then grammar _ (λ rest. ap (λ (lines : List (List ℕ)). told_from grammar c.args.progress.now (map strip_carriage_return lines)) (c.in-Some.ensures.lines c.args.begun.now.items rest) ∙ sym (c.in_ok-end_line.ensures.takes _)) c.in_err-rest.ensures.before)
 
 pub returns-clause-before : goal.returns-clause-before
 returns-clause-before g c =

@@ -7,10 +7,10 @@ use Rattle.grfile.proofs.query_reader.read_queries_within.Goals as goal
 
 pub returns-in_err-listed-clause-reads : goal.returns-in_err-listed-clause-reads
 returns-in_err-listed-clause-reads g c =
-    text_refused (pairs_text c.args.nodes) g.R.StepRead.step g.R.Read.remaining (λ v. v.items) c.from_residual.result _ c.from_residual.ensures.1 c.in_err-listed.ensures.told c.in_err-listed.ensures.reads c.in_err-listed.ensures.before
+    text_refused (pairs_text c.args.nodes) (λ v. v.items) c.from_residual.result c.from_residual.ensures.1 c.in_err-listed.ensures.told c.in_err-listed.ensures.reads c.in_err-listed.ensures.before
 
 pub returns-clause-reads : goal.returns-clause-reads
-returns-clause-reads g c = text_read (pairs_text c.args.nodes) g.R.StepRead.step g.R.Read.remaining (λ v. v.items) _ c.in_ok-listed.listed.entries c.in_ok-listed.ensures.told refl c.in_ok-listed.ensures.reads
+returns-clause-reads g c = text_read (pairs_text c.args.nodes) (λ v. v.items) _ c.in_ok-listed.listed.entries c.in_ok-listed.ensures.told refl c.in_ok-listed.ensures.reads
 
 pub returns-clause-in_range : goal.returns-clause-in_range
 returns-clause-in_range g c = let listed = c.in_ok-listed.ensures.listed in

@@ -9,7 +9,7 @@ use Rattle.grfile.proofs.Readings.{as_graph, graph_seen, graph_sound}
 use Rattle.grfile.proofs.graph_reader.GrReader.new.Goals as goal
 
 pub returns-clause-told : goal.returns-clause-told
-returns-clause-told c = λ rest. ap (λ (told : Result (Listing Road) GrError). told >>= as_graph) (told_first graph_grammar _ rest c.new.ensures) ∙ graph_seen rest
+returns-clause-told c = λ rest. ap (λ (told : Result (Listing Road) GrError). told >>= as_graph) (told_first graph_grammar rest c.new.ensures) ∙ graph_seen rest
 
 pub invariant_of-result : goal.invariant_of-result
-invariant_of-result c = λ rest g is. graph_sound rest g (sym (ap (λ (told : Result (Listing Road) GrError). told >>= as_graph) (told_first graph_grammar _ rest c.new.ensures) ∙ graph_seen rest) ∙ is)
+invariant_of-result c = λ rest g is. graph_sound rest g (sym (ap (λ (told : Result (Listing Road) GrError). told >>= as_graph) (told_first graph_grammar rest c.new.ensures) ∙ graph_seen rest) ∙ is)

@@ -8,7 +8,7 @@ use Rattle.grfile.proofs.Readings.{as_pairs, pairs_seen, pairs_sound}
 use Rattle.grfile.proofs.query_reader.QueryReader.new.Goals as goal
 
 pub returns-clause-told : goal.returns-clause-told
-returns-clause-told c = λ rest. ap (λ (told : Result (Listing (ℕ × ℕ)) GrError). told >>= as_pairs) (told_first (pair_grammar c.args.nodes) _ rest c.new.ensures) ∙ pairs_seen c.args.nodes rest
+returns-clause-told c = λ rest. ap (λ (told : Result (Listing (ℕ × ℕ)) GrError). told >>= as_pairs) (told_first (pair_grammar c.args.nodes) rest c.new.ensures) ∙ pairs_seen c.args.nodes rest
 
 pub invariant_of-result : goal.invariant_of-result
-invariant_of-result c = λ rest pairs is. pairs_sound c.args.nodes rest pairs (sym (ap (λ (told : Result (Listing (ℕ × ℕ)) GrError). told >>= as_pairs) (told_first (pair_grammar c.args.nodes) _ rest c.new.ensures) ∙ pairs_seen c.args.nodes rest) ∙ is)
+invariant_of-result c = λ rest pairs is. pairs_sound c.args.nodes rest pairs (sym (ap (λ (told : Result (Listing (ℕ × ℕ)) GrError). told >>= as_pairs) (told_first (pair_grammar c.args.nodes) rest c.new.ensures) ∙ pairs_seen c.args.nodes rest) ∙ is)
