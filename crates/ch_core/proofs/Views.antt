@@ -1,8 +1,8 @@
 -- Worlds where the view of a worker is another one.
-use Rattle.std.proofs.Common.{ℕ, ◌≡◌, ◌≢◌, ◌<◌, [], length, set, Some, None, ap, sym, subst, refl, ◌∙◌, inl, inr}
+use Rattle.std.proofs.Common.{ℕ, ◌≡◌, ◌≢◌, ◌<◌, [], length, set, Some, None, ap, sym, subst, ◌∙◌, inl, inr}
 use Rattle.std.proofs.lemmas.Bool.{cases_eq}
 use Rattle.std.proofs.lemmas.List.{length-set, get_or-set_same, get_or-set_other}
-use Rattle.ch_core.specs.World.{World, View, Standing, IsIn, has, stands_at, view_of, IsRead, IsForgotten}
+use Rattle.ch_core.specs.World.{World, View, Standing, IsIn, has, stands_at, view_of}
 use Rattle.ch_core.specs.Keeping.{IsWorld}
 use Rattle.ch_core.proofs.Kept.{world_with}
 
@@ -42,26 +42,6 @@ module _ (w : World) (k : ℕ) (v : View) where
           | inr apart ↦ is.views k x s (sym (others x apart) ∙ there)
         ]
 
-    pub read_is : IsRead w k node t.version (with_view w k v)
-    read_is = record {
-      in_range = inside;
-      row = t.row;
-      listed = listed;
-      ledger = refl;
-      book = refl;
-      workers = length-set w.views k v;
-      shown = has_here inside node ∙ shown;
-      others = each;
-    }
-      where
-        each : (j x : ℕ) → ((j ≡ k) × (x ≡ node) → ⊥) → has (with_view w k v) j x ≡ has w j x
-        each j x apart = elim (cases_eq j k) [
-          | inl same ↦
-              let other : x ≢ node = λ e. apart (same, e) in
-              ap (λ i. has (with_view w k v) i x) same ∙ has_here inside x ∙ others x other ∙ ap (λ i. has w i x) (sym same)
-          | inr away ↦ has_elsewhere j x away
-        ]
-
 -- a worker without rows
 module _ (w : World) (k : ℕ) (inside : k < length w.views) where
   pub world_forgets : IsWorld w → IsWorld (with_view w k [])
@@ -69,13 +49,3 @@ module _ (w : World) (k : ℕ) (inside : k < length w.views) where
     where
       nothing : (s : Standing) → None ≡ Some s → ⊥
       nothing s e = cc
-
-  pub forgotten_is : IsForgotten w k (with_view w k [])
-  forgotten_is = record {
-    in_range = inside;
-    ledger = refl;
-    book = refl;
-    workers = length-set w.views k [];
-    nothing = λ x. has_here w k [] inside x;
-    others = λ j x apart. has_elsewhere w k [] j x apart;
-  }

@@ -15,10 +15,6 @@ pub rising_more : (low : ℕ) (vs : List ℕ) (mid v : ℕ) → IsRising low vs 
 rising_more low [] mid v h k = (omega (arith, h, k), omega arith)
 rising_more low (w ∷ vs) mid v h k = (h.0, rising_more (w + 1) vs mid v h.1 k)
 
-pub rising_end : (low : ℕ) (vs : List ℕ) (mid high : ℕ) → IsRising low vs mid → mid ≤ high → IsRising low vs high
-rising_end low [] mid high h k = omega (arith, h, k)
-rising_end low (w ∷ vs) mid high h k = (h.0, rising_end (w + 1) vs mid high h.1 k)
-
 pub rising_high : (low : ℕ) (vs : List ℕ) (high : ℕ) → IsRising low vs high → low ≤ high
 rising_high low [] high h = h
 rising_high low (v ∷ vs) high h = let rest : v + 1 ≤ high = rising_high (v + 1) vs high h.1 in let first = h.0 in omega (arith, rest, first)
