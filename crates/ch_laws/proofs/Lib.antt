@@ -15,6 +15,5 @@ pub mod Start
 pub mod WholeRun
 pub mod AliveRows
 pub mod StartRows
-pub mod OneMade
 pub mod ByVerdicts
 pub mod ByWeight

@@ -72,7 +72,3 @@ GoesOn = (g : Graph) (log : List Contraction) (s : State) (v : ℕ) → IsGraph 
 -- contractions of each graph go on to the end, and a hierarchy is made
 abbrev pub HasRun : Type 0
 HasRun = (g : Graph) → IsGraph g → (log : List Contraction) × (s : State) × (h : Hierarchy) × IsReached g log s × IsOver s × IsMade g s h
-
--- a state that is over has one hierarchy
-abbrev pub MadeIsUnique : Type 0
-MadeIsUnique = (g : Graph) (log : List Contraction) (s : State) (h k : Hierarchy) → IsGraph g → IsReached g log s → IsOver s → IsMade g s h → IsMade g s k → h ≡ k

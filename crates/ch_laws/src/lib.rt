@@ -30,9 +30,7 @@ pub use contraction::{
     verdicts_are_lawful,
 };
 pub use entry::Entry;
-pub use right::{
-    made_hierarchy_is_unique, reached_hierarchy_is_right, reached_hierarchy_is_well_made,
-};
+pub use right::{reached_hierarchy_is_right, reached_hierarchy_is_well_made};
 pub use routes::{bounds_fit, least_route_is_a_least_walk, least_route_is_never_too_long};
 pub use rows::{
     rows_are_the_state, rows_of_alive_nodes_show_what_remains, rows_of_least_arcs_are_the_start,

@@ -1,4 +1,4 @@
-ghost use Rattle.ch_laws.specs.Theorems.{AlwaysRight, AlwaysWellMade, MadeIsUnique};
+ghost use Rattle.ch_laws.specs.Theorems.{AlwaysRight, AlwaysWellMade};
 
 use ch_graph::links_unfold;
 
@@ -13,9 +13,4 @@ pub fn reached_hierarchy_is_right()
 /// And it is well made, so a file can hold it.
 pub fn reached_hierarchy_is_well_made()
     ensures { AlwaysWellMade }
-{}
-
-/// And it is the only one that is made of the state.
-pub fn made_hierarchy_is_unique()
-    ensures { MadeIsUnique }
 {}
