@@ -23,11 +23,16 @@ pub fn bound() -> Cost
     Cost::of_arcs((1 << 25) - 1, u32::MAX)
 }
 
+/// The cost of a walk of this length and this many arcs.
+fn cost_of(length: u64, arcs: u32) -> NarrowCost {
+    NarrowCost::of(Cost::of_walk(length, u64::from(arcs)))
+}
+
 /// Returns the entry of an arc, without a middle.
 pub fn entry((other, (length, arcs)): Given) -> Entry {
     Entry {
         other,
-        cost: NarrowCost::of_walk(length, arcs),
+        cost: cost_of(length, arcs),
         middle: Middle::NONE,
     }
 }
@@ -121,6 +126,6 @@ pub fn are_sound(rows: &[Arc<Row>], bound: Cost) -> bool
 pub fn are(entries: &[Entry], expected: Entries<'_>) -> bool {
     entries.len() == expected.len()
         && entries.iter().zip(expected).all(|(entry, (other, (length, arcs)))| {
-            (entry.other == *other) & (entry.cost == NarrowCost::of_walk(*length, *arcs))
+            (entry.other == *other) & (entry.cost == cost_of(*length, *arcs))
         })
 }
