@@ -23,27 +23,24 @@ pub struct Lanes<const N: usize> {
 }
 
 impl<const N: usize> Lanes<N> {
-    /// Takes the memory of labels at so many places.
-    pub fn new(alloc: Global, places: usize) -> Result<Lanes<N>, AllocError>
-        requires { N ≤ 8 }
-        ensures { IfOk result (λ l. HaveLanes places N l.labels.items) }
-    {
-        Ok(Lanes {
-            labels: vec![in alloc; [0; N]; places]?,
+    /// No labels yet. Takes no memory.
+    pub fn new(alloc: Global) -> Lanes<N> {
+        Lanes {
+            labels: Vec::new(alloc),
             climbs: Vec::new(alloc),
-        })
+        }
     }
 
-    /// Makes all labels far: no climb is known in any lane.
-    pub fn clear(&mut self, bound: Cost)
-        requires { length_of bound ≤ 2 ^ 62 }
-        ensures count { length self.new.labels.items ≡ length self.old.labels.items }
-        ensures far { All (λ (row : List ℕ). row ≡ replicate N (far bound)) self.new.labels.items }
+    /// Begins with labels at so many places, all far: no climb is known in any lane.
+    pub fn begin(&mut self, places: usize, bound: Cost) -> Result<(), AllocError>
+        requires few { N ≤ 8 }
+        requires limit { length_of bound ≤ 2 ^ 62 }
+        ensures count { OnOk result (length self.new.labels.items ≡ places) }
+        ensures far { OnOk result (All (λ (row : List ℕ). row ≡ replicate N (far bound)) self.new.labels.items) }
     {
         let far = [bound.length() + 1; N];
-        'places: for place in 0..self.labels.len() {
-            self.labels[place] = far;
-        }
+        self.labels.clear();
+        self.labels.resize(places, far)
     }
 
     /// Climbs from some starts, and labels the places of the nodes that it comes to in a lane, in which all is far.
@@ -92,12 +89,11 @@ impl<const N: usize> Lanes<N> {
         requires room { length sources.now ≤ N }
         requires bound { IsSummable bound }
         requires limit { length_of bound ≤ 2 ^ 62 }
-        requires lanes { HaveLanes (length columns.now.ranks.items) N self.old.labels.items }
-        ensures lanes { HaveLanes (length columns.now.ranks.items) N self.new.labels.items }
+        ensures lanes { OnOk result (HaveLanes (length columns.now.ranks.items) N self.new.labels.items) }
         ensures raised { OnOk result (AreRaisedTo search.old (λ j. free (slice_index sources.now j) ∷ []) bound columns.now.ranks.items N self.new.labels.items (length sources.now)) }
         ensures kept { search.new ≡ search.old }
     {
-        self.clear(bound);
+        self.begin(columns.ranks.len(), bound)?;
         'lanes: for lane in 0..sources.len() {
             let start = [free(sources[lane])];
             self.climb(search, columns, &start, bound, lane)?;
@@ -119,9 +115,7 @@ impl<const N: usize> Lanes<N> {
         requires sources { All (λ s. s < length search.old.ranks) sources.now }
         requires few { N ≤ 8 }
         requires block { length sources.now ≤ N }
-        requires lanes { HaveLanes (length columns.now.ranks.items) N self.old.labels.items }
         requires room { from + length sources.now * length columns.now.targets.items ≤ length rows.old }
-        ensures lanes { HaveLanes (length columns.now.ranks.items) N self.new.labels.items }
         ensures rows { OnOk result (AreRows (IsLengthFrom search.old) sources.now columns.now.targets.items from (length sources.now) rows.old rows.new) }
         ensures refused { OnErr result (rows.new ≡ rows.old) }
         ensures kept { search.new ≡ search.old }

@@ -150,8 +150,8 @@ fn fill_from<H: HierarchyRef>(
     ensures kept { search.new ≡ search.old }
 {
     ways_are_walks();
-    let mut lanes = Lanes::<1>::new(*columns.ranks.allocator(), columns.ranks.len())?;
-    lanes.clear(bound);
+    let mut lanes = Lanes::<1>::new(*columns.ranks.allocator());
+    lanes.begin(columns.ranks.len(), bound)?;
     lanes.climb(search, columns, starts, bound, 0)?;
     let hierarchy = search.hierarchy();
     let _well_made = hierarchy.nodes();
@@ -185,7 +185,7 @@ fn fill<const N: usize, H: HierarchyRef>(
     ensures kept { search.new ≡ search.old }
 {
     let width = columns.targets.len();
-    let mut lanes = Lanes::<N>::new(*columns.ranks.allocator(), columns.ranks.len())?;
+    let mut lanes = Lanes::<N>::new(*columns.ranks.allocator());
     let mut done = 0;
     'blocks: while done < sources.len() {
         let count = (sources.len() - done).min(N);

@@ -26,7 +26,7 @@ write-requires g c =
     let own : length (take ((done + count) - done) (drop done sources)) * length targets ≡ c.min-count.result * length targets = ap (λ x. x * length targets) many in
     let room : (c.args.from + c.blocks-2.done * c.len-width.result) + length (take ((done + count) - done) (drop done sources)) * length targets ≤ length c.blocks-2.rows =
     omega (arith, width, up, parts, own, c.requires.room, c.blocks-2.invariant.rows.room) in
-    (omega arith, (selection, (nodes, (c.requires.few, (block, (c.blocks-2.invariant.lanes, room))))))
+    (omega arith, (selection, (nodes, (c.requires.few, (block, room)))))
 
 pub blocks-2-preserved : goal.blocks-2-preserved
 blocks-2-preserved g c =
@@ -45,7 +45,6 @@ blocks-2-preserved g c =
     (subst (λ (k : Hierarchy). AreRows (IsLengthFrom k) block targets (c.args.from + done * c.len-width.result) (length block) c.blocks-2.rows c.write.new.rows) c.blocks-2.invariant.search c.in_ok-write.ensures.rows)) in
     record {
       search = c.in_ok-write.ensures.kept ∙ c.blocks-2.invariant.search;
-      lanes = c.in_ok-write.ensures.lanes;
       within = within;
       rows = rows-more block done count c.args.rows.now c.blocks-2.rows c.write.new.rows (λ i low. block-at sources done count within i 0 low) own c.blocks-2.invariant.rows;
     }

@@ -1,12 +1,10 @@
 use Rattle.std.proofs.Common.{◌≡◌, ◌-◌, ◌≤◌, length}
-use Rattle.ch_table.specs.Labels.{HaveLanes}
 use Rattle.ch_table.specs.Lengths.{AreRows, IsLengthFrom}
 use Rattle.ch_table.proofs.selection.fill.Given as goal
 
 abbrev pub invariant-blocks-2 : goal.invariant-blocks-2
 invariant-blocks-2 g l = record {
   search : l.search ≡ l.fn.search;
-  lanes : HaveLanes (length l.columns.ranks.items) g.row.N l.lanes.labels.items;
   within : l.done ≤ length l.sources;
   rows : AreRows (IsLengthFrom l.fn.search) l.sources l.columns.targets.items l.from l.done l.initial.rows l.rows;
 }

@@ -19,9 +19,9 @@ sweep-requires g c =
       bound = c.requires.limit;
     } in
     let all = λ (j : ℕ). c.args.starts.now in
-    let count : length c.clear.new.self.labels.items ≡ length ranks = omega (arith, c.clear.ensures.count, c.in_ok-lanes.ensures.count, c.len.ensures, c.args.columns.now.ranks.ok) in
+    let count : length c.begin.new.self.labels.items ≡ length ranks = omega (arith, c.in_ok-begin.ensures.count, c.len.ensures, c.args.columns.now.ranks.ok) in
     let raised : AreRaisedTo c.args.search.now all c.args.bound ranks 1 c.climb.new.self.labels.items (0 + 1) =
-    c.in_ok-climb.ensures.raised all refl (raised-far c.args.search.now all c.args.bound ranks 1 c.clear.new.self.labels.items count c.clear.ensures.far) in
+    c.in_ok-climb.ensures.raised all refl (raised-far c.args.search.now all c.args.bound ranks 1 c.begin.new.self.labels.items count c.in_ok-begin.ensures.far) in
     let labels = sym c.as_mut_slice-labels.ensures.value in
     let lanes = subst (λ (labels : List (List ℕ)). HaveLanes (length ranks) 1 labels) labels c.in_ok-climb.ensures.lanes in
     let small = subst (λ (labels : List (List ℕ)). AreSmall c.args.bound labels) labels raised.small in
@@ -34,9 +34,9 @@ returns-clause-row g c =
     let starts = c.args.starts.now in
     let bound = c.args.bound in
     let all = λ (j : ℕ). c.args.starts.now in
-    let count : length c.clear.new.self.labels.items ≡ length ranks = omega (arith, c.clear.ensures.count, c.in_ok-lanes.ensures.count, c.len.ensures, c.args.columns.now.ranks.ok) in
+    let count : length c.begin.new.self.labels.items ≡ length ranks = omega (arith, c.in_ok-begin.ensures.count, c.len.ensures, c.args.columns.now.ranks.ok) in
     let raised : AreRaisedTo c.args.search.now all c.args.bound ranks 1 c.climb.new.self.labels.items (0 + 1) =
-    c.in_ok-climb.ensures.raised all refl (raised-far c.args.search.now all c.args.bound ranks 1 c.clear.new.self.labels.items count c.clear.ensures.far) in
+    c.in_ok-climb.ensures.raised all refl (raised-far c.args.search.now all c.args.bound ranks 1 c.begin.new.self.labels.items count c.in_ok-begin.ensures.far) in
     let low : 0 < 0 + 1 = omega arith in
     let climbs : AreLabels (IsClimb c.hierarchy-hierarchy.result.now Rise starts bound) bound ranks (lane_of c.as_mut_slice-labels.result.now 0) =
     subst (λ (k : Hierarchy). AreLabels (IsClimb k Rise starts bound) bound ranks (lane_of c.as_mut_slice-labels.result.now 0)) (sym same)

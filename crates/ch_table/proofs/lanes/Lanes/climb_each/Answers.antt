@@ -12,12 +12,12 @@ use Rattle.ch_table.proofs.lanes.Lanes.climb_each.Goals as goal
 pub lanes-init : goal.lanes-init
 lanes-init g c =
     let ranks = c.args.columns.now.ranks.items in
-    let labels = c.clear.new.self.labels.items in
-    let count : length c.clear.new.self.labels.items ≡ length ranks = c.clear.ensures.count ∙ c.requires.lanes.count in
+    let labels = c.begin.new.self.labels.items in
+    let count : length c.begin.new.self.labels.items ≡ length ranks = omega (arith, c.in_ok-begin.ensures.count, c.len.ensures, c.args.columns.now.ranks.ok) in
     record {
       search = λ i. c.args.search.now;
-      lanes = all-lanes labels g.row.N _ c.clear.ensures.far (length ranks) count;
-      raised = raised-far c.args.search.now (λ j. free (slice_index c.args.sources.now j) ∷ []) c.args.bound ranks g.row.N labels count c.clear.ensures.far;
+      lanes = all-lanes labels g.row.N _ c.in_ok-begin.ensures.far (length ranks) count;
+      raised = raised-far c.args.search.now (λ j. free (slice_index c.args.sources.now j) ∷ []) c.args.bound ranks g.row.N labels count c.in_ok-begin.ensures.far;
     }
 
 pub climb-requires : goal.climb-requires

@@ -14,7 +14,7 @@ use Rattle.ch_table.proofs.lanes.Lanes.write.Goals as goal
 pub climb_each-requires : goal.climb_each-requires
 climb_each-requires g c =
     let bound = own-bound c.hierarchy-2.result.now (subst IsWellMade (c.hierarchy.ensures ∙ sym c.hierarchy-2.ensures) c.nodes-well_made.ensures.made) c.bound-bound.result c.bound-bound.ensures in
-    (omega arith, (c.requires.selection, (c.requires.sources, (c.requires.few, (c.requires.block, (bound.0, (bound.1, c.requires.lanes)))))))
+    (omega arith, (c.requires.selection, (c.requires.sources, (c.requires.few, (c.requires.block, (bound.0, bound.1))))))
 
 pub sweep-requires : goal.sweep-requires
 sweep-requires g c =
