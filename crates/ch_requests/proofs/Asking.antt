@@ -102,14 +102,18 @@ sides_are fields sides behind_are starts ends some more =
 
 pub ends_fail : (nodes : ℕ) {fields : List (List ℕ)} {sides : Sides} {starts : List Place} {e : GrError} → AreSides fields sides → places_of nodes (sides.starts / 2) fields ≡ Ok starts → places_of nodes (sides.ends / 2) (behind_colon fields) ≡ Err e → ends_of nodes fields ≡ Err e
 ends_fail nodes {fields} {starts} {e} are told more =
-    let here : places_of nodes (colon_at fields / 2) fields ≡ Ok starts = sym (ap (λ (k : ℕ). places_of nodes (k / 2) fields) are.starts) ∙ told in
-    let there : places_of nodes (length (behind_colon fields) / 2) (behind_colon fields) ≡ Err e = sym (ap (λ (k : ℕ). places_of nodes (k / 2) (behind_colon fields)) are.ends) ∙ more in
+    let here : places_of nodes (colon_at fields / 2) fields ≡ Ok starts =
+    sym (ap (λ (k : ℕ). places_of nodes (k / 2) fields) are.starts) ∙ told in
+    let there : places_of nodes (length (behind_colon fields) / 2) (behind_colon fields) ≡ Err e =
+    sym (ap (λ (k : ℕ). places_of nodes (k / 2) (behind_colon fields)) are.ends) ∙ more in
     rw (are.are, here, there) refl
 
 pub ends_told : (nodes : ℕ) {fields : List (List ℕ)} {sides : Sides} {starts ends : List Place} → AreSides fields sides → places_of nodes (sides.starts / 2) fields ≡ Ok starts → places_of nodes (sides.ends / 2) (behind_colon fields) ≡ Ok ends → ends_of nodes fields ≡ Ok (ends_from starts ends)
 ends_told nodes {fields} {starts} {ends} are told more =
-    let here : places_of nodes (colon_at fields / 2) fields ≡ Ok starts = sym (ap (λ (k : ℕ). places_of nodes (k / 2) fields) are.starts) ∙ told in
-    let there : places_of nodes (length (behind_colon fields) / 2) (behind_colon fields) ≡ Ok ends = sym (ap (λ (k : ℕ). places_of nodes (k / 2) (behind_colon fields)) are.ends) ∙ more in
+    let here : places_of nodes (colon_at fields / 2) fields ≡ Ok starts =
+    sym (ap (λ (k : ℕ). places_of nodes (k / 2) fields) are.starts) ∙ told in
+    let there : places_of nodes (length (behind_colon fields) / 2) (behind_colon fields) ≡ Ok ends =
+    sym (ap (λ (k : ℕ). places_of nodes (k / 2) (behind_colon fields)) are.ends) ∙ more in
     rw (are.are, here, there) refl
 
 -- one place more
@@ -229,7 +233,8 @@ long_asks nodes x long = rw (lt-ltb 4096 (length x) long) refl
 -- no more than 4,097 bytes of a line are looked at
 pub ask_same : (nodes : ℕ) (x y : List ℕ) → take 4097 x ≡ take 4097 y → request_of nodes x ≡ request_of nodes y
 ask_same nodes x y same =
-    let lengths : min 4097 (length x) ≡ min 4097 (length y) = sym (length-take 4097 x) ∙ ap length same ∙ length-take 4097 y in
+    let lengths : min 4097 (length x) ≡ min 4097 (length y) =
+    sym (length-take 4097 x) ∙ ap length same ∙ length-take 4097 y in
     elim (cases_lt 4096 (length x)) [
       | inl long ↦ let other : 4096 < length y = omega (arith, lengths, long) in
           long_asks nodes x long ∙ sym (long_asks nodes y other)

@@ -101,7 +101,8 @@ services_over {IsRoute} v one graphs ranges right graph_text bytes requests_text
     let same : p.hierarchy ≡ h = one p.hierarchy h p.spells.made s.spells.made (sym p.spells.spelled ∙ s.spells.spelled) in
     let is_right = subst (λ (k : Hierarchy). IsRightIn v g k) same p.right in
     let of_version = subst (λ (k : Hierarchy). k.version ≡ v) same p.version in
-    let as_graph : AnswersAs IsRoute g h = right g h (graphs graph_text g p.graph_reads) is_right of_version s.spells.made in
+    let as_graph : AnswersAs IsRoute g h =
+    right g h (graphs graph_text g p.graph_reads) is_right of_version s.spells.made in
     let are : AreReplies (by_hierarchy h) (requests_of g.nodes requests_text) s.served.replies = subst (λ (n : ℕ). AreReplies (by_hierarchy h) (requests_of n requests_text) s.served.replies) as_graph.nodes s.served.are in
     record {
       graph = g;

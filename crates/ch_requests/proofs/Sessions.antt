@@ -347,7 +347,8 @@ module _ {Q W : Type 0} (remaining : Q → Option (List ℕ)) (contents : W → 
       let asked = k.replies.asked ++ requests_with last.replier.reader [] in
       let same : last.replier.router ≡ h = k.same ∙ new.router in
       let replied = subst (λ (g : Hierarchy). AreReplies (by_hierarchy g) (requests_with last.replier.reader []) l.text) same l.replied in
-      let many : line_feeds k.bytes ≤ length asked = omega (arith, k.replies.many, length-append k.replies.asked (requests_with last.replier.reader [])) in
+      let many : line_feeds k.bytes ≤ length asked =
+      omega (arith, k.replies.many, length-append k.replies.asked (requests_with last.replier.reader [])) in
       record {
         bytes = k.bytes;
         consumed = k.consumed;
@@ -386,7 +387,8 @@ module _ {Q W : Type 0} {remaining : Q → Option (List ℕ)} {contents : W → 
   pub ran_serves : {r : Result ⊤ ServeError} → Ran remaining contents read_step step flush h a b x y r → OnOk r (IfSome (remaining a) (λ text. Writes (AreServed (ready h) (by_hierarchy h) (requests_of (length h.ranks) text)) (contents x) (contents y)))
   ran_serves {r = Err e} ran = tt
   ran_serves {r = Ok u} ran =
-      let same : requests_of (length h.ranks) ran.bytes ≡ ran.asked = ran.first ∙ ap (λ (l : List Request). ran.asked ++ l) ran.far.0 ∙ append-nil ran.asked in
+      let same : requests_of (length h.ranks) ran.bytes ≡ ran.asked =
+      ran.first ∙ ap (λ (l : List Request). ran.asked ++ l) ran.far.0 ∙ append-nil ran.asked in
       let are = subst (λ (l : List Request). AreReplies (by_hierarchy h) l ran.text) (sym same) ran.replied in
       Consumes-whole (remaining a) (remaining b) ran.bytes (λ text. Writes (AreServed (ready h) (by_hierarchy h) (requests_of (length h.ranks) text)) (contents x) (contents y)) ran.consumed ran.far.1
       (ready h ++ ran.text, record { replies = ran.text; are = are; whole = refl }, (delivered ran.sent).given)
@@ -394,7 +396,8 @@ module _ {Q W : Type 0} {remaining : Q → Option (List ℕ)} {contents : W → 
   -- replies to the first of the requests
   first_served : {r : Result ⊤ ServeError} → (ran : Ran remaining contents read_step step flush h a b x y r) → ServedFirst h (length ran.asked) ran.bytes (ready h ++ ran.text)
   first_served ran =
-      let first : take (length ran.asked) (requests_of (length h.ranks) ran.bytes) ≡ ran.asked = ap (take (length ran.asked)) ran.first ∙ take-append_seam ran.asked ran.others in
+      let first : take (length ran.asked) (requests_of (length h.ranks) ran.bytes) ≡ ran.asked =
+      ap (take (length ran.asked)) ran.first ∙ take-append_seam ran.asked ran.others in
       record { replies = ran.text; are = subst (λ (l : List Request). AreReplies (by_hierarchy h) l ran.text) (sym first) ran.replied; whole = refl }
 
   stops_by : {e : ServeError} → (ran : Ran remaining contents read_step step flush h a b x y (Err e)) → Sent contents step flush {A = ⊤} nothing_sent ran.now x y (ready h ++ ran.text) (Err e) → StopsServing (ServedFirst h) (remaining a) (remaining b) (contents x) (contents y) e

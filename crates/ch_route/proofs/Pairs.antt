@@ -1,24 +1,39 @@
--- The least over all pairs of a start and an end: by a hierarchy that is right by weight, and by a right one.
-use Rattle.std.proofs.Common.{ℕ, ◌≡◌, ◌+◌, ◌-◌, ◌<◌, ◌≤◌, ◌^◌, true, false, ltb, List, length, Contains, Option, Some, None, option_map, slice_get, refl, sym, ap, subst, inl, inr, arith}
+use Rattle.std.proofs.Common.{ℕ, ◌≡◌, ◌+◌, ◌-◌, ◌<◌, ◌≤◌, ◌^◌, true, false, ltb, List, length, Contains, Option, Some, None, option_map, slice_get, refl, sym, ap, subst, inl, inr, arith, suc, Result, Err, slice_index_or, IfSome, Ok, IsErrAnd, [], ◌∷◌, All, ◌∙◌}
 use Rattle.std.proofs.lemmas.Bool.{cases_lt, ltb-false, ltb-true}
 use Rattle.std.proofs.lemmas.List.Elements.{All-contains}
 use Rattle.std.proofs.lemmas.Option.{slice_get_within, get_or_from_slice_get}
 use Rattle.ch_cost.specs.declared.cost.Cost.{Cost}
-use Rattle.ch_cost.specs.Cost.{◌⊕◌, ◌≺◌, ◌≼◌, length_of, zero_cost, cost_of_arcs, of_walk}
-use Rattle.ch_cost.specs.Cost.Laws.{at_most_refl, cases_cost, below-from_lengths, at_most-from_below, below_not_at_most, sum_below_left, sum_below_right, length_of-at_most, length_of-sum, cost-induction}
+use Rattle.ch_cost.specs.Cost.{◌⊕◌, ◌≺◌, ◌≼◌, length_of, zero_cost, cost_of_arcs, of_walk, arcs_of}
+use Rattle.ch_cost.specs.Cost.Laws.{at_most_refl, cases_cost, below-from_lengths, at_most-from_below, below_not_at_most, sum_below_left, sum_below_right, length_of-at_most, length_of-sum, cost-induction, arcs_of-at_most}
 use Rattle.ch_cost.specs.Cost.Numbers.{length_of-cost_of_arcs, length_of-of_walk, lengths-from_no_longer, lengths-from_within, no_longer-from_lengths}
 use Rattle.ch_graph.specs.declared.link.Link.{Link}
-use Rattle.ch_graph.specs.Walk.{Walk, Walk.stay, IsLeastOrNone}
+use Rattle.ch_graph.specs.Walk.{Walk, Walk.stay, IsLeastOrNone, visited, Along}
 use Rattle.ch_graph.specs.Walk.Laws.{one_arc, join}
-use Rattle.ch_graph.specs.Graph.{Graph, ArcOf, IsLeastLength}
+use Rattle.ch_graph.specs.Graph.{Graph, ArcOf, IsLeastLength, IsShortest}
 use Rattle.ch_graph.specs.Hierarchy.{Hierarchy, Chain, Chain.nothing, Chain.then, HasRiseFall, IsRiseFall, IsRight, IsValue, IsWellMade}
-use Rattle.ch_laws.specs.ByWeight.{IsArcByWeight, IsRightByWeight, RightIsRightByWeight}
+use Rattle.ch_laws.specs.ByWeight.{IsArcByWeight, IsRightByWeight, RightIsRightByWeight, RouteIsShortest, NeverTooLongByWeight}
 use Rattle.ch_query.specs.declared.seed.Seed.{Seed}
-use Rattle.ch_query.specs.Seeds.{IsSeed, AreSeeds, HasWalkBetween, HasPair, IsValueBetween, IsDistanceBetween, cost_between, longest}
-use Rattle.ch_route.specs.Between.{RouteBetween, HasTooLongBetween, IsLeastLengthBetween, IsLeastLengthWithin, IsRouteBetweenBy, IsShortestBetween, IsUnfoldedBetween, LeadsBetween}
-use Rattle.ch_route.specs.Laws.{LengthsBetweenAreLeast, LengthsWithinAreLeast, NoneTooLong, NoneTooLongBetween, NoneTooLongBetweenByWeight, NoneTooLongByWeight, RoutesAreFewest, RoutesAreLeastByWeight, RoutesBetweenAreFewest, RoutesBetweenAreLeast, RoutesBetweenAreLeastByWeight}
-use Rattle.ch_route.specs.Routes.{Route, HasTooLong, IsFewestWalk, IsLeastWalk, IsUnfoldedRoute}
+use Rattle.ch_query.specs.Seeds.{IsSeed, AreSeeds, HasWalkBetween, HasPair, IsValueBetween, IsDistanceBetween, cost_between, longest, IsLeastWalkBetween, IsWalkBetween}
+use Rattle.ch_route.specs.Between.{RouteBetween, HasTooLongBetween, IsLeastLengthBetween, IsLeastLengthWithin, IsRouteBetweenBy, IsShortestBetween, IsUnfoldedBetween, LeadsBetween, IsUnfoldedWay, IsRowLengthFrom, IsRowLengthWithin}
+use Rattle.ch_route.specs.Laws.{LengthsBetweenAreLeast, LengthsWithinAreLeast, NoneTooLong, NoneTooLongBetween, NoneTooLongBetweenByWeight, NoneTooLongByWeight, RoutesAreFewest, RoutesAreLeastByWeight, RoutesBetweenAreFewest, RoutesBetweenAreLeast, RoutesBetweenAreLeastByWeight, LengthsAreLeast, LengthsAreLeastByWeight}
+use Rattle.ch_route.specs.Routes.{Route, HasTooLong, IsFewestWalk, IsLeastWalk, IsUnfoldedRoute, IsLengthBy, IsRowLength, or_none}
+use Rattle.ch_query.specs.declared.search.Found.{Found}
+use Rattle.ch_graph.specs.Limits.Laws.{walk-arcs}
+use Rattle.ch_graph.specs.Limits.{IsGraph}
+use Rattle.ch_graph.specs.declared.version.Version.TheVariants.{One}
+use Rattle.ch_laws.specs.Theorems.{RouteIsLeast, NeverTooLong}
+use Rattle.ch_unpack.specs.declared.error.UnpackError.{UnpackError}
+use Rattle.ch_unpack.specs.declared.error.UnpackError.TheVariants.{TooLong}
+use Rattle.ch_graph.specs.declared.hierarchy.LinkId.{LinkId}
+use Rattle.ch_graph.specs.Unfolding.{PlacesNameLinks}
+use Rattle.ch_query.specs.declared.search.FoundBetween.{FoundBetween}
+use Rattle.ch_unpack.specs.Unpacking.{Unfolded, IsUnpacked, IsTooLong}
+use Rattle.ch_query.specs.Seeds.Laws.{seed-node, seeds-none, seeds-cons}
+use Rattle.ch_query.specs.Ways.{free, LongestIsExact}
+use Rattle.ch_table.specs.Lengths.{IsLengthFrom, IsLengthFromAny, IsRow, length_or_none, AreFirstRows, AreRows}
+use Rattle.ch_table.specs.Lengths.Laws.{row-weaker, rows-weaker}
 
+-- The least over all pairs of a start and an end: by a hierarchy that is right by weight, and by a right one.
 -- Some cost is the least of its kind, or there is none: it can't be that neither is so
 
 none_below : (P : Cost → Type 0) → ((v : Option Cost) → IsLeastOrNone P v → ⊥) → (c : Cost) → P c → ⊥
@@ -322,3 +337,198 @@ pub none-too_long-between-by_weight : NoneTooLongByWeight → NoneTooLongBetween
 none-too_long-between-by_weight law g h starts ends graph right one made begins stops found =
     law g h found.start.node found.stop.node graph right one made (start-in g h right made starts ends begins stops found.start found.begins) (stop-in g h right made starts ends begins stops found.stop found.stops)
     (too_long g h right made starts ends begins stops found)
+
+-- What a search of a hierarchy found.
+pub found-none : (k h : Hierarchy) (s t : ℕ) (o : Option Found) → k ≡ h → o ≡ None → IsValue k s t (option_map (λ (g : Found). g.cost) o) → IsValue h s t None
+found-none k h s t o same is value =
+    subst (λ (m : Hierarchy). IsValue m s t None) same (subst (λ (p : Option Found). IsValue k s t (option_map (λ (g : Found). g.cost) p)) is value)
+
+-- Why routes of a hierarchy that is right for a graph are least walks of it, in either version.
+-- it is a least walk with the fewest arcs, since its cost is the distance, which counts arcs
+pub routes-fewest : RouteIsLeast → RoutesAreFewest
+routes-fewest law g h s t None graph right source target none = (right.value s t None source target).1 none
+routes-fewest law g h s t (Some r) graph right source target found =
+    let least = law g h s t r.cost found.links found.arcs graph right source target found.least in
+    let along : Along (ArcOf g) r.nodes s t r.cost = subst (λ (ns : List ℕ). Along (ArcOf g) ns s t r.cost) (sym found.along) least.0 in
+    let no_shorter : (d : Cost) → Walk (ArcOf g) s t d → length_of r.cost ≤ length_of d = λ d w. length_of-at_most (least.1.1 d w) in
+    let count : length r.nodes ≡ suc (length (visited along.0)) = ap (λ (ns : List ℕ). length ns) along.1 in (
+      ((r.cost, along.0, refl, no_shorter), (r.cost, along, refl)),
+      λ d w same.
+          let no_fewer : arcs_of r.cost ≤ arcs_of d = arcs_of-at_most (least.1.1 d w) (sym same) in
+          omega (arith, no_fewer, walk-arcs g w, walk-arcs g along.0, count),
+    )
+
+-- by weight it is a least walk
+pub routes-least : RouteIsShortest → RoutesAreLeastByWeight
+routes-least law g h s t None right source target none = right.value s t None source target none
+routes-least law g h s t (Some r) right source target found =
+    subst (λ (ns : List ℕ). IsShortest g ns s t r.cost) (sym found.along) (law g h s t r.cost found.links found.arcs right source target found.least)
+
+-- and the value has the least length
+pub lengths-least-by_weight : LengthsAreLeastByWeight
+lengths-least-by_weight g h s t n right source target found =
+    subst (λ (m : Option ℕ). IsLeastLength g s t m) (sym found.long) (right.value s t found.value source target found.least)
+
+pub lengths-least : RightIsRightByWeight → LengthsAreLeast
+lengths-least law g h s t n right source target found = lengths-least-by_weight g h s t n (law g h right) source target found
+
+-- it has fewer arcs than there are nodes, so it isn't too long
+
+pub none-too_long : NeverTooLong → NoneTooLong
+none-too_long law g h s t graph right source target long =
+    let few : length long.arcs ≤ g.nodes - 1 = (law g h s t long.cost long.links long.arcs graph right source target long.least).1 in
+    omega (arith, few, long.many, right.nodes)
+
+pub none-too_long-by_weight : NeverTooLongByWeight → NoneTooLongByWeight
+none-too_long-by_weight law g h s t graph right one made source target long =
+    let few : length long.arcs ≤ g.nodes - 1 = law g h s t long.cost long.links long.arcs graph right one made source target long.least in
+    omega (arith, few, long.many, right.nodes)
+
+-- what a router refused
+pub never_long : {T : Type 0} (h : Hierarchy) (s t : ℕ) (r : Result T UnpackError) → NoneTooLongByWeight → IsWellMade h → s < length h.ranks → t < length h.ranks → (r ≡ Err TooLong → HasTooLong h s t)
+    → r ≡ Err TooLong → h.version ≡ One → (g : Graph) → IsGraph g → IsRightByWeight g h → ⊥
+never_long h s t r law made source target long is one g graph right =
+    law g h s t graph right one made (subst (λ k. s < k) right.nodes source) (subst (λ k. t < k) right.nodes target) (long is)
+
+-- and what it returned
+pub length_over : LengthsAreLeast → (h : Hierarchy) (s t : ℕ) (n : Option ℕ) → s < length h.ranks → t < length h.ranks → IsLengthBy h s t n → (g : Graph) → IsRight g h → IsLeastLength g s t n
+length_over law h s t n source target found g right = law g h s t n right (subst (λ k. s < k) right.nodes source) (subst (λ k. t < k) right.nodes target) found
+
+-- What a search between several starts and ends found, and its unpacking, together.
+-- The places of a walk between a start and an end, and the arcs that its links represent
+
+module _ (names : PlacesNameLinks) (h : Hierarchy) (starts ends : List Seed) (from to : ℕ) (places : List LinkId) (c : Cost) (w : IsWalkBetween h starts ends from to places c) where
+  unfolded_way : (arcs : List Link) → Unfolded h places arcs → IsUnfoldedWay h w.start w.stop c arcs
+  unfolded_way arcs u = record {
+    links = u.links;
+    way = w.way;
+    leads = subst (λ (ls : List Link). IsRiseFall h ls w.start.node w.stop.node w.way) (names h places w.leads.links u.links w.leads.are_at u.are_at) w.leads.leads;
+    sum = w.sum;
+    unfolds = u.unfolds;
+  }
+
+  route_between : (nodes : List ℕ) → IsValueBetween h starts ends longest (Some c) → IsUnpacked h w.start.node places nodes → IsRouteBetweenBy h starts ends (Some (record { start = from; end = to; cost = c; nodes = nodes }))
+  route_between nodes value u = (
+    value,
+    record {
+      start = w.start;
+      stop = w.stop;
+      begins = w.begins;
+      stops = w.stops;
+      arcs = u.arcs;
+      way = unfolded_way u.arcs u.unfolded;
+      few = u.few;
+      along = u.in_order;
+    },
+  )
+
+  too_long_between : IsValueBetween h starts ends longest (Some c) → IsTooLong h places → HasTooLongBetween h starts ends
+  too_long_between value u = record {
+    start = w.start;
+    stop = w.stop;
+    begins = (from, slice_get_within starts from w.start w.begins, get_or_from_slice_get starts from w.start w.start w.begins);
+    stops = (to, slice_get_within ends to w.stop w.stops, get_or_from_slice_get ends to w.stop w.stop w.stops);
+    cost = c;
+    least = value;
+    arcs = u.arcs;
+    way = unfolded_way u.arcs u.unfolded;
+    many = u.many;
+  }
+
+-- The same of what a search of an equal hierarchy found
+
+pub found_between : PlacesNameLinks → (k h : Hierarchy) (starts ends : List Seed) (from to : ℕ) (places : List LinkId) (c : Cost) {node : ℕ} {nodes : List ℕ} → (w : IsLeastWalkBetween h starts ends from to places c)
+    → k ≡ h → IsUnpacked k node places nodes → node ≡ w.walk.start.node → IsValueBetween h starts ends longest (Some c)
+    → IsRouteBetweenBy h starts ends (Some (record { start = from; end = to; cost = c; nodes = nodes }))
+found_between names k h starts ends from to places c {node} {nodes} w there u same value =
+    route_between names h starts ends from to places c w.walk nodes value (subst (λ n. IsUnpacked h n places nodes) same (subst (λ (m : Hierarchy). IsUnpacked m node places nodes) there u))
+
+pub long_between : PlacesNameLinks → (h : Hierarchy) (starts ends : List Seed) (from to : ℕ) (places : List LinkId) (c : Cost) → IsLeastWalkBetween h starts ends from to places c → IsValueBetween h starts ends longest (Some c) → IsTooLong h places → HasTooLongBetween h starts ends
+long_between names h starts ends from to places c w value u = too_long_between names h starts ends from to places c w.walk value u
+
+pub walk-of : {k h : Hierarchy} (starts ends : List Seed) (o : Option FoundBetween) (f : FoundBetween) (places : List LinkId) → k ≡ h → o ≡ Some f → places ≡ f.links.items → IfSome o (λ (e : FoundBetween). IsLeastWalkBetween k starts ends e.start e.end e.links.items e.cost)
+    → IsLeastWalkBetween h starts ends f.start f.end places f.cost
+walk-of {k} {h} starts ends o f places same is slice walk =
+    subst (λ (ps : List LinkId). IsLeastWalkBetween h starts ends f.start f.end ps f.cost) (sym slice) (subst (λ (m : Hierarchy). IsLeastWalkBetween m starts ends f.start f.end f.links.items f.cost) same
+    (subst (λ (p : Option FoundBetween). IfSome p (λ (e : FoundBetween). IsLeastWalkBetween k starts ends e.start e.end e.links.items e.cost)) is walk))
+
+pub exact-of : {k h : Hierarchy} (starts ends : List Seed) (o p : Option Cost) → k ≡ h → o ≡ p → ((g : Graph) → IsRight g k → IsDistanceBetween g starts ends o) → (g : Graph) → IsRight g h → IsDistanceBetween g starts ends p
+exact-of starts ends o p same is exact g right = subst (IsDistanceBetween g starts ends) is (exact g (subst (IsRight g) (sym same) right))
+
+pub value-of : {k h : Hierarchy} (starts ends : List Seed) (o p : Option Cost) → k ≡ h → o ≡ p → IsValueBetween k starts ends longest o → IsValueBetween h starts ends longest p
+value-of {h = h} starts ends o p same is value = subst (IsValueBetween h starts ends longest) is (subst (λ (m : Hierarchy). IsValueBetween m starts ends longest o) same value)
+
+pub node_at : (seeds : List Seed) (k : ℕ) (seed other : Seed) → slice_get seeds k ≡ Some seed → (slice_index_or seeds k other).node ≡ seed.node
+node_at seeds k seed other is = ap (λ (s : Seed). s.node) (get_or_from_slice_get seeds k seed other is)
+
+-- the length alone
+pub shortest_length : LengthsBetweenAreLeast → (h : Hierarchy) (starts ends : List Seed) (v : Option Cost) (n : Option ℕ) → IsWellMade h → AreSeeds h starts → AreSeeds h ends → IsValueBetween h starts ends longest v → n ≡ option_map length_of v
+    → (g : Graph) → IsRightByWeight g h → IsLeastLengthBetween g starts ends n
+shortest_length law h starts ends v n made begins stops value is g right = subst (IsLeastLengthBetween g starts ends) (sym is) (law g h starts ends v right made begins stops value)
+
+-- a refusal of the unpacking is that of the call
+pub is_too_long : {T : Type 0} (r : Result T UnpackError) (e : UnpackError) → IsErrAnd r (λ x. x ≡ e) → r ≡ Err TooLong → e ≡ TooLong
+is_too_long (Ok x) e is long = absurd is
+is_too_long (Err x) e is long = cc
+
+-- The numbers of a row are lengths of least walks.
+same_number : (v : Option Cost) → length_or_none v ≡ or_none (option_map length_of v)
+same_number None = refl
+same_number (Some c) = refl
+
+row-length : LengthsAreLeast → LengthsAreLeastByWeight → (h : Hierarchy) (s t n : ℕ) → s < length h.ranks → t < length h.ranks → IsLengthFrom h s t n → IsRowLength h s t n
+row-length exact by_weight h s t n s_in t_in number =
+    let found : IsLengthBy h s t (option_map length_of number.cost) = record { value = number.cost; least = number.is; long = refl } in
+    record {
+      length = option_map length_of number.cost;
+      found = found;
+      exact = length_over exact h s t (option_map length_of number.cost) s_in t_in found;
+      by_weight = λ g right. by_weight g h s t (option_map length_of number.cost) right (omega (arith, s_in, right.nodes)) (omega (arith, t_in, right.nodes)) found;
+      written = number.written ∙ same_number number.cost;
+    }
+
+module _ (exact : LengthsAreLeast) (by_weight : LengthsAreLeastByWeight) (k h : Hierarchy) (same : k ≡ h) (sources targets : List ℕ) (sources_in : All (λ s. s < length h.ranks) sources) (targets_in : All (λ t. t < length h.ranks) targets) (from : ℕ) (old new : List ℕ) where
+  pub rows-lengths : (n : ℕ) → n ≤ length sources → AreRows (IsLengthFrom k) sources targets from n old new → AreRows (IsRowLength h) sources targets from n old new
+  rows-lengths n within rows =
+      rows-weaker (IsLengthFrom h) (IsRowLength h) h sources targets from n old new sources_in targets_in within (λ s t m s_in t_in number. row-length exact by_weight h s t m s_in t_in number)
+      (subst (λ (x : Hierarchy). AreRows (IsLengthFrom x) sources targets from n old new) same rows)
+
+  pub first-lengths : AreFirstRows (IsLengthFrom k) sources targets from old new → AreFirstRows (IsRowLength h) sources targets from old new
+  first-lengths first = record { count = first.count; fewer = first.fewer; rows = rows-lengths first.count (omega (arith, first.fewer)) first.rows }
+
+module _ (between : LengthsBetweenAreLeast) (exact : LongestIsExact) (h : Hierarchy) (made : IsWellMade h) (starts : List Seed) (begins : AreSeeds h starts) where
+  row-length_from : (t n : ℕ) → t < length h.ranks → IsLengthFromAny h starts longest t n → IsRowLengthFrom h starts t n
+  row-length_from t n t_in number =
+      let stops : AreSeeds h (free t ∷ []) = seeds-cons h (free t) [] (seed-node h t t_in) (seeds-none h) in
+      record {
+        length = option_map length_of number.cost;
+        found = record { value = number.cost; least = number.is; long = refl };
+        exact = λ g right. record { value = number.cost; least = exact h starts (free t ∷ []) number.cost made begins stops number.is g right; long = refl };
+        by_weight = shortest_length between h starts (free t ∷ []) number.cost (option_map length_of number.cost) made begins stops number.is refl;
+        written = number.written ∙ same_number number.cost;
+      }
+
+  pub row-lengths_from : (k : Hierarchy) → k ≡ h → (limit : ℕ) → limit ≡ 2 ^ 62 → (targets : List ℕ) (from : ℕ) (old new : List ℕ) → All (λ t. t < length h.ranks) targets
+      → IsRow (IsLengthFromAny k starts (of_walk limit 0)) targets from old new → IsRow (IsRowLengthFrom h starts) targets from old new
+  row-lengths_from k same limit whole targets from old new targets_in row =
+      row-weaker (IsLengthFromAny h starts longest) (IsRowLengthFrom h starts) h targets from old new targets_in row-length_from
+      (subst (λ m. IsRow (IsLengthFromAny h starts (of_walk m 0)) targets from old new) whole (subst (λ (x : Hierarchy). IsRow (IsLengthFromAny x starts (of_walk limit 0)) targets from old new) same row))
+
+  module _ (within : LengthsWithinAreLeast) (weight : RightIsRightByWeight) where
+    row-length_within : (limit t n : ℕ) → limit ≤ 2 ^ 62 → t < length h.ranks → IsLengthFromAny h starts (of_walk limit 0) t n → IsRowLengthWithin h starts limit t n
+    row-length_within limit t n most t_in number =
+        let stops : AreSeeds h (free t ∷ []) = seeds-cons h (free t) [] (seed-node h t t_in) (seeds-none h) in
+        let least = λ (g : Graph) (right : IsRightByWeight g h). within g h starts (free t ∷ []) limit number.cost right made begins stops most number.is in
+        record {
+          length = option_map length_of number.cost;
+          found = record { value = number.cost; least = number.is; long = refl };
+          exact = λ g right. least g (weight g h right);
+          by_weight = least;
+          written = number.written ∙ same_number number.cost;
+        }
+
+    pub row-lengths_within : (k : Hierarchy) → k ≡ h → (limit : ℕ) → limit ≤ 2 ^ 62 → (targets : List ℕ) (from : ℕ) (old new : List ℕ) → All (λ t. t < length h.ranks) targets
+        → IsRow (IsLengthFromAny k starts (of_walk limit 0)) targets from old new → IsRow (IsRowLengthWithin h starts limit) targets from old new
+    row-lengths_within k same limit most targets from old new targets_in row =
+        row-weaker (IsLengthFromAny h starts (of_walk limit 0)) (IsRowLengthWithin h starts limit) h targets from old new targets_in (λ t n t_in. row-length_within limit t n most t_in)
+        (subst (λ (x : Hierarchy). IsRow (IsLengthFromAny x starts (of_walk limit 0)) targets from old new) same row)

@@ -1,6 +1,5 @@
 -- Two texts in one input: its lines, and what is refused of it.
-use Rattle.std.proofs.Common.{ℕ, ◌≡◌, ◌≢◌, ◌+◌, Bool, true, false, if◌then◌else◌, ◌==◌, List, [], ◌++◌, cond, inl, inr, refl, sym, ◌∙◌, ap, subst, arith, zero, suc, ◌-◌, ◌<◌, ◌∷◌, length, take, drop}
-use Rattle.std.specs.Prelude.{Option, Some, None, IfSome, option_map}
+use Rattle.std.proofs.Common.{ℕ, ◌≡◌, ◌≢◌, ◌+◌, Bool, true, false, if◌then◌else◌, ◌==◌, List, [], ◌++◌, cond, inl, inr, refl, sym, ◌∙◌, ap, subst, arith, zero, suc, ◌-◌, ◌<◌, ◌∷◌, length, take, drop, Option, Some, None, IfSome, option_map}
 use Rattle.std.specs.Io.KnownBytes.{Consumes, IsAtEnd, Keeps}
 use Rattle.std.proofs.lemmas.List.{append-nil, drop-drop, append_assoc, take_rest}
 use Rattle.std.specs.List.{count_by, concat, onto_first}

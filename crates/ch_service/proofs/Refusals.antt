@@ -1,6 +1,5 @@
 -- Why a refusal says by its cause what its call says of it.
-use Rattle.std.proofs.Common.{ℕ, ◌≡◌, List, length, Option, inl, inr, refl, sym, ap, subst, arith}
-use Rattle.std.specs.Prelude.{Some, IfSome, Ok, Err}
+use Rattle.std.proofs.Common.{ℕ, ◌≡◌, List, length, Option, inl, inr, refl, sym, ap, subst, arith, Some, IfSome, Ok, Err}
 use Rattle.std.specs.Io.KnownBytes.{Keeps}
 use Rattle.std.proofs.lemmas.Option.{IfSome_then}
 use Rattle.grfile.specs.Reading.{graph_of, pairs_of}

@@ -1,6 +1,4 @@
-pub mod Steps
+pub mod Tables
 mod Boxes
 mod OpenedFiles
-pub mod AllNodes
-pub mod TableRows
 pub mod OneHierarchy

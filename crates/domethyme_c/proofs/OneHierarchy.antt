@@ -1,9 +1,8 @@
 -- Each step keeps the rule of what handles share.
-use Rattle.std.proofs.Common.{ℕ, zero, suc, ◌≡◌, List, [], ◌∷◌, ◌++◌, set, All, Option, Some, None, ap, refl, sym, subst, ◌∙◌, ⊎_elim, arith}
+use Rattle.std.proofs.Common.{ℕ, zero, suc, ◌≡◌, List, [], ◌∷◌, ◌++◌, set, All, Option, Some, None, ap, refl, sym, subst, ◌∙◌, ⊎_elim, arith, MatchOption}
 use Rattle.std.proofs.lemmas.List.Elements.{All-push}
 use mathlib.Core.Option.{some, some-ne-none, some-injective}
 use lib.ListN.{get_elem?}
-use Rattle.std.specs.Prelude.{MatchOption}
 use Rattle.crossbeam_queue.specs.Fifo.{Pushes, Pops, Forks}
 use Rattle.crossbeam_queue.proofs.Lists.{at_set, at_snoc}
 use Rattle.ch_graph.specs.Hierarchy.{Hierarchy}

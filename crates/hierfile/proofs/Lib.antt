@@ -1,19 +1,7 @@
-pub mod Buffer
+pub mod ReadParts
 pub mod Faults
-pub mod Spelled
-pub mod Heads
-pub mod RankFaults
-pub mod RankMarks
 pub mod LinkFaults
-pub mod Halves
 pub mod WellMade
 pub mod Bodies
-pub mod Whole
-mod Came
-pub mod ReadParts
-pub mod OneSpelling
-pub mod FewLinks
+pub mod Spellings
 pub mod NoFault
-pub mod Respelled
-pub mod Faultless
-pub mod Parts

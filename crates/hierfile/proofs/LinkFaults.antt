@@ -14,8 +14,7 @@ use Rattle.hierfile.specs.declared.error.HierError.TheVariants.{OutOfMemory, Tru
 use Rattle.hierfile.specs.Spelling.{link_bytes, link_size, links_in}
 use Rattle.hierfile.specs.Fault.{◌otherwise◌, cut, middle_fault, link_fault, link_fault_at, links_fault}
 use Rattle.hierfile.specs.Bytes.{IsCutOrWhole, NoneBelow, IsWritable}
-use Rattle.hierfile.proofs.Faults.{earlier, first_at, none_below, cut_behind, cut_none, cut_short, finds_no_memory, neither_memory}
-use Rattle.hierfile.proofs.Spelled.{links_in-front, length-links, one_more, at_most}
+use Rattle.hierfile.proofs.Faults.{earlier, first_at, none_below, cut_behind, cut_none, cut_short, finds_no_memory, neither_memory, links_in-front, length-links, one_more, at_most}
 
 slice_get-front : (ls more : List Link) (k : ℕ) → k < length ls → slice_get (ls ++ more) k ≡ slice_get ls k
 slice_get-front [] more k h = absurd (omega arith)
@@ -51,7 +50,8 @@ at_link v ranks bound n bytes k = cut (link_size v * (k + 1)) bytes otherwise li
 spelled : (v : Version) (ranks : List ℕ) (bound : Cost) (n : ℕ) (ls : List Link) (rest : List ℕ) → length ls ≤ n → All (IsWritable v) ls → (k : ℕ) → k < length ls → at_link v ranks bound n (flat_map (link_bytes v) ls ++ rest) k ≡ link_fault_at v ranks bound ls k
 spelled v ranks bound n ls rest h fits k less =
     let bytes : List ℕ = flat_map (link_bytes v) ls ++ rest in
-    let long : length bytes ≡ link_size v * length ls + length rest = length-append (flat_map (link_bytes v) ls) rest ∙ ap (λ m. m + length rest) (length-links v ls) in
+    let long : length bytes ≡ link_size v * length ls + length rest =
+    length-append (flat_map (link_bytes v) ls) rest ∙ ap (λ m. m + length rest) (length-links v ls) in
     let within : link_size v * (k + 1) ≤ link_size v * length ls = at_most v (k + 1) (length ls) (omega arith) in
     let whole : cut (link_size v * (k + 1)) bytes ≡ None = cut_none (link_size v * (k + 1)) bytes (omega arith) in
     let links = links_in-front v n (n - length ls) ls rest (omega arith) fits in
@@ -66,7 +66,8 @@ none_spelled v ranks bound n i ls rest h k fits none m less = spelled v ranks bo
 pub links_cut : (v : Version) (ranks : List ℕ) (bound : Cost) (n : ℕ) (ls : List Link) (rest : List ℕ) (e : HierError) → All (IsWritable v) ls → length ls < n → NoneBelow (length ls) (link_fault_at v ranks bound ls) → cut (link_size v) rest ≡ Some e
     → links_fault v ranks bound n (flat_map (link_bytes v) ls ++ rest) ≡ Some e
 links_cut v ranks bound n ls rest e fits h none is =
-    let short : length (flat_map (link_bytes v) ls) + link_size v ≤ link_size v * (length ls + 1) = omega (arith, length-links v ls, one_more v (length ls)) in
+    let short : length (flat_map (link_bytes v) ls) + link_size v ≤ link_size v * (length ls + 1) =
+    omega (arith, length-links v ls, one_more v (length ls)) in
     first_at n (length ls) (at_link v ranks bound n (flat_map (link_bytes v) ls ++ rest)) h (none_spelled v ranks bound n (length ls) ls rest (omega arith) (omega arith) fits none)
     (earlier _ (cut_behind (link_size v * (length ls + 1)) (link_size v) (flat_map (link_bytes v) ls) rest short is))
 
@@ -77,7 +78,8 @@ links_stop v ranks bound n l ls rest e fits small h none is =
     let longer : List Link = ls ++ l ∷ [] in
     let count : length longer ≡ length ls + 1 = length-append ls (l ∷ []) in
     let all : All (IsWritable v) longer = All-push (IsWritable v) ls l fits small in
-    let before : NoneBelow (length ls) (link_fault_at v ranks bound longer) = λ k less. link_fault-front v ranks bound k ls (l ∷ []) less ∙ none k less in
+    let before : NoneBelow (length ls) (link_fault_at v ranks bound longer) =
+    λ k less. link_fault-front v ranks bound k ls (l ∷ []) less ∙ none k less in
     first_at n (length ls) (at_link v ranks bound n (flat_map (link_bytes v) longer ++ rest)) h (none_spelled v ranks bound n (length ls) longer rest (omega arith) (omega arith) all before)
     (spelled v ranks bound n longer rest (omega arith) all (length ls) (omega arith) ∙ link_fault-next v ranks bound ls l ∙ is)
 
@@ -90,11 +92,13 @@ links_none v ranks bound n ls rest fits len none =
 pub links_so_far : (v : Version) (ranks : List ℕ) (bound : Cost) (n i : ℕ) (ls : List Link) → All (IsWritable v) ls → length ls ≡ i → i ≤ n → NoneBelow i (link_fault_at v ranks bound ls) → IsCutOrWhole (link_size v * n) (links_fault v ranks bound n) (flat_map (link_bytes v) ls)
 links_so_far v ranks bound n i ls fits len most none =
     let bytes : List ℕ = flat_map (link_bytes v) ls in
-    let whole : links_fault v ranks bound n bytes ≡ links_fault v ranks bound n (bytes ++ []) = ap (links_fault v ranks bound n) (sym (append-nil bytes)) in
+    let whole : links_fault v ranks bound n bytes ≡ links_fault v ranks bound n (bytes ++ []) =
+    ap (links_fault v ranks bound n) (sym (append-nil bytes)) in
     elim (cases_lt i n) [
       | inl less ↦ inl (whole ∙ links_cut v ranks bound n ls [] Truncated fits (omega (arith, len, less)) (subst (λ m. NoneBelow m (link_fault_at v ranks bound ls)) (sym len) none) (cut_short (link_size v) [] (omega arith)))
       | inr more ↦ let all : length ls ≡ n = omega (arith, len, more, most) in
-          let none : NoneBelow n (link_fault_at v ranks bound ls) = subst (λ m. NoneBelow m (link_fault_at v ranks bound ls)) (sym len ∙ all) none in
+          let none : NoneBelow n (link_fault_at v ranks bound ls) =
+          subst (λ m. NoneBelow m (link_fault_at v ranks bound ls)) (sym len ∙ all) none in
           inr (length-links v ls ∙ ap (λ m. link_size v * m) all, whole ∙ links_none v ranks bound n ls [] fits all none)
     ]
 

@@ -1,6 +1,5 @@
 -- The spelling of a well made hierarchy has no fault.
-use Rattle.std.proofs.Common.{ℕ, zero, suc, ◌≡◌, ◌≢◌, ◌-◌, ◌*◌, ◌^◌, ◌<◌, ◌≤◌, ◌==◌, ◌||◌, ◌&&◌, not, Bool, true, false, List, [], ◌∷◌, ◌++◌, length, get_or, take, Option, None, Some, All, AllPairs, inl, inr, sym, refl, ap, ◌∙◌, subst, arith, append-nil, append_assoc}
-use Rattle.std.specs.Prelude.{nat_lt, nat_le, slice_index, slice_get, option_and_then, is_some}
+use Rattle.std.proofs.Common.{ℕ, zero, suc, ◌≡◌, ◌≢◌, ◌-◌, ◌*◌, ◌^◌, ◌<◌, ◌≤◌, ◌==◌, ◌||◌, ◌&&◌, not, Bool, true, false, List, [], ◌∷◌, ◌++◌, length, get_or, take, Option, None, Some, All, AllPairs, inl, inr, sym, refl, ap, ◌∙◌, subst, arith, append-nil, append_assoc, nat_lt, nat_le, slice_index, slice_get, option_and_then, is_some}
 use Rattle.std.specs.List.{list_any, find, flat_map}
 use Rattle.std.proofs.lemmas.Bool.Decides.{nat_tests}
 use Rattle.std.proofs.lemmas.Grind.{get_or_default_zero}
@@ -19,14 +18,10 @@ use Rattle.hierfile.specs.declared.error.HierError.TheVariants.{LinkEnds, LinkOr
 use Rattle.hierfile.specs.Spelling.{magic_of, word, link_bytes, head_bytes, bound_in, bytes_of}
 use Rattle.hierfile.specs.Fault.{size_fault, rank_test, rank_fault, does_count, has_weight, link_fault, link_fault_at, middle_fault, is_before, is_in_order, half_fault, halves_fault, sum_fault, leads, first_along, body_fault, first_fault}
 use Rattle.hierfile.specs.Bytes.{NoneBelow}
-use Rattle.hierfile.proofs.Faults.{neither, unfound}
-use Rattle.hierfile.proofs.Halves.{find-at}
-use Rattle.hierfile.proofs.Heads.{sizes}
-use Rattle.hierfile.proofs.WellMade.{slice_get-at}
-use Rattle.hierfile.proofs.Bodies.{body_after_links}
-use Rattle.hierfile.proofs.Whole.{first_fault-sizes}
-use Rattle.hierfile.proofs.OneSpelling.{bound_fits, bound_is, links_fit}
-use Rattle.hierfile.proofs.FewLinks.{few_links, few_enough}
+use Rattle.hierfile.proofs.Faults.{neither, unfound, sizes}
+use Rattle.hierfile.proofs.WellMade.{find-at, slice_get-at, first_fault-sizes}
+use Rattle.hierfile.proofs.Bodies.{body_after_links, few_links, few_enough}
+use Rattle.hierfile.proofs.Spellings.{bound_fits, bound_is, links_fit}
 
 -- Sizes
 
@@ -195,8 +190,10 @@ body_none h made =
     let n : ℕ = length h.ranks in
     let k : ℕ = length h.links in
     let b : ℕ = length_of h.bound in
-    let links : NoneBelow k (link_fault_at v h.ranks (bound_in v n b) h.links) = subst (λ (c : Cost). NoneBelow k (link_fault_at v h.ranks c h.links)) (sym (bound_is h made)) (links_none h made) in
-    let halves : first_along (half_fault h.links) h.links ≡ None = none_along (half_fault h.links) h.links (λ i d less. half_none h (get_or h.links i d) made (made.links i d less)) in
+    let links : NoneBelow k (link_fault_at v h.ranks (bound_in v n b) h.links) =
+    subst (λ (c : Cost). NoneBelow k (link_fault_at v h.ranks c h.links)) (sym (bound_is h made)) (links_none h made) in
+    let halves : first_along (half_fault h.links) h.links ≡ None =
+    none_along (half_fault h.links) h.links (λ i d less. half_none h (get_or h.links i d) made (made.links i d less)) in
     ap (body_fault v n k b) (sym (append-nil (body h))) ∙ body_after_links v n k b h.ranks h.links [] (omega (arith, made.few_nodes)) refl (ranks_none h made) refl (links_fit h made) links ∙ neither halves refl
 
 pub no_fault : (h : Hierarchy) → IsWellMade h → first_fault (bytes_of h) ≡ None

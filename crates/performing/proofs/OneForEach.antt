@@ -1,6 +1,5 @@
 -- Lists of one thing for each order.
-use Rattle.std.proofs.Common.{ℕ, ◌≡◌, ◌<◌, ◌+◌, ◌∷◌, ◌++◌, List, [], All, length, subst, sym}
-use Rattle.std.specs.Prelude.{take, get_or}
+use Rattle.std.proofs.Common.{ℕ, ◌≡◌, ◌<◌, ◌+◌, ◌∷◌, ◌++◌, List, [], All, length, subst, sym, take, get_or}
 use Rattle.std.proofs.lemmas.List.{take_more}
 use Rattle.std.proofs.lemmas.List.Elements.{All-cons, All-nil}
 use Rattle.performing.specs.Lists.{AreFor}

@@ -1,5 +1,4 @@
-use Rattle.std.proofs.Common.{ℕ, ◌≡◌, ◌-◌, ◌++◌, ap, append_assoc, length, rules, sym}
-use Rattle.std.specs.Prelude.{codes, decimal}
+use Rattle.std.proofs.Common.{ℕ, ◌≡◌, ◌-◌, ◌++◌, ap, append_assoc, length, rules, sym, codes, decimal}
 use Rattle.counted_io.specs.Sinks.Laws.{puts_as, puts_then}
 use Rattle.ch_answer.proofs.line.put_along.Goals as goal
 

@@ -1,5 +1,4 @@
-use Rattle.std.proofs.Common.{rules, List, ℕ, ap, inl, sym, subst, ◌∙◌}
-use Rattle.std.specs.Prelude.{Some}
+use Rattle.std.proofs.Common.{rules, List, ℕ, ap, inl, sym, subst, ◌∙◌, Some}
 use Rattle.std.proofs.lemmas.Result.{err_from_is_err_and}
 use Rattle.ch_service.specs.Outcome.{StopsInJoined, of_whole}
 use Rattle.ch_service.proofs.JoinedLines.{parts_refused}

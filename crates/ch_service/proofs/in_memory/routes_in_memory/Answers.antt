@@ -1,7 +1,6 @@
 use Rattle.ch_service.specs.Answer.{IsLeastWalk, IsFewestWalk, Prepares}
 use Rattle.ch_service.proofs.ByHierarchies.{prepared-in_memory, all_of, refused-preparing, refused-routing}
-use Rattle.std.proofs.Common.{rules, List, ℕ, ap, subst, sym}
-use Rattle.std.specs.Prelude.{Some, Err}
+use Rattle.std.proofs.Common.{rules, List, ℕ, ap, subst, sym, Some, Err}
 use Rattle.std.proofs.lemmas.Result.{err_from_is_err_and}
 use Rattle.ch_service.proofs.in_memory.routes_in_memory.Goals as goal
 

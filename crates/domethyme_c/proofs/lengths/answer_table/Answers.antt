@@ -1,5 +1,5 @@
 use Rattle.std.proofs.Common.{◌≡◌, ◌*◌, ◌<◌, ◌≤◌, All, length, rules, arith}
-use Rattle.domethyme_c.proofs.TableRows.{no_table}
+use Rattle.domethyme_c.proofs.Tables.{no_table}
 use Rattle.domethyme_c.proofs.lengths.answer_table.Goals as goal
 
 pub returns-in-Err-clause-answer : goal.returns-in-Err-clause-answer

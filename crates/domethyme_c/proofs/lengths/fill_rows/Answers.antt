@@ -1,6 +1,6 @@
 use Rattle.std.proofs.Common.{refl}
 use Rattle.domethyme_c.specs.Answers.{AreAnswered.found}
-use Rattle.domethyme_c.proofs.TableRows.{written-rows}
+use Rattle.domethyme_c.proofs.Tables.{written-rows}
 use Rattle.domethyme_c.proofs.lengths.fill_rows.Goals as goal
 
 pub returns-in-Ok-clause-answer : goal.returns-in-Ok-clause-answer

@@ -6,7 +6,7 @@ use Rattle.ch_route.specs.Between.{IsRowLengthFrom, IsRowLengthWithin}
 use Rattle.ch_table.specs.Lengths.{IsRow}
 use Rattle.ch_table.specs.Selection.{Selection}
 use Rattle.domethyme_c.specs.Answers.{AreWritten}
-use Rattle.domethyme_c.proofs.AllNodes.{count_of_all, written-all}
+use Rattle.domethyme_c.proofs.Tables.{count_of_all, written-all}
 use Rattle.domethyme_c.proofs.reach.fill_reach.Goals as goal
 
 pub lengths_from-requires-clause-room : goal.lengths_from-requires-clause-room

@@ -1,5 +1,5 @@
 use Rattle.std.proofs.Common.{arith}
-use Rattle.hierfile.proofs.Buffer.{eight_bytes}
+use Rattle.hierfile.proofs.ReadParts.{eight_bytes}
 use Rattle.hierfile.proofs.input.first_long.Goals as goal
 
 pub returns : goal.returns

@@ -1,5 +1,5 @@
 use Rattle.counted_io.specs.Limits.Laws.{gave_out, read_by}
-use Rattle.hierfile.proofs.Buffer.{put_behind, given}
+use Rattle.hierfile.proofs.ReadParts.{put_behind, given}
 use Rattle.hierfile.proofs.Faults.{where_err}
 use Rattle.hierfile.proofs.input.read_behind.Goals as goal
 

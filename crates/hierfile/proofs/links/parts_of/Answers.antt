@@ -6,7 +6,7 @@ use Rattle.ch_graph.specs.declared.link.Link.{Link}
 use Rattle.hierfile.specs.declared.error.HierError.TheVariants.{HalfSum}
 use Rattle.hierfile.specs.Fault.{fault_if}
 use Rattle.hierfile.proofs.Faults.{missing_is_no_read, sum_is_no_read}
-use Rattle.hierfile.proofs.Halves.{no_first, no_second, both_found}
+use Rattle.hierfile.proofs.WellMade.{no_first, no_second, both_found}
 use Rattle.hierfile.proofs.links.parts_of.Goals as goal
 
 -- a test of three costs, each of which is a link's
@@ -29,8 +29,10 @@ returns-then-is_sum-clause-told c =
     let link : Link = c.args.link.now in
     let first = c.in-Some-find_by.ensures.found in
     let second = c.in-Some-find.ensures.found in
-    let one : c.index-links-first.result ≡ get_or links c.in-Some-find_by.first.0 link = c.index-links-first.is ∙ get_or_default links c.in-Some-find_by.first.0 c.index-links-first.result link first.within in
-    let two : c.index-links-second.result ≡ get_or links c.in-Some-find.second.0 link = c.index-links-second.is ∙ get_or_default links c.in-Some-find.second.0 c.index-links-second.result link second.within in
+    let one : c.index-links-first.result ≡ get_or links c.in-Some-find_by.first.0 link =
+    c.index-links-first.is ∙ get_or_default links c.in-Some-find_by.first.0 c.index-links-first.result link first.within in
+    let two : c.index-links-second.result ≡ get_or links c.in-Some-find.second.0 link =
+    c.index-links-second.is ∙ get_or_default links c.in-Some-find.second.0 c.index-links-second.result link second.within in
     let sum = sum_of c.is_sum.result c.cost.result c.cost-2.result c.cost-3.result link (get_or links c.in-Some-find_by.first.0 link) (get_or links c.in-Some-find.second.0 link) c.is_sum.ensures c.cost.ensures (c.cost-2.ensures ∙ ap (λ (l : Link). l.cost) one) (c.cost-3.ensures ∙ ap (λ (l : Link). l.cost) two) in
     both_found links link c.in-Some.middle (sym c.node.ensures ∙ c.in-Some.is) c.requires.sorted c.in-Some-find_by.first.0 c.in-Some-find.second.0 link c.is_sum.result first second sum
     ∙ ap (λ (e : Bool). fault_if (not e) HalfSum) c.if-is_sum.true
@@ -41,8 +43,10 @@ returns-else-is_sum-clause-told c =
     let link : Link = c.args.link.now in
     let first = c.in-Some-find_by.ensures.found in
     let second = c.in-Some-find.ensures.found in
-    let one : c.index-links-first.result ≡ get_or links c.in-Some-find_by.first.0 link = c.index-links-first.is ∙ get_or_default links c.in-Some-find_by.first.0 c.index-links-first.result link first.within in
-    let two : c.index-links-second.result ≡ get_or links c.in-Some-find.second.0 link = c.index-links-second.is ∙ get_or_default links c.in-Some-find.second.0 c.index-links-second.result link second.within in
+    let one : c.index-links-first.result ≡ get_or links c.in-Some-find_by.first.0 link =
+    c.index-links-first.is ∙ get_or_default links c.in-Some-find_by.first.0 c.index-links-first.result link first.within in
+    let two : c.index-links-second.result ≡ get_or links c.in-Some-find.second.0 link =
+    c.index-links-second.is ∙ get_or_default links c.in-Some-find.second.0 c.index-links-second.result link second.within in
     let sum = sum_of c.is_sum.result c.cost.result c.cost-2.result c.cost-3.result link (get_or links c.in-Some-find_by.first.0 link) (get_or links c.in-Some-find.second.0 link) c.is_sum.ensures c.cost.ensures (c.cost-2.ensures ∙ ap (λ (l : Link). l.cost) one) (c.cost-3.ensures ∙ ap (λ (l : Link). l.cost) two) in (
       both_found links link c.in-Some.middle (sym c.node.ensures ∙ c.in-Some.is) c.requires.sorted c.in-Some-find_by.first.0 c.in-Some-find.second.0 link c.is_sum.result first second sum
           ∙ ap (λ (e : Bool). fault_if (not e) HalfSum) c.if-is_sum.false,

@@ -58,7 +58,8 @@ links-preserved g c =
     let is = subst (λ (o : Option Link). link_fault v ranks bound o link ≡ None) earlier c.in_ok-test_link.ensures.told in
     let pushed : new ≡ links ++ link ∷ [] = c.in_ok-push.ensures.items in
     let so_far = takes_then g.R.StepRead.step g.R.Read.remaining c.links.invariant.taken c.in_ok-link.ensures.reads in
-    let spelled : flat_map (link_bytes v) links ++ link_bytes v link ≡ flat_map (link_bytes v) new = flat_map_more (link_bytes v) [] links link ∙ ap (flat_map (link_bytes v)) (sym pushed) in
+    let spelled : flat_map (link_bytes v) links ++ link_bytes v link ≡ flat_map (link_bytes v) new =
+    flat_map_more (link_bytes v) [] links link ∙ ap (flat_map (link_bytes v)) (sym pushed) in
     record {
       count = omega (arith, c.links.invariant.count, ap length pushed, length-append links (link ∷ []));
       faultless = subst (λ l. NoneBelow (c.links.counter + 1) (link_fault_at v ranks bound l)) (sym pushed) (none-push v ranks bound link c.links.counter links c.links.invariant.count c.links.invariant.faultless is);
@@ -97,11 +98,13 @@ returns-in_err-push-clause-reads g c =
     let told : link_fault v ranks bound c.copied-earlier.result link ≡ None = search rules in
     let is = subst (λ (o : Option Link). link_fault v ranks bound o link ≡ None) earlier told in
     let none = none-push v ranks bound link c.links.counter links c.links.invariant.count c.links.invariant.faultless is in
-    let count : length longer ≡ c.links.counter + 1 = omega (arith, c.links.invariant.count, length-append links (link ∷ [])) in
+    let count : length longer ≡ c.links.counter + 1 =
+    omega (arith, c.links.invariant.count, length-append links (link ∷ [])) in
     let writable = All-push (IsWritable v) links link c.links.invariant.writable c.in_ok-link.ensures.writable in
     let so_far = takes_then step remaining c.links.invariant.taken c.in_ok-link.ensures.reads in
     let whole = links_so_far v ranks bound c.args.count (c.links.counter + 1) longer writable count (omega arith) none in
-    let tested : IsCutOrWhole (link_size v * c.args.count) fault (flat_map (link_bytes v) links ++ link_bytes v link) = subst (IsCutOrWhole (link_size v * c.args.count) fault) (sym (flat_map_more (link_bytes v) [] links link)) whole in
+    let tested : IsCutOrWhole (link_size v * c.args.count) fault (flat_map (link_bytes v) links ++ link_bytes v link) =
+    subst (IsCutOrWhole (link_size v * c.args.count) fault) (sym (flat_map_more (link_bytes v) [] links link)) whole in
     hands_back c.from_residual-in_err-push.result _ _ OutOfMemory c.from_residual-in_err-push.ensures.1
     (no_memory step remaining fault so_far.calls (runs_out step remaining (IsCutOrWhole (link_size v * c.args.count) fault) so_far tested))
 

@@ -4,8 +4,7 @@ use Rattle.std.proofs.lemmas.List.{flat_map_more}
 use Rattle.hierfile.specs.Spelling.{word}
 use Rattle.hierfile.specs.Fault.{cut, rank_fault, ranks_fault}
 use Rattle.hierfile.specs.Bytes.{IsCut, NoneBelow}
-use Rattle.hierfile.proofs.RankFaults.{ranks_cut, ranks_so_far, ranks_stop, none-push}
-use Rattle.hierfile.proofs.Spelled.{length-word}
+use Rattle.hierfile.proofs.Faults.{ranks_cut, ranks_so_far, ranks_stop, none-push, length-word}
 use Rattle.hierfile.proofs.ReadParts.{Takes, fault_behind, fault_found, hands_back, no_memory, runs_out_behind, takes_none, takes_then}
 use Rattle.counted_io.specs.Limits.Laws.{read_then}
 use Rattle.hierfile.specs.declared.error.HierError.TheVariants.{OutOfMemory}
@@ -17,7 +16,8 @@ pub returns-in_err-rank-clause-reads : goal.returns-in_err-rank-clause-reads
 returns-in_err-rank-clause-reads g c =
     let n = c.args.nodes in
     let ranks = c.nodes.ranks.items in
-    let before : NoneBelow (length ranks) (rank_fault n ranks) = subst (λ m. NoneBelow m (rank_fault n ranks)) (sym c.nodes.invariant.count) c.nodes.invariant.faultless in
+    let before : NoneBelow (length ranks) (rank_fault n ranks) =
+    subst (λ m. NoneBelow m (rank_fault n ranks)) (sym c.nodes.invariant.count) c.nodes.invariant.faultless in
     let less : length ranks < n = omega arith in
     let fits : n < 4294967296 = omega arith in
     hands_back c.from_residual.result _ _ _ c.from_residual.ensures.1
@@ -30,7 +30,8 @@ returns-in_err-take_rank-clause-reads g c =
     let n = c.args.nodes in
     let rank = c.in_ok-rank.rank in
     let ranks = c.nodes.ranks.items in
-    let before : NoneBelow (length ranks) (rank_fault n ranks) = subst (λ m. NoneBelow m (rank_fault n ranks)) (sym c.nodes.invariant.count) c.nodes.invariant.faultless in
+    let before : NoneBelow (length ranks) (rank_fault n ranks) =
+    subst (λ m. NoneBelow m (rank_fault n ranks)) (sym c.nodes.invariant.count) c.nodes.invariant.faultless in
     let less : length ranks < n = omega arith in
     let fits : n < 4294967296 = omega arith in
     let small : rank < 4294967296 = omega arith in
@@ -49,7 +50,8 @@ nodes-preserved g c =
     let new = c.take_rank.new.ranks.items in
     let pushed : new ≡ ranks ++ rank ∷ [] = c.in_ok-take_rank.ensures.ok in
     let so_far = takes_then step remaining c.nodes.invariant.taken c.in_ok-rank.ensures.reads in
-    let spelled : flat_map word ranks ++ word rank ≡ flat_map word new = flat_map_more word [] ranks rank ∙ ap (flat_map word) (sym pushed) in
+    let spelled : flat_map word ranks ++ word rank ≡ flat_map word new =
+    flat_map_more word [] ranks rank ∙ ap (flat_map word) (sym pushed) in
     record {
       count = omega (arith, c.nodes.invariant.count, ap length pushed, length-append ranks (rank ∷ []));
       came = c.in_ok-take_rank.ensures.taken;
@@ -79,7 +81,8 @@ returns-in_err-mark_if_many-clause-reads g c =
     let n = c.args.nodes in
     let rank = c.in_ok-rank.rank in
     let ranks = c.nodes.ranks.items in
-    let before : NoneBelow (length ranks) (rank_fault n ranks) = subst (λ m. NoneBelow m (rank_fault n ranks)) (sym c.nodes.invariant.count) c.nodes.invariant.faultless in
+    let before : NoneBelow (length ranks) (rank_fault n ranks) =
+    subst (λ m. NoneBelow m (rank_fault n ranks)) (sym c.nodes.invariant.count) c.nodes.invariant.faultless in
     let less : length ranks < n = omega arith in
     let fits : n < 4294967296 = omega arith in
     hands_back c.from_residual-in_err-mark_if_many.result _ _ OutOfMemory c.from_residual-in_err-mark_if_many.ensures.1

@@ -1,5 +1,4 @@
-use Rattle.std.proofs.Common.{ℕ, ◌≡◌, List, [], length, Option, Result, Ok, Err, refl, ap, subst, arith, inl}
-use Rattle.std.specs.Prelude.{IfSome, IsErrAnd, min}
+use Rattle.std.proofs.Common.{ℕ, ◌≡◌, List, [], length, Option, Result, Ok, Err, refl, ap, subst, arith, inl, IfSome, IsErrAnd, min}
 use Rattle.std.specs.declared.io.Error.{Error}
 use Rattle.counted_io.specs.Limits.{IsRead, ReadsWithin}
 use Rattle.counted_io.specs.Limits.Laws.{read_none, read_then}
@@ -12,7 +11,7 @@ use Rattle.hierfile.specs.Reading.{IsRefused, ReadsFile, Refuses}
 use Rattle.hierfile.specs.declared.error.HierError.{HierError}
 use Rattle.hierfile.specs.declared.error.HierError.TheVariants.{OutOfMemory, Read}
 use Rattle.hierfile.proofs.ReadParts.{fault_so_far, no_memory, refused_behind, runs_out, takes_none, takes_then}
-use Rattle.hierfile.proofs.Whole.{first_but_halves, first_so_far, first_magic, first_head, first_body, nothing_waits, spelled_whole}
+use Rattle.hierfile.proofs.WellMade.{first_but_halves, first_so_far, first_magic, first_head, first_body, nothing_waits, spelled_whole}
 use Rattle.hierfile.proofs.reading.read_within.Goals as goal
 
 -- from the start on, where nothing waits and this many calls may be made

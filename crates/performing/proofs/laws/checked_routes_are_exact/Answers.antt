@@ -1,5 +1,4 @@
-use Rattle.std.proofs.Common.{refl}
-use Rattle.std.specs.Prelude.{Some}
+use Rattle.std.proofs.Common.{refl, Some}
 use Rattle.performing.specs.Status.{TellsChecked}
 use Rattle.performing.proofs.Outcomes.{joined}
 use Rattle.performing.proofs.laws.checked_routes_are_exact.Goals as goal

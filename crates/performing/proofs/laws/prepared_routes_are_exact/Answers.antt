@@ -1,5 +1,4 @@
-use Rattle.std.proofs.Common.{[], ◌≡◌, refl, sym, subst}
-use Rattle.std.specs.Prelude.{Some}
+use Rattle.std.proofs.Common.{[], ◌≡◌, refl, sym, subst, Some}
 use Rattle.outcomes.specs.declared.outcome.Outcome.TheVariants.{Done}
 use Rattle.ch_service.specs.Answer.{Prepares}
 use Rattle.performing.specs.Status.{HasPrepared, TellsPrepared}

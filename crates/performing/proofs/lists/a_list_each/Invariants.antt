@@ -1,5 +1,4 @@
-use Rattle.std.proofs.Common.{◌≡◌, All}
-use Rattle.std.specs.Prelude.{vec_len, Ok}
+use Rattle.std.proofs.Common.{◌≡◌, All, vec_len, Ok}
 use Rattle.ch_estimate.specs.Leases.{CountId}
 use Rattle.performing.specs.Lists.{AreFor}
 use Rattle.performing.proofs.lists.a_list_each.Given as goal

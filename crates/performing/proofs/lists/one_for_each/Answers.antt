@@ -1,5 +1,4 @@
-use Rattle.std.proofs.Common.{subst, rules, slice_index_or}
-use Rattle.std.specs.Prelude.{Ok}
+use Rattle.std.proofs.Common.{subst, rules, slice_index_or, Ok}
 use Rattle.std.proofs.lemmas.List.{take_all}
 use Rattle.ch_estimate.specs.Leases.{CountId}
 use Rattle.jobs.specs.declared.orders.Order.TheVariants.{Edges}

@@ -3,19 +3,18 @@ use Rattle.std.specs.Io.KnownBytes.{Keeps}
 use Rattle.std.proofs.KnownBytes.{Keeps-refl, Keeps-trans}
 use Rattle.std.proofs.lemmas.Grind.{common_steps}
 use Rattle.std.proofs.lemmas.List.{length-take-le}
-use Rattle.hierfile.proofs.Buffer.{moved, kept, written_back}
-use Rattle.hierfile.proofs.Came.{stops_short}
+use Rattle.hierfile.proofs.ReadParts.{moved, kept, written_back, stops_short, hands_back}
 use Rattle.counted_io.specs.Limits.{IsRead}
 use Rattle.counted_io.specs.Limits.Laws.{failed_after, read_none, read_then}
 use Rattle.hierfile.specs.declared.error.HierError.TheVariants.{Read}
 use Rattle.hierfile.specs.Bytes.{Buffered, coming}
-use Rattle.hierfile.proofs.ReadParts.{hands_back}
 use Rattle.hierfile.proofs.input.Input.fill.Goals as goal
 
 pub loop-self-init : goal.loop-self-init
 loop-self-init g c =
     let input = c.self.inside in
-    let size : length c.copy_within.new.self.items ≡ 65536 = omega (arith, c.self.invariant.2, c.copy_within.ensures.len, input.buffer.ok.0, c.copy_within.new.self.ok.0) in
+    let size : length c.copy_within.new.self.items ≡ 65536 =
+    omega (arith, c.self.invariant.2, c.copy_within.ensures.len, input.buffer.ok.0, c.copy_within.new.self.ok.0) in
     record {
       front = search rules;
       within = omega (arith, c.self.invariant.1);
@@ -30,7 +29,8 @@ returns-in_err-more-clause-reads g c = hands_back c.from_residual.result _ _ Rea
     read = refl;
     came =
         let input = c.loop-self.self-inside in
-        let short : length (take input.end input.buffer.items) < c.args.count = omega (arith, length-take-le input.end input.buffer.items c.loop-self.invariant.within) in
+        let short : length (take input.end input.buffer.items) < c.args.count =
+        omega (arith, length-take-le input.end input.buffer.items c.loop-self.invariant.within) in
         stops_short (take input.end input.buffer.items) c.args.count _ _ _ c.loop-self.invariant.keeps c.in_err-more.ensures.keeps short;
   };
   calls = failed_after g.R.StepRead.step c.loop-self.invariant.calls refl c.in_err-more.ensures.stopped;
@@ -49,7 +49,8 @@ loop-self-preserved g c =
     let before : Option (List ℕ) = g.R.Read.remaining c.loop-self.reader in
     let later : Option (List ℕ) = g.R.Read.remaining c.read_behind.new.reader in
     let size : length new ≡ length items = c.read_behind.auto.buffer ∙ ap length c.as_mut_slice.ensures.value in
-    let whole : take input.buffer.len (new ++ drop (length new) items) ≡ new = written_back input.buffer.len new items size input.buffer.ok.0 in
+    let whole : take input.buffer.len (new ++ drop (length new) items) ≡ new =
+    written_back input.buffer.len new items size input.buffer.ok.0 in
     let more : Keeps (coming (take input.end items) before) (coming (take end new) later) = subst (λ l. Keeps (coming (take input.end l) before) (coming (take end new) later)) c.as_mut_slice.ensures.value c.in_ok-more.ensures.ok in
     record {
       front = kept.front;
