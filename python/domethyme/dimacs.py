@@ -7,7 +7,7 @@ from .csv_tables import open_input, parse_int
 from .errors import NetworkError
 from .limits import MAX_LINES, MAX_NODES
 from .program import StrPath
-from .protocol import NOT_A_REPLY, NO_PATH, RouteReply, parse_reply
+from .protocol import RouteReply, parse_reply
 
 
 class GraphLists(NamedTuple):
@@ -68,9 +68,6 @@ def read_answers(path: StrPath) -> Iterator[RouteReply]:
     with open_input(path) as stream:
         for row, line in enumerate(stream, 1):
             try:
-                answer = parse_reply(line)
+                yield parse_reply(line)
             except ValueError as error:
                 raise NetworkError(str(error), path, row) from error
-            if answer.length != NO_PATH and not answer.nodes:
-                raise NetworkError(NOT_A_REPLY, path, row)
-            yield answer

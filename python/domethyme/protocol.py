@@ -2,7 +2,7 @@
 Nodes are numbered from 1, as there, and requests and replies are without their line feed."""
 from typing import NamedTuple
 
-from .errors import HierarchyError, OutOfMemory, ProgramError
+from .errors import HierarchyError, OutOfMemory
 
 # What may befall a request that is right.
 ERROR_REPLIES = {
@@ -14,7 +14,7 @@ NO_PATH = -1
 
 
 class RouteReply(NamedTuple):
-    """What a reply says of a pair: the length, NO_PATH if there is no path, and the nodes, () where they weren't asked."""
+    """What a reply says of a pair: the length and the nodes, NO_PATH and () if there is no path."""
 
     source: int
     target: int
@@ -31,7 +31,7 @@ def parse_ready(line: bytes) -> tuple[int, int] | None:
 
 
 def parse_reply(line: bytes) -> RouteReply:
-    """What a line `r`, `d` or `n S T` says. Raises ValueError for any other one."""
+    """What a line `r` or `n S T` says. Raises ValueError for any other one."""
     kind, *fields = line.split() or [b""]
     if fields and not b"".join(fields).isdigit():
         wrong = next(field for field in fields if not field.isdigit()).decode("utf-8", "replace")
@@ -39,8 +39,6 @@ def parse_reply(line: bytes) -> RouteReply:
     values = tuple(map(int, fields))
     if kind == b"n" and len(values) == 2:
         return RouteReply(values[0], values[1], NO_PATH, ())
-    if kind == b"d" and len(values) == 3:
-        return RouteReply(values[0], values[1], values[2], ())
     if kind != b"r" or len(values) < 5:
         raise ValueError(NOT_A_REPLY)
     source, target, length, arcs = values[:4]
@@ -49,25 +47,17 @@ def parse_reply(line: bytes) -> RouteReply:
     return RouteReply(source, target, length, values[4:])
 
 
-def parse_reply_to(request: bytes, reply: bytes) -> RouteReply | None:
-    """What a reply to a request says, None for no path. Raises its error, and ProgramError for no reply to this request."""
+def parse_reply_to(reply: bytes) -> RouteReply | None:
+    """What a line that `matches_request` says, None for no path. Raises the error that it names, and ValueError."""
     if reply in ERROR_REPLIES:
         error, message, status = ERROR_REPLIES[reply]
         raise error(message, status)
-    if reply.startswith(b"e "):
-        raise ProgramError(f"routecli refused a question: {reply[2:].decode('ascii', 'replace')}")
-    if not matches_request(request, reply):
-        raise ProgramError("routecli replied to another pair than it was asked")
-    return None if reply.startswith(b"n") else parse_reply(reply)
+    return None if reply == b"n" else parse_reply(reply)
 
 
 def matches_request(request: bytes, reply: bytes) -> bool:
-    """Whether the line replies to this request: is of its kind, and of its nodes, for `b` of a start and an end."""
-    kind, nodes = request[:1], request[1:]
-    if reply in ERROR_REPLIES:
-        return True
-    if kind != b"b":
-        return reply == b"n" + nodes or reply.startswith((b"r" if kind == b"q" else b"d") + nodes + b" ")
-    words, (starts, _, ends) = reply.split(b" ", 3), nodes.partition(b" : ")
+    """Whether the line replies to a request `b S1 C1 .. : T1 D1 ..`: a route from one of its starts to one of its ends."""
+    words, (starts, _, ends) = reply.split(b" ", 3), request[1:].partition(b" : ")
     is_route = len(words) == 4 and words[0] == b"r"
-    return reply == b"n" or is_route and words[1] in starts.split()[::2] and words[2] in ends.split()[::2]
+    is_its_route = is_route and words[1] in starts.split()[::2] and words[2] in ends.split()[::2]
+    return is_its_route or reply == b"n" or reply in ERROR_REPLIES

@@ -104,7 +104,7 @@ def routes_on_roads(network: StrPath, replies: str, path: str, trips: Sequence[T
             if not matches_request(request, reply):
                 raise ToolError(f"is no reply to the request of row {trip[0]}", replies, row)
             try:
-                route = parse_reply_to(request, reply)
+                route = parse_reply_to(reply)
                 leg = EMPTY_LEG if is_same_node(*ends) else choose_leg(roads, *ends, route)
             except (DomethymeError, ValueError) as error:
                 raise ToolError(f"{error}: is it of another network?", replies, row) from error
