@@ -51,9 +51,12 @@ class Searcher:
         self.route_info, self.between_info = RouteInfo(), BetweenInfo()
         self._resize_buffer(INITIAL_NODES)
 
-    def open(self, data: bytes) -> None:
-        """Opens the bytes of a file. Raises HierarchyError, with the file's first fault, and OutOfMemory."""
+    def open(self, data: bytes) -> int:
+        """Opens the bytes of a file, and returns its nodes. Raises HierarchyError, with its first fault, and OutOfMemory."""
+        number = ctypes.c_uint32()
         self._check(self._library.domethyme_open(self._at, data, len(data)))
+        self._check(self._library.domethyme_nodes(self._at, byref(number)))
+        return number.value
 
     def clone(self) -> "Searcher | None":
         """Another seat of the same hierarchy, None where there is no memory for one."""
@@ -66,11 +69,6 @@ class Searcher:
     def __del__(self) -> None:
         if hasattr(self, "_at"):
             self.close()
-
-    def nodes_of_file(self) -> int:
-        number = ctypes.c_uint32()
-        self._check(self._library.domethyme_nodes(self._at, byref(number)))
-        return number.value
 
     def length(self, source: int, target: int) -> int | None:
         """The least length from one node to another, None where there is no path."""
@@ -134,8 +132,7 @@ class Router:
     def __init__(self, data: bytes, name: str) -> None:
         """Opens the bytes of a file that messages call `name`. Raises HierarchyError, OutOfMemory and LibraryNotFound."""
         self.name, self._first = name, Searcher(name)
-        self._first.open(data)
-        self.nodes = self._first.nodes_of_file()
+        self.nodes = self._first.open(data)
         self._idle: list[Searcher] = []
         self._seats: "weakref.WeakSet[Searcher]" = weakref.WeakSet()
         self._making, self._is_closed = threading.Lock(), False
