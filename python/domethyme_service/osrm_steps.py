@@ -29,7 +29,7 @@ class StepBuilder:
 
     def __init__(self, geometry: LegGeometry) -> None:
         self.geometry, self.roads = geometry, geometry.roads
-        texts = self.roads.arrays.arc_texts[geometry.arcs][:, NAME_COLUMNS]
+        texts = self.roads.arrays.arc_texts(geometry.arcs)[:, NAME_COLUMNS]
         is_on_roundabout = self.roads.is_roundabout(geometry.arcs)
         first, last = geometry.bearings
         turns = (first[1:] - last[:-1] + 180) % 360 - 180

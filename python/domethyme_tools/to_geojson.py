@@ -166,7 +166,7 @@ def make_route(
         return Route(fields, ends | dict.fromkeys(FIGURES), None, None)
     metres = network.arc_metres[arcs].tolist()
     seconds = network.arc_seconds[arcs].tolist() if network.has_seconds else [None] * len(arcs)
-    names = [network.texts[text] for text in network.arc_texts[arcs, NAME].tolist()]
+    names = [network.texts[text] for text in network.arc_texts(arcs, NAME).tolist()]
     steps, end = [], 0
     for name, street in itertools.groupby(names):
         begin, end = end, end + len(list(street))

@@ -347,27 +347,11 @@ class Texts:
         return str(self._bytes[begin:end].tobytes(), "utf-8", "replace")
 
 
-class ArcTexts:
-    """The numbers of texts of each arc, in the order of TEXTS; an index is one of arcs, or of arcs and a column."""
-
-    def __init__(self, row: Column, rows: Column) -> None:
-        self._row, self._rows = row, rows
-
-    def __getitem__(self, at: Any) -> Any:
-        if isinstance(at, tuple):
-            return self._rows[self._row[at[0]], at[1]]
-        return self._rows[self._row[at]][..., : len(TEXTS)]
-
-    def __array__(self, dtype: Any = None) -> NDArray[Any]:
-        return np.asarray(self[:], dtype)
-
-
 class MappedNetwork:
     """The file of a network, mapped: what Arrays has, by the same names, in columns that are verified where they are read. Raises
     NetworkError for a file that is refused, and where it is damaged, in all that reads it.
 
     about           the numbers of ABOUT, by their names
-    arc_texts       the numbers of texts of each arc, in the order of TEXTS
     texts           the list of texts, of which the first is what the data asks to be said
     out_begin, ..   as in index.py
     node_grid, edge_grid    nodes, counted from 0, and edges, by their places
@@ -383,7 +367,7 @@ class MappedNetwork:
         vars(self).update(found)
         self.node_texts: Any = found.get("node_texts", np.empty(0, np.int32))
         self.has_keys = len(self.node_texts) > 0
-        self.arc_texts, self.texts = ArcTexts(self.arc_row, self.row_texts), Texts(self.text_begin, self.text_bytes)
+        self.texts = Texts(self.text_begin, self.text_bytes)
         size = Counter({name: len(column) for name, column in found.items()})
         fields = fields_of(size)
         for name, column in found.items():
@@ -424,6 +408,10 @@ class MappedNetwork:
     def keys(self) -> list[str]:
         """The keys of all nodes, none where they have none."""
         return [self.texts[number] for number in self.node_texts[:].tolist()]
+
+    def arc_texts(self, arcs: Any, columns: int | slice = slice(len(TEXTS))) -> NDArray[np.int32]:
+        """The numbers of texts of arcs, which an index takes, in columns of TEXTS."""
+        return np.asarray(self.row_texts[self.arc_row[arcs], columns])
 
     def lightest(self, starts: NDArray[np.int64], ends: NDArray[np.int64]) -> NDArray[np.int64]:
         """The lightest arc from each node to another, counted from 1; -1 where there is none."""
@@ -496,17 +484,15 @@ def load_network(prefix: str) -> MappedNetwork:
     if is_current(prefix):
         return read(Files(prefix).binary)
     need_nodes(prefix)
-    arrays = arrays_from_tables(prefix)
     with raised_as(NetworkError, prefix, ValueError):
-        return map_tempfile(arrays, prefix)
+        return map_tempfile(arrays_from_tables(prefix), prefix)
 
 
 def arrays_from_tables(prefix: str) -> Arrays:
-    """The network of NETWORK.nodes.csv and NETWORK.arcs.csv, and of the comment of NETWORK.gr."""
+    """The network of NETWORK.nodes.csv and NETWORK.arcs.csv, and of the comment of NETWORK.gr. Raises as `build_arrays`."""
     files, attribution = Files(prefix), read_attribution(prefix)
     nodes = read_node_table(files.nodes)
     builder = Builder(attribution, nodes)
     for row, arc in iter_arc_rows(files.arcs, len(nodes.osm)):
         builder.add_arc(arc, files.arcs, row)
-    with raised_as(NetworkError, prefix, ValueError):
-        return builder.build([os.stat(table).st_size for table in (files.nodes, files.arcs)])
+    return builder.build([os.stat(table).st_size for table in (files.nodes, files.arcs)])

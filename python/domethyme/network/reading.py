@@ -1,7 +1,7 @@
 """The nodes and arcs of a network, from NETWORK.net where that is current, its tables, or a DIMACS .co file and its graph."""
 import os
 from collections.abc import Iterator
-from typing import TYPE_CHECKING, Any
+from typing import TYPE_CHECKING
 
 from ..csv_tables import parse_int
 from ..dimacs import dimacs_lines
@@ -47,14 +47,11 @@ def arcs_from_net(arrays: "net_file.MappedNetwork") -> Iterator[Arc]:
     """The arcs of a mapped file, as those of the table."""
     for begin in range(0, len(arrays.arc_from), CHUNK):
         part = slice(begin, begin + CHUNK)
-        figures: tuple[Any, ...] = (
-            arrays.arc_from, arrays.arc_to, arrays.arc_weight, arrays.arc_seconds, arrays.arc_metres, arrays.arc_osm,
-            arrays.arc_texts
-        )
-        rows = zip(*(values[part].tolist() for values in figures))
-        for place, (*figures_of_arc, row) in enumerate(rows, begin):
+        columns = (getattr(arrays, f"arc_{name}") for name in ("from", "to", "weight", "seconds", "metres", "osm"))
+        figures = zip(*(column[part].tolist() for column in columns))
+        for place, (row, values) in enumerate(zip(arrays.arc_texts(part).tolist(), figures), begin):
             highway, name, *others = (arrays.texts[text] for text in row)
-            yield Arc._make((*figures_of_arc, highway, name, format_linestring(arrays.line(place)), *others))
+            yield Arc._make((*values, highway, name, format_linestring(arrays.line(place)), *others))
 
 
 def read_coordinates(path: StrPath) -> Nodes:

@@ -128,7 +128,7 @@ class RoadIndex:
         return np.array([text for text in junctions if self.texts[text] in ROUNDABOUT_VALUES], dtype=np.int64)
 
     def is_roundabout(self, arcs: NDArray[np.int64]) -> NDArray[np.bool_]:
-        return np.asarray((self.arrays.arc_texts[arcs, JUNCTION][:, None] == self.roundabout_texts).any(axis=1))
+        return np.asarray((self.arrays.arc_texts(arcs, JUNCTION)[:, None] == self.roundabout_texts).any(axis=1))
 
     def count_exits(self, node: int) -> int:
         """How many roads leave a roundabout at a node."""
@@ -145,7 +145,7 @@ class RoadIndex:
         first, last = arrays.edge_first[number : number + 2].tolist()
         arcs = arrays.edge_arcs[first:last]
         columns = (arrays.arc_from, arrays.arc_to, arrays.arc_weight, arrays.arc_along)
-        rows = zip(arcs.tolist(), arrays.arc_texts[arcs, NAME].tolist(), *(column[arcs].tolist() for column in columns))
+        rows = zip(arcs.tolist(), arrays.arc_texts(arcs, NAME).tolist(), *(column[arcs].tolist() for column in columns))
         found = {
             arc: Arc(start, end, weight, self.texts[name], number, is_along) for arc, name, start, end, weight, is_along in rows
         }

@@ -77,7 +77,7 @@ def edges_in(arrays: MappedNetwork, box: Box | None) -> Iterator[tuple[int, str,
     for low in range(0, len(found), PART):
         edges = list(found[low : low + PART])
         arcs = arrays.edge_arcs[numpy.minimum(arrays.edge_first[edges], len(arrays.edge_arcs) - 1)]
-        texts = zip(*(arrays.arc_texts[arcs, TEXTS.index(name)].tolist() for name in ("highway", "structure")))
+        texts = zip(*(arrays.arc_texts(arcs, TEXTS.index(name)).tolist() for name in ("highway", "structure")))
         for edge, (highway, structure) in zip(edges, texts):
             yield edge, arrays.texts[highway], arrays.texts[structure]
 
