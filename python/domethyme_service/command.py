@@ -100,15 +100,6 @@ def parse_origin(text: str) -> str:
     return text
 
 
-def configure_logging(access: bool) -> None:
-    """Sends the access log to standard error; other lines go where gunicorn's do."""
-    access_log = logging.getLogger("domethyme_service.access")
-    access_log.addHandler(logging.StreamHandler())
-    access_log.propagate = False
-    access_log.setLevel(logging.INFO if access else logging.WARNING)
-    logging.getLogger("domethyme_service").setLevel(logging.INFO)
-
-
 def open_sockets(args: argparse.Namespace) -> tuple[list[str], bool]:
     """Opens the sockets to listen on. Returns gunicorn's `bind`, empty if systemd passes them, and whether one is for probes."""
     if count := systemd.listen_fds(unset_environment=False):
@@ -183,7 +174,12 @@ def run(args: argparse.Namespace) -> None:
 def main(words: Sequence[str] | None = None) -> None:
     """The command; ends the process."""
     args = argument_parser().parse_args(words)
-    configure_logging(args.access_log or args.log_places)
+    # (other lines than the access log's go where gunicorn's do)
+    access_log = logging.getLogger("domethyme_service.access")
+    access_log.addHandler(logging.StreamHandler())
+    access_log.propagate = False
+    access_log.setLevel(logging.INFO if args.access_log or args.log_places else logging.WARNING)
+    logging.getLogger("domethyme_service").setLevel(logging.INFO)
     try:
         run(args)
     except (StartupError, DomethymeError, OSError) as fault:

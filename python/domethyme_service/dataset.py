@@ -49,8 +49,13 @@ def open_dataset(paths: DatasetPaths) -> Dataset:
         if paths.graph is not None and paths.program is not None:
             run_check(paths.program, paths.graph, f"/proc/self/fd/{number}", paths.hierarchy, [number], end_with_parent)
         router = Router(pread_all(number, 0, stamp[2]), paths.hierarchy)
-        roads = None if paths.network is None else load_roads(paths.network)
+        roads = None if paths.network is None else RoadIndex(paths.network)
         if roads is not None:
+            roads.arrays.file.verify(EAGER_VERIFY_BYTES)
+            # (what is computed here, before the fork, is in memory once for all workers)
+            roads.roundabout_texts
+            for grid in (roads.arrays.edge_grid, roads.arrays.node_grid):
+                columns_per_band(grid.height)
             belonging.compare(number, paths.hierarchy, roads.arrays, paths.compare_all)
         if file_stamp(number) != stamp:
             raise StartupError(f"{paths.hierarchy}: has changed while it was read")
@@ -66,14 +71,3 @@ def file_stamp(file: int) -> tuple[int, ...]:
     """The state of an open file: device, inode, size, and modification time in nanoseconds."""
     found = os.fstat(file)
     return found.st_dev, found.st_ino, found.st_size, found.st_mtime_ns
-
-
-def load_roads(network: str) -> RoadIndex:
-    """Opens the network; verifies it if that is quick. Raises NetworkError."""
-    roads = RoadIndex(network)
-    roads.arrays.file.verify(EAGER_VERIFY_BYTES)
-    # (what is computed here, before the fork, is in memory once for all workers)
-    roads.roundabout_texts
-    for grid in (roads.arrays.edge_grid, roads.arrays.node_grid):
-        columns_per_band(grid.height)
-    return roads

@@ -80,13 +80,13 @@ class Endpoint(NamedTuple):
     def values(self, query: Mapping[str, str], context: Context = Context()) -> Values:
         """The values of its parameters. Raises RequestError for an unknown parameter, and for an invalid value."""
         if self.parameters is None:
-            return Values({})
+            return {}
         names = {parameter.name for parameter in self.parameters}
         for name in query:
             if name not in names:
                 raise invalid_query(self.unknown.format(name))
         texts = ((parameter, query.get(parameter.name, parameter.default)) for parameter in self.parameters)
-        return Values({parameter.name: parameter.value(text, context) for parameter, text in texts if text is not None})
+        return {parameter: parameter.value(text, context) for parameter, text in texts if text is not None}
 
 
 def osrm_endpoint(service: str, path: str, answer: str, *parameters: Parameter[Any]) -> Endpoint:

@@ -30,7 +30,8 @@ def length_answer(queries: Queries, source: int, target: int) -> bytes:
 
 def find_node(queries: Queries, values: Values, number: Parameter[int], key: Parameter[str]) -> int:
     """The node of one of two parameters, a number or a key. Raises RequestError."""
-    node, name = values.get(number), values.get(key)
+    node: int | None = values.get(number)
+    name: str | None = values.get(key)
     if node is not None and name is not None:
         raise invalid_query(f"{number.name} and {key.name} are both given")
     if name is not None:

@@ -5,7 +5,6 @@ import itertools
 from collections.abc import Sequence
 
 import numpy as np
-from numpy.typing import NDArray
 
 from domethyme.network.geo import Point
 from domethyme.network.leg_geometry import Figures, LegGeometry, make_totals
@@ -36,8 +35,12 @@ class StepBuilder:
         degrees = self.roads.degree[self.roads.arrays.arc_from[geometry.arcs[1:]]]
         is_turn = (degrees >= MIN_JUNCTION_DEGREE) & (np.abs(turns) > MIN_TURN_DEGREES)
         is_new = (texts[1:, 0] != texts[:-1, 0]) | is_turn
-        if is_on_roundabout.any():
-            mark_roundabout_steps(is_new, is_on_roundabout)
+        if is_on_roundabout.any():  # (a step begins before a roundabout, but not on it or after it)
+            before, after = is_on_roundabout[:-1], is_on_roundabout[1:]
+            is_free = ~before
+            if is_on_roundabout[0]:  # (the leg begins on this one, so no step has entered it)
+                is_free[: int(np.argmin(is_on_roundabout))] = True
+            is_new = np.where(after, ~before, is_new & is_free)
         self.step_begins: list[int] = [0, *(np.flatnonzero(is_new) + 1).tolist(), len(geometry.arcs)]
         self.lines = [geometry.line(begin, end) for begin, end in itertools.pairwise(self.step_begins)]
         self.arc_texts: list[list[int]] = texts.tolist()
@@ -74,17 +77,6 @@ class StepBuilder:
         is_same = self.arc_texts[begin - 1][0] == self.arc_texts[begin][0]
         kind = "continue" if is_same else "turn" if abs(angle) > MIN_TURN_DEGREES else "new name"
         return {"type": kind, "modifier": modifier}
-
-
-def mark_roundabout_steps(is_new: NDArray[np.bool_], is_on_roundabout: NDArray[np.bool_]) -> None:
-    """Sets after which arcs a step begins: before a roundabout, but not on it or after it."""
-    before, after = is_on_roundabout[:-1], is_on_roundabout[1:]
-    is_new[before & after] = False
-    is_new[~before & after] = True
-    leaves = before & ~after
-    if is_on_roundabout[0]:  # (the leg begins on this one, so no step has entered it)
-        leaves[: int(np.argmin(is_on_roundabout))] = False
-    is_new[leaves] = False
 
 
 def build_steps(roads: RoadIndex, geometry: LegGeometry | None, start: Point, end: Point, format_: str) -> list[Json]:

@@ -2,7 +2,7 @@
 import itertools
 import re
 from collections.abc import Callable, Mapping, Sequence
-from typing import Generic, NamedTuple, TypeVar, cast
+from typing import Any, Generic, NamedTuple, TypeVar
 
 from .errors import invalid_query, invalid_value, not_implemented
 
@@ -47,16 +47,8 @@ class Parameter(Generic[T]):
             raise invalid_value(f"{self.name} {self.invalid}") from None
 
 
-class Values:
-    def __init__(self, values: Mapping[str, object]) -> None:
-        self._values = values
-
-    def __getitem__(self, parameter: Parameter[T]) -> T:
-        return cast(T, self._values[parameter.name])
-
-    def get(self, parameter: Parameter[T]) -> T | None:
-        """The value of a parameter without a default; None if it is missing."""
-        return cast("T | None", self._values.get(parameter.name))
+# The values of parameters; one without a default may be missing.
+Values = Mapping[Parameter[Any], Any]
 
 
 def choice(name: str, *words: str, rejected: Sequence[str] = (), message: str = "") -> Parameter[str]:

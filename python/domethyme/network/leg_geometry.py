@@ -74,16 +74,13 @@ class LegGeometry:
         east, north = (self.points[begins + 1] - places).T
         ways = wrapped_difference(east) * np.cos(np.radians(places[:, 1] / UNITS))
         found = (np.rint(np.degrees(np.arctan2(ways, north))) % 360).astype(np.int64)
+        # (where the segment has no length, the next point that is another one tells)
         for index in np.flatnonzero((east == 0) & (north == 0)).tolist():
-            found[index] = self._end_bearing(index % len(self.arcs), 1 if index < len(self.arcs) else -1)
+            arc_index, step = index % len(self.arcs), 1 if index < len(self.arcs) else -1
+            points = self.points[self.begins[arc_index] : self.begins[arc_index + 1]][::step] / UNITS
+            here, *others = [(lon, lat) for lon, lat in points.tolist()]
+            found[index] = bearing(*(here, next((other for other in others if other != here), here))[::step])
         return found[: len(self.arcs)], found[len(self.arcs) :]
-
-    def _end_bearing(self, arc_index: int, step: int) -> int:
-        """The bearing at an end of an arc whose segment there has no length."""
-        points = self.points[self.begins[arc_index] : self.begins[arc_index + 1]]
-        ordered = [(lon / UNITS, lat / UNITS) for lon, lat in points[::step].tolist()]
-        other = next((point for point in ordered if point != ordered[0]), ordered[0])
-        return bearing(*(ordered[0], other)[::step])
 
     @functools.cached_property
     def prefix_sums(self) -> tuple[list[int], list[float], list[float]]:

@@ -197,7 +197,6 @@ class Network:
         return found
 
 
-
 def check_degrees(lon: Floats, lat: Floats) -> None:
     """Raises ValueError for what are no degrees."""
     if not (np.isfinite(lon).all() and np.isfinite(lat).all()):
