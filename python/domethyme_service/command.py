@@ -157,20 +157,6 @@ def check_loopback(address: str) -> None:
         raise StartupError(f"won't listen at {address}: other machines ask through nginx, by {NGINX}, and --bind unix:PATH")
 
 
-def run(args: argparse.Namespace) -> None:
-    """Runs the service; ends the process. Raises StartupError or a DomethymeError if it can't start."""
-    if args.workers < MIN_WORKERS:
-        why = f"there are {MIN_WORKERS}, since a long request holds one"
-        print(f"domethyme-serve: --workers {args.workers}: {why}", file=sys.stderr)
-    if args.tables is not None:
-        print("domethyme-serve: --tables goes with the next version: leave it out, since all tables are proved", file=sys.stderr)
-    program = None if args.verify is None else find_program(args.program)
-    paths = DatasetPaths(args.hierarchy, args.network, args.verify, program, args.compare_all)
-    options = Options(AccessPolicy.from_options(args.allowed_host, args.cors), args.default_radius, args.max_table_cells)
-    bind, has_probe = open_sockets(args)
-    Application(paths, options, bind, max(args.workers, MIN_WORKERS), has_probe, args.log_places).run()
-
-
 def main(words: Sequence[str] | None = None) -> None:
     """The command; ends the process."""
     args = argument_parser().parse_args(words)
@@ -180,7 +166,16 @@ def main(words: Sequence[str] | None = None) -> None:
     access_log.propagate = False
     access_log.setLevel(logging.INFO if args.access_log or args.log_places else logging.WARNING)
     logging.getLogger("domethyme_service").setLevel(logging.INFO)
+    if args.workers < MIN_WORKERS:
+        why = f"there are {MIN_WORKERS}, since a long request holds one"
+        print(f"domethyme-serve: --workers {args.workers}: {why}", file=sys.stderr)
+    if args.tables is not None:
+        print("domethyme-serve: --tables goes with the next version: leave it out, since all tables are proved", file=sys.stderr)
     try:
-        run(args)
+        program = None if args.verify is None else find_program(args.program)
+        paths = DatasetPaths(args.hierarchy, args.network, args.verify, program, args.compare_all)
+        options = Options(AccessPolicy.from_options(args.allowed_host, args.cors), args.default_radius, args.max_table_cells)
+        bind, has_probe = open_sockets(args)
+        Application(paths, options, bind, max(args.workers, MIN_WORKERS), has_probe, args.log_places).run()
     except (StartupError, DomethymeError, OSError) as fault:
         sys.exit(f"domethyme-serve: {fault}")

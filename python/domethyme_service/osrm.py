@@ -104,15 +104,16 @@ def waypoints(request: Request, **points: Sequence[SnappedPoint]) -> dict[str, s
 
 
 def route(engine: Engine, request: Request) -> str:
-    """The route by all places in order, a leg between each two."""
+    """The route by all places in order, a leg between each two. Raises RequestError if a leg has no path."""
     roads, points, budget = engine.roads, snap_places(engine.roads, request), Budget()
-    legs, geometries = find_legs(engine, points), list[LegGeometry | None]()
-    for leg in legs:
+    totals, texts, geometries = [], list[str](), list[LegGeometry | None]()
+    for start, end in itertools.pairwise(points):
+        leg = find_leg(engine.queries.between, roads, start, end)
+        if leg is None:
+            raise RequestError(400, "NoRoute", f"there is no route from place {len(texts)} to place {len(texts) + 1}")
         geometries.append(geometry := leg_geometry(roads, leg))
         budget.spend(0 if geometry is None else len(geometry.points))
-    totals, texts = [], []
-    for each in zip(itertools.pairwise(points), legs, geometries):
-        leg_json = leg_response(roads, request, *each)
+        leg_json = leg_response(roads, request, (start, end), leg, geometry)
         texts.append(to_json(leg_json))
         totals.append((leg_json["weight"], leg_json["duration"] or 0.0, leg_json["distance"]))
     weight, duration, distance = (round(sum(values), 3) for values in zip(*totals))
@@ -123,17 +124,6 @@ def route(engine: Engine, request: Request) -> str:
     if request.values[OVERVIEW] != "false":
         whole["geometry"] = overview(request, points, geometries, budget)
     return join_object({"code": '"Ok"', "routes": join_array([join_object(whole)]), **waypoints(request, waypoints=points)})
-
-
-def find_legs(engine: Engine, points: Sequence[SnappedPoint]) -> list[Leg]:
-    """The legs of a route by these points. Raises RequestError if a leg has no path."""
-    legs: list[Leg] = []
-    for start, end in itertools.pairwise(points):
-        leg = find_leg(engine.queries.between, engine.roads, start, end)
-        if leg is None:
-            raise RequestError(400, "NoRoute", f"there is no route from place {len(legs)} to place {len(legs) + 1}")
-        legs.append(leg)
-    return legs
 
 
 def leg_response(

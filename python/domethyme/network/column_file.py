@@ -96,7 +96,7 @@ class MappedFile:
             if self._state[0] < HEAD.itemsize:
                 raise self.damaged_error("it is too short")
             self._bytes = np.frombuffer(mmap.mmap(self._file, 0, prot=mmap.PROT_READ), np.uint8)
-        self.columns = self._read_columns(*self._read_head())
+        self.columns = self._read_columns()
 
     def _stat(self) -> tuple[int, int, int]:
         found = os.fstat(self._file)
@@ -130,8 +130,8 @@ class MappedFile:
     def damaged_error(self, problem: str) -> NetworkError:
         return NetworkError(f"is damaged: {problem}; {self.remedy}", self.path)
 
-    def _read_head(self) -> tuple[Schema, int]:
-        """Looks at the head and the tail's checksum. Returns the form, and where the tail begins."""
+    def _read_columns(self) -> "dict[str, Column]":
+        """Looks at the head and the tail's checksum, and at the sizes of the arrays."""
         found, size = self._bytes[: HEAD.itemsize].copy().view(HEAD)[0], len(self._bytes)
         if found["magic"] != MAGIC:
             raise NetworkError(f"isn't a network's file; {self.remedy}", self.path)
@@ -144,10 +144,7 @@ class MappedFile:
         self.sum = int(found["sum"])
         if self._sum_now() != self.sum:
             raise self.damaged_error("its head or tail has another checksum")
-        return form, tail
-
-    def _read_columns(self, form: Schema, tail: int) -> "dict[str, Column]":
-        place, begin, found = HEAD.itemsize, tail + 8 * len(form), {}
+        place, begin, columns = HEAD.itemsize, tail + 8 * count, dict[str, Column]()
         rows: list[int] = self._bytes[tail:begin].copy().view("<u8").tolist()
         for (name, kind), length in zip(form.items(), rows):
             size = length * kind.columns * np.dtype(kind.values).itemsize
@@ -155,11 +152,11 @@ class MappedFile:
             if place + size > tail or end > len(self._bytes):
                 raise self.damaged_error(f"{name} is longer than the file")
             values = self._bytes[place : place + size].view(kind.values).reshape(-1, *kind.row_shape)
-            found[name] = Column(self, name, values, self._bytes[begin:end].view("<u4"))
+            columns[name] = Column(self, name, values, self._bytes[begin:end].view("<u4"))
             place, begin = place + size + -size % ALIGNED, end
         if (place, begin) != (tail, len(self._bytes)):
             raise self.damaged_error("its arrays don't fill it")
-        return found
+        return columns
 
 
 class Column:

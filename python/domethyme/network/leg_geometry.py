@@ -38,15 +38,12 @@ class LegGeometry:
         rows = np.where(is_along, first, behind - 1)[owner] + position * np.where(is_along, 1, -1)[owner]
         self.begins: Ints = offsets(behind - first)
         self.points: Ints = arrays.points[rows].astype(np.int64)
-        self._trim_ends()
-
-    def _trim_ends(self) -> None:
-        """Replaces the points of the first and the last arc if the leg has only a part of them."""
+        # (of the first and the last arc the leg may have only a part)
         last = len(self.arcs) - 1
-        parts = [(last, 0.0, self.leg.end), (0, self.leg.begin, 1.0)] if last else [(0, self.leg.begin, self.leg.end)]
+        parts = [(last, 0.0, leg.end), (0, leg.begin, 1.0)] if last else [(0, leg.begin, leg.end)]
         for arc_index, begin, end in parts:
             if (begin, end) != (0.0, 1.0):
-                line = self.roads.line(self.leg.arcs[arc_index], begin, end)
+                line = roads.line(leg.arcs[arc_index], begin, end)
                 units = np.array([(round(lon * UNITS), round(lat * UNITS)) for lon, lat in line])
                 low, high = self.begins[arc_index : arc_index + 2].tolist()
                 self.points = np.concatenate((self.points[:low], units, self.points[high:]))

@@ -240,7 +240,6 @@ def draw_foot(attribution: str, view: View) -> Iterator[str]:
     said = f"{bar / 1000:g} km" if bar >= 1000 else f"{bar:g} m"
     yield f'<path d="M{MARGIN} {bottom - 6}v6h{length:.1f}v-6" fill="none" stroke="{INK}" stroke-width="1.5"/>'
     yield f'<text x="{MARGIN + 6}" y="{bottom - 7}" font-size="12" fill="{INK}"{HALO}>{said}</text>'
-
     if attribution:
         place = f'x="{view.width - MARGIN}" y="{view.height - MARGIN}" text-anchor="end"'
         yield f'<text {place} font-size="11" fill="{FAINT}"{HALO}>{escaped(attribution)}</text>'
