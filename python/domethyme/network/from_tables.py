@@ -20,7 +20,6 @@ from .net_file import (
     NO_OSM, TEXTS, UNITS, ArcArrays, MappedNetwork, NodeArrays, build_arrays as build_arrays, load_network, map_tempfile,
     to_units
 )
-from .parallel import map_slices
 from .reading import read_coordinates
 from .sphere import great_circle_metres, unit_vectors
 from .tables import ENDS, graph_of, is_coordinates, read_ends
@@ -213,9 +212,12 @@ def line_metres(begins: Ints, points: NDArray[np.int32]) -> NDArray[np.float64]:
 def straight_arcs(starts: Ints, ends: Ints, weights: Ints, nodes: Nodes) -> ArcArrays:
     """Arcs that lead straight from node to node, without a way, a name and seconds."""
     points = np.stack((nodes.places[starts - 1], nodes.places[ends - 1]), axis=1).reshape(-1, 2)
-    sphere = unit_vectors(*nodes.places.T / UNITS)
-    parts = map_slices(lambda part: great_circle_metres(sphere[starts[part] - 1], sphere[ends[part] - 1]), len(starts))
-    lengths, nothing = np.concatenate(parts).round(2), np.zeros(len(starts), np.int64)
+    lengths = np.empty(len(starts))
+    for low in range(0, len(starts), 1 << 20):
+        part = points[2 * low : 2 * (low + (1 << 20))] / UNITS
+        sphere = unit_vectors(part[:, 0], part[:, 1])
+        lengths[low : low + (1 << 20)] = np.round(great_circle_metres(sphere[::2], sphere[1::2]), 2)
+    nothing = np.zeros(len(starts), np.int64)
     begins, texts = np.arange(0, 2 * len(starts) + 1, 2), [("",) * len(TEXTS)]
     return ArcArrays(starts, ends, weights, np.zeros(len(starts)), lengths, nothing, nothing, texts, begins, points)
 
