@@ -1,5 +1,5 @@
 -- The box of an engine that an open handle has the pointer of.
-use Rattle.domethyme_c.proofs.Tables.{[], ◌∷◌, refl, RattleType, layout, arg, arg_laws, bare, no, impl, tnil, tcons, dnil}
+use Rattle.domethyme_c.proofs.Steps.{[], ◌∷◌, refl, RattleType, layout, arg, arg_laws, bare, no, impl, tnil, tcons, dnil}
 use mir.Syntax.{Dict}
 use denote.Param.Laws.{Laws}
 use Rattle.core.specs.contracts.mem.manually_drop.ManuallyDrop as Kept

@@ -1,4 +1,5 @@
-pub mod Tables
+pub mod Steps
 mod Boxes
 mod OpenedFiles
+pub mod Tables
 pub mod OneHierarchy

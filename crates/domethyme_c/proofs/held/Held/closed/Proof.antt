@@ -1,5 +1,8 @@
 -- A closed handle is null, and owns nothing.
-use Rattle.domethyme_c.proofs.Tables.{[], ◌∷◌, refl, proved, null_ptr, Ptr, suffices, ends_at, says, join, done, ‵, ◌⊛◌, ◌$◌, ◌∵◌, !, qed, keep, fjoin, feq_i, enter, lit, no_more, and_then, returns, agg, alloc_all, pass_all, free_all, look_at, get, sets, yes, plain, types_at, nothing, owned, Stays, stay_dropped, Goes-dropped, owns, ftrue, None, Is}
+use Rattle.domethyme_c.proofs.Steps.{[], ◌∷◌, refl, proved, null_ptr, Ptr, suffices, ends_at, says, join, done, ‵, ◌⊛◌, ◌$◌}
+use Rattle.domethyme_c.proofs.Steps.{◌∵◌, !, qed, keep, fjoin, feq_i, enter, lit, no_more, and_then, returns, agg}
+use Rattle.domethyme_c.proofs.Steps.{alloc_all, pass_all, free_all, look_at, get, sets, yes, plain, types_at, nothing}
+use Rattle.domethyme_c.proofs.Steps.{owned, Stays, stay_dropped, Goes-dropped, owns, ftrue, None, Is}
 use lib.Dec.{lit<}
 use denote.Struct.Laws.{makes, owes}
 use Rattle.std_heap.specs.contracts.Global as Heap

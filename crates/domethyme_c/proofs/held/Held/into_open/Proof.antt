@@ -1,5 +1,10 @@
 -- An open handle gives its box back.
-use Rattle.domethyme_c.proofs.Tables.{Some, [], ◌∷◌, ◌++◌, refl, sym, List, Val, proved, id⊢, fact, ‵, raw, ◌⊛◌, some, later, ◌$◌, ◌∵◌, !, qed, done, move, keep, drop, use0, use1, split, join, fsplit, pick, await, rewrite, suffices, enter, of_opd, no_more, and_then, returns, alloc_all, pass_all, free_all, look_at, get, sets, yes, Is, owns, ptr_val, plain, nothing, owned, heard, triple_of, framed, Stays, walk_of, says, stay_dropped, Goes-blank, ends_at, tables, ftrue}
+use Rattle.domethyme_c.proofs.Steps.{Some, [], ◌∷◌, ◌++◌, refl, sym, List, Val, proved, id⊢, fact, ‵, raw, ◌⊛◌, some, later}
+use Rattle.domethyme_c.proofs.Steps.{◌$◌, ◌∵◌, !, qed, done, move, keep, drop, use0, use1, split, join, fsplit, pick, await}
+use Rattle.domethyme_c.proofs.Steps.{rewrite, suffices, enter, of_opd, no_more, and_then, returns, alloc_all, pass_all}
+use Rattle.domethyme_c.proofs.Steps.{free_all, look_at, get, sets, yes, Is, owns, ptr_val, plain, nothing, owned, heard}
+use Rattle.domethyme_c.proofs.Steps.{triple_of, framed, Stays, walk_of, says, stay_dropped, Goes-blank, ends_at, tables}
+use Rattle.domethyme_c.proofs.Steps.{ftrue}
 use base.Fraction.{full_share}
 use base.Fml.{flft, fsep}
 use base.Logic.{emp}

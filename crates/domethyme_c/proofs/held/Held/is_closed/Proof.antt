@@ -1,5 +1,10 @@
 -- A handle is closed where its pointer is null, which may be tested: an open one's is the start of a block.
-use Rattle.domethyme_c.proofs.Tables.{◌≡◌, [], ◌∷◌, refl, sym, subst, List, Val, ent, proved, fact, ‵, raw, ◌⊛◌, ◌$◌, ◌∵◌, !, qed, done, move, keep, drop, use0, use1, split, join, fsplit, fjoin, rewrite, suffices, enter, of_opd, fld, stop, lit, returns, sub, whole, alloc_all, pass_all, free_all, look_at, get, sets, bare, lone, Ptr, ptr_val, block_ptr, null_ptr, in_a_block, plain, nothing, heard, feq_l, feq_i, Stays, walk_of, says, ends_at, Some, None, emp, ftrue, sem, Ura, Logic}
+use Rattle.domethyme_c.proofs.Steps.{◌≡◌, [], ◌∷◌, refl, sym, subst, List, Val, ent, proved, fact, ‵, raw, ◌⊛◌, ◌$◌, ◌∵◌, ! }
+use Rattle.domethyme_c.proofs.Steps.{qed, done, move, keep, drop, use0, use1, split, join, fsplit, fjoin, rewrite, suffices}
+use Rattle.domethyme_c.proofs.Steps.{enter, of_opd, fld, stop, lit, returns, sub, whole, alloc_all, pass_all, free_all}
+use Rattle.domethyme_c.proofs.Steps.{look_at, get, sets, bare, lone, Ptr, ptr_val, block_ptr, null_ptr, in_a_block, plain}
+use Rattle.domethyme_c.proofs.Steps.{nothing, heard, feq_l, feq_i, Stays, walk_of, says, ends_at, Some, None, emp, ftrue}
+use Rattle.domethyme_c.proofs.Steps.{sem, Ura, Logic}
 use base.Fml.{flft, feq}
 use base.Logic.{never, fst∗, guard_i}
 use base.Fraction.{full_share}

@@ -1,5 +1,11 @@
 -- A handle is made of a box: its pointer, with what the box owned.
-use Rattle.domethyme_c.proofs.Tables.{Some, [], ◌∷◌, ◌++◌, refl, sym, subst, List, Val, proved_at, ent, id⊢, WpFn, fact, ‵, raw, ◌⊛◌, some, later, ◌$◌, ◌∵◌, !, qed, done, move, keep, drop, use0, use1, split, join, fjoin, pick, await, suffices, enter, of_opd, no_more, and_then, returns, agg, alloc_all, pass_all, free_all, look_at, get, sets, lands_as, yes, Is, bare, lone, layout, one_value, Ptr, ptr_val, RawPtr, in_a_block, plain, nothing, owned, only, calls_at, triple_of, framed, Stays, walk_of, says, stay_dropped, Goes-dropped, Goes-blank, ends_at, tables, ftrue, feq_l}
+use Rattle.domethyme_c.proofs.Steps.{Some, [], ◌∷◌, ◌++◌, refl, sym, subst, List, Val, proved_at, ent, id⊢, WpFn, fact, ‵}
+use Rattle.domethyme_c.proofs.Steps.{raw, ◌⊛◌, some, later, ◌$◌, ◌∵◌, !, qed, done, move, keep, drop, use0, use1, split}
+use Rattle.domethyme_c.proofs.Steps.{join, fjoin, pick, await, suffices, enter, of_opd, no_more, and_then, returns, agg}
+use Rattle.domethyme_c.proofs.Steps.{alloc_all, pass_all, free_all, look_at, get, sets, lands_as, yes, Is, bare, lone}
+use Rattle.domethyme_c.proofs.Steps.{layout, one_value, Ptr, ptr_val, RawPtr, in_a_block, plain, nothing, owned, only}
+use Rattle.domethyme_c.proofs.Steps.{calls_at, triple_of, framed, Stays, walk_of, says, stay_dropped, Goes-dropped}
+use Rattle.domethyme_c.proofs.Steps.{Goes-blank, ends_at, tables, ftrue, feq_l}
 use base.Fraction.{full_share}
 use base.Fml.{flft, fsep}
 use base.Logic.{emp, never, fst∗}
