@@ -1,5 +1,3 @@
 pub mod Steps
-mod Boxes
-mod OpenedFiles
+pub mod Handles
 pub mod Tables
-pub mod OneHierarchy

@@ -1,15 +1,15 @@
 -- What each call answers, of the hierarchy that its handle has.
-use Rattle.std.specs.Prelude.{ℕ, ◌≡◌, ◌+◌, ◌*◌, ◌<◌, ◌≤◌, List, ◌++◌, ◌∷◌, ◌/◌, ◌%◌, ◌^◌, ◌⊎◌, All, map, length, slice_index, slice_index_or, drop, take, Option, Some, None, IsSome}
+use Rattle.std.specs.Prelude.{ℕ, ◌≡◌, ◌+◌, ◌*◌, ◌<◌, ◌≤◌, List, ◌++◌, ◌∷◌, ◌/◌, ◌%◌, ◌^◌, ◌⊎◌, All, map, length, slice_index, slice_index_or, drop, take, Option, Some, None, IsSome, []}
 use Rattle.ch_cost.specs.Cost.{length_of, of_walk}
-use Rattle.ch_graph.specs.declared.version.Version.TheVariants.{One}
+use Rattle.ch_graph.specs.declared.version.Version.TheVariants.{One, Two}
 use Rattle.ch_graph.specs.Graph.{Graph, IsLeastLength}
 use Rattle.ch_graph.specs.Hierarchy.{Hierarchy, IsRight, IsWellMade}
 use Rattle.ch_graph.specs.Limits.{IsGraph}
 use Rattle.ch_laws.specs.ByWeight.{IsRightByWeight}
 use Rattle.ch_query.specs.declared.seed.Seed.{Seed}
 use Rattle.ch_query.specs.Seeds.{AreSeeds, IsSeed}
-use Rattle.ch_route.specs.Between.{RouteBetween, HasTooLongBetween, IsLeastBetween, IsRouteBetweenBy, IsRowLengthFrom, IsRowLengthWithin, IsShortestBetween}
-use Rattle.ch_route.specs.Routes.{Route, HasTooLong, IsFewestWalk, IsLeastWalk, IsLengthBy, IsRouteBy}
+use Rattle.ch_route.specs.Between.{RouteBetween, HasTooLongBetween, IsLeastBetween, IsRouteBetweenBy, IsRowLengthFrom, IsRowLengthWithin, IsShortestBetween, IsLeastLengthBetween, IsLeastLengthWithin}
+use Rattle.ch_route.specs.Routes.{Route, HasTooLong, IsFewestWalk, IsLeastWalk, IsLengthBy, IsRouteBy, or_none as or_no_length}
 use Rattle.hierfile.specs.Bytes.{OfBytes}
 use Rattle.hierfile.specs.Fault.{first_fault}
 use Rattle.hierfile.specs.Spelling.{bytes_of}
@@ -20,6 +20,7 @@ use Rattle.domethyme_c.specs.declared.lengths.Pair.{Pair}
 use Rattle.domethyme_c.specs.declared.route.RouteInfo.{RouteInfo}
 use Rattle.domethyme_c.specs.declared.between.BetweenInfo.{BetweenInfo}
 use Rattle.domethyme_c.specs.declared.seeds.SeedInfo.{SeedInfo}
+use Rattle.ch_query.specs.Ways.{free}
 
 -- a call of an open handle answers by its hierarchy; of a closed one it says so, and writes nothing
 abbrev pub Answers : Option Hierarchy → ℕ → Type 0 → (Hierarchy → Type 0) → Type 0
@@ -201,3 +202,27 @@ pub record IsText (count : ℕ) (old new : List ℕ) : Type 0 where
   pub told : count ≡ length text + 1
   pub fits : count ≤ length old → new ≡ text ++ 0 ∷ drop count old
   pub no_room : length old < count → new ≡ old
+
+-- The bytes are the file of a hierarchy that is right for the graph by weight, and in version 2 right. So is what `prepare`
+-- writes for the graph of a text.
+pub record IsFileFor (g : Graph) (bytes : List ℕ) : Type 0 where
+  pub hierarchy : Hierarchy
+  pub made : IsWellMade hierarchy
+  pub by_weight : IsRightByWeight g hierarchy
+  pub right : hierarchy.version ≡ Two → IsRight g hierarchy
+  pub spelled : bytes ≡ bytes_of hierarchy
+
+-- What each call says by the hierarchy of its handle is so in the graph, and no route is too long.
+pub record AnswersOver (g : Graph) (h : Hierarchy) : Type 0 where
+  pub nodes : length h.ranks ≡ g.nodes
+  pub lengths : (from to : ℕ) (n : Option ℕ) → IsLength h from to n → IsLeastLength g from to n
+  pub routes : (from to : ℕ) (r : Option Route) → IsRoute h from to r → IsLeastWalk g from to r
+  pub fewest : h.version ≡ Two → (from to : ℕ) (r : Option Route) → IsRoute h from to r → IsFewestWalk g from to r
+  pub between : (starts ends : List Seed) (r : Option RouteBetween) → IsBetween h starts ends r → IsShortestBetween IsLeastWalk g starts ends r
+  pub within : (starts : List Seed) (limit node n : ℕ) → limit ≤ 2 ^ 62 → IsReached h starts limit node n → (m : Option ℕ) × IsLeastLengthWithin g starts (free node ∷ []) limit m × (n ≡ or_no_length m)
+  pub unlimited : (starts : List Seed) (node n : ℕ) → IsReached h starts NO_LENGTH node n → (m : Option ℕ) × IsLeastLengthBetween g starts (free node ∷ []) m × (n ≡ or_no_length m)
+  pub never_long : IsWrong h → ⊥
+
+-- A handle that is open from such bytes answers over that graph.
+abbrev pub OpenedFilesAnswerExactly : Type 0
+OpenedFilesAnswerExactly = (g : Graph) (bytes : List ℕ) (code : ℕ) (h : Hierarchy) → IsGraph g → IsFileFor g bytes → IsOpened bytes code (Some h) → AnswersOver g h

@@ -1,5 +1,5 @@
 -- What a handle owns.
-use Rattle.std.specs.Prelude.{ℕ, ◌≡◌, Option, Some, None}
+use Rattle.std.specs.Prelude.{Option, Some, None}
 use base.Fml.{Fml, feq}
 use denote.RawPtr.{Ptr, null_ptr}
 use Rattle.std_alloc.specs.Box.Ownership.{box_owns}

@@ -1,6 +1,4 @@
-pub mod Answers
 pub mod Codes
+pub mod Answers
 pub mod Handles
 pub mod Engines
-pub mod Opened
-pub mod Sharing

@@ -1,4 +1,4 @@
-ghost use Rattle.domethyme_c.specs.Opened.{OpenedFilesAnswerExactly};
+ghost use Rattle.domethyme_c.specs.Answers.{OpenedFilesAnswerExactly};
 
 use hierfile::hierarchies_have_one_spelling;
 

@@ -40,7 +40,7 @@ pub struct OneHierarchy;
 
 impl Protocol<Shared, Option<Hierarchy>> for OneHierarchy {
     ghost use Rattle.std.specs.Prelude.{None};
-    ghost use Rattle.domethyme_c.specs.Sharing.{AreOfOne};
+    ghost use Rattle.domethyme_c.specs.Engines.{AreOfOne};
 
     ghost holds = { AreOfOne };
 

@@ -1,4 +1,4 @@
-use Rattle.domethyme_c.proofs.OpenedFiles.{opened-exactly}
+use Rattle.domethyme_c.proofs.Handles.{opened-exactly}
 use Rattle.domethyme_c.proofs.laws.opened_files_answer_exactly.Goals as goal
 
 pub returns : goal.returns

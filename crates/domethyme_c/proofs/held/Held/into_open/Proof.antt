@@ -1,8 +1,8 @@
 -- An open handle gives its box back.
-use Rattle.domethyme_c.proofs.Steps.{Some, [], ◌∷◌, ◌++◌, refl, sym, List, Val, proved, id⊢, fact, ‵, raw, ◌⊛◌, some, later}
+use Rattle.domethyme_c.proofs.Steps.{Some, [], ◌∷◌, refl, sym, List, Val, proved, id⊢, fact, ‵, raw, ◌⊛◌, some, later}
 use Rattle.domethyme_c.proofs.Steps.{◌$◌, ◌∵◌, !, qed, done, move, keep, drop, use0, use1, split, join, fsplit, pick, await}
 use Rattle.domethyme_c.proofs.Steps.{rewrite, suffices, enter, of_opd, no_more, and_then, returns, alloc_all, pass_all}
-use Rattle.domethyme_c.proofs.Steps.{free_all, look_at, get, sets, yes, Is, owns, ptr_val, plain, nothing, owned, heard}
+use Rattle.domethyme_c.proofs.Steps.{free_all, look_at, get, sets, yes, Is, ptr_val, plain, nothing, owned, heard}
 use Rattle.domethyme_c.proofs.Steps.{triple_of, framed, Stays, walk_of, says, stay_dropped, Goes-blank, ends_at, tables}
 use Rattle.domethyme_c.proofs.Steps.{ftrue}
 use base.Fraction.{full_share}
@@ -22,7 +22,7 @@ use Rattle.std_heap.specs.contracts.Global as Heap
 use Rattle.std_heap.proofs.Global.TheLaws as heap
 use Rattle.std_heap.specs.contracts.GlobalAllocator.TheImpl.{ghosts, dict}
 use Rattle.std_heap.proofs.GlobalAllocator.TheImpl.Met.{passed}
-use Rattle.domethyme_c.proofs.Boxes.{R, R-laws, T, T-laws, A, A-laws, none_of, Boxed}
+use Rattle.domethyme_c.proofs.Handles.{R, R-laws, T, T-laws, A, A-laws, none_of, Boxed}
 use Rattle.domethyme_c.specs.contracts.held.Held.TheFields as Fields
 use Rattle.domethyme_c.proofs.held.Held.TheFields.TheLaws as fields
 use Rattle.domethyme_c.specs.contracts.held.Held.into_open as f

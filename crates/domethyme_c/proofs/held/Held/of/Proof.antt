@@ -1,5 +1,5 @@
 -- A handle is made of a box: its pointer, with what the box owned.
-use Rattle.domethyme_c.proofs.Steps.{Some, [], ◌∷◌, ◌++◌, refl, sym, subst, List, Val, proved_at, ent, id⊢, WpFn, fact, ‵}
+use Rattle.domethyme_c.proofs.Steps.{Some, [], ◌∷◌, refl, sym, subst, List, Val, proved_at, ent, id⊢, WpFn, fact, ‵}
 use Rattle.domethyme_c.proofs.Steps.{raw, ◌⊛◌, some, later, ◌$◌, ◌∵◌, !, qed, done, move, keep, drop, use0, use1, split}
 use Rattle.domethyme_c.proofs.Steps.{join, fjoin, pick, await, suffices, enter, of_opd, no_more, and_then, returns, agg}
 use Rattle.domethyme_c.proofs.Steps.{alloc_all, pass_all, free_all, look_at, get, sets, lands_as, yes, Is, bare, lone}
@@ -24,7 +24,7 @@ use Rattle.std_heap.specs.contracts.Global as Heap
 use Rattle.std_heap.proofs.Global.TheLaws as heap
 use Rattle.std_heap.specs.contracts.GlobalAllocator.TheImpl.{ghosts, dict}
 use Rattle.std_heap.proofs.GlobalAllocator.TheImpl.Met.{passed}
-use Rattle.domethyme_c.proofs.Boxes.{R, R-laws, T, T-laws, A, A-laws, none_of, Boxed}
+use Rattle.domethyme_c.proofs.Handles.{R, R-laws, T, T-laws, A, A-laws, none_of, Boxed}
 use Rattle.domethyme_c.specs.contracts.held.Held.TheFields as Fields
 use Rattle.domethyme_c.proofs.held.Held.TheFields.TheLaws as fields
 use Rattle.domethyme_c.specs.contracts.held.Held.of as f

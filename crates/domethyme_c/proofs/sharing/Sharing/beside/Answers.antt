@@ -1,8 +1,8 @@
 use Rattle.std.proofs.Common.{◌∙◌, Option, sym, subst}
 use Rattle.crossbeam_queue.specs.Fifo.{Forks}
 use Rattle.ch_graph.specs.Hierarchy.{Hierarchy}
-use Rattle.domethyme_c.specs.Sharing.{AreOfOne}
-use Rattle.domethyme_c.proofs.OneHierarchy.{forks}
+use Rattle.domethyme_c.specs.Engines.{AreOfOne}
+use Rattle.domethyme_c.proofs.Handles.{forks}
 use Rattle.domethyme_c.proofs.sharing.Sharing.beside.Goals as goal
 
 pub another-pass-requires-clause-rule : goal.another-pass-requires-clause-rule

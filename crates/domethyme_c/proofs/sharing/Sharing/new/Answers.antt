@@ -2,8 +2,8 @@ use Rattle.std.proofs.Common.{◌≡◌, Option, Some, sym, subst}
 use Rattle.crossbeam_queue.specs.Fifo.{Pushes}
 use Rattle.crossbeam_queue.specs.Passes.{ruled_capacity}
 use Rattle.ch_graph.specs.Hierarchy.{Hierarchy}
-use Rattle.domethyme_c.specs.Sharing.{AreOfOne}
-use Rattle.domethyme_c.proofs.OneHierarchy.{names}
+use Rattle.domethyme_c.specs.Engines.{AreOfOne}
+use Rattle.domethyme_c.proofs.Handles.{names}
 use Rattle.domethyme_c.proofs.sharing.Sharing.new.Goals as goal
 
 pub try_push_as-requires-clause-rule : goal.try_push_as-requires-clause-rule

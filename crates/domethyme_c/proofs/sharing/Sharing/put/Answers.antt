@@ -2,8 +2,8 @@ use Rattle.std.proofs.Common.{◌≡◌, ◌∙◌, Option, Some, sym, subst}
 use Rattle.crossbeam_queue.specs.Fifo.{Pops, Pushes}
 use Rattle.crossbeam_queue.specs.Passes.{ruled_capacity, view}
 use Rattle.ch_graph.specs.Hierarchy.{Hierarchy}
-use Rattle.domethyme_c.specs.Sharing.{AreOfOne}
-use Rattle.domethyme_c.proofs.OneHierarchy.{puts, takes, stays}
+use Rattle.domethyme_c.specs.Engines.{AreOfOne}
+use Rattle.domethyme_c.proofs.Handles.{puts, takes, stays}
 use Rattle.domethyme_c.proofs.sharing.Sharing.put.Goals as goal
 
 pub try_pop_as-requires-clause-rule : goal.try_pop_as-requires-clause-rule

@@ -1,13 +1,57 @@
--- Each step keeps the rule of what handles share.
-use Rattle.std.proofs.Common.{ℕ, zero, suc, ◌≡◌, List, [], ◌∷◌, ◌++◌, set, All, Option, Some, None, ap, refl, sym, subst, ◌∙◌, ⊎_elim, arith, MatchOption}
+use Rattle.std.proofs.Common.{[], ◌∷◌, refl, ℕ, zero, suc, ◌≡◌, List, ◌++◌, set, All, Option, Some, None, ap, sym, subst, ◌∙◌, ⊎_elim, arith, MatchOption}
+use Rattle.domethyme_c.proofs.Steps.{RattleType, layout, arg, arg_laws, bare, no, impl, tnil, tcons, dnil}
+use mir.Syntax.{Dict}
+use denote.Param.Laws.{Laws}
+use Rattle.std_heap.specs.contracts.GlobalAllocator.TheImpl.{ghosts}
 use Rattle.std.proofs.lemmas.List.Elements.{All-push}
 use mathlib.Core.Option.{some, some-ne-none, some-injective}
 use lib.ListN.{get_elem?}
 use Rattle.crossbeam_queue.specs.Fifo.{Pushes, Pops, Forks}
 use Rattle.crossbeam_queue.proofs.Lists.{at_set, at_snoc}
-use Rattle.ch_graph.specs.Hierarchy.{Hierarchy}
-use Rattle.domethyme_c.specs.Sharing.{AreOfOne, AreOfOne.blank, AreOfOne.named}
+use Rattle.ch_graph.specs.Hierarchy.{Hierarchy, IsRight}
+use Rattle.domethyme_c.specs.Engines.{AreOfOne, AreOfOne.blank, AreOfOne.named}
+use Rattle.ch_graph.specs.declared.version.Version.{Version}
+use Rattle.ch_graph.specs.declared.version.Version.TheVariants.{One, Two}
+use Rattle.ch_graph.specs.Graph.{Graph}
+use Rattle.ch_graph.specs.Limits.{IsGraph}
+use Rattle.ch_laws.specs.ByWeight.{IsRightByWeight}
+use Rattle.hierfile.specs.Laws.{HierarchiesHaveOneSpelling}
+use Rattle.domethyme_c.specs.Answers.{IsWrong, AnswersOver, OpenedFilesAnswerExactly}
+use Rattle.domethyme_c.specs.Answers.IsOpened.{opened, refused}
+-- The box of an engine that an open handle has the pointer of.
+use Rattle.core.specs.contracts.mem.manually_drop.ManuallyDrop as Kept
+use Rattle.core.proofs.mem.manually_drop.ManuallyDrop.TheLaws as kept
+use Rattle.std_alloc.specs.contracts.boxed.Box as Box
+use Rattle.std_heap.specs.contracts.Global as Heap
+use Rattle.std_heap.proofs.Global.TheLaws as heap
+use Rattle.domethyme_c.specs.contracts.engine.Engine as Engine
+use Rattle.domethyme_c.proofs.engine.Engine.TheLaws as engine
 
+abbrev pub R : RattleType
+R = Kept.the_row Engine.the_row
+
+abbrev pub R-laws : Laws R
+R-laws = kept.the_row_laws Engine.the_row engine.the_row_laws
+
+abbrev pub T : RattleType
+T = arg (bare (layout R)) no R
+
+abbrev pub A : RattleType
+A = arg (bare (layout Heap.the_row)) no Heap.the_row
+
+abbrev pub T-laws : Laws T
+T-laws = arg_laws (bare (layout R)) no R R-laws refl
+
+abbrev pub A-laws : Laws A
+A-laws = arg_laws (bare (layout Heap.the_row)) no Heap.the_row heap.the_row_laws refl
+
+abbrev pub none_of : RattleType → Dict
+none_of X = impl ("domethyme_c::Destruct++none::drop" ∷ []) (tcons (layout X) tnil) dnil
+
+abbrev pub Boxed : RattleType
+Boxed = Box.the_row R Heap.the_row ghosts
+
+-- Each step keeps the rule of what handles share.
 abbrev Known : Type 0
 Known = Option Hierarchy
 
@@ -88,3 +132,32 @@ module _ (pass : ℕ) (h : Hierarchy) where
 pub stays : {new old : Known} (Is : Hierarchy → Type 0) (taken : Option Hierarchy) → MatchOption taken (new ≡ old) (λ x. (new ≡ old) × Is x) → new ≡ old
 stays Is None told = told
 stays Is (Some x) told = told.0
+
+-- The hierarchy of a handle is the one that was written, since its bytes spell no other.
+not_wrong : (v : Version) (g : Graph) (h : Hierarchy) → IsGraph g → h.version ≡ v → IsRightByWeight g h → (h.version ≡ Two → IsRight g h) → IsWrong h → ⊥
+not_wrong One g h graph version weight right wrong = wrong.never_by_weight version g graph weight
+not_wrong Two g h graph version weight right wrong = wrong.never g graph (right version)
+
+answers_over : (g : Graph) (h : Hierarchy) → IsGraph g → IsRightByWeight g h → (h.version ≡ Two → IsRight g h) → AnswersOver g h
+answers_over g h graph weight right = record {
+  nodes = weight.nodes;
+  lengths = λ from to n is. is.by_weight g weight;
+  routes = λ from to r is. is.by_weight g weight;
+  fewest = λ two from to r is. is.exact g graph (right two);
+  between = λ starts ends r is. is.by_weight g weight;
+  within = λ starts limit node n most is. let row = is.within most in (row.length, row.by_weight g weight, row.written);
+  unlimited = λ starts node n is. let row = is.unlimited refl in (row.length, row.by_weight g weight, row.written);
+  never_long = not_wrong h.version g h graph refl weight right;
+}
+
+same_held : (h k : Hierarchy) → Some h ≡ Some k → k ≡ h
+same_held h k is = cc
+
+some_none : (h : Hierarchy) → Some h ≡ None → ⊥
+some_none h is = absurd (cc)
+
+pub opened-exactly : HierarchiesHaveOneSpelling → OpenedFilesAnswerExactly
+opened-exactly one g bytes code h graph file (opened ok k held made spelled) =
+    let same : file.hierarchy ≡ h = one file.hierarchy k file.made made (sym file.spelled ∙ spelled) ∙ same_held h k held in
+    answers_over g h graph (subst (IsRightByWeight g) same file.by_weight) (subst (λ (i : Hierarchy). i.version ≡ Two → IsRight g i) same file.right)
+opened-exactly one g bytes code h graph file (refused e told fault none) = absurd (some_none h none)
