@@ -106,14 +106,17 @@ def waypoints(request: Request, **points: Sequence[SnappedPoint]) -> dict[str, s
 def route(engine: Engine, request: Request) -> str:
     """The route by all places in order, a leg between each two. Raises RequestError if a leg has no path."""
     roads, points, budget = engine.roads, snap_places(engine.roads, request), Budget()
-    totals, texts, geometries = [], list[str](), list[LegGeometry | None]()
+    legs, geometries, totals, texts = list[Leg](), list[LegGeometry | None](), [], []
     for start, end in itertools.pairwise(points):
         leg = find_leg(engine.queries.between, roads, start, end)
         if leg is None:
-            raise RequestError(400, "NoRoute", f"there is no route from place {len(texts)} to place {len(texts) + 1}")
+            raise RequestError(400, "NoRoute", f"there is no route from place {len(legs)} to place {len(legs) + 1}")
+        legs.append(leg)
+    for leg in legs:
         geometries.append(geometry := leg_geometry(roads, leg))
         budget.spend(0 if geometry is None else len(geometry.points))
-        leg_json = leg_response(roads, request, (start, end), leg, geometry)
+    for each in zip(itertools.pairwise(points), legs, geometries):
+        leg_json = leg_response(roads, request, *each)
         texts.append(to_json(leg_json))
         totals.append((leg_json["weight"], leg_json["duration"] or 0.0, leg_json["distance"]))
     weight, duration, distance = (round(sum(values), 3) for values in zip(*totals))
