@@ -73,6 +73,8 @@ class Application(BaseApplication):  # type: ignore[misc] # (gunicorn has no typ
         hooks |= {hook.__name__: hook for hook in (pre_fork, child_exit, when_ready)}
         for name, value in {**FIXED_SETTINGS, **hooks, "bind": self.bind, "workers": self.workers}.items():
             self.cfg.set(name, value)
+        # (a request reads some twenty: as attributes they take a tenth of the time)
+        self.cfg.__dict__.update((name, setting.get()) for name, setting in self.cfg.settings.items())
 
     def load(self, paths: DatasetPaths | None = None) -> Service:
         """Opens the files. Raises StartupError or a DomethymeError."""
