@@ -229,7 +229,7 @@ class Worker(SyncWorker):  # type: ignore[misc] # (gunicorn has no types)
         except Exception:  # (gunicorn's errors of heads have no common class)
             return self.reject(connection, malformed())
         until = time.monotonic() + SLOT_SECONDS
-        connection = connection._replace(deadline=until, request=request, is_long=is_long(request))
+        connection = Connection(connection.client, connection.address, until, request, is_long(request))
         if connection.is_long and (self.queue or not self.slots.acquire()):
             self.queue.append(connection)
         else:
