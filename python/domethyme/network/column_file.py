@@ -204,7 +204,6 @@ class Column:
             if low < high:
                 first, last = low >> self._shift, (high - 1 >> self._shift) + 1
                 self._verify(np.flatnonzero(~self._verified[first:last]) + first)
-                self._all_verified = (first, last) == (0, len(self._sums)) or self._all_verified
             return
         numbers = np.asarray(rows)
         if numbers.dtype == bool:
@@ -218,8 +217,9 @@ class Column:
                 self._verify(np.unique(blocks[~is_good]))
 
     def _verify(self, blocks: NDArray[Any]) -> None:
-        if len(blocks):
-            self._file.check_unchanged()
+        if not len(blocks):
+            return
+        self._file.check_unchanged()
         for block in blocks.tolist():
             begin, end = block << self._shift, (block + 1) << self._shift
             part, with_next = self._values[begin:end], self._values[begin : end + 1]
@@ -230,3 +230,4 @@ class Column:
             if self.min_step is not None and (np.diff(with_next) < self.min_step).any():
                 raise self._file.damaged_error(f"{self._name} has wrong offsets")
             self._verified[block] = True
+        self._all_verified = bool(self._verified.all())
