@@ -112,7 +112,7 @@ uint32_t domethyme_open(domethyme *handle, const uint8_t *bytes, size_t count);
 void domethyme_close(domethyme *handle);
 
 /* Opens another handle of the same hierarchy, for another thread. `other` is another struct than `handle`; what it was open for
- * before is closed. It takes 48 bytes a node, and later what its own calls need; the two share what either keeps of a table. From
+ * before is closed. It takes 8 bytes a node, and later what its own calls need; the two share what either keeps of a table. From
  * then on they are used, passed to threads and closed apart from each other, in any order. DOMETHYME_NO_HANDLE,
  * DOMETHYME_OUT_OF_MEMORY. */
 uint32_t domethyme_beside(domethyme *handle, domethyme *other);

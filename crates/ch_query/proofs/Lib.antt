@@ -5,6 +5,7 @@ pub mod Counts
 pub mod Laying
 pub mod Sides
 pub mod Marking
+pub mod Seeing
 pub mod Entries
 pub mod BestMeetings
 pub mod Turning

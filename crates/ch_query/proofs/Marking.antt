@@ -1,7 +1,6 @@
--- Marks, one of which is written.
-use Rattle.std.proofs.Common.{ℕ, ◌≡◌, ◌<◌, ◌↔◌, List, zero, suc, get_or, length, set, replicate, Option, Some, None, ap, refl, sym, subst, ◌∙◌, inl, inr, arith}
+-- Marks, and the order in which they are settled.
+use Rattle.std.proofs.Common.{ℕ, ◌≡◌, ◌<◌, ◌↔◌, List, Option, Some, None, ap, refl, sym, subst, ◌∙◌, inl, inr, arith}
 use Rattle.std.proofs.lemmas.Bool.{cases_lt}
-use Rattle.std.proofs.lemmas.List.{length-map, map-set, get_or-map}
 use Rattle.ch_cost.specs.declared.cost.Cost.{Cost}
 use Rattle.ch_cost.specs.Cost.{◌⊕◌, ◌≼◌, ◌≺◌, length_of}
 use Rattle.ch_cost.specs.Cost.Laws.{at_most-from_below, below_not_at_most, below-from_lengths, cases_cost, length_of-sum}
@@ -10,10 +9,9 @@ use Rattle.ch_graph.specs.declared.mark.Mark.TheVariants.{Unseen, Open, Settled}
 use Rattle.ch_graph.specs.Marks.{mark, label_in, HasLabel, Improves, IsAtMost}
 use Rattle.ch_graph.specs.Hierarchy.{Hierarchy}
 use Rattle.ch_graph.specs.Searching.{IsOrder}
-use Rattle.ch_query.specs.declared.kept_mark.KeptMark.{KeptMark}
 use Rattle.ch_query.specs.declared.label.Label.{Label}
 use Rattle.ch_query.specs.declared.side.Side.{Side}
-use Rattle.ch_query.specs.Marks.{option_cost, costs_of, mark_in, marks_in, settled_in, settled_costs, IsNoLater, IsBelow, IsUpTo, HasLimit, label_cost}
+use Rattle.ch_query.specs.Marks.{option_cost, costs_of, settled_in, settled_costs, IsNoLater, IsBelow, IsUpTo, HasLimit, label_cost}
 use Rattle.ch_query.specs.Searching.{LinkArc}
 
 -- a cost is that of a label
@@ -97,18 +95,3 @@ better_than {m = Open e} {c} {known} latest is =
 better_than {m = Settled e} {c} {known} latest is =
     let same : known ≡ e.cost = cc in
     (λ below. below_not_at_most (subst (λ (d : Cost). c ≺ d) same below) (latest e refl), λ improves. absurd improves)
-
--- Marks as they are kept
-
-pub as_many : (kept : List KeptMark) → length (marks_in kept) ≡ length kept
-as_many kept = length-map kept mark_in
-
-pub mark_read : (kept : List KeptMark) {r : ℕ} {k : KeptMark} → r < length kept → k ≡ get_or kept r k → mark_in k ≡ mark (marks_in kept) r
-mark_read kept {r} {k} within read = ap mark_in read ∙ sym (get_or-map mark_in kept r k Unseen within)
-
-pub mark_written : (kept : List KeptMark) (r : ℕ) (k : KeptMark) {m : Mark Label} → mark_in k ≡ m → marks_in (set kept r k) ≡ set (marks_in kept) r m
-mark_written kept r k is = map-set mark_in kept r k ∙ ap (λ (n : Mark Label). set (marks_in kept) r n) is
-
-pub first_marks : (nodes : ℕ) (k : KeptMark) → mark_in k ≡ Unseen → marks_in (replicate nodes k) ≡ replicate nodes Unseen
-first_marks zero k is = refl
-first_marks (suc n) k is = cc (is, first_marks n k is)

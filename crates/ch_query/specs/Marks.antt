@@ -1,32 +1,17 @@
 -- What a side of a query knows of the nodes: a list of marks, one for each rank, of which the label is a cost and the
 -- rank that the climb came from.
-use Rattle.std.specs.Prelude.{ℕ, ◌≡◌, ◌≤◌, List, map, Option, Some, None}
+use Rattle.std.specs.Prelude.{ℕ, ◌≡◌, ◌≤◌, List, Option, Some, None}
 use Rattle.ch_cost.specs.declared.cost.Cost.{Cost}
 use Rattle.ch_cost.specs.Cost.{◌≼◌, ◌≺◌, length_of, IsSummable}
 use Rattle.ch_graph.specs.declared.mark.Mark.{Mark}
 use Rattle.ch_graph.specs.declared.mark.Mark.TheVariants.{Unseen, Open, Settled}
 use Rattle.ch_graph.specs.Marks.{mark, label_in, HasLabel}
 use Rattle.ch_graph.specs.Searching as searching
-use Rattle.ch_query.specs.declared.kept_mark.KeptMark.{KeptMark}
-use Rattle.ch_query.specs.declared.kept_mark.State.{State}
-use Rattle.ch_query.specs.declared.kept_mark.State.TheVariants.{Unseen as not_seen, Open as is_open, Settled as is_settled}
 use Rattle.ch_query.specs.declared.label.Label.{Label}
 
 -- what a label costs
 abbrev pub label_cost : Label → Cost
 label_cost e = e.cost
-
--- the mark that is kept as a state and a label
-abbrev pub mark_of : State → Label → Mark Label
-mark_of not_seen e = Unseen
-mark_of is_open e = Open e
-mark_of is_settled e = Settled e
-
-abbrev pub mark_in : KeptMark → Mark Label
-mark_in k = mark_of k.state (record { cost = k.cost; foot = k.foot })
-
-abbrev pub marks_in : List KeptMark → List (Mark Label)
-marks_in kept = map mark_in kept
 
 abbrev pub option_cost : Option Label → Option Cost
 option_cost None = None

@@ -1,4 +1,4 @@
-ghost use Rattle.std.specs.Prelude.{◌≡◌, ◌<◌, ◌≤◌, ◌+◌, ◌^◌, ◌↔◌, ℕ, [], ◌∷◌, length, replicate, slice_set, vec_capacity, All, Contains, IfOk, OnOk, IfSome, IfNone, IsTrue, OnSome};
+ghost use Rattle.std.specs.Prelude.{◌≡◌, ◌<◌, ◌≤◌, ◌+◌, ◌^◌, ◌↔◌, [], ◌∷◌, length, replicate, slice_set, All, IfOk, OnOk, IfSome, IfNone, IsTrue, OnSome};
 ghost use Rattle.std.specs.BinaryHeap.{heap_items, heap_len, heap_capacity, IsHeap, IsUpperBound};
 ghost use Rattle.std.specs.List.Sorted.{IsPermutation};
 ghost use Rattle.std.specs.Ordering.{nat_cmp};
@@ -7,31 +7,28 @@ ghost use Rattle.ch_graph.specs.Marks.{mark, label_in, Improves};
 ghost use Rattle.ch_graph.specs.Queue.{entry_cmp};
 ghost use Rattle.ch_query.specs.Marks.{label_cost, costs_of, IsSettledAtMost, IsUpTo, IsLeastOpen, IsStopped};
 
-use crate::kept_mark::KeptMark;
 use crate::label::Label;
 use crate::limit::is_up_to;
+use crate::mark_list::MarkList;
 use ch_cost::Cost;
-use ch_graph::Mark;
 use std::alloc::{AllocError, Global};
 use std::cmp::Reverse;
 use std::collections::BinaryHeap;
 use std::marker::Model;
 
-/// How many entries a queue or a list of touched ranks has room for at most when it is kept for the next query.
+/// How many entries a queue or a list of seen nodes has room for at most when it is kept for the next query.
 const KEPT: usize = 1 << 16;
 
 /// The marks of one side of a query, one for each rank, and which open node is the next to be settled.
 ///
-/// The marks are made once, and take 24 bytes a node: what a climb to a node is compared with is in one place. The
-/// queue is ordered by the lengths of the labels, and for equal lengths by the ranks. That is enough: a side climbs, so of
-/// two nodes with labels of one length only that of the lower rank can lead on to the other. The queue may hold older,
-/// longer entries of a node; they are passed over when they come up. The list of touched ranks says which marks to take
-/// back before the next query.
+/// The marks are made once, and take 4 bytes a node, and 32 more for each that a query sees. The queue is ordered by the
+/// lengths of the labels, and for equal lengths by the ranks. That is enough: a side climbs, so of two nodes with labels of
+/// one length only that of the lower rank can lead on to the other. The queue may hold older, longer entries of a node; they
+/// are passed over when they come up.
 #[derive(Drop)]
 pub struct Frontier {
-    marks: Vec<KeptMark>,
+    marks: MarkList,
     queue: BinaryHeap<Reverse<(u64, u32)>>,
-    touched: Vec<u32>,
 }
 
 impl Model for Frontier {
@@ -39,14 +36,13 @@ impl Model for Frontier {
     ghost use Rattle.std.specs.BinaryHeap.{heap_items};
     ghost use Rattle.ch_graph.specs.declared.mark.Mark.{Mark};
     ghost use Rattle.ch_query.specs.declared.label.Label.{Label};
-    ghost use Rattle.ch_query.specs.Marks.{marks_in};
-    ghost use Rattle.ch_query.specs.Front.{IsFront};
+    ghost use Rattle.ch_query.specs.Front.{IsQueueOf};
 
     ghost Value = { List (Mark Label) };
 
-    ghost view = { λ f. marks_in f.marks.items };
+    ghost view = { λ f. f.marks };
 
-    ghost invariant = { λ f. IsFront (marks_in f.marks.items) (heap_items f.queue) f.touched.items };
+    ghost invariant = { λ f. IsQueueOf f.marks (heap_items f.queue) };
 }
 
 /// A node that was settled.
@@ -64,40 +60,29 @@ impl Frontier {
         ensures { IfOk result (λ f. f ≡ replicate nodes Unseen) }
     {
         Ok(Frontier {
-            marks: vec![in alloc; KeptMark::unseen(); nodes as usize]?,
+            marks: MarkList::new(alloc, nodes)?,
             queue: BinaryHeap::new(alloc),
-            touched: Vec::new(alloc),
         })
     }
 
-    /// Forgets what was seen. Takes time by the number of nodes that were touched, and keeps the memory.
+    /// Forgets what was seen. Takes time by the number of nodes that were seen, and keeps the memory.
     pub fn clear(&mut self)
         ensures { self.new ≡ replicate (length self.old) Unseen }
     {
         self.queue.clear();
-        'touched: while let Some(rank) = self.touched.pop() {
-            self.marks[rank as usize] = KeptMark::unseen();
-        }
+        self.marks.clear();
     }
 
-    /// Frees the memory of the queue and of the list of touched ranks, where either has room for more than 65,536
-    /// entries, and then forgets what was seen. Takes no memory.
+    /// Forgets what was seen and frees the memory of the queue and of the list of seen nodes, where either has room for more
+    /// than 65,536 entries. Takes no memory.
     pub fn give_back(&mut self)
         ensures { length self.new ≡ length self.old }
     {
-        if (self.queue.capacity() <= KEPT) & (self.touched.capacity() <= KEPT) {
+        if (self.queue.capacity() <= KEPT) & (self.marks.capacity() <= KEPT) {
             return;
         }
-        self.clear();
-        free(&mut self.queue, &mut self.touched);
-    }
-
-    /// The mark of the node of a rank.
-    fn mark(&self, rank: u32) -> Mark<Label>
-        requires { rank < length self.now }
-        ensures { result ≡ mark self.now rank }
-    {
-        self.marks[rank as usize].mark()
+        free(&mut self.queue);
+        self.marks.free();
     }
 
     /// Returns the label of the node of a rank, if it has one.
@@ -105,7 +90,7 @@ impl Frontier {
         requires { rank < length self.now }
         ensures { result ≡ label_in (mark self.now rank) }
     {
-        self.mark(rank).label()
+        self.marks.label(rank)
     }
 
     /// Returns what the label of the node of a rank costs, if it has one.
@@ -120,13 +105,16 @@ impl Frontier {
     }
 
     /// Whether a climb to the node of a rank is better than what is known of it. If the node is settled, the climb costs
-    /// at least what its label does.
+    /// at least what its label does, so that open and settled ones need not be distinguished.
     pub fn is_improved_by(&self, rank: u32, cost: Cost) -> bool
         requires rank_in { rank < length self.now }
         requires settled { IsSettledAtMost self.now rank cost }
         ensures { IsTrue result ↔ Improves label_cost cost (mark self.now rank) }
     {
-        self.marks[rank as usize].is_improved_by(cost)
+        match self.cost(rank) {
+            Some(known) => cost.is_below(known),
+            None => true,
+        }
     }
 
     /// Opens the node of a rank with a label that is better than what is known of it.
@@ -138,10 +126,9 @@ impl Frontier {
         ensures nodes { length self.new ≡ length self.old }
         ensures opened { OnOk result (self.new ≡ slice_set self.old rank (Open label)) }
     {
-        let known = self.mark(rank);
-        touch(&mut self.touched, rank, known)?;
+        self.queue.reserve(1)?;
+        self.marks.open(rank, label)?;
         self.queue.push(Reverse((label.cost.length(), rank)))?;
-        self.marks[rank as usize] = KeptMark::open(label);
         Ok(())
     }
 
@@ -154,25 +141,12 @@ impl Frontier {
         ensures settled { IfSome result (λ r. self.new ≡ slice_set self.old r.rank (Settled r.label)) }
     {
         'entries: while let Some(Reverse((_, rank))) = pop_up_to(&mut self.queue, limit) {
-            if let Mark::Open(label) = self.marks[rank as usize].mark() {
-                self.marks[rank as usize] = KeptMark::settled(label);
+            if let Some(label) = self.marks.settle(rank) {
                 return Some(Reached { rank, label });
             }
         }
         None
     }
-}
-
-/// Puts a rank into the list of touched ones, if its node isn't seen yet.
-fn touch(touched: &mut Vec<u32>, rank: u32, mark: Mark<Label>) -> Result<(), AllocError>
-    ensures kept { (r : ℕ) → Contains touched.old.items r → Contains touched.new.items r }
-    ensures within { (nodes : ℕ) → rank < nodes → All (λ r. r < nodes) touched.old.items → All (λ r. r < nodes) touched.new.items }
-    ensures put { OnOk result (mark ≡ Unseen → Contains touched.new.items rank) }
-{
-    if let Mark::Unseen = mark {
-        touched.push(rank)?;
-    }
-    Ok(())
 }
 
 /// Takes the least entry out of a queue, if its length is at most the limit's. `None` where no entry's is.
@@ -195,15 +169,12 @@ fn pop_up_to(
     queue.pop()
 }
 
-// Takes all entries out of a queue and of a list, and frees their memory.
-fn free(queue: &mut BinaryHeap<Reverse<(u64, u32)>>, touched: &mut Vec<u32>)
+// Takes all entries out of a queue, and frees its memory.
+fn free(queue: &mut BinaryHeap<Reverse<(u64, u32)>>)
     ensures queue { heap_items queue.new ≡ [] }
     ensures order { IsHeap (entry_cmp nat_cmp) (heap_items queue.new) }
-    ensures touched { touched.new.items ≡ [] }
-    ensures room { (heap_capacity queue.new ≤ 2 ^ 16) × (vec_capacity touched.new ≤ 2 ^ 16) }
+    ensures room { heap_capacity queue.new ≤ 2 ^ 16 }
 {
     queue.clear();
-    touched.clear();
     queue.shrink_to_fit();
-    touched.shrink_to_fit();
 }

@@ -51,10 +51,10 @@ pub struct FoundBetween {
 /// Answers queries of one hierarchy, which it borrows or owns a share of: `H` is `&Hierarchy` or `Arc<Hierarchy>`.
 ///
 /// It keeps for either side the steps over the links that it climbs, apart from them the places of those links, and
-/// a mark for each node, all by rank: about 56 bytes a node and 16 a link, or 64 and 20 where there are 2^32 links or
+/// a mark for each node, all by rank: about 16 bytes a node and 16 a link, or 24 and 20 where there are 2^32 links or
 /// more. The steps and places can be shared with other searches ([`Search::beside`]). The marks of one call are kept for
-/// the next, which takes back what the one before it touched. So after a call that ran out of memory it answers as a new
-/// one. Either side's queue and its list of touched nodes are kept too; but where one of them has room for more than 65,536
+/// the next, which takes back what the one before it saw. So after a call that ran out of memory it answers as a new
+/// one. Either side's queue and its list of seen nodes are kept too; but where one of them has room for more than 65,536
 /// entries, both are freed when the call ends.
 #[derive(Drop)]
 pub struct SearchOf<H: HierarchyRef> {
@@ -99,7 +99,7 @@ impl<H: HierarchyRef> SearchOf<H> {
 
     /// Another search of the same hierarchy, for another caller.
     ///
-    /// The two share the steps and the places of the links, which never change, so this one takes 48 bytes a node for its
+    /// The two share the steps and the places of the links, which never change, so this one takes 8 bytes a node for its
     /// marks and what its calls keep, and nothing for a link. Either may be dropped first.
     pub fn beside(&self, alloc: Global) -> Result<SearchOf<H>, AllocError>
         ensures { IfOk result (λ search. search ≡ self.now) }

@@ -26,7 +26,7 @@ use std::marker::Model;
 /// Answers pairs of nodes by one hierarchy, which it borrows or owns a share of, each with a shortest path or with its length
 /// alone.
 ///
-/// It holds what [`SearchOf`] holds: about 56 bytes a node and 16 a link, or 64 and 20 where there are 2^32 links or more,
+/// It holds what [`SearchOf`] holds: about 16 bytes a node and 16 a link, or 24 and 20 where there are 2^32 links or more,
 /// and what the largest call so far needed beside it. After a call that failed it works as a new one.
 #[derive(Drop)]
 pub struct RouterOf<H: HierarchyRef> {
@@ -56,7 +56,7 @@ impl<H: HierarchyRef> RouterOf<H> {
 
     /// Another router of the same hierarchy, for another caller.
     ///
-    /// The two share what never changes ([`Search::beside`]), so this one takes 48 bytes a node and nothing for a link.
+    /// The two share what never changes ([`Search::beside`]), so this one takes 8 bytes a node and nothing for a link.
     pub fn beside(&self) -> Result<RouterOf<H>, AllocError>
         ensures { IfOk result (λ router. router ≡ self.now) }
     {
