@@ -6,12 +6,11 @@ ghost use Rattle.ch_contract.specs.Finish.{AreParts, IsMaking};
 use crate::contraction::Contraction;
 use crate::error::FinishError;
 use crate::ledger::Ledger;
-use crate::parts::{RanksAndLinks, parts_by_two, parts_of};
+use crate::parts::{RanksAndLinks, parts_of};
 use ch_graph::Hierarchy;
 use ch_laws::{reached_hierarchy_is_right, reached_hierarchy_is_well_made};
 use ch_overlay::Overlay;
 use std::alloc::AllocError;
-use std::thread::Threads;
 
 /// What a ledger comes to when each node is contracted.
 #[derive(Drop)]
@@ -53,20 +52,6 @@ pub fn plain_hierarchy_of(ledger: &Ledger) -> Result<Hierarchy, FinishError>
         return Err(FinishError::NodesLeft);
     }
     hierarchy_from(ledger, parts_of(ledger.allocator(), ledger.overlay()))
-}
-
-/// The same as [`plain_hierarchy_of`] by two threads, of which one makes the ranks.
-pub fn plain_hierarchy_by_two<R: Threads>(rt: &R, ledger: &Ledger) -> Result<Hierarchy, FinishError>
-    ensures { IsMaking ledger.now result }
-{
-    if ledger.is_over() {
-        hierarchy_from(
-            ledger,
-            parts_by_two(rt, ledger.allocator(), ledger.overlay()),
-        )
-    } else {
-        Err(FinishError::NodesLeft)
-    }
 }
 
 /// The hierarchy of the ranks and the links of a ledger's rows, whose nodes are all contracted, or out of memory as the

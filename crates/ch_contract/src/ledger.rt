@@ -8,15 +8,15 @@ ghost use Rattle.ch_overlay.specs.Change.{IsChange, puts, changed_nodes};
 ghost use Rattle.ch_overlay.specs.Prepared.{Fits};
 ghost use Rattle.ch_contract.specs.Ledger.{IsLedger, IsStartLedger, IsLog, AreLawful, IsContracted, versions_now};
 ghost use Rattle.ch_contract.specs.Ledger as ledgers;
-ghost use Rattle.ch_contract.specs.Finish.{HasNodesLeft, IsFinish, IsMaking};
+ghost use Rattle.ch_contract.specs.Finish.{HasNodesLeft, IsFinish};
 ghost use Rattle.ch_contract.specs.Planned.{IsPlanned, WasPlanned, AreNewVersions};
 ghost use Rattle.ch_contract.specs.Planned as plans;
 ghost use Rattle.ch_contract.specs.Ready.{FitsLedger};
 
 use crate::contraction::{Contraction, Receipt};
 use crate::error::FinishError;
-use crate::finish::{Finished, plain_hierarchy_by_two, plain_hierarchy_of};
-use ch_graph::{Graph, Hierarchy};
+use crate::finish::{Finished, plain_hierarchy_of};
+use ch_graph::Graph;
 use ch_laws::{plan_is_lawful, reached_goes_on};
 use ch_overlay::{Change, Overlay, Prepared, Row, Shortcut};
 use std::alloc::{AllocError, Global};
@@ -160,36 +160,12 @@ impl Ledger {
     pub fn finish(self) -> Result<Finished, (Ledger, FinishError)>
         ensures { IsFinish self result }
     {
-        let made = plain_hierarchy_of(&self);
-        self.finished(made)
-    }
-
-    /// The same as [`finish`](Ledger::finish) by two threads, of which one makes the ranks.
-    pub fn finish_by_two<R: Threads>(self, rt: &R) -> Result<Finished, (Ledger, FinishError)>
-        ensures { IsFinish self result }
-    {
-        let made = plain_hierarchy_by_two(rt, &self);
-        self.finished(made)
-    }
-
-    /// The hierarchy that was made, with the log and the rows.
-    fn finished(
-        self,
-        made: Result<Hierarchy, FinishError>,
-    ) -> Result<Finished, (Ledger, FinishError)>
-        requires { IsMaking self made }
-        ensures { IsFinish self result }
-    {
-        match made {
-            Ok(hierarchy) => {
-                let log = self.log;
-                let rows = self.overlay;
-                Ok(Finished {
-                    hierarchy,
-                    log,
-                    rows,
-                })
-            }
+        match plain_hierarchy_of(&self) {
+            Ok(hierarchy) => Ok(Finished {
+                hierarchy,
+                log: self.log,
+                rows: self.overlay,
+            }),
             Err(error) => Err((self, error)),
         }
     }

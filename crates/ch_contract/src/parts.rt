@@ -9,8 +9,6 @@ use crate::chains::Chains;
 use ch_graph::Link;
 use ch_overlay::{Entry, Overlay};
 use std::alloc::{AllocError, Global};
-use std::thread;
-use std::thread::Threads;
 
 /// The rank of each node of an overlay whose nodes are all contracted.
 fn ranks_of(alloc: Global, overlay: &Overlay) -> Result<Vec<u32>, AllocError>
@@ -35,13 +33,6 @@ pub struct RanksAndLinks {
     pub links: Vec<Link>,
 }
 
-/// The ranks and how many entries for arcs out of their nodes the rows have.
-#[derive(Drop)]
-struct Ranked {
-    ranks: Vec<u32>,
-    out: usize,
-}
-
 /// Returns the ranks and the links of an overlay whose nodes are all contracted, the links by their ends.
 ///
 /// What rows hold of arcs into their nodes is put in chains, by the nodes that the arcs leave. Each chain rises, and is
@@ -51,52 +42,11 @@ pub fn parts_of(alloc: Global, overlay: &Overlay) -> Result<RanksAndLinks, Alloc
     requires { IsOver (state_of overlay.now) }
     ensures { IfOk result (AreParts overlay.now) }
 {
-    let ranked = ranks_and_count(alloc, overlay)?;
-    merged(alloc, overlay, ranked, chains_of(alloc, overlay)?)
-}
-
-/// The same as [`parts_of`], where one thread makes the ranks and another the chains.
-pub fn parts_by_two<R: Threads>(
-    rt: &R,
-    alloc: Global,
-    overlay: &Overlay,
-) -> Result<RanksAndLinks, AllocError>
-    requires { IsOver (state_of overlay.now) }
-    ensures { IfOk result (AreParts overlay.now) }
-{
-    let (ranked, chains) = thread::join(
-        rt,
-        || ranks_and_count(alloc, overlay),
-        || chains_of(alloc, overlay),
-    );
-    let ranked = ranked?;
-    merged(alloc, overlay, ranked, chains?)
-}
-
-/// The ranks, and the links of all rows, each row merged with the chain of its node.
-fn merged(
-    alloc: Global,
-    overlay: &Overlay,
-    ranked: Ranked,
-    chains: Chains,
-) -> Result<RanksAndLinks, AllocError>
-    requires ranks { AreRanks overlay.now ranked.ranks.items }
-    requires chains { AreChainsOfRows overlay.now.rows chains }
-    ensures { IfOk result (AreParts overlay.now) }
-{
-    let Ranked { ranks, out } = ranked;
-    let room = out.saturating_add(chains.len());
+    let ranks = ranks_of(alloc, overlay)?;
+    let chains = chains_of(alloc, overlay)?;
+    let room = count_out(overlay).saturating_add(chains.len());
     let links = merge_rows(alloc, overlay, &chains, room)?;
     Ok(RanksAndLinks { ranks, links })
-}
-
-fn ranks_and_count(alloc: Global, overlay: &Overlay) -> Result<Ranked, AllocError>
-    requires { IsOver (state_of overlay.now) }
-    ensures { IfOk result (λ ranked. AreRanks overlay.now ranked.ranks.items) }
-{
-    let ranks = ranks_of(alloc, overlay)?;
-    let out = count_out(overlay);
-    Ok(Ranked { ranks, out })
 }
 
 fn chains_of(alloc: Global, overlay: &Overlay) -> Result<Chains, AllocError>

@@ -5,7 +5,7 @@ use std::marker::Model;
 
 /// A queue that was closed: what it was, and what was left in it, in order.
 ///
-/// [`MultiQueue::end`](crate::MultiQueue::end) and [`MultiQueue::end_by_two`](crate::MultiQueue::end_by_two) alone make one.
+/// [`MultiQueue::end`](crate::MultiQueue::end) alone makes one.
 /// So who has it knows that the queue was closed.
 #[derive(Drop)]
 pub struct Closed {

@@ -13,8 +13,6 @@ use crate::pass::Pass;
 use std::alloc::{AllocError, Global};
 use std::marker::Model;
 use std::sync::{Mutex, Wait};
-use std::thread;
-use std::thread::Threads;
 
 /// A relaxed priority queue, which threads share by reference, each with a [`Pass`] of its own.
 ///
@@ -147,20 +145,6 @@ impl MultiQueue {
         queue.into_closed(passes, settled)
     }
 
-    /// The same as [`end`](MultiQueue::end), where two threads make and sort the copies of the accounts.
-    pub fn end_by_two<R: Threads>(
-        self,
-        rt: &R,
-        passes: Vec<Pass>,
-    ) -> Result<Closed, (CloseError, MultiQueue, Vec<Pass>)>
-        ensures closed { IfOk result (λ closed. closed.queue ≡ self) }
-        ensures ended { IsEnd result self passes (λ closed. closed.left) }
-    {
-        let mut queue = self;
-        let settled = queue.settle_by_two(rt, passes.as_slice());
-        queue.into_closed(passes, settled)
-    }
-
     /// Ends the queue by what was settled, if no pass is missing.
     fn into_closed(
         self,
@@ -233,25 +217,6 @@ impl MultiQueue {
         let put = put_in_order(alloc, passes)?;
         let gone = gone_in_order(alloc, passes, left.as_slice())?;
         Ok(where_balanced(left, put, gone))
-    }
-
-    /// The same, where two threads make and sort the copies of the accounts.
-    fn settle_by_two<R: Threads>(
-        &mut self,
-        rt: &R,
-        passes: &[Pass],
-    ) -> Result<Option<Vec<Item>>, AllocError>
-        ensures queue { self.new ≡ self.old }
-        ensures left { IfOk result (λ left. IfSome left (λ items. IsLeft passes.now items.items)) }
-    {
-        let alloc = *self.heaps.allocator();
-        let left = self.left()?;
-        let (put, gone) = thread::join(
-            rt,
-            || put_in_order(alloc, passes),
-            || gone_in_order(alloc, passes, left.as_slice()),
-        );
-        Ok(where_balanced(left, put?, gone?))
     }
 
     /// A list of what is left, in order. The queue stays as it is.

@@ -151,7 +151,7 @@ fn finish_beside<R: Threads + Wait + Sync>(
         rt,
         move || -> Result<Closed, Trouble>
             ensures closed { IfOk result (λ closed. closed.queue ≡ waiting.queue) }
-        { waiting.close(rt) },
+        { waiting.close() },
         move || -> Result<Built, Trouble>
             ensures built { IfOk result (IsBuilt worked.ledger.graph (vec_len worked.receipts + 1)) }
         { finish(rt, alloc, worked, good, disposal) },

@@ -114,7 +114,7 @@ fn built_of<R: Threads>(
     ensures built { IfOk result (IsBuilt ledger.graph (vec_len receipts)) }
     ensures queue { IfOk result (λ b. b.queue ≡ None) }
 {
-    let finished = match ledger.finish_by_two(rt) {
+    let finished = match ledger.finish() {
         Ok(finished) => finished,
         Err((_, FinishError::OutOfMemory)) => return Err(Trouble::OutOfMemory),
         Err((_, FinishError::NodesLeft)) => unreachable!(),

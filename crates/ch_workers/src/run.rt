@@ -129,12 +129,12 @@ fn take_apart<E: Estimator>(alloc: Global, workers: Vec<Worker<E>>) -> Result<Le
 impl Waiting {
     /// Closes the queue. `Mixed` where a pass is missing, or where an item was lost, doubled or altered between a push and
     /// a pop.
-    pub(crate) fn close<R: Threads>(self, rt: &R) -> Result<Closed, Trouble>
+    pub(crate) fn close(self) -> Result<Closed, Trouble>
         ensures closed { IfOk result (λ closed. closed.queue ≡ self.queue) }
         ensures balanced { IfOk result (λ closed. AreBalanced self.passes.items closed.left) }
     {
         let Waiting { queue, passes } = self;
-        match queue.end_by_two(rt, passes) {
+        match queue.end(passes) {
             Ok(closed) => Ok(closed),
             Err((CloseError::OutOfMemory, _, _)) => Err(Trouble::OutOfMemory),
             Err((CloseError::PassMissing | CloseError::Mixed, _, _)) => Err(Trouble::Mixed),

@@ -17,7 +17,6 @@ use std::alloc::Global;
 use std::marker::Brand;
 use std::sync::Wait;
 use std::test::Fail;
-use std::thread::Threads;
 
 /// How many nodes each search settles at most.
 const SETTLE: u32 = 64;
@@ -264,13 +263,11 @@ enum End {
     Board,
     /// By its ledger, which gives the log and the rows besides.
     Ledger,
-    /// The same, by two threads.
-    LedgerByTwo,
 }
 
 /// Whether a board of the graph returns what the case expects for the offers, and what is taken out of it then is the
 /// case's.
-fn comes_to<S: Site, R: Threads + Wait>(
+fn comes_to<S: Site, R: Wait>(
     rt: &R,
     alloc: Global,
     blank: Blank,
@@ -288,7 +285,7 @@ fn comes_to<S: Site, R: Threads + Wait>(
 }
 
 /// Whether a fresh board does.
-fn goes_well<S: Site, R: Threads + Wait>(
+fn goes_well<S: Site, R: Wait>(
     rt: &R,
     alloc: Global,
     board: Board<S>,
@@ -297,7 +294,7 @@ fn goes_well<S: Site, R: Threads + Wait>(
 ) -> Result<bool, SweepError> {
     let mut board = board;
     let holds = takes_turns(rt, alloc, &mut board, case)?;
-    Ok(holds & is_finished(rt, board, case, end))
+    Ok(holds & is_finished(board, case, end))
 }
 
 /// The hierarchy of a board, which is lost where it has none.
@@ -309,14 +306,13 @@ pub fn finished<S: Site>(board: Board<S>) -> Result<Hierarchy, FinishError> {
 }
 
 /// Whether what is taken out of a board is the hierarchy of the case, and its log and its rows where they come with it.
-fn is_finished<S: Site, R: Threads>(rt: &R, board: Board<S>, case: &Case, end: End) -> bool {
+fn is_finished<S: Site>(board: Board<S>, case: &Case, end: End) -> bool {
     match end {
         End::Board => match finished(board) {
             Ok(hierarchy) => is_hierarchy(&hierarchy, case),
             Err(_) => false,
         },
         End::Ledger => is_given(board.into_parts().0.finish(), case),
-        End::LedgerByTwo => is_given(board.into_parts().0.finish_by_two(rt), case),
     }
 }
 
@@ -449,7 +445,7 @@ pub fn are_links(links: &[Link], expected: &[Linked]) -> bool {
 }
 
 /// Whether a board of the case's graph comes to what the case says.
-fn comes_true<R: Threads + Wait>(
+fn comes_true<R: Wait>(
     rt: &R,
     alloc: Global,
     case: &Case,
@@ -460,7 +456,7 @@ fn comes_true<R: Threads + Wait>(
 }
 
 /// Whether boards of all cases do.
-fn all_come_true<R: Threads + Wait>(
+fn all_come_true<R: Wait>(
     rt: &R,
     alloc: Global,
     cases: &[Case],
@@ -474,7 +470,7 @@ fn all_come_true<R: Threads + Wait>(
 }
 
 /// Whether boards of the table's cases do.
-fn table_comes_true<R: Threads + Wait>(rt: &R, alloc: Global, end: End) -> Result<bool, Fail> {
+fn table_comes_true<R: Wait>(rt: &R, alloc: Global, end: End) -> Result<bool, Fail> {
     all_come_true(rt, alloc, CASES, end)
 }
 
@@ -487,7 +483,6 @@ fn boards_come_to_their_hierarchies(rt: HostRuntime) -> Result<(), Fail> {
 #[test]
 fn ledgers_come_to_their_hierarchies(rt: HostRuntime) -> Result<(), Fail> {
     assert!(rt; table_comes_true(&rt, rt.alloc(), End::Ledger)?);
-    assert!(rt; table_comes_true(&rt, rt.alloc(), End::LedgerByTwo)?);
     Ok(())
 }
 
@@ -557,19 +552,11 @@ fn given_back(given: Result<Finished, (Ledger, FinishError)>) -> Option<Ledger> 
     }
 }
 
-/// Whether a ledger of three nodes is handed back by one thread, and then by two.
-fn is_ledger_given_back<R: Threads>(rt: &R, ledger: Ledger) -> bool {
-    match given_back(ledger.finish()) {
-        Some(back) => given_back(back.finish_by_two(rt)).is_some(),
-        None => false,
-    }
-}
-
 #[test]
 fn nodes_left_of_a_ledger(rt: HostRuntime) -> Result<(), Fail> {
     let alloc = rt.alloc();
     let ledger = Ledger::new(alloc, graph_of(alloc, 3, ROW)?)?;
-    assert!(rt; is_ledger_given_back(&rt, ledger));
+    assert!(rt; given_back(ledger.finish()).is_some());
     Ok(())
 }
 

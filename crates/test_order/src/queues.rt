@@ -7,7 +7,6 @@ use std::alloc::{AllocError, Global};
 use std::sync::Wait;
 use std::test::Fail;
 use std::thread;
-use std::thread::Threads;
 
 /// An item of this key and node.
 fn item(key: u64, node: u32) -> Item {
@@ -167,24 +166,6 @@ fn closed_with_all_passes_alone(rt: HostRuntime) -> Result<(), Fail> {
     let are_numbered = (first.number() == 0) & (second.number() == 1);
     let holds = are_numbered & pops_one_of_two(&rt, &queue, &mut first, &mut second)?;
     assert!(rt; holds & needs_both(rt.alloc(), queue, first, second)?);
-    Ok(())
-}
-
-/// Whether two threads close a queue, and these items are left.
-fn is_left_by_two<R: Threads>(rt: &R, queue: MultiQueue, passes: Vec<Pass>, want: &[Item]) -> bool {
-    match queue.end_by_two(rt, passes) {
-        Ok(ended) => ended.into_left().as_slice() == want,
-        Err(_) => false,
-    }
-}
-
-#[test]
-fn closed_by_two_threads(rt: HostRuntime) -> Result<(), Fail> {
-    let (mut queue, mut first) = MultiQueue::new(rt.alloc(), 2, 1)?;
-    let mut second = queue.pass()?;
-    let holds = pops_one_of_two(&rt, &queue, &mut first, &mut second)?;
-    let passes = vec![in rt.alloc(); second, first]?;
-    assert!(rt; holds & is_left_by_two(&rt, queue, passes, &[item(5, 7)]));
     Ok(())
 }
 
