@@ -32,8 +32,8 @@ fn compare_rows(hierarchy: &Hierarchy, overlay: &Overlay) -> Result<(), Fault>
 pub fn compare_row(hierarchy: &Hierarchy, row: &Row, node: u32) -> Result<(), Fault>
     ensures { OnOk result (IsLinked hierarchy.now.links node row.now) }
 {
-    compare_out(hierarchy, &row.out, node)?;
-    compare_in(hierarchy, &row.inn, node)
+    compare_out(hierarchy, row.out(), node)?;
+    compare_in(hierarchy, row.inn(), node)
 }
 
 fn compare_out(hierarchy: &Hierarchy, outs: &[Entry], node: u32) -> Result<(), Fault>
@@ -109,9 +109,9 @@ fn is_arc(hierarchy: &Hierarchy, overlay: &Overlay, link: &Link) -> bool
 {
     let _ = overlay.nodes();
     if hierarchy.rank(link.from) < hierarchy.rank(link.to) {
-        return has_entry(&overlay.row(link.from).out, link.to, link);
+        return has_entry(overlay.row(link.from).out(), link.to, link);
     }
-    has_entry(&overlay.row(link.to).inn, link.from, link)
+    has_entry(overlay.row(link.to).inn(), link.from, link)
 }
 
 /// Whether a list has an entry for this node with the cost and the middle of a link.

@@ -44,7 +44,7 @@ pub fn sort_pairs(
     pairs.put.clear();
     pairs.owed.clear();
     let row = task.row;
-    'outs: for out in &row.out {
+    'outs: for out in row.out() {
         let share = due(task, first, into, out);
         add(share, &mut pairs.put, &mut pairs.owed)?;
     }
@@ -64,14 +64,14 @@ fn due(task: &Task<'_>, first: &Row, into: &Entry, out: &Entry) -> Share
     let Some(pair) = light_pair(task.overlay.bound(), into, out) else {
         return Share::Spared;
     };
-    if has_direct(&first.out, &pair) {
+    if has_direct(first.out(), &pair) {
         return Share::Spared;
     }
     if is_wanted(task.hierarchy, &pair, task.node) {
         return Share::Put(pair);
     }
     let last = open_row(task.overlay, out.other);
-    if has_two_arcs(&first.out, &last.inn, task.node, &pair) {
+    if has_two_arcs(first.out(), last.inn(), task.node, &pair) {
         return Share::Spared;
     }
     Share::Owed(pair)

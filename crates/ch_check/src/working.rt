@@ -50,7 +50,7 @@ fn join_all(task: &Task<'_>, desk: &mut Desk) -> Result<(), Fault>
         desk.new.shortcuts.items) }
 {
     let row = task.row;
-    'inns: for into in &row.inn {
+    'inns: for into in row.inn() {
         join_from(task, desk, into)?;
     }
     Ok(())

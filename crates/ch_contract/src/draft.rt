@@ -126,12 +126,12 @@ pub fn draft_pairs<S: RowSource>(
     ensures found { AllNamed (S.whole source.old) (kept_of desk.old.searcher.rows) → NamesAlone (S.whole source.old) row.now → FindsRows Unseen (S.whole source.new) (kept_of desk.new.searcher.rows) result }
 {
     let from = into.other;
-    if !leads_on(&row.out, from) {
+    if !leads_on(row.out(), from) {
         return Ok(());
     }
     desk.searcher.rows.read(source, from)?;
     draft.listed.push(from)?;
-    find_pairs(task, into, &row.out, &desk.searcher.rows, &mut desk.pairs)?;
+    find_pairs(task, into, row.out(), &desk.searcher.rows, &mut desk.pairs)?;
     if desk.pairs.light.is_empty() {
         return Ok(());
     }
@@ -263,7 +263,7 @@ fn least_last_arc(rows: &Rows, pair: Shortcut, avoid: u32) -> Cost {
         return Cost::ZERO;
     };
     let mut least = Cost::GREATEST;
-    'inns: for arc in &seen.row.inn {
+    'inns: for arc in seen.row.inn() {
         let cost = arc.cost.cost();
         if arc.other != avoid && arc.other != pair.from && cost.is_below(least) {
             least = cost;

@@ -67,7 +67,7 @@ fn merge_rows(
 {
     let mut links = Vec::with_capacity(alloc, room)?;
     for node in 0..overlay.nodes() {
-        chains.push_merged(&mut links, node, overlay.row(node).out.as_slice())?;
+        chains.push_merged(&mut links, node, overlay.row(node).out())?;
     }
     Ok(links)
 }
@@ -81,7 +81,7 @@ fn chain_rows(alloc: Global, overlay: &Overlay, room: usize) -> Result<Chains, A
     let mut chains = Chains::new(alloc, nodes, room)?;
     for done in 0..nodes {
         let node = nodes - 1 - done;
-        chain_row(&mut chains, node, overlay.row(node).inn.as_slice())?;
+        chain_row(&mut chains, node, overlay.row(node).inn())?;
     }
     Ok(chains)
 }
@@ -107,7 +107,7 @@ fn chain_row(chains: &mut Chains, node: u32, inn: &[Entry]) -> Result<(), AllocE
 fn count_out(overlay: &Overlay) -> usize {
     let mut count = 0usize;
     for row in overlay.rows() {
-        count = count.saturating_add(row.out.len());
+        count = count.saturating_add(row.out().len());
     }
     count
 }
@@ -116,7 +116,7 @@ fn count_out(overlay: &Overlay) -> usize {
 fn count_in(overlay: &Overlay) -> usize {
     let mut count = 0usize;
     for row in overlay.rows() {
-        count = count.saturating_add(row.inn.len());
+        count = count.saturating_add(row.inn().len());
     }
     count
 }

@@ -74,10 +74,10 @@ impl Proposal {
             return None;
         }
         let row = self.own();
-        let Some(into) = cost_of(&row.inn, from) else {
+        let Some(into) = cost_of(row.inn(), from) else {
             return None;
         };
-        let Some(out) = cost_of(&row.out, to) else {
+        let Some(out) = cost_of(row.out(), to) else {
             return None;
         };
         if into.plus_within(out, self.bound).is_none() {
@@ -97,8 +97,8 @@ impl Proposal {
         let row = self.own();
         Facts {
             node: self.node,
-            ins: row.inn.len() as u32,
-            outs: row.out.len() as u32,
+            ins: row.inn().len() as u32,
+            outs: row.out().len() as u32,
             shortcuts: self.shortcuts.len() as u64,
         }
     }

@@ -123,7 +123,7 @@ fn draft_all<S: RowSource>(
 {
     read_neighbours(source, &mut desk.searcher.rows, row)?;
     let mut traced = Traced::new(alloc);
-    'inns: for into in &row.inn {
+    'inns: for into in row.inn() {
         draft_pairs(alloc, source, desk, task, row, into, draft, &mut traced)?;
     }
     Ok(())
@@ -136,8 +136,8 @@ fn read_neighbours<S: RowSource>(source: &mut S, rows: &mut Rows, row: &Row) -> 
     ensures read { IsReadOn S.bears (S.shows source.new) (S.bound_of source.new) (S.stays source.old source.new) (kept_of rows.old) (kept_of rows.new) }
     ensures found { AllNamed (S.whole source.old) (kept_of rows.old) → NamesAlone (S.whole source.old) row.now → FindsRows see.Unseen (S.whole source.new) (kept_of rows.new) result }
 {
-    'inns: for into in &row.inn {
-        if !leads_on(&row.out, into.other) {
+    'inns: for into in row.inn() {
+        if !leads_on(row.out(), into.other) {
             continue;
         }
         rows.read(source, into.other)?;

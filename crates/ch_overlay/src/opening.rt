@@ -4,7 +4,7 @@ ghost use Rattle.std.specs.List.{range_with_len};
 ghost use Rattle.ch_overlay.specs.Overlay.{no_arcs, row_at};
 ghost use Rattle.ch_overlay.specs.Opening.{AreOpening, with_in, with_out};
 
-use crate::row::Row;
+use crate::row::{OpenRow, Row};
 use ch_cost::NarrowCost;
 use ch_graph::Road;
 use ch_laws::{Entry, Middle};
@@ -51,7 +51,12 @@ pub fn shared_rows<R: Threads + Sync>(
 }
 
 /// The rows of `count` nodes from `from` on with these arcs, by the nodes' numbers. Each has just the memory that it needs.
-pub fn rows_of(alloc: Global, arcs: &[Road], from: u32, count: u32) -> Result<Vec<Row>, AllocError>
+pub fn rows_of(
+    alloc: Global,
+    arcs: &[Road],
+    from: u32,
+    count: u32,
+) -> Result<Vec<OpenRow>, AllocError>
     ensures { IfOk result (λ rows. AreOpening arcs.now from count rows.items) }
 {
     let mut rows = rows_without_arcs(alloc, arcs, from, count)?;
@@ -68,7 +73,7 @@ fn rows_without_arcs(
     arcs: &[Road],
     from: u32,
     count: u32,
-) -> Result<Vec<Row>, AllocError>
+) -> Result<Vec<OpenRow>, AllocError>
     ensures { IfOk result (λ rows. rows.items ≡ replicate count no_arcs) }
 {
     let mut out = vec![in alloc; 0u32; count as usize]?;
@@ -79,7 +84,7 @@ fn rows_without_arcs(
     }
     let mut rows = Vec::with_capacity(alloc, count as usize)?;
     'rows: for at in 0..count as usize {
-        rows.push(Row::with_room(alloc, out[at] as usize, inn[at] as usize)?)?;
+        rows.push(OpenRow::with_room(alloc, out[at] as usize, inn[at] as usize)?)?;
     }
     Ok(rows)
 }
@@ -99,7 +104,7 @@ fn count_one(counts: &mut [u32], from: u32, node: u32)
 }
 
 /// The arc joins the row of the node that it leaves, if that is one of these rows, which are of the nodes from `from` on.
-fn add_out(rows: &mut [Row], from: u32, arc: Road) -> Result<(), AllocError>
+fn add_out(rows: &mut [OpenRow], from: u32, arc: Road) -> Result<(), AllocError>
     ensures count { IfOk result (λ _. length rows.new ≡ length rows.old) }
     ensures rows { IfOk result (λ _. (k : ℕ) → k < length rows.old → row_at rows.new k ≡ with_out arc (from + k) (row_at rows.old k)) }
 {
@@ -120,7 +125,7 @@ fn add_out(rows: &mut [Row], from: u32, arc: Road) -> Result<(), AllocError>
 }
 
 /// The arc joins the row of the node that it comes to, if that is one of these rows, which are of the nodes from `from` on.
-fn add_in(rows: &mut [Row], from: u32, arc: Road) -> Result<(), AllocError>
+fn add_in(rows: &mut [OpenRow], from: u32, arc: Road) -> Result<(), AllocError>
     ensures count { IfOk result (λ _. length rows.new ≡ length rows.old) }
     ensures rows { IfOk result (λ _. (k : ℕ) → k < length rows.old → row_at rows.new k ≡ with_in arc (from + k) (row_at rows.old k)) }
 {
@@ -141,12 +146,12 @@ fn add_in(rows: &mut [Row], from: u32, arc: Road) -> Result<(), AllocError>
 }
 
 /// The same rows, to be shared.
-pub fn shared(alloc: Global, rows: Vec<Row>) -> Result<Vec<Arc<Row>>, AllocError>
+pub fn shared(alloc: Global, rows: Vec<OpenRow>) -> Result<Vec<Arc<Row>>, AllocError>
     ensures { IfOk result (λ all. map arc_value all.items ≡ rows.items) }
 {
     let mut all = Vec::with_capacity(alloc, rows.len())?;
     for row in rows {
-        all.push(Arc::new(alloc, row)?)?;
+        all.push(Arc::new(alloc, row.closed(alloc)?)?)?;
     }
     Ok(all)
 }

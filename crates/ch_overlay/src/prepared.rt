@@ -101,12 +101,8 @@ fn changed(
 pub fn ranked_row(alloc: Global, row: Row, rank: u32) -> Result<Arc<Row>, AllocError>
     ensures { IfOk result (λ new. arc_value new ≡ record row { rank = Some rank }) }
 {
-    let Row { out, inn, .. } = row;
-    let ranked = Row {
-        out,
-        inn,
-        rank: Some(rank),
-    };
+    let mut ranked = row;
+    ranked.rank = Some(rank);
     let shared = Arc::new(alloc, ranked)?;
     Ok(shared)
 }

@@ -1,4 +1,4 @@
-ghost use Rattle.std.specs.Prelude.{◌≡◌, ◌≢◌, ◌↔◌, ◌<◌, ◌⊎◌, ℕ, IfNone, IfSome, IsTrue, IfOk, List, [], ◌∷◌, ◌++◌, Some, None, AllPairs, Contains, map, filter, not, nat_eq};
+ghost use Rattle.std.specs.Prelude.{◌≡◌, ◌≢◌, ◌↔◌, ◌<◌, ◌⊎◌, ℕ, IfNone, IfSome, IsTrue, IfOk, OnOk, List, [], ◌∷◌, ◌++◌, Some, None, AllPairs, Contains, map, filter, not, nat_eq};
 ghost use Rattle.ch_laws.specs.declared.entry.Entry.{Entry};
 ghost use Rattle.ch_laws.specs.Rows.{Rises};
 ghost use Rattle.ch_overlay.specs.Merging.{merged};
@@ -8,6 +8,7 @@ ghost use Rattle.ch_overlay.specs.Prepared.{AreNamed};
 use crate::merge::Merge;
 use ch_laws::Entry;
 use std::alloc::{AllocError, Global};
+use std::boxed::BoxedSlice;
 use std::marker::Model;
 
 /// What a node has of its arcs, as a state of contraction shows it.
@@ -16,31 +17,50 @@ use std::marker::Model;
 /// for such nodes alone; one that is keeps those that it had when it was contracted.
 #[derive(Drop)]
 pub struct Row {
-    /// The arcs out of the node.
-    pub out: Vec<Entry>,
-    /// The arcs into the node.
-    pub inn: Vec<Entry>,
+    // The arcs out of the node, and behind them those into it.
+    arcs: BoxedSlice<Entry>,
+    // How many arcs are out of the node.
+    outs: usize,
     /// How many nodes were contracted before it, or `None` where it isn't contracted.
     pub rank: Option<u32>,
 }
 
 impl Model for Row {
+    ghost use Rattle.std.specs.Prelude.{◌≤◌, take, drop, length};
+    ghost use Rattle.std.specs.Box.{boxed_slice_items};
     ghost use Rattle.ch_laws.specs.Rows as rows;
 
     ghost Value = { rows.Row };
 
-    ghost view = { λ r. record { out = r.out.items; inn = r.inn.items; rank = r.rank } };
+    ghost view = { λ r. record { out = take r.outs (boxed_slice_items r.arcs); inn = drop r.outs (boxed_slice_items r.arcs); rank = r.rank } };
+
+    ghost invariant = { λ r. r.outs ≤ length (boxed_slice_items r.arcs) };
 }
 
-impl Row {
+/// The arcs of a node as they are collected, in two lists that grow.
+#[derive(Drop)]
+pub struct OpenRow {
+    out: Vec<Entry>,
+    inn: Vec<Entry>,
+}
+
+impl Model for OpenRow {
+    ghost use Rattle.std.specs.Prelude.{None};
+    ghost use Rattle.ch_laws.specs.Rows as rows;
+
+    ghost Value = { rows.Row };
+
+    ghost view = { λ r. record { out = r.out.items; inn = r.inn.items; rank = None } };
+}
+
+impl OpenRow {
     /// The row of a node without arcs, with room for this many entries out of it and into it.
-    pub(crate) fn with_room(alloc: Global, out: usize, inn: usize) -> Result<Row, AllocError>
+    pub(crate) fn with_room(alloc: Global, out: usize, inn: usize) -> Result<OpenRow, AllocError>
         ensures { IfOk result (λ row. row ≡ no_arcs) }
     {
-        Ok(Row {
+        Ok(OpenRow {
             out: Vec::with_capacity(alloc, out)?,
             inn: Vec::with_capacity(alloc, inn)?,
-            rank: None,
         })
     }
 
@@ -58,13 +78,53 @@ impl Row {
         Ok(())
     }
 
+    /// The same row, in the memory that it needs.
+    pub(crate) fn closed(self, alloc: Global) -> Result<Row, AllocError>
+        ensures { IfOk result (λ row. row ≡ self) }
+    {
+        Row::new(alloc, &self.out, &self.inn, None)
+    }
+}
+
+impl Row {
+    /// Returns the row of these entries and this rank.
+    pub fn new(
+        alloc: Global,
+        out: &[Entry],
+        inn: &[Entry],
+        rank: Option<u32>,
+    ) -> Result<Row, AllocError>
+        ensures { IfOk result (λ row. row ≡ record { out = out.now; inn = inn.now; rank = rank }) }
+    {
+        let mut arcs = Vec::with_capacity(alloc, out.len().saturating_add(inn.len()))?;
+        arcs.extend_from_slice(out)?;
+        arcs.extend_from_slice(inn)?;
+        Ok(Row {
+            arcs: arcs.into_boxed_slice(),
+            outs: out.len(),
+            rank,
+        })
+    }
+
+    /// Returns the arcs out of the node.
+    pub fn out(&self) -> &[Entry]
+        ensures { result.now ≡ self.now.out }
+    {
+        &self.arcs.as_slice()[..self.outs]
+    }
+
+    /// Returns the arcs into the node.
+    pub fn inn(&self) -> &[Entry]
+        ensures { result.now ≡ self.now.inn }
+    {
+        &self.arcs.as_slice()[self.outs..]
+    }
+
     /// Whether it has the same entries and the same rank as another row. Looks once at each entry.
     pub fn is_same(&self, other: &Row) -> bool
         ensures { IsTrue result ↔ (self.now ≡ other.now) }
     {
-        (self.rank == other.rank)
-            & (self.out.as_slice() == other.out.as_slice())
-            & (self.inn.as_slice() == other.inn.as_slice())
+        (self.rank == other.rank) & (self.out() == other.out()) & (self.inn() == other.inn())
     }
 
     /// The same row, in memory of its own.
@@ -72,8 +132,8 @@ impl Row {
         ensures { IfOk result (λ row. row ≡ self.now) }
     {
         Ok(Row {
-            out: Vec::from_slice(alloc, &self.out)?,
-            inn: Vec::from_slice(alloc, &self.inn)?,
+            arcs: BoxedSlice::from_slice(alloc, self.arcs.as_slice())?,
+            outs: self.outs,
             rank: self.rank,
         })
     }
@@ -91,11 +151,15 @@ impl Row {
           inn = filter (λ e. not (nat_eq e.other gone)) (merged self.now.inn inn.now);
         }) }
     {
-        let out = replaced(alloc, gone, self.out.as_slice(), out)?;
-        let inn = replaced(alloc, gone, self.inn.as_slice(), inn)?;
+        let outs = count(gone, self.out(), out);
+        let ins = count(gone, self.inn(), inn);
+        let mut arcs = Vec::with_capacity(alloc, outs.saturating_add(ins))?;
+        replace(gone, self.out(), out, &mut arcs)?;
+        let outs = arcs.len();
+        replace(gone, self.inn(), inn, &mut arcs)?;
         Ok(Row {
-            out,
-            inn,
+            arcs: arcs.into_boxed_slice(),
+            outs,
             rank: self.rank,
         })
     }
@@ -107,25 +171,23 @@ impl Row {
         requires inn_rises { Rises self.now.inn }
         ensures { IfOk result (λ nodes. AreNamed self.now nodes.items) }
     {
-        let most = self.out.len().saturating_add(self.inn.len());
-        let mut nodes = Vec::with_capacity(alloc, most)?;
-        nodes.extend(Merge::new(self.out.as_slice(), self.inn.as_slice()).map(|e| e.other))?;
+        let mut nodes = Vec::with_capacity(alloc, self.arcs.len())?;
+        nodes.extend(Merge::new(self.out(), self.inn()).map(|e| e.other))?;
         Ok(nodes)
     }
 }
 
-/// The new entries and those old ones that none of them replaces, without the entry for `gone`.
-fn replaced(
-    alloc: Global,
+/// Puts the new entries and those old ones that none of them replaces, without the entry for `gone`, behind others.
+fn replace(
     gone: u32,
     old: &[Entry],
     new: &[Entry],
-) -> Result<Vec<Entry>, AllocError>
-    ensures { IfOk result (λ es. es.items ≡ filter (λ e. not (nat_eq e.other gone)) (merged old.now new.now)) }
+    entries: &mut Vec<Entry>,
+) -> Result<(), AllocError>
+    ensures { OnOk result (entries.new.items ≡ entries.old.items ++ filter (λ e. not (nat_eq e.other gone)) (merged old.now new.now)) }
 {
-    let mut entries: Vec<Entry> = Vec::with_capacity(alloc, count(gone, old, new))?;
     entries.extend(Merge::new(old, new).filter(|e| e.other != gone))?;
-    Ok(entries)
+    Ok(())
 }
 
 /// How many entries these are. Only the memory that is taken for them depends on it.

@@ -162,7 +162,7 @@ impl Tree {
         let before = Before::at(self.steps.len());
         follow(
             rule,
-            &seen.row.out,
+            seen.row.out(),
             reached.cost,
             before,
             &mut self.frontier,

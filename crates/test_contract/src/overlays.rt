@@ -64,7 +64,7 @@ fn are_entries(entries: &[Entry], expected: Entries) -> bool {
 }
 
 fn is_row(row: &Row, out: Entries, inn: Entries, rank: Option<u32>) -> bool {
-    are_entries(&row.out, out) & are_entries(&row.inn, inn) & (row.rank == rank)
+    are_entries(row.out(), out) & are_entries(row.inn(), inn) & (row.rank == rank)
 }
 
 /// The overlay of the graph of these arcs.

@@ -56,11 +56,11 @@ fn are_joined(rows: &[(u32, Arc<Row>)], cost: NarrowCost) -> bool {
     (gone.0 == 0)
         & (gone.1.rank == Some(0))
         & (first.0 == 1)
-        & (first.1.out.as_slice() == [to(2)].as_slice())
-        & first.1.inn.is_empty()
+        & (first.1.out() == [to(2)].as_slice())
+        & first.1.inn().is_empty()
         & (second.0 == 2)
-        & (second.1.inn.as_slice() == [to(1)].as_slice())
-        & second.1.out.is_empty()
+        & (second.1.inn() == [to(1)].as_slice())
+        & second.1.out().is_empty()
 }
 
 #[test]

@@ -55,8 +55,8 @@ pub fn are(entries: &[Entry], expected: Entries) -> bool {
 fn is_of(seen: &Seen, node: u32, (version, out, inn, rank): &Version) -> bool {
     (seen.node == node)
         & (seen.version == *version)
-        & are(&seen.row.out, out)
-        & are(&seen.row.inn, inn)
+        & are(seen.row.out(), out)
+        & are(seen.row.inn(), inn)
         & (seen.row.rank == *rank)
 }
 

@@ -429,7 +429,7 @@ fn board_and_reader(rt: HostRuntime) -> Result<(), Fail> {
 /// Whether a reader finds the later row of node 1, which leads to node 2 by way of node 0.
 fn finds_later_row<S: Site>(reader: &mut Reader<S>) -> Result<bool, SeeError> {
     let seen = row_of(reader, 1)?;
-    let is_later = are(&seen.row.out, &[(2, (5, 2), Some(0))]) & are(&seen.row.inn, &[]);
+    let is_later = are(seen.row.out(), &[(2, (5, 2), Some(0))]) & are(seen.row.inn(), &[]);
     Ok((seen.version > 1) & is_later)
 }
 

@@ -129,18 +129,15 @@ impl RowSource for Shelf {
 
 /// The row of a node.
 fn row_of(alloc: Global, node: u32, leads: &[Lead], rank: Option<u32>) -> Result<Row, AllocError> {
-    let mut row = Row {
-        out: Vec::new(alloc),
-        inn: Vec::new(alloc),
-        rank,
-    };
+    let mut out = Vec::new(alloc);
+    let mut inn = Vec::new(alloc);
     for (from, to, numbers) in leads {
         if *from == node {
-            row.out.push(entry((*to, *numbers)))?;
+            out.push(entry((*to, *numbers)))?;
         }
         if *to == node {
-            row.inn.push(entry((*from, *numbers)))?;
+            inn.push(entry((*from, *numbers)))?;
         }
     }
-    Ok(row)
+    Row::new(alloc, &out, &inn, rank)
 }

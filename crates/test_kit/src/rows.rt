@@ -47,12 +47,9 @@ fn entries(alloc: Global, all: Entries<'_>) -> Result<Vec<Entry>, AllocError> {
 
 /// Returns a row of these entries.
 pub fn row(alloc: Global, out: Entries<'_>, inn: Entries<'_>) -> Result<Arc<Row>, AllocError> {
-    let row = Row {
-        out: entries(alloc, out)?,
-        inn: entries(alloc, inn)?,
-        rank: None,
-    };
-    Ok(Arc::new(alloc, row)?)
+    let out = entries(alloc, out)?;
+    let inn = entries(alloc, inn)?;
+    Ok(Arc::new(alloc, Row::new(alloc, &out, &inn, None)?)?)
 }
 
 fn is_entry(entry: &Entry, node: u32, bound: Cost) -> bool
@@ -95,16 +92,16 @@ pub fn is_sound(node: u32, row: &Row, bound: Cost) -> bool
     if node >= 1 << 25 {
         return false;
     }
-    if !rises(&row.out) {
+    if !rises(row.out()) {
         return false;
     }
-    if !rises(&row.inn) {
+    if !rises(row.inn()) {
         return false;
     }
-    if !are_entries(&row.out, node, bound) {
+    if !are_entries(row.out(), node, bound) {
         return false;
     }
-    are_entries(&row.inn, node, bound)
+    are_entries(row.inn(), node, bound)
 }
 
 /// Whether each row can be relied on, as that of the node of its place.

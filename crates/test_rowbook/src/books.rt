@@ -24,7 +24,7 @@ const LATER: Entries<'static> = &[(2, (5, 2))];
 
 /// Whether an answer is of this node and has these entries.
 fn shows(seen: &Seen, node: u32, out: Entries<'_>, inn: Entries<'_>) -> bool {
-    seen.node == node && are(&seen.row.out, out) && are(&seen.row.inn, inn)
+    seen.node == node && are(seen.row.out(), out) && are(seen.row.inn(), inn)
 }
 
 /// Whether the opening rows are read, and a later one once it is shown.

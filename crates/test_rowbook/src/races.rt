@@ -153,7 +153,7 @@ fn was_written(log: &[Written], read: &Seen) -> bool {
         return false;
     };
     let Written { node, weight, .. } = log[place];
-    (read.node == node) & are(&read.row.out, &[entry(node, weight)]) & read.row.inn.is_empty()
+    (read.node == node) & are(read.row.out(), &[entry(node, weight)]) & read.row.inn().is_empty()
 }
 
 /// Whether all that was read was written.

@@ -227,7 +227,7 @@ fn laid_in_vain<B: Book, R: Wait>(
 /// Whether a reader finds the row of this version, whose one arc is this.
 fn finds<B: Book>(reader: &mut Reader<B>, version: u64, arc: Given) -> Result<bool, SeeError> {
     let seen = read(reader)?;
-    Ok((seen.version == version) & are(&seen.row.out, &[arc]))
+    Ok((seen.version == version) & are(seen.row.out(), &[arc]))
 }
 
 /// The opening rows of three nodes: 1 leads to 0, and 0 to 2.

@@ -7,6 +7,6 @@ use Rattle.ch_check.proofs.comparing.compare_row.Goals as goal
 
 pub returns : goal.returns
 returns c = on_ok_weaker c.compare_in.result (λ inn. record {
-  out = subst (λ (es : List Entry). All (λ (e : Entry). Contains c.args.hierarchy.now.links (link_out c.args.node e)) es) (c.deref.ensures.value ∙ ap (λ (r : Row). r.out) c.row.view_is) c.in_ok-compare_out.ensures;
-  inn = subst (λ (es : List Entry). All (λ (e : Entry). Contains c.args.hierarchy.now.links (link_in c.args.node e)) es) (c.deref-2.ensures.value ∙ ap (λ (r : Row). r.inn) c.row.view_is) inn;
+  out = subst (λ (es : List Entry). All (λ (e : Entry). Contains c.args.hierarchy.now.links (link_out c.args.node e)) es) (c.out.ensures) c.in_ok-compare_out.ensures;
+  inn = subst (λ (es : List Entry). All (λ (e : Entry). Contains c.args.hierarchy.now.links (link_in c.args.node e)) es) (c.inn.ensures) inn;
 }) c.compare_in.ensures

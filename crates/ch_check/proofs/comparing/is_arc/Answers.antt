@@ -5,14 +5,14 @@ use Rattle.ch_overlay.specs.Overlay.{row_at}
 use Rattle.ch_check.specs.Comparing.{entry_of}
 use Rattle.ch_check.proofs.comparing.is_arc.Goals as goal
 
-outs : (c : goal.After-has_entry) → c.deref-then-rank.result.now ≡ (row_at c.args.overlay.now.rows c.args.link.now.from).out
-outs c = c.deref-then-rank.ensures.value ∙ ap (λ (r : Row). r.out) (c.behind-row.view_is ∙ c.deref.ensures ∙ c.row.ensures)
+outs : (c : goal.After-has_entry) → c.out.result.now ≡ (row_at c.args.overlay.now.rows c.args.link.now.from).out
+outs c = c.out.ensures ∙ ap (λ (r : Row). r.out) (c.deref.ensures ∙ c.row.ensures)
 
-inns : (c : goal.After-has_entry-2) → c.deref-3.result.now ≡ (row_at c.args.overlay.now.rows c.args.link.now.to).inn
-inns c = c.deref-3.ensures.value ∙ ap (λ (r : Row). r.inn) (c.behind-row-2.view_is ∙ c.deref-2.ensures ∙ c.row-2.ensures)
+inns : (c : goal.After-has_entry-2) → c.inn.result.now ≡ (row_at c.args.overlay.now.rows c.args.link.now.to).inn
+inns c = c.inn.ensures ∙ ap (λ (r : Row). r.inn) (c.deref-2.ensures ∙ c.row-2.ensures)
 
 pub has_entry-requires : goal.has_entry-requires
-has_entry-requires c = subst Rises (sym (c.deref-then-rank.ensures.value ∙ ap (λ (r : Row). r.out) (c.behind-row.view_is ∙ c.deref.ensures ∙ c.row.ensures))) (c.nodes.ensures.holds.rows c.args.link.now.from c.requires.from_in).out_rises
+has_entry-requires c = subst Rises (sym (c.out.ensures ∙ ap (λ (r : Row). r.out) (c.deref.ensures ∙ c.row.ensures))) (c.nodes.ensures.holds.rows c.args.link.now.from c.requires.from_in).out_rises
 
 pub returns-then-rank : goal.returns-then-rank
 returns-then-rank c = λ yes.
@@ -20,7 +20,7 @@ returns-then-rank c = λ yes.
     (subst (λ (es : List Entry). Contains es (entry_of c.args.link.now.to c.args.link.now)) (outs c) (c.has_entry.ensures yes))).0
 
 pub has_entry-requires-2 : goal.has_entry-requires-2
-has_entry-requires-2 c = subst Rises (sym (c.deref-3.ensures.value ∙ ap (λ (r : Row). r.inn) (c.behind-row-2.view_is ∙ c.deref-2.ensures ∙ c.row-2.ensures))) (c.nodes.ensures.holds.rows c.args.link.now.to c.requires.to_in).inn_rises
+has_entry-requires-2 c = subst Rises (sym (c.inn.ensures ∙ ap (λ (r : Row). r.inn) (c.deref-2.ensures ∙ c.row-2.ensures))) (c.nodes.ensures.holds.rows c.args.link.now.to c.requires.to_in).inn_rises
 
 pub returns : goal.returns
 returns c = λ yes.

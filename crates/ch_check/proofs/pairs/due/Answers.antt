@@ -13,7 +13,7 @@ returns-then-has_direct c =
     let pair = c.in-Some.pair in
     direct_pair t.node c.args.into.now c.args.out.now c.requires.first c.requires.start c.requires.end pair
     (subst (λ (b : Cost). IsPairOf b c.args.into.now c.args.out.now (Some pair)) c.bound.ensures c.in-Some.ensures)
-    (subst (λ (es : List Entry). LeadsDirectly es pair) (c.deref.ensures.value ∙ ap (λ (r : Row). r.out) c.first.view_is)
+    (subst (λ (es : List Entry). LeadsDirectly es pair) (c.out.ensures)
     (c.has_direct.ensures.yes c.if-has_direct.true))
 
 pub returns-then-has_two_arcs : goal.returns-then-has_two_arcs
@@ -24,7 +24,7 @@ returns-then-has_two_arcs c =
     two_pair t.node c.args.into.now c.args.out.now c.requires.first c.requires.start c.requires.end pair
     (subst (λ (b : Cost). IsPairOf b c.args.into.now c.args.out.now (Some pair)) c.bound.ensures c.in-Some.ensures)
     c.open_row-last.ensures (subst (λ (es : List Entry). LeadsOver es last.inn t.node pair)
-    (c.deref-2.ensures.value ∙ ap (λ (r : Row). r.out) c.first.view_is)
-    (subst (λ (es : List Entry). LeadsOver c.deref-2.result.now es t.node pair)
-    (c.deref-3.ensures.value ∙ ap (λ (r : Row). r.inn) c.last.view_is)
+    (c.out-2.ensures)
+    (subst (λ (es : List Entry). LeadsOver c.out-2.result.now es t.node pair)
+    (c.inn.ensures)
     (c.has_two_arcs.ensures c.if-has_two_arcs.true)))

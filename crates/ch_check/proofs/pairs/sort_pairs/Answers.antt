@@ -18,8 +18,8 @@ outs-init c =
 
 pub due-share-requires-clause-alive : goal.due-share-requires-clause-alive
 due-share-requires-clause-alive c =
-    let items : c.deref-out-items.result.now ≡ c.args.task.now.row.now.out =
-    c.deref-out-items.ensures.value ∙ ap (λ (r : Row). r.out) c.row.view_is in
+    let items : c.out-out-items.result.now ≡ c.args.task.now.row.now.out =
+    c.out-out-items.ensures in
     c.requires.task.row.outs c.out-item.result (
       c.outs.out-index,
       subst (λ (es : List Entry). c.outs.out-index < length es) items c.outs-test.true,
@@ -33,8 +33,8 @@ outs-preserved c =
     let first = c.args.first.now in
     let into = c.args.into.now in
     let outs = c.args.task.now.row.now.out in
-    let items : c.deref-out-items.result.now ≡ outs =
-    c.deref-out-items.ensures.value ∙ ap (λ (r : Row). r.out) c.row.view_is in
+    let items : c.out-out-items.result.now ≡ outs =
+    c.out-out-items.ensures in
     next_sorted outs c.outs.out-index c.out-item.result c.due-share.result _ _
     (subst (λ (es : List Entry). c.outs.out-index < length es) items c.outs-test.true) c.requires.task.row.out_rises
     c.outs.invariant

@@ -12,8 +12,8 @@ inns-preserved c =
     let row = c.args.task.now.row.now in
     let old = c.inns.desk.shortcuts.items in
     let new = c.join_from.new.desk.shortcuts.items in
-    let items : c.deref-into-items.result.now ≡ row.inn =
-    c.deref-into-items.ensures.value ∙ ap (λ (r : Row). r.inn) c.row.view_is in
+    let items : c.inn-into-items.result.now ≡ row.inn =
+    c.inn-into-items.ensures in
     record {
       joined = next_joined row.inn c.inns.into-index c.into-item.result new
           (subst (λ (es : List Entry). c.inns.into-index < length es) items c.inns-test.true) c.requires.task.row.inn_rises

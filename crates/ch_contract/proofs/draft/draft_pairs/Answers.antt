@@ -27,7 +27,7 @@ no-items (x ∷ xs) e = absurd (omega (arith, e))
 
 pub returns-then-not-leads_on-clause-draft : goal.returns-then-not-leads_on-clause-draft
 returns-then-not-leads_on-clause-draft g c =
-    let outs : c.deref.result.now ≡ c.args.row.now.out = c.deref.ensures.value ∙ ap (λ (r : Row). r.out) c.row.view_is in
+    let outs : c.out.result.now ≡ c.args.row.now.out = c.out.ensures in
     idle_alone c.args.task.bound c.args.task.node c.args.row.now c.args.into.now (kept_of c.args.desk.now.searcher.rows) c.args.draft.now (λ leads. not-true _ c.if-not-leads_on.true (c.leads_on.ensures.1 (subst (λ (es : List Entry). LeadsOn es c.args.into.now.other) (sym outs) leads)))
 
 pub returns-then-not-leads_on-clause-read : goal.returns-then-not-leads_on-clause-read
@@ -69,19 +69,19 @@ returns-in_err-find_pairs-clause-found g c = λ named names.
     finds_short _ _ _ p.0 p.1 p.2
 
 pub find_pairs-requires : goal.find_pairs-requires
-find_pairs-requires g c = record { rises = subst Rises (sym (c.deref-2.ensures.value ∙ ap (λ (r : Row). r.out) c.row.view_is)) c.requires.out_rises; limit = c.requires.limit }
+find_pairs-requires g c = record { rises = subst Rises (sym (c.out-2.ensures)) c.requires.out_rises; limit = c.requires.limit }
 
 pub returns-then-is_empty-clause-draft : goal.returns-then-is_empty-clause-draft
 returns-then-is_empty-clause-draft g c =
     let long : length c.find_pairs.new.pairs.light.items ≡ 0 = grind (arith, nat_tests, c.is_empty.ensures, c.if-is_empty.true, c.find_pairs.new.pairs.light.ok) in
     let none = no-items c.find_pairs.new.pairs.light.items long in
     let first = c.in_ok-read.ensures.here in
-    let outs : c.deref.result.now ≡ c.args.row.now.out = c.deref.ensures.value ∙ ap (λ (r : Row). r.out) c.row.view_is in
+    let outs : c.out.result.now ≡ c.args.row.now.out = c.out.ensures in
     idle_read c.args.task.bound c.args.task.node c.args.row.now c.args.into.now (kept_of c.read.new.self) first.seen first.kept c.args.draft.now _ c.requires.among c.requires.inn_rises c.requires.out_rises
     (subst (λ (es : List Entry). LeadsOn es c.args.into.now.other) outs (c.leads_on.ensures.0 (is-true _ c.if-not-leads_on.false)))
     (subst (λ (ps : List Shortcut). ArePairs c.args.task.bound c.args.into.now c.args.row.now.out ps) none
     (subst (λ (es : List Entry). ArePairs c.args.task.bound c.args.into.now es c.find_pairs.new.pairs.light.items)
-    (c.deref-2.ensures.value ∙ ap (λ (r : Row). r.out) c.row.view_is) c.in_ok-find_pairs.ensures.light))
+    (c.out-2.ensures) c.in_ok-find_pairs.ensures.light))
     refl c.in_ok-push.ensures.items
 
 pub returns-then-is_empty-clause-read : goal.returns-then-is_empty-clause-read
@@ -98,7 +98,7 @@ judge_by_search-requires-clause-start g c = (All-contains (IsEntry (2 ^ 25) c.ar
 pub judge_by_search-requires-clause-avoided : goal.judge_by_search-requires-clause-avoided
 judge_by_search-requires-clause-avoided g c = no_target c.args.task.bound c.args.task.node c.args.row.now c.args.into.now c.find_pairs.new.pairs.light.items
     (subst (λ (es : List Entry). ArePairs c.args.task.bound c.args.into.now es c.find_pairs.new.pairs.light.items)
-    (c.deref-2.ensures.value ∙ ap (λ (r : Row). r.out) c.row.view_is) c.in_ok-find_pairs.ensures.light) c.requires.entries
+    (c.out-2.ensures) c.in_ok-find_pairs.ensures.light) c.requires.entries
 
 pub judge_by_search-requires-clause-ends : goal.judge_by_search-requires-clause-ends
 judge_by_search-requires-clause-ends g c = c.in_ok-find_pairs.ensures.ends
@@ -109,7 +109,7 @@ judge_by_search-requires-clause-within g c = λ p among.
     subst (λ (b : Cost). IsWithin p.cost b) bound
     (pair_through c.args.task.bound c.args.row.now c.args.into.now c.find_pairs.new.pairs.light.items c.requires.among c.requires.inn_rises
     (subst (λ (es : List Entry). ArePairs c.args.task.bound c.args.into.now es c.find_pairs.new.pairs.light.items)
-    (c.deref-2.ensures.value ∙ ap (λ (r : Row). r.out) c.row.view_is) c.in_ok-find_pairs.ensures.light) p among).1
+    (c.out-2.ensures) c.in_ok-find_pairs.ensures.light) p among).1
 
 pub judge_by_search-requires-clause-kept : goal.judge_by_search-requires-clause-kept
 judge_by_search-requires-clause-kept g c = c.in_ok-read.ensures.read.kept
@@ -117,10 +117,10 @@ judge_by_search-requires-clause-kept g c = c.in_ok-read.ensures.read.kept
 pub returns-clause-draft : goal.returns-clause-draft
 returns-clause-draft g c =
     let first = c.in_ok-read.ensures.here in
-    let outs : c.deref.result.now ≡ c.args.row.now.out = c.deref.ensures.value ∙ ap (λ (r : Row). r.out) c.row.view_is in
+    let outs : c.out.result.now ≡ c.args.row.now.out = c.out.ensures in
     on_ok_too c.judge_by_search.result (λ s. drafted_search c.args.task.bound c.args.task.node c.args.row.now c.args.into.now c.find_pairs.new.pairs.light.items c.requires.among c.requires.inn_rises
     (subst (λ (es : List Entry). ArePairs c.args.task.bound c.args.into.now es c.find_pairs.new.pairs.light.items)
-    (c.deref-2.ensures.value ∙ ap (λ (r : Row). r.out) c.row.view_is) c.in_ok-find_pairs.ensures.light)
+    (c.out-2.ensures) c.in_ok-find_pairs.ensures.light)
     c.requires.out_rises (subst (λ (es : List Entry). LeadsOn es c.args.into.now.other) outs (c.leads_on.ensures.0 (is-true _ c.if-not-leads_on.false)))
     (kept_of c.judge_by_search.new.desk.searcher.rows) first.seen (c.judge_by_search.ensures.read.more c.args.into.now.other first.seen first.kept)
     s.rows s.cutoff s.ways s.found s.most s.direct s.rows_kept

@@ -24,9 +24,9 @@ chain_row-requires c k d inside =
     let node = c.nodes-nodes.result - 1 - c.loop-done.done in
     let rows = c.args.overlay.now.rows in
     let within : node < length rows = omega (arith, c.loop-done.invariant.nodes) in
-    let entries : c.as_slice.result.now ≡ (row_at rows node).inn = c.as_slice.ensures.value ∙ ap (λ (r : Row). r.inn) (c.behind-row.view_is ∙ c.deref.ensures ∙ c.row.ensures) in
+    let entries : c.inn.result.now ≡ (row_at rows node).inn = c.inn.ensures ∙ ap (λ (r : Row). r.inn) (c.deref.ensures ∙ c.row.ensures) in
     let entry = (c.loop-done.invariant.holds.entries node within).inn k d (subst (λ (es : List Entry). k < length es) entries inside) in
-    subst (λ n. (get_or c.as_slice.result.now k d).other < n) (sym c.loop-done.invariant.are.count) (subst (λ (es : List Entry). (get_or es k d).other < length rows) (sym entries) entry.in_range)
+    subst (λ n. (get_or c.inn.result.now k d).other < n) (sym c.loop-done.invariant.are.count) (subst (λ (es : List Entry). (get_or es k d).other < length rows) (sym entries) entry.in_range)
 
 pub loop-done-preserved : goal.loop-done-preserved
 loop-done-preserved c =
@@ -37,7 +37,7 @@ loop-done-preserved c =
     let above : node + 1 ≡ n - done = omega arith in
     let here : node ≡ n - (done + 1) = omega arith in
     let count : length c.loop-done.chains ≡ length rows = c.loop-done.invariant.are.count in
-    let inn : c.as_slice.result.now ≡ (row_at rows node).inn = c.as_slice.ensures.value ∙ ap (λ (r : Row). r.inn) (c.behind-row.view_is ∙ c.deref.ensures ∙ c.row.ensures) in
+    let inn : c.inn.result.now ≡ (row_at rows node).inn = c.inn.ensures ∙ ap (λ (r : Row). r.inn) (c.deref.ensures ∙ c.row.ensures) in
     let old : AreChainsOf (length rows) (links_in rows (node + 1) done) node c.loop-done.chains =
     chains-from (length rows) (links_in rows (node + 1) done) (n - done) node c.loop-done.chains (omega arith)
     (subst (λ k. AreChainsOf (length rows) (links_in rows k done) (n - done) c.loop-done.chains) (sym above) c.loop-done.invariant.are) in
@@ -45,7 +45,7 @@ loop-done-preserved c =
     let new : AreChainsOf (length rows) (links_in rows node (done + 1)) node c.chain_row.new.chains =
     subst (λ (ls : List Link). AreChainsOf (length rows) ls node c.chain_row.new.chains) (sym (links_in-more rows node done))
     (subst (λ (es : List Entry). AreChainsOf (length rows) (map (link_in node) es ++ links_in rows (node + 1) done) node c.chain_row.new.chains) inn
-    (subst (λ m. AreChainsOf m (map (link_in node) c.as_slice.result.now ++ links_in rows (node + 1) done) node c.chain_row.new.chains) count put)) in
+    (subst (λ m. AreChainsOf m (map (link_in node) c.inn.result.now ++ links_in rows (node + 1) done) node c.chain_row.new.chains) count put)) in
     record {
       nodes = c.loop-done.invariant.nodes;
       holds = c.loop-done.invariant.holds;

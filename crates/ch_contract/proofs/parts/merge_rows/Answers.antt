@@ -13,9 +13,9 @@ loop-node-preserved c =
     let rows = c.args.overlay.now.rows in
     let chains = c.args.chains.now in
     let node = c.loop-node.node in
-    let out : c.as_slice.result.now ≡ (row_at rows node).out = c.as_slice.ensures.value ∙ ap (λ (r : Row). r.out) (c.behind-row.view_is ∙ c.deref.ensures ∙ c.row.ensures) in
+    let out : c.out.result.now ≡ (row_at rows node).out = c.out.ensures ∙ ap (λ (r : Row). r.out) (c.deref.ensures ∙ c.row.ensures) in
     c.in_ok-push_merged.ensures ∙ ap (λ (ls : List Link). ls ++ map (link_out node)
-    (merged_by_other c.as_slice.result.now (slice_index_or chains node []))) c.loop-node.invariant
+    (merged_by_other c.out.result.now (slice_index_or chains node []))) c.loop-node.invariant
     ∙ ap (λ (es : List Entry). merged_below rows chains node ++ map (link_out node) (merged_by_other es (slice_index_or chains node []))) out
     ∙ sym (merged_below-more rows chains node)
 

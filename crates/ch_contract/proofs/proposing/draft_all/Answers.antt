@@ -22,19 +22,19 @@ draft_pairs-requires-clause-bound g c = c.requires.bound ∙ sym (g.met.S.RowSou
 
 pub draft_pairs-requires-clause-among : goal.draft_pairs-requires-clause-among
 draft_pairs-requires-clause-among g c =
-    let inns = c.deref-into-items.ensures.value ∙ ap (λ (r : Row). r.inn) c.row.view_is in
-    subst (λ (es : List Entry). Contains es c.into-item.result) inns (contains_place c.deref-into-items.result.now c.inns.into-index c.into-item.result c.into-item.result c.inns-test.true (sym c.into-item.is))
+    let inns = c.inn-into-items.ensures in
+    subst (λ (es : List Entry). Contains es c.into-item.result) inns (contains_place c.inn-into-items.result.now c.inns.into-index c.into-item.result c.into-item.result c.inns-test.true (sym c.into-item.is))
 
 pub draft_pairs-requires-clause-kept : goal.draft_pairs-requires-clause-kept
 draft_pairs-requires-clause-kept g c = c.inns.invariant.read.kept
 
 pub inns-preserved : goal.inns-preserved
 inns-preserved g c =
-    let inns = c.deref-into-items.ensures.value ∙ ap (λ (r : Row). r.inn) c.row.view_is in
+    let inns = c.inn-into-items.ensures in
     let inv = c.inns.invariant in
     let step = c.in_ok-draft_pairs.ensures in
     record {
-      draft = next_drafted c.args.task.bound c.args.task.node c.args.row.now c.deref-into-items.result.now inns c.requires.inn_rises c.inns.into-index _ c.inns-test.true
+      draft = next_drafted c.args.task.bound c.args.task.node c.args.row.now c.inn-into-items.result.now inns c.requires.inn_rises c.inns.into-index _ c.inns-test.true
           (kept_of c.inns.desk.searcher.rows) (kept_of c.draft_pairs.new.desk.searcher.rows) c.inns.draft c.draft_pairs.new.draft step.read.more inv.draft
           (subst (λ (e : Entry). IsDraftedFrom c.args.task.bound c.args.task.node c.args.row.now e
           (kept_of c.draft_pairs.new.desk.searcher.rows) c.inns.draft c.draft_pairs.new.draft) c.into-item.is step.draft);

@@ -29,10 +29,10 @@ returns-in_err-read-clause-read g c =
 pub returns-in_err-read-clause-found : goal.returns-in_err-read-clause-found
 returns-in_err-read-clause-found g c = λ named names.
     let inv = c.inns.invariant in
-    let inns = c.deref-into-items.ensures.value ∙ ap (λ (r : Row). r.inn) c.row.view_is in
+    let inns = c.inn-into-items.ensures in
     let whole = All-contains (λ (x : Entry). g.S.RowSource.whole c.args.source.now x.other) c.args.row.now.inn c.into-item.result names.inn
     (subst (λ (es : List Entry). Contains es c.into-item.result) inns
-    (contains_place c.deref-into-items.result.now c.inns.into-index c.into-item.result c.into-item.result c.inns-test.true
+    (contains_place c.inn-into-items.result.now c.inns.into-index c.into-item.result c.into-item.result c.inns-test.true
     (sym c.into-item.is))) in
     let p = err_from_is_err_and c.from_residual.result c.from_residual.ensures.1 in
     let same = p.2 in
@@ -42,7 +42,7 @@ returns-in_err-read-clause-found g c = λ named names.
 pub inns-preserved : goal.inns-preserved
 inns-preserved g c =
     let inv = c.inns.invariant in
-    let inns = c.deref-into-items.ensures.value ∙ ap (λ (r : Row). r.inn) c.row.view_is in
+    let inns = c.inn-into-items.ensures in
     let step = c.in_ok-read.ensures in
     record {
       read = record {
@@ -53,7 +53,7 @@ inns-preserved g c =
       names = λ named names.
           let whole = All-contains (λ (x : Entry). g.S.RowSource.whole c.args.source.now x.other) c.args.row.now.inn c.into-item.result names.inn
           (subst (λ (es : List Entry). Contains es c.into-item.result) inns
-          (contains_place c.deref-into-items.result.now c.inns.into-index c.into-item.result c.into-item.result c.inns-test.true
+          (contains_place c.inn-into-items.result.now c.inns.into-index c.into-item.result c.into-item.result c.inns-test.true
           (sym c.into-item.is))) in
           step.found (inv.names named names) (g.met.S.RowSource.still_whole c.args.source.now c.inns.source c.into-item.result.other inv.read.stays whole);
     }

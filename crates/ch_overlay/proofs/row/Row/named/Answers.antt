@@ -1,7 +1,6 @@
 use Rattle.std.specs.Vec.{vec_len, vec_capacity}
 use Rattle.std.proofs.Common.{rules, ◌+◌, ◌≤◌, ℕ, length, ◌≡◌, ◌∙◌, ap, List, ◌++◌, subst, sym, map, OnOk}
 use Rattle.ch_laws.specs.declared.entry.Entry.{Entry}
-use Rattle.ch_laws.specs.Rows.{Row}
 use Rattle.ch_overlay.specs.Merging.{merged}
 use Rattle.ch_overlay.specs.Prepared.{AreNamed}
 use Rattle.ch_overlay.proofs.Neighbours.{others_named}
@@ -17,9 +16,8 @@ returns c =
     let all = map (λ (e : Entry). e.other) both in
     let source = YieldsList-from_first (λ (e : Entry). e) (λ (m : Merge). merged m.old.now m.new.now) {s = c.map.result.iter} both
     (ap (λ (m : Merge). merged m.old.now m.new.now) c.map.ensures.source
-    ∙ ap (λ (es : List Entry). merged es c.new.result.new.now) (c.new.ensures.old ∙ c.as_slice.ensures.value)
-    ∙ ap (merged c.self.inside.out.items) (c.new.ensures.new ∙ c.as_slice-2.ensures.value)
-    ∙ ap (λ (r : Row). merged r.out r.inn) c.self.view_is) in
+    ∙ ap (λ (es : List Entry). merged es c.new.result.new.now) (c.new.ensures.old ∙ c.out.ensures)
+    ∙ ap (merged c.args.self.now.out) (c.new.ensures.new ∙ c.inn.ensures)) in
     let got = items_from_extend c.extend.result c.extend.ensures.ran (YieldsList-from_map _ (λ (e : Entry). e.other) source c.map.ensures.closure (search rules)) in
     let known : (c.extend.new.self.items ≡ c.in_ok-nodes.nodes.items ++ all) × (vec_len c.extend.new.self ≡ vec_len c.in_ok-nodes.nodes + length all)
     × (vec_capacity c.in_ok-nodes.nodes ≤ vec_capacity c.extend.new.self) = subst

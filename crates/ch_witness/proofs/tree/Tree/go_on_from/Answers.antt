@@ -24,7 +24,7 @@ follow-requires-clause-fits g c =
 pub follow-requires-clause-entries : goal.follow-requires-clause-entries
 follow-requires-clause-entries g c =
     let answer = (read_there g.S.RowSource.bears (g.S.RowSource.shows c.read.new.source) (g.S.RowSource.bound_of c.args.source.now) c.args.reached.node c.read.new.self c.in_ok-kept_at.kept_at c.at-seen.result.now c.in_ok-kept_at.ensures.here c.at-seen.ensures).1 in
-    let out : c.deref-3.result.now ≡ (row_in c.at-seen.result.now).out = c.deref-3.ensures.value ∙ ap (λ (r : Row). r.out) (c.behind-seen-2.view_is ∙ c.deref-2.ensures) in
+    let out : c.out.result.now ≡ (row_in c.at-seen.result.now).out = c.out.ensures ∙ ap (λ (r : Row). r.out) c.deref-2.ensures in
     subst (λ (es : List Entry). (k : ℕ) (d : Entry) → k < length es → IsInLimit (slice_index_or es k d).cost) (sym out) (entries_fit c.at-seen.result.now answer.limit answer.row)
 
 -- the answer that was read is kept, and the source vouches for it
@@ -36,7 +36,7 @@ unranked g c = ap (λ (r : Row). r.rank) (sym (c.behind-seen.view_is ∙ c.deref
 
 followed : (g : given.Over) (c : goal.In_ok-push g) → AreFollowed c.args.rule (row_in c.at-seen.result.now).out c.args.reached.cost (Some (length c.args.self.now.steps.items)) (labels_of c.args.self.now.frontier) (labels_of c.follow.new.frontier)
 followed g c =
-    let out : c.deref-3.result.now ≡ (row_in c.at-seen.result.now).out = c.deref-3.ensures.value ∙ ap (λ (r : Row). r.out) (c.behind-seen-2.view_is ∙ c.deref-2.ensures) in
+    let out : c.out.result.now ≡ (row_in c.at-seen.result.now).out = c.out.ensures ∙ ap (λ (r : Row). r.out) c.deref-2.ensures in
     let place : c.len.result ≡ length c.args.self.now.steps.items = omega (arith, c.len.ensures, c.args.self.now.steps.ok) in
     subst (λ (b : Option ℕ). AreFollowed c.args.rule (row_in c.at-seen.result.now).out c.args.reached.cost b (labels_of c.args.self.now.frontier) (labels_of c.follow.new.frontier)) (c.at-before.ensures ∙ ap (λ (n : ℕ). Some n) place)
     (subst (λ (es : List Entry). AreFollowed c.args.rule es c.args.reached.cost c.at-before.result (labels_of c.args.self.now.frontier) (labels_of c.follow.new.frontier)) out c.in_ok-follow.ensures)
