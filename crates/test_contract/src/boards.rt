@@ -445,23 +445,13 @@ pub fn are_links(links: &[Link], expected: &[Linked]) -> bool {
 }
 
 /// Whether a board of the case's graph comes to what the case says.
-fn comes_true<R: Wait>(
-    rt: &R,
-    alloc: Global,
-    case: &Case,
-    end: End,
-) -> Result<bool, Fail> {
+fn comes_true<R: Wait>(rt: &R, alloc: Global, case: &Case, end: End) -> Result<bool, Fail> {
     let (blank, graph) = with_blank(alloc, graph_of(alloc, case.nodes, case.lines)?)?;
     comes_to::<Brand, R>(rt, alloc, blank, graph, case, end)
 }
 
 /// Whether boards of all cases do.
-fn all_come_true<R: Wait>(
-    rt: &R,
-    alloc: Global,
-    cases: &[Case],
-    end: End,
-) -> Result<bool, Fail> {
+fn all_come_true<R: Wait>(rt: &R, alloc: Global, cases: &[Case], end: End) -> Result<bool, Fail> {
     let mut holds = true;
     for case in cases {
         holds &= comes_true(rt, alloc, case, end)?;
