@@ -75,10 +75,7 @@ pub fn prepare_beside<G: Read, W: Write, P: Gate, R: Threads + Wait + Sync>(
         log,
         queue,
     } = built;
-    let mut rest = Disposal::new();
-    rest.take(rt, (receipts, log, queue));
-    let written = hierfile::write(&hierarchy, out);
-    rest.wait(rt);
-    written?;
+    disposal.take(rt, (receipts, log, queue));
+    hierfile::write(&hierarchy, out)?;
     Ok(())
 }

@@ -19,7 +19,8 @@ use whole_file::Destination;
 ///
 /// `graph` gives the graph's text. If it is done, the hierarchy file is at the destination, and else what was there
 /// before. The outcome says of the text what it says in [`perform_preparation`](crate::perform_preparation); where the file
-/// can't be put there, it is [`Cause::Flush`]. The workers pass the gate.
+/// can't be put there, it is [`Cause::Flush`]. The workers pass the gate. Threads may still drop what the build needs no longer
+/// when it returns: nobody waits for them, and the process may end before they do.
 pub fn prepare_whole<G: Read, D: Destination, P: Gate, R: Threads + Wait + Sync>(
     rt: &R,
     alloc: Global,
@@ -46,9 +47,7 @@ pub fn prepare_whole<G: Read, D: Destination, P: Gate, R: Threads + Wait + Sync>
         gate,
         &mut disposal,
     );
-    let outcome = finish(destination, draft, outcome_of(prepared));
-    disposal.wait(rt);
-    outcome
+    finish(destination, draft, outcome_of(prepared))
 }
 
 // Puts the draft of a job that is done at its destination, and throws any other away.

@@ -5,15 +5,15 @@ use Rattle.ch_graph.specs.Hierarchy.{version_number}
 use Rattle.ch_service.proofs.ByHierarchies.{built-good, refused-bad, breaks, is_text, writes}
 use Rattle.ch_service.proofs.preparing.prepare_beside.Goals as goal
 
-pub write-written-requires : goal.write-written-requires
-write-written-requires g c = ap version_number c.in_ok-built.ensures.built.ok.made.made.version
+pub write-requires : goal.write-requires
+write-requires g c = ap version_number c.in_ok-built.ensures.built.ok.made.made.version
 
 pub returns-clause-prepared : goal.returns-clause-prepared
 returns-clause-prepared g c =
     let good = built-good _ _ (Ok tt) c.in_ok-built.was c.build_plain.ensures.built.bad in
     let built = c.in_ok-built.ensures.built.ok in
     record {
-      prepares = writes _ _ _ c.in-Ok.ensures.reads.reading built.right (search rules) built.made.made.version c.in_ok-written.ensures.writes.ok;
+      prepares = writes _ _ _ c.in-Ok.ensures.reads.reading built.right (search rules) built.made.made.version c.in_ok-write.ensures.writes.ok;
       good = good;
       refused = tt;
     }
@@ -31,14 +31,14 @@ returns-in_err-built-clause-prepared g c =
     let bad = refused-bad _ _ c.in_err-built.was c.build_plain.ensures.built.bad in
     rw (exit.1, exit.2) (record { prepares = tt; good = tt; refused = (bad, is_text c.in-Ok.graph _ c.in-Ok.ensures.reads.reading, search rules) })
 
-pub returns-in_err-written-clause-prepared : goal.returns-in_err-written-clause-prepared
-returns-in_err-written-clause-prepared g c =
-    let exit = err_from_is_err_and c.from_residual-in_err-written.result c.from_residual-in_err-written.ensures.1 in
+pub returns-in_err-write-clause-prepared : goal.returns-in_err-write-clause-prepared
+returns-in_err-write-clause-prepared g c =
+    let exit = err_from_is_err_and c.from_residual-in_err-write.result c.from_residual-in_err-write.ensures.1 in
     let good = built-good _ _ (Ok tt) c.in_ok-built.was c.build_plain.ensures.built.bad in
     let built = c.in_ok-built.ensures.built.ok in
     rw (exit.1, exit.2)
     (record {
       prepares = tt;
       good = tt;
-      refused = (good, breaks _ _ _ c.in_err-written.field-0.0 c.in-Ok.ensures.reads.reading built.right (search rules) built.made.made.version c.in_err-written.ensures.writes.err);
+      refused = (good, breaks _ _ _ c.in_err-write.field-0.0 c.in-Ok.ensures.reads.reading built.right (search rules) built.made.made.version c.in_err-write.ensures.writes.err);
     })

@@ -17,13 +17,13 @@ pub returns-clause-done : goal.returns-clause-done
 returns-clause-done g c done =
     let starts : g.D.PendingFile.Write.contents c.in-Ok.draft ≡ option_map (λ _. []) (g.D.Destination.stands c.args.destination.now) = search rules in
     let ended = after c.outcome_of.ensures c.prepare_by-prepared.ensures in
-    has_prepared _ _ _ starts (c.finish-outcome.ensures.done done) (ended.done (was_done c.finish-outcome.ensures.outcome done))
+    has_prepared _ _ _ starts (c.finish.ensures.done done) (ended.done (was_done c.finish.ensures.outcome done))
 
 pub returns-clause-kept : goal.returns-clause-kept
-returns-clause-kept g c = c.finish-outcome.ensures.kept
+returns-clause-kept g c = c.finish.ensures.kept
 
 pub returns-clause-told : goal.returns-clause-told
-returns-clause-told g c = (finished _ _ _ c.finish-outcome.ensures.outcome (after c.outcome_of.ensures c.prepare_by-prepared.ensures)).0
+returns-clause-told g c = (finished _ _ _ c.finish.ensures.outcome (after c.outcome_of.ensures c.prepare_by-prepared.ensures)).0
 
 pub returns-clause-status : goal.returns-clause-status
-returns-clause-status g c = (finished _ _ _ c.finish-outcome.ensures.outcome (after c.outcome_of.ensures c.prepare_by-prepared.ensures)).1
+returns-clause-status g c = (finished _ _ _ c.finish.ensures.outcome (after c.outcome_of.ensures c.prepare_by-prepared.ensures)).1
