@@ -1,5 +1,5 @@
 -- Nodes are seen, and forgotten.
-use Rattle.std.proofs.Common.{ℕ, ◌≡◌, ◌≢◌, ◌<◌, ◌≤◌, List, [], ◌∷◌, ◌++◌, zero, suc, true, eqb, get_or, slice_get, slice_index, length, map, set, replicate, AllPairs, Contains, Some, ap, refl, sym, subst, ◌∙◌, inl, inr, arith}
+use Rattle.std.proofs.Common.{ℕ, ◌≡◌, ◌≢◌, ◌<◌, ◌≤◌, List, [], ◌∷◌, ◌++◌, zero, suc, Bool, cond, true, false, eqb, get_or, slice_get, slice_index, length, map, set, replicate, AllPairs, Contains, Some, ap, refl, sym, subst, ◌∙◌, inl, inr, arith}
 use Rattle.std.proofs.Math.Seq.{get_or-append_seam}
 use Rattle.std.proofs.lemmas.Bool.{cases_eq, cases_lt}
 use Rattle.std.proofs.lemmas.Bool.Decides.{nat_tests, Decides-eqb}
@@ -9,9 +9,9 @@ use Rattle.std.proofs.lemmas.Map.Steps.{length-le_from_distinct_below}
 use Rattle.std.proofs.lemmas.Map.Views.{Contains-from_any}
 use Rattle.std.proofs.lemmas.Option.{slice_get-get_or, slice_get_past, slice_get_within}
 use Rattle.ch_graph.specs.declared.mark.Mark.{Mark}
-use Rattle.ch_graph.specs.declared.mark.Mark.TheVariants.{Unseen, Open}
+use Rattle.ch_graph.specs.declared.mark.Mark.TheVariants.{Unseen, Open, Settled}
 use Rattle.ch_graph.specs.Marks.{mark}
-use Rattle.ch_graph.specs.Marks.Laws.{unseen-open}
+use Rattle.ch_graph.specs.Marks.Laws.{unseen-open, unseen-settled}
 use Rattle.ch_query.specs.declared.label.Label.{Label}
 use Rattle.ch_query.specs.declared.mark_list.Seen.{Seen}
 use Rattle.ch_query.specs.Seen.{mark_in, mark_at, marks_in, ArePlaces}
@@ -82,6 +82,19 @@ unseen [] places none = ext_get_or Unseen (marks_in [] places) (replicate {A = M
     read q low =
         let within : q < length places = omega (arith, low, as_many [] places) in
         mark_read [] places q within ∙ at (slice_index places q) ∙ sym (get_or-replicate {A = Mark Label} (length places) q Unseen Unseen within)
+
+-- what is in the list is marked
+marked : (settled : Bool) (e : Label) → cond settled (Settled e) (Open e) ≡ Unseen → ⊥
+marked true e is = unseen-settled (sym is)
+marked false e is = unseen-open (sym is)
+
+pub none_listed : (nodes : ℕ) {places : List ℕ} {seen : List Seen} → ArePlaces places seen → marks_in seen places ≡ replicate {A = Mark Label} nodes Unseen → seen ≡ []
+none_listed nodes {seen = []} are none = refl
+none_listed nodes {places} {seen = s ∷ seen} are none =
+    let within : s.rank < length places = are.within 0 s refl in
+    let fits : s.rank < nodes = omega (arith, within, as_many (s ∷ seen) places, ap (λ (ms : List (Mark Label)). length ms) none, length-replicate {A = Mark Label} nodes Unseen) in
+    let read : mark_at (s ∷ seen) (slice_index places s.rank) ≡ Unseen = sym (mark_read (s ∷ seen) places s.rank within) ∙ ap (λ (ms : List (Mark Label)). mark ms s.rank) none ∙ get_or-replicate {A = Mark Label} nodes s.rank Unseen Unseen fits in
+    absurd (marked s.settled s.label (sym (ap (mark_at (s ∷ seen)) (are.here 0 s refl)) ∙ read))
 
 pub none_placed : (nodes : ℕ) {places : List ℕ} {seen : List Seen} → places ≡ replicate nodes 0 → seen ≡ [] → ArePlaces places seen
 none_placed nodes {places} {seen} zeros none = record {

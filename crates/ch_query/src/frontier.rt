@@ -1,4 +1,4 @@
-ghost use Rattle.std.specs.Prelude.{◌≡◌, ◌<◌, ◌≤◌, ◌+◌, ◌^◌, ◌↔◌, [], ◌∷◌, length, replicate, slice_set, All, IfOk, OnOk, IfSome, IfNone, IsTrue, OnSome};
+ghost use Rattle.std.specs.Prelude.{◌≡◌, ◌<◌, ◌+◌, ◌↔◌, [], ◌∷◌, length, replicate, slice_set, All, IfOk, OnOk, IfSome, IfNone, IsTrue, OnSome};
 ghost use Rattle.std.specs.BinaryHeap.{heap_items, heap_len, heap_capacity, IsHeap, IsUpperBound};
 ghost use Rattle.std.specs.List.Sorted.{IsPermutation};
 ghost use Rattle.std.specs.Ordering.{nat_cmp};
@@ -173,7 +173,7 @@ fn pop_up_to(
 fn free(queue: &mut BinaryHeap<Reverse<(u64, u32)>>)
     ensures queue { heap_items queue.new ≡ [] }
     ensures order { IsHeap (entry_cmp nat_cmp) (heap_items queue.new) }
-    ensures room { heap_capacity queue.new ≤ 2 ^ 16 }
+    ensures room { heap_capacity queue.new ≡ 0 }
 {
     queue.clear();
     queue.shrink_to_fit();

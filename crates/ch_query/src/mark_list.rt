@@ -1,4 +1,4 @@
-ghost use Rattle.std.specs.Prelude.{◌≡◌, ◌<◌, ◌≤◌, ◌^◌, [], length, replicate, slice_index, slice_set, vec_capacity, IfNone, IfOk, IfSome, OnErr, OnOk};
+ghost use Rattle.std.specs.Prelude.{◌≡◌, ◌<◌, [], length, replicate, slice_index, slice_set, vec_capacity, IfNone, IfOk, IfSome, OnErr, OnOk};
 ghost use Rattle.ch_graph.specs.declared.mark.Mark.TheVariants.{Unseen, Open, Settled};
 ghost use Rattle.ch_graph.specs.Marks.{mark, label_in};
 ghost use Rattle.ch_query.specs.Seen.{mark_in, mark_at};
@@ -69,7 +69,7 @@ impl MarkList {
         ensures { self.new ≡ replicate (length self.old) Unseen }
     {
         self.clear();
-        self.seen.shrink_to_fit();
+        free(&mut self.seen);
     }
 
     /// For how many seen nodes there is room.
@@ -139,4 +139,13 @@ fn seen_at(places: &[u32], seen: &[Seen], rank: u32) -> Option<Seen>
         return None;
     }
     seen.get(place - 1).copied()
+}
+
+// Takes all nodes out of a list, and frees its memory.
+fn free(seen: &mut Vec<Seen>)
+    ensures none { seen.new.items ≡ [] }
+    ensures room { vec_capacity seen.new ≡ 0 }
+{
+    seen.clear();
+    seen.shrink_to_fit();
 }
