@@ -56,8 +56,7 @@ class ServiceCase(ToolCase):
             self.said.append(line)
             if found := re.search(r"listens at (?:http://127\.0\.0\.1:(\d+)/|unix:)", line):
                 self.port = int(found[1] or 0)
-                self.reader = threading.Thread(target=lambda: self.said.extend(process.stderr), daemon=True)
-                self.reader.start()
+                threading.Thread(target=read_rest, args=(process.stderr, self.said), daemon=True).start()
                 self.wait_for(lambda: len(workers_of(process)) >= 4)
                 return process
         self.fail(f"the service didn't start: {self.said}")
@@ -174,10 +173,15 @@ def resident(number: int) -> int:
     return int(re.search(r"VmRSS:\s+(\d+) kB", pathlib.Path(f"/proc/{number}/status").read_text())[1])
 
 
+def read_rest(stream, lines):
+    """Adds the lines that are left of a stream to others, and closes it at its end, which is when no worker is left."""
+    with stream:
+        lines.extend(stream)
+
+
 def end(process):
     process.kill()
     process.wait()
-    process.stderr.close()
 
 
 def lengths_from(arcs, source):
