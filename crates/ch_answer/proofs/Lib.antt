@@ -1,1 +1,2 @@
+pub mod BestLines
 pub mod Naming

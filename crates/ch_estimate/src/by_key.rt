@@ -3,22 +3,13 @@ ghost use Rattle.ch_contract.specs.Proposal.{AreFacts};
 ghost use Rattle.ch_estimate.specs.Notes.{note_of};
 
 use crate::estimator::Estimator;
-use crate::key::{Arcs, ArcsAndDepth, ArcsAndGone, Key};
+use crate::key::Key;
 use crate::lease::Lease;
 use crate::note::Note;
 use crate::work_space::WorkSpace;
 use ch_contract::{Contraction, Facts};
 use std::alloc::{AllocError, Global};
 use std::marker::{Model, PhantomData};
-
-/// Nodes whose contraction leaves the fewest arcs go first.
-pub type EdgeDifference = ByKey<Arcs>;
-
-/// Nodes whose contraction leaves the fewest arcs go first, and each neighbour that is gone puts a node back by one.
-pub type Neighbours = ByKey<ArcsAndGone>;
-
-/// Nodes whose contraction leaves the fewest arcs go first, and each step of its depth puts a node back by one.
-pub type Depth = ByKey<ArcsAndDepth>;
 
 /// An estimator whose keys are those of `K`.
 ///

@@ -2,8 +2,8 @@
 //!
 //! Builds on `ch_contract`, of which it uses the counts of a proposal and the entries of the log, and for the leases on
 //! `atomic_table`, which counts them, and `crossbeam_utils`, by which they are waited for. Its main item is the trait
-//! [`Estimator`]: it receives each contraction in turn, and gives keys, smaller ones first. Three kinds are here:
-//! [`EdgeDifference`], [`Neighbours`] and [`Depth`]. They are one type, [`ByKey`], with three kinds of [`Key`]. What they
+//! [`Estimator`]: it receives each contraction in turn, and gives keys, smaller ones first. Four kinds are here:
+//! [`EdgeDifference`], [`Neighbours`], [`Depth`] and [`key::Balanced`]. They are one type, [`ByKey`], with four kinds of [`Key`]. What they
 //! know of the nodes is kept in a [`WorkSpace`], and each works under a [`Lease`]. The promise of the layer is the contract
 //! of `note`, that a note is what the received entries say, that of each kind's `key`, which says which number it is, and
 //! that of [`Leases::wait`], that no lease is out; [`Leases::none_is_left`] says what that means. No promise on answers
@@ -27,15 +27,15 @@ mod counted;
 mod edge_difference;
 mod estimator;
 mod heard;
-mod key;
+pub mod key;
 mod lease;
 mod note;
 mod notes;
 mod work_space;
 
-pub use by_key::{ByKey, Depth, EdgeDifference, Neighbours};
+pub use by_key::ByKey;
 pub use estimator::Estimator;
-pub use key::{Arcs, ArcsAndDepth, ArcsAndGone, Key};
+pub use key::{Arcs, ArcsAndDepth, ArcsAndGone, Depth, EdgeDifference, Key, Neighbours};
 pub use lease::{Lease, Leases};
 pub use note::Note;
 pub use work_space::WorkSpace;

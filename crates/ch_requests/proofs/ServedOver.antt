@@ -16,6 +16,7 @@ use Rattle.ch_query.specs.Seeds.{AreSeeds}
 use Rattle.ch_query.specs.Seeds.Laws.{seed-arc, seeds-cons, seeds-none}
 use Rattle.ch_route.specs.Between.{RouteBetween, HasTooLongBetween, IsRouteBetweenBy, IsShortestBetween}
 use Rattle.ch_route.specs.Laws.{LengthsAreLeast, LengthsAreLeastByWeight, NoneTooLong, NoneTooLongBetween, NoneTooLongBetweenByWeight, NoneTooLongByWeight, RoutesAreFewest, RoutesAreLeastByWeight, RoutesBetweenAreFewest, RoutesBetweenAreLeastByWeight}
+use Rattle.ch_answer.specs.BestLines.{FewestWalksAreBestPaths, IsBestRoute}
 use Rattle.ch_route.specs.Routes.{Route, HasTooLong, IsFewestWalk, IsLeastWalk, IsLengthBy, IsRouteBy}
 use Rattle.ch_answer.specs.File.{IsRightIn, PreparesIn, Spells}
 use Rattle.grfile.specs.Reading.{SpelledGraphsAreInRange}
@@ -116,13 +117,29 @@ services_over {IsRoute} v one graphs ranges right graph_text bytes requests_text
       };
     }
 
-pub right_two : RoutesAreFewest → LengthsAreLeast → NoneTooLong → RoutesBetweenAreFewest → NoneTooLongBetween → (g : Graph) (h : Hierarchy) → IsGraph g → IsRightIn Two g h → h.version ≡ Two → IsWellMade h → AnswersAs IsFewestWalk g h
-right_two routes lengths short between short_between g h graph right of_version made = record {
+-- and a route between several starts and ends is too
+best_between : FewestWalksAreBestPaths → (g : Graph) (starts ends : List Seed) (r : Option RouteBetween) → IsShortestBetween IsFewestWalk g starts ends r → IsShortestBetween IsBestRoute g starts ends r
+best_between best g starts ends None none = none
+best_between best g starts ends (Some r) is = let way = is.1 in (
+  is.0,
+  record {
+    start = way.start;
+    stop = way.stop;
+    begins = way.begins;
+    stops = way.stops;
+    way = way.way;
+    leads = (best g way.start.node way.stop.node (Some (record { cost = way.way; nodes = r.nodes }))).0 way.leads;
+    sum = way.sum;
+  },
+)
+
+pub right_two : FewestWalksAreBestPaths → RoutesAreFewest → LengthsAreLeast → NoneTooLong → RoutesBetweenAreFewest → NoneTooLongBetween → (g : Graph) (h : Hierarchy) → IsGraph g → IsRightIn Two g h → h.version ≡ Two → IsWellMade h → AnswersAs IsBestRoute g h
+right_two best routes lengths short between short_between g h graph right of_version made = record {
   nodes = right.nodes;
-  routes = λ s t r from to. routes g h s t r graph right from to;
+  routes = λ s t r from to found. (best g s t r).0 (routes g h s t r graph right from to found);
   lengths = λ s t n from to. lengths g h s t n right from to;
   short = λ s t from to. short g h s t graph right from to;
-  between = λ starts ends r begins stops. between g h starts ends r graph right made begins stops;
+  between = λ starts ends r begins stops found. best_between best g starts ends r (between g h starts ends r graph right made begins stops found);
   short_between = λ starts ends begins stops. short_between g h starts ends graph right made begins stops;
 }
 

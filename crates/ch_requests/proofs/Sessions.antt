@@ -1,6 +1,6 @@
 -- A session: what was replied, sent and read, and where it ended.
 use Rattle.std.proofs.Common.{ℕ, ◌≡◌, ◌+◌, ◌<◌, List, [], ◌++◌, length, Option, Some, None, Result, Ok, Err, arith, ap, sym, subst, ◌∙◌, append_assoc, append-nil, length-append, ◌∷◌, codes, true, inl, inr, refl, Bool, ◌≤◌, take, ⊎_elim}
-use Rattle.std.specs.Prelude.{⊤, ◌⊎◌, IfErr, IfSome, OnOk}
+use Rattle.std.specs.Prelude.{⊤, IfErr, IfSome, OnOk}
 use Rattle.std.specs.Io.KnownBytes.{Appends, Keeps, Consumes, IsAtEnd}
 use Rattle.std.specs.declared.io.Error.{Error}
 use Rattle.std.proofs.KnownBytes.{Appends-nil, Appends-trans, Consumes-kept, Consumes-nil, Consumes-trans, Keeps-refl, Consumes-whole}

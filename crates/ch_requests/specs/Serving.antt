@@ -6,7 +6,8 @@ use Rattle.ch_graph.specs.Graph.{Graph}
 use Rattle.ch_graph.specs.Hierarchy.{Hierarchy}
 use Rattle.ch_graph.specs.declared.version.Version.{Version}
 use Rattle.ch_graph.specs.declared.version.Version.TheVariants.{One, Two}
-use Rattle.ch_route.specs.Routes.{Route, IsFewestWalk, IsLeastWalk}
+use Rattle.ch_route.specs.Routes.{Route, IsLeastWalk}
+use Rattle.ch_answer.specs.BestLines.{IsBestRoute}
 use Rattle.ch_answer.specs.File.{PreparesIn, Spells}
 use Rattle.outcomes.specs.Written.{Writes, WritesFirst}
 use Rattle.grfile.specs.Reading.{graph_of}
@@ -111,9 +112,9 @@ IsFileFault bytes stops.Flush = ⊤
 abbrev pub ServicesAre : (Graph → ℕ → ℕ → Option Route → Type 0) → Version → Type 0
 ServicesAre IsRoute v = (graph_text bytes requests_text text : List ℕ) → PreparesIn v graph_text bytes → Serves bytes requests_text text → ServesOver IsRoute graph_text requests_text text
 
--- By a file of version 2 each route is of all least walks one with the fewest arcs.
+-- By a file of version 2 each route is a best path: a shortest one with the fewest arcs.
 abbrev pub ServicesHaveFewestArcs : Type 0
-ServicesHaveFewestArcs = ServicesAre IsFewestWalk Two
+ServicesHaveFewestArcs = ServicesAre IsBestRoute Two
 
 -- and by one of version 1 it is a least walk
 abbrev pub ServicesAreExactByWeight : Type 0

@@ -1,7 +1,8 @@
 ghost use Rattle.std.specs.Prelude.{◌≡◌, ℕ, List, length, OnOk, IfErr, IfSome};
 ghost use Rattle.counted_io.specs.Limits.{IsReadWithin, ReadsWithin};
 ghost use Rattle.counted_io.specs.declared.TheConstants.{MOST_CALLS};
-ghost use Rattle.ch_route.specs.Routes.{IsFewestWalk, IsLeastWalk};
+ghost use Rattle.ch_answer.specs.BestLines.{IsBestRoute};
+ghost use Rattle.ch_route.specs.Routes.{IsLeastWalk};
 ghost use Rattle.ch_graph.specs.declared.version.Version.TheVariants.{One, Two};
 ghost use Rattle.ch_answer.specs.File.{PreparesIn};
 ghost use Rattle.ch_requests.specs.Sending.{IsSentWithin};
@@ -42,7 +43,7 @@ pub fn serve<H: StepRead, Q: StepRead, W: StepFlush>(
 
     // Where the bytes were prepared from the text of a graph.
     ensures fewest { OnOk result (IfTold (H.remaining hier.old) (Q.remaining requests.old)
-        (λ bytes text. (graph_text : List ℕ) → PreparesIn Two graph_text bytes → Writes (ServesOver IsFewestWalk graph_text text) (W.contents out.old) (W.contents out.new))) }
+        (λ bytes text. (graph_text : List ℕ) → PreparesIn Two graph_text bytes → Writes (ServesOver IsBestRoute graph_text text) (W.contents out.old) (W.contents out.new))) }
     ensures by_weight { OnOk result (IfTold (H.remaining hier.old) (Q.remaining requests.old)
         (λ bytes text. (graph_text : List ℕ) → PreparesIn One graph_text bytes → Writes (ServesOver IsLeastWalk graph_text text) (W.contents out.old) (W.contents out.new))) }
 

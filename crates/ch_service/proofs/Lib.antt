@@ -1,3 +1,4 @@
+pub mod BestRoutes
 pub mod JoinedLines
 pub mod ByHierarchies
 pub mod Refusals

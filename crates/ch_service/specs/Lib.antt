@@ -1,4 +1,5 @@
 pub mod Answer
+pub mod BestRoutes
 pub mod Cause
 pub mod Outcome
 pub mod Progress

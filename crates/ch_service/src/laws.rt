@@ -2,11 +2,27 @@
 
 ghost use Rattle.ch_graph.specs.declared.version.Version.TheVariants.{One, Two};
 ghost use Rattle.ch_service.specs.Refusals.{AnswersTell, JoinedAnswersTell, PreparationsTell, RoutesTell};
+ghost use Rattle.ch_service.specs.BestRoutes.{AnswersAreBestRoutes};
 ghost use Rattle.ch_service.specs.Answer.{FirstRoutesAreExact, RightRoutesAreLeast, RoutesAreExact, RoutesHaveFewestArcs};
 
+use ch_answer::fewest_walks_are_best_paths;
 use ch_route::routes_are_least;
-use grfile::{spelled_graphs_are_in_range, spelled_pairs_are_in_range};
+use grfile::{
+    graphs_are_spelled_exactly, pairs_are_spelled_exactly, spelled_graphs_are_in_range,
+    spelled_pairs_are_in_range,
+};
 use hierfile::hierarchies_have_one_spelling;
+
+/// What answers by least walks with the fewest arcs, of texts that are read so, is one line of a best path for each pair, of
+/// texts that spell a graph and pairs; and such lines answer so. By this law other contracts promise the same as
+/// [`routes_in_memory`](crate::routes_in_memory).
+pub fn answers_are_best_routes()
+    ensures { AnswersAreBestRoutes }
+{
+    fewest_walks_are_best_paths();
+    graphs_are_spelled_exactly();
+    pairs_are_spelled_exactly();
+}
 
 /// Routes of a hierarchy that is right for a graph are least walks of that graph, and it is enough that it is right by
 /// weight, as in version 1.

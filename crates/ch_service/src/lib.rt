@@ -7,7 +7,7 @@
 //! its [`Cause`] what that is to a user. The promise of the layer is the contract of these calls: what is written has
 //! one line for each pair, in order, with the least length over all walks of the text's graph and the nodes along a
 //! walk of exactly that length, or with none where there is no walk. For `prepare` and `route` together it is the
-//! clause `exact` of [`routes_in_memory`], and the law [`routes_are_exact`] for bytes that go through a file. After a
+//! clause `best` of [`routes_in_memory`], in the plain words of `best_routes`, and the law [`routes_are_exact`] for bytes that go through a file. After a
 //! refusal a contract says which text was at fault, or which first part of such answers the writer took.
 //!
 //! Nodes are numbered from 0 inside, and from 1 in every text.
@@ -39,7 +39,8 @@ pub use counted_io::WriteFault;
 pub use error::ServiceError;
 pub use in_memory::routes_in_memory;
 pub use laws::{
-    causes_tell_refusals, first_routes_are_exact, right_routes_are_least, routes_are_exact,
+    answers_are_best_routes, causes_tell_refusals, first_routes_are_exact, right_routes_are_least,
+    routes_are_exact,
 };
 pub use outcomes::Cause;
 pub use preparing::{prepare, prepare_beside};

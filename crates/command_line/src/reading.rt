@@ -1,6 +1,6 @@
 ghost use Rattle.std.specs.Prelude.{◌≡◌, true, false, IfOk};
 ghost use Rattle.clap.specs.declared.builder.command.Command.TheViews.{out-Command};
-ghost use Rattle.jobs.specs.Job.{names_one_file};
+ghost use Rattle.jobs.specs.Job.{is_out_of_turn, names_one_file};
 
 use crate::version::VERSION;
 use clap::error::ErrorKind;
@@ -11,21 +11,25 @@ use std::alloc::{AllocError, Global};
 /// Returns what the arguments of a command line ask for. The first one is the program's name.
 ///
 /// Arguments that ask for help or the version, and arguments that are refused, stop with the text for the user. One name
-/// for both files of `prepare` is refused: the hierarchy would take the place of the graph.
+/// for both files of `prepare` is refused: the hierarchy would take the place of the graph. So is a stint with an order that
+/// takes no turns.
 pub fn command(alloc: Global, words: &[String]) -> Result<Call<'_>, Stop>
-    ensures { IfOk result (λ call. names_one_file call.job ≡ false) }
+    ensures files { IfOk result (λ call. names_one_file call.job ≡ false) }
+    ensures turns { IfOk result (λ call. is_out_of_turn call.job ≡ false) }
 {
     match read_words(alloc, words) {
-        Ok(call) => of_two_files(call),
+        Ok(call) => of_two_files_in_turn(call),
         Err(error) => Err(stop_of(alloc, &error)),
     }
 }
 
-// The call, unless its job names one file twice.
-fn of_two_files(call: Call<'_>) -> Result<Call<'_>, Stop>
-    ensures { IfOk result (λ call. names_one_file call.job ≡ false) }
+// The call, unless its job names one file twice, or has a stint and an order that takes no turns.
+fn of_two_files_in_turn(call: Call<'_>) -> Result<Call<'_>, Stop>
+    ensures files { IfOk result (λ call. names_one_file call.job ≡ false) }
+    ensures turns { IfOk result (λ call. is_out_of_turn call.job ≡ false) }
 {
     let job = call.job.of_two_files()?;
+    let job = job.in_turn()?;
     Ok(Call { job, ..call })
 }
 
@@ -298,7 +302,7 @@ fn seed<'a>(alloc: Global) -> Arg<'a>
 fn order<'a>(alloc: Global) -> Arg<'a>
     ensures { result.global ≡ false }
 {
-    option(alloc, "order", "ORDER", ORDER)
+    option(alloc, "order", "ORDER", Order::HELP)
         .default_value(Order::ALL[0].name())
         .value_parser(Order::NAMES.as_slice())
 }
@@ -352,11 +356,8 @@ const WORKERS: &str =
 
 const SEED: &str = "Seed of the random choices of the threads, 0 to 18446744073709551615";
 
-const ORDER: &str =
-    "Which nodes are contracted first: with edges those that leave the fewest arcs; neighbours also counts contracted neighbours, and depth the depth of a node: try depth first";
-
 const STINT: &str =
-    "Switch a thread to its next order after C contractions, the requested one first and then the others: 1 to 1099511627776; without it a thread keeps the requested one";
+    "Switch a thread to its next order after C contractions, the requested one first and then the others of edges, neighbours and depth: 1 to 1099511627776; without it a thread keeps the requested one";
 
 const PROGRESS: &str =
     "Show on standard error how many nodes are contracted, if that is a terminal, from the beginning and not only after a second, and at the end what was made";
@@ -368,11 +369,12 @@ const HIER: &str = "Hierarchy file that prepare wrote";
 
 const STATUSES: &str =
     "Exit status: 0 success, 2 command line, 3 graph file, 4 hierarchy file, 5 query file, 6 out of memory, 7 read or write failed, 8 threads disagree, 9 hierarchy is wrong, 10 not shown to be right\n\n\
-Example: routecli prepare --order depth net.gr net.rch && routecli route net.rch net.pairs";
+Example: routecli prepare --order balanced net.gr net.rch && routecli route net.rch net.pairs";
 
 const PREPARING: &str =
-    "Options never affect whether answers are right, only the time that preparing takes and the size of OUT.\n\n\
-Example: routecli prepare --order depth net.gr net.rch";
+    "Try balanced first: its answers are the fastest. The default is edges only so that a call without the option makes the file that it always made.\n\n\
+Options never affect whether answers are right, only the time that preparing takes and the size of OUT.\n\n\
+Example: routecli prepare --order balanced net.gr net.rch";
 
 const ROUTING: &str = "Example: routecli route net.rch net.pairs\n\n\
 With a first pair from node 1 to node 3 it may print r 1 3 700 2 1 2 3: the pair, the length, 2 arcs, and 3 nodes.";

@@ -1,4 +1,4 @@
-ghost use Rattle.std.specs.Prelude.{◌≡◌, IfOk, IfSome, Some, option_map};
+ghost use Rattle.std.specs.Prelude.{◌≡◌, IfErr, IfOk, IfSome, Some, option_map};
 ghost use Rattle.std.specs.Arc.{arc_value};
 ghost use Rattle.ch_table.specs.Selection.{IsSelection};
 
@@ -160,7 +160,7 @@ impl Sharing {
         None
     }
 
-    /// Shares a selection in place of another, or none.
+    /// Shares a selection in place of another, or none. It tries again if another handle puts back what it took to copy.
     pub(crate) fn put(
         &mut self,
         router: &RouterOf<Arc<Hierarchy>>,
@@ -170,12 +170,29 @@ impl Sharing {
         requires selection { IfSome (option_map arc_value selection) (IsSelection router.now) }
         ensures { self.new ≡ self.old }
     {
-        let shared = Shared {
+        let mut shared = Shared {
             selection,
             of: Snapshot::of(router),
         };
+        'tries: for _ in 0..TRIES {
+            match self.replace(router, shared) {
+                Ok(()) => return,
+                Err(back) => shared = back,
+            }
+            spin_loop();
+        }
+    }
+
+    // Shares this in place of what is shared, or returns it.
+    fn replace(&mut self, router: &RouterOf<Arc<Hierarchy>>, shared: Shared) -> Result<(), Shared>
+        requires known { self.old ≡ Some router.now }
+        requires same { shared ≡ router.now }
+        ensures kept { self.new ≡ self.old }
+        ensures back { IfErr result (λ back. back ≡ router.now) }
+    {
+        let _ = router;
         drop(self.shelf.try_pop_as::<Takes>(&mut self.pass));
-        let _ = self.shelf.try_push_as::<Puts>(&mut self.pass, shared);
+        self.shelf.try_push_as::<Puts>(&mut self.pass, shared)
     }
 }
 

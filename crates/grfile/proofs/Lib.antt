@@ -1,6 +1,6 @@
 pub mod Caps
 pub mod Steps
-pub mod Sound
+pub mod SpelledTexts
 pub mod Readings
 pub mod Faults
 pub mod Cuttings

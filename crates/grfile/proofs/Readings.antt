@@ -1,8 +1,7 @@
 -- From what the lines of a text say to what the text says.
-use Rattle.std.proofs.Common.{ℕ, ◌≡◌, List, Result, Ok, Err, All, refl, subst, ◌∙◌}
+use Rattle.std.proofs.Common.{ℕ, ◌≡◌, List, Result, Ok, Err, refl, ap, sym, subst, ◌∙◌}
 use Rattle.std.specs.Result.{IfOk}
 use Rattle.ch_graph.specs.Graph.{Graph}
-use Rattle.ch_graph.specs.Limits.{IsGraph}
 use Rattle.ch_graph.specs.declared.road.Road.{Road}
 use Rattle.grfile.specs.declared.error.GrError.{GrError}
 use Rattle.grfile.specs.declared.error.GrErrorKind.{GrErrorKind}
@@ -12,8 +11,9 @@ use Rattle.grfile.specs.Outcome.{◌>>=◌, FromText}
 use Rattle.grfile.specs.Grammar.{Listing, listing_after}
 use Rattle.grfile.specs.Roads.{graph_grammar}
 use Rattle.grfile.specs.Pairs.{pair_grammar}
-use Rattle.grfile.specs.Reading.{graph_of, pairs_of, IsPair, SpelledGraphsAreInRange, SpelledPairsAreInRange}
-use Rattle.grfile.proofs.Sound.{graph_listed, pairs_listed}
+use Rattle.best_routes.specs.BestRoutes.{SpellsGraph, SpellsPairs}
+use Rattle.grfile.specs.Reading.{graph_of, pairs_of, GraphsAreSpelledExactly, PairsAreSpelledExactly, SpelledGraphsAreInRange, SpelledPairsAreInRange}
+use Rattle.grfile.proofs.SpelledTexts.{graph_read, graph_spelled, pairs_read, pairs_spelled}
 
 pub from_text_map : (kind : GrErrorKind) {P Q : Type 0} → (P → Q) → FromText kind P → FromText kind Q
 from_text_map OutOfMemory f p = tt
@@ -45,20 +45,34 @@ pub pairs_seen : (nodes : ℕ) (text : List ℕ) → (listing_after (pair_gramma
 unfolding pairs_of
 pairs_seen nodes text = refl
 
-listed_graph : (r : Result (Listing Road) GrError) (g : Graph) → IfOk r (λ listing. IsGraph (record { nodes = listing.size.nodes; arcs = listing.entries })) → (r >>= as_graph) ≡ Ok g → IsGraph g
-listed_graph (Ok read) g h is =
+-- A text reads as what it spells, and as nothing else
+
+listed_graph : (text : List ℕ) (r : Result (Listing Road) GrError) (g : Graph) → IfOk r (λ listing. SpellsGraph text (record { nodes = listing.size.nodes; arcs = listing.entries })) → (r >>= as_graph) ≡ Ok g → SpellsGraph text g
+listed_graph text (Ok read) g h is =
     let same : record { nodes = read.size.nodes; arcs = read.entries } ≡ g = cc in
-    subst (λ (g : Graph). IsGraph g) same h
-listed_graph (Err e) g h is = absurd (cc)
+    subst (λ (g : Graph). SpellsGraph text g) same h
+listed_graph text (Err e) g h is = absurd (cc)
+
+pub graphs_exact : GraphsAreSpelledExactly
+graphs_exact text g = (
+  λ is. listed_graph text (listing_after graph_grammar 0 (lines_of text)) g (graph_spelled text) (graph_seen text ∙ is),
+  λ spells. sym (graph_seen text) ∙ ap (λ r. r >>= as_graph) (graph_read text g spells),
+)
 
 pub graph_sound : SpelledGraphsAreInRange
-graph_sound text g is = listed_graph (listing_after graph_grammar 0 (lines_of text)) g (graph_listed 0 (lines_of text)) (graph_seen text ∙ is)
+graph_sound text g is = ((graphs_exact text g).0 is).limits
 
-listed_pairs : (nodes : ℕ) (r : Result (Listing (ℕ × ℕ)) GrError) (pairs : List (ℕ × ℕ)) → IfOk r (λ listing. All (IsPair nodes) listing.entries) → (r >>= as_pairs) ≡ Ok pairs → All (IsPair nodes) pairs
-listed_pairs nodes (Ok read) pairs h is =
+listed_pairs : (nodes : ℕ) (text : List ℕ) (r : Result (Listing (ℕ × ℕ)) GrError) (pairs : List (ℕ × ℕ)) → IfOk r (λ listing. SpellsPairs nodes text listing.entries) → (r >>= as_pairs) ≡ Ok pairs → SpellsPairs nodes text pairs
+listed_pairs nodes text (Ok read) pairs h is =
     let same : read.entries ≡ pairs = cc in
-    subst (λ (pairs : List (ℕ × ℕ)). All (IsPair nodes) pairs) same h
-listed_pairs nodes (Err e) pairs h is = absurd (cc)
+    subst (λ (pairs : List (ℕ × ℕ)). SpellsPairs nodes text pairs) same h
+listed_pairs nodes text (Err e) pairs h is = absurd (cc)
+
+pub pairs_exact : PairsAreSpelledExactly
+pairs_exact nodes text pairs = (
+  λ is. listed_pairs nodes text (listing_after (pair_grammar nodes) 0 (lines_of text)) pairs (pairs_spelled nodes text) (pairs_seen nodes text ∙ is),
+  λ spells. sym (pairs_seen nodes text) ∙ ap (λ r. r >>= as_pairs) (pairs_read nodes text pairs spells),
+)
 
 pub pairs_sound : SpelledPairsAreInRange
-pairs_sound nodes text pairs is = listed_pairs nodes (listing_after (pair_grammar nodes) 0 (lines_of text)) pairs (pairs_listed nodes 0 (lines_of text)) (pairs_seen nodes text ∙ is)
+pairs_sound nodes text pairs is = ((pairs_exact nodes text pairs).0 is).within

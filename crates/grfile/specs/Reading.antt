@@ -1,5 +1,5 @@
 -- The reading of a text: the graph, or the pairs, or the first fault, by cases on the list of its lines; and the laws on it.
-use Rattle.std.specs.Prelude.{ℕ, ◌≡◌, ◌<◌, List, All, Result, Ok}
+use Rattle.std.specs.Prelude.{ℕ, ◌≡◌, ◌↔◌, List, All, Result, Ok}
 use Rattle.ch_graph.specs.declared.road.Road.{Road}
 use Rattle.ch_graph.specs.Graph.{Graph}
 use Rattle.ch_graph.specs.Limits.{IsGraph}
@@ -9,6 +9,8 @@ use Rattle.grfile.specs.Outcome.{◌>>=◌}
 use Rattle.grfile.specs.Grammar.{Listing, listing_after}
 use Rattle.grfile.specs.Roads.{graph_grammar}
 use Rattle.grfile.specs.Pairs.{pair_grammar}
+use Rattle.best_routes.specs.BestRoutes.{SpellsGraph, SpellsPairs}
+pub use Rattle.best_routes.specs.BestRoutes.{IsPair}
 
 -- the graph that a text spells, or the text's first fault
 unfoldable pub graph_of : List ℕ → Result Graph GrError
@@ -18,9 +20,13 @@ graph_of text = listing_after graph_grammar 0 (lines_of text) >>= (λ (read : Li
 unfoldable pub pairs_of : ℕ → List ℕ → Result (List (ℕ × ℕ)) GrError
 pairs_of nodes text = listing_after (pair_grammar nodes) 0 (lines_of text) >>= (λ (read : Listing (ℕ × ℕ)). Ok read.entries)
 
--- two of this many nodes
-abbrev pub IsPair : ℕ → ℕ × ℕ → Type 0
-IsPair nodes p = (p.0 < nodes) × (p.1 < nodes)
+-- a text reads as a graph exactly where it spells it: so no such text has a fault, and a text spells one graph at most
+abbrev pub GraphsAreSpelledExactly : Type 0
+GraphsAreSpelledExactly = (text : List ℕ) (g : Graph) → graph_of text ≡ Ok g ↔ SpellsGraph text g
+
+-- and the same of pairs
+abbrev pub PairsAreSpelledExactly : Type 0
+PairsAreSpelledExactly = (nodes : ℕ) (text : List ℕ) (pairs : List (ℕ × ℕ)) → pairs_of nodes text ≡ Ok pairs ↔ SpellsPairs nodes text pairs
 
 -- a graph that a text spells is within the limits
 abbrev pub SpelledGraphsAreInRange : Type 0

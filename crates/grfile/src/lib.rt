@@ -32,7 +32,10 @@ mod roads;
 
 pub use error::{GrError, GrErrorKind};
 pub use graph_reader::{GrReader, read_graph, read_graph_within};
-pub use laws::{spelled_graphs_are_in_range, spelled_pairs_are_in_range};
+pub use laws::{
+    graphs_are_spelled_exactly, pairs_are_spelled_exactly, spelled_graphs_are_in_range,
+    spelled_pairs_are_in_range,
+};
 pub use number::number_in;
 pub use pairs::pair_of;
 pub use query_reader::{QueryReader, read_queries, read_queries_within};

@@ -1,6 +1,7 @@
 -- What the program is asked for.
-use Rattle.std.specs.Prelude.{Bool, false, ◌&&◌, ⊤, codes}
+use Rattle.std.specs.Prelude.{Bool, false, ◌&&◌, not, is_some, ⊤, codes}
 use Rattle.std.specs.Str.{bytes_eq}
+use Rattle.jobs.specs.Orders.{takes_turns}
 use Rattle.jobs.specs.declared.job.Job.{Job}
 use Rattle.jobs.specs.declared.job.Job.TheVariants.{Answer, Prepare, Route, Serve, Info, Check}
 
@@ -21,6 +22,11 @@ names_one_file (Route hierarchy queries) = false
 names_one_file (Serve hierarchy) = false
 names_one_file (Info hierarchy) = false
 names_one_file (Check check) = false
+
+-- with stints workers are to change from an order that takes no turns
+abbrev pub is_out_of_turn : Job → Bool
+is_out_of_turn (Prepare preparation) = is_some preparation.stint && not (takes_turns preparation.order)
+is_out_of_turn job = false
 
 -- a hierarchy is to be prepared
 abbrev pub IsPreparing : Job → Type 0

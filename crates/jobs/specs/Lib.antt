@@ -1,3 +1,3 @@
-pub mod Job
 pub mod Orders
+pub mod Job
 pub mod Stops

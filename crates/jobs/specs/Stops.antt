@@ -10,6 +10,7 @@ HasStatus (stops.Told text) status = (status ≡ 0) ⊎ (status ≡ 7)
 HasStatus (stops.Refused text) status = status ≡ 2
 HasStatus stops.NotText status = status ≡ 2
 HasStatus stops.OneFile status = status ≡ 2
+HasStatus stops.OutOfTurn status = status ≡ 2
 HasStatus stops.OutOfMemory status = status ≡ 6
 
 -- Help or the version was written, after what the writer held before, where that is known.

@@ -66,13 +66,15 @@ pub enum Stop {
     NotText,
     /// The graph and the file that is made for its hierarchy are one file.
     OneFile,
+    /// A worker is to change, with stints, from an order that takes no turns.
+    OutOfTurn,
     /// Out of memory.
     OutOfMemory,
 }
 
 impl Job<'_> {
-    ghost use Rattle.jobs.specs.Job.{is_joined, names_one_file};
-    ghost use Rattle.jobs.specs.declared.job.Stop.TheVariants.{OneFile};
+    ghost use Rattle.jobs.specs.Job.{is_joined, is_out_of_turn, names_one_file};
+    ghost use Rattle.jobs.specs.declared.job.Stop.TheVariants.{OneFile, OutOfTurn};
 
     /// Whether a graph's text and that of the pairs are in one input, which is standard input: both files of
     /// `answer` are named `-`.
@@ -112,6 +114,35 @@ impl Job<'_> {
     {
         if self.names_one_file() {
             Err(Stop::OneFile)
+        } else {
+            Ok(self)
+        }
+    }
+
+    /// Whether workers are to change, with stints, from an order that takes no turns.
+    pub fn is_out_of_turn(&self) -> bool
+        ensures { result ≡ is_out_of_turn self.now }
+    {
+        match self {
+            Job::Prepare(preparation) => {
+                preparation.stint.is_some() && !preparation.order.takes_turns()
+            }
+            Job::Answer { .. }
+            | Job::Route { .. }
+            | Job::Serve { .. }
+            | Job::Info { .. }
+            | Job::Check(_) => false,
+        }
+    }
+
+    /// Returns the job, unless workers are to change, with stints, from an order that takes no turns.
+    pub fn in_turn(self) -> Result<Self, Stop>
+        ensures same { IfOk result (λ job. job ≡ self.entry) }
+        ensures turns { IfOk result (λ job. is_out_of_turn job ≡ false) }
+        ensures out { IfErr result (λ stop. (stop ≡ OutOfTurn) × (is_out_of_turn self.entry ≡ true)) }
+    {
+        if self.is_out_of_turn() {
+            Err(Stop::OutOfTurn)
         } else {
             Ok(self)
         }

@@ -1,7 +1,34 @@
 ghost use Rattle.std.specs.Prelude.{◌≡◌, ◌≢◌, IfNone, IfSome};
-ghost use Rattle.jobs.specs.Orders.{name_of, with_the_others};
+ghost use Rattle.jobs.specs.Orders as orders;
 
 use std::marker::Model;
+
+/// The table of orders, in the order of the enum: of each its variant, its name on a command line, and which nodes go first.
+/// The command line and its help take their lists from it; completions, pages, Python and tests are compared with the help.
+macro_rules! table {
+    ($columns:ident) => {
+        $columns! {
+            Edges "edges" "those that leave the fewest arcs",
+            Neighbours "neighbours" "the same, and each contracted neighbour counts as an arc",
+            Depth "depth" "the same, and each level of depth counts as an arc",
+            Balanced "balanced" "those with the fewest shortcuts for each of their arcs, and levels of depth"
+        }
+    };
+}
+
+macro_rules! orders {
+    ($($order:ident $name:literal $help:literal),*) => { [$(Order::$order),*] };
+}
+
+macro_rules! names {
+    ($($order:ident $name:literal $help:literal),*) => { [$($name),*] };
+}
+
+macro_rules! help {
+    ($($order:ident $name:literal $help:literal),*) => {
+        concat!("Which nodes are contracted first" $(, "; ", $name, ": ", $help)*)
+    };
+}
 
 /// Which nodes workers contract first. Without workers the nodes are contracted by the order of their numbers.
 #[derive(Clone, Copy, Debug, PartialEq, Eq)]
@@ -12,26 +39,27 @@ pub enum Order {
     Neighbours,
     /// The same, and each step of its depth puts a node back by one arc.
     Depth,
+    /// Those with the fewest shortcuts for each of their arcs, and each step of its depth puts a node back.
+    Balanced,
 }
 
 impl Order {
     /// All of them.
-    pub const ALL: [Order; 3] = [Order::Edges, Order::Neighbours, Order::Depth];
+    pub const ALL: [Order; 4] = table!(orders);
 
-    /// Their names on a command line, in the same order.
-    pub const NAMES: [&'static str; 3] = ["edges", "neighbours", "depth"];
+    /// Their names, in the same order.
+    pub const NAMES: [&'static str; 4] = table!(names);
 
-    /// Its name on a command line.
-    pub fn name(self) -> &'static str
-        ensures { result.now ≡ name_of self }
-    {
-        Order::NAMES[self as usize]
-    }
+    /// The help for the option: which nodes go first by each.
+    pub const HELP: &'static str = table!(help);
+
+    /// How many of the first ones take turns, where a worker changes its order.
+    const TURNS: usize = 3;
 
     /// Returns the order of this name, if there is one.
     pub fn named(name: &str) -> Option<Order>
-        ensures some { IfSome result (λ order. name_of order ≡ name.now) }
-        ensures none { IfNone result ((order : Order) → name_of order ≢ name.now) }
+        ensures some { IfSome result (λ order. orders.name_of order ≡ name.now) }
+        ensures none { IfNone result ((order : Order) → orders.name_of order ≢ name.now) }
     {
         'orders: for order in Order::ALL {
             if order.name() == name {
@@ -41,20 +69,49 @@ impl Order {
         None
     }
 
-    /// All of them, this one first. The others keep their order.
-    pub fn with_the_others(self) -> [Order; 3]
-        ensures { result ≡ with_the_others self }
+    /// Its name on a command line.
+    pub fn name(self) -> &'static str
+        ensures { result.now ≡ orders.name_of self }
     {
-        let mut orders = Order::ALL;
-        orders[..=self as usize].rotate_right(1);
-        orders
+        Order::NAMES[self as usize]
+    }
+
+    /// Whether it is one of those that take turns, where a worker changes its order.
+    pub fn takes_turns(self) -> bool
+        ensures { result ≡ orders.takes_turns self }
+    {
+        (self as usize) < Order::TURNS
+    }
+
+    /// This one, and then the others that take turns.
+    pub(crate) fn and_others(self) -> Orders
+        ensures { result ≡ orders.and_others self }
+    {
+        let mut all = Order::ALL;
+        all[..=self as usize].rotate_right(1);
+        let count = if self.takes_turns() {
+            Order::TURNS
+        } else {
+            Order::TURNS + 1
+        };
+        Orders { all, count }
+    }
+
+    /// This one alone.
+    pub(crate) fn alone(self) -> Orders
+        ensures { result ≡ orders.alone self }
+    {
+        Orders {
+            all: [self; 4],
+            count: 1,
+        }
     }
 }
 
 /// Orders by which a worker goes, one after the other.
 #[derive(Drop)]
 pub struct Orders {
-    pub(crate) all: [Order; 3],
+    pub(crate) all: [Order; 4],
     pub(crate) count: usize,
 }
 
@@ -66,7 +123,7 @@ impl Model for Orders {
 
     ghost view = { λ o. take o.count o.all };
 
-    ghost invariant = { λ o. o.count ≤ 3 };
+    ghost invariant = { λ o. o.count ≤ 4 };
 }
 
 impl Orders {

@@ -30,14 +30,9 @@ impl Preparation<'_> {
     pub fn orders(&self) -> Orders
         ensures { result ≡ orders_of self.now.order self.now.stint }
     {
-        let count = if self.stint.is_some() {
-            Order::ALL.len()
-        } else {
-            1
-        };
-        Orders {
-            all: self.order.with_the_others(),
-            count,
+        match self.stint {
+            Some(_) => self.order.and_others(),
+            None => self.order.alone(),
         }
     }
 

@@ -21,6 +21,7 @@ pub fn show_stop<W: Write, E: Write>(stop: &Stop, out: &mut W, err: &mut E) -> u
         }
         Stop::NotText => end(2, "an argument isn't text in UTF-8", err),
         Stop::OneFile => end(2, "GRAPH and OUT are one file", err),
+        Stop::OutOfTurn => end(2, "--stint takes edges, neighbours or depth", err),
         Stop::OutOfMemory => end(6, "memory", err),
     }
 }

@@ -13,6 +13,7 @@ use Rattle.outcomes.specs.Causes.{file_case}
 use Rattle.ch_service.specs.declared.error.ServiceError.{ServiceError}
 use Rattle.ch_service.specs.declared.error.ServiceError.TheVariants.{OutOfMemory}
 use Rattle.ch_service.specs.Answer.{AnswersByFewest, graph_part, pairs_part, Prepares, RoutesHaveFewestArcs}
+use Rattle.ch_service.specs.BestRoutes.{AnswersAreBestRoutes}
 use Rattle.ch_service.specs.Cause.{cause_of}
 use Rattle.ch_service.specs.Outcome.{IfTold, Writes, IsGraphText}
 use Rattle.ch_service.specs.Refusals.{RefusesAnswers, RefusesPreparing, RefusesRoutes}
@@ -26,7 +27,7 @@ use Rattle.ch_requests.specs.declared.error.ServeError.{ServeError}
 use Rattle.ch_requests.specs.declared.error.ServeError.TheVariants as stops
 use Rattle.ch_requests.specs.Cause.{stop_cause}
 use Rattle.hierinfo.specs.Info.{RefusesInfo}
-use Rattle.performing.specs.Status.{outcome_of, outcome_found, Tells, TellsAnswers, TellsChecked, StopsBy, TellsPrepared, TellsRouted, TellsServed, TellsInfo, IsAnsweringStatus, IsPreparingStatus, IsRoutingStatus, IsServingStatus, IsCheckingStatus, IsStatusOf, TellsPut, RoutesAreExactAfter, HasPrepared}
+use Rattle.performing.specs.Status.{outcome_of, outcome_found, Tells, TellsAnswers, TellsChecked, StopsBy, TellsPrepared, TellsRouted, TellsServed, TellsInfo, IsAnsweringStatus, IsPreparingStatus, IsRoutingStatus, IsServingStatus, IsCheckingStatus, IsStatusOf, TellsPut, RoutesAreExactAfter, HasPrepared, ZeroIsDone}
 
 -- What a call says by its outcome.
 
@@ -265,15 +266,13 @@ has_prepared (Some text) (Some before) new {stands} starts put file = whole text
 -- What two statuses 0 say together.
 
 -- with status 0 a job is done, and no other way
-at_zero : (Says : Outcome → Type 0) (outcome : Outcome) → 0 ≡ status_after outcome → Says outcome → Says Done
-at_zero Says Done is says = says
-at_zero Says (Refused causes.Memory) is says = absurd (cc)
-at_zero Says outcome is says = absurd (cc)
+pub zero_done : ZeroIsDone
+zero_done Done is = refl
+zero_done (Refused causes.Memory) is = absurd (cc)
+zero_done outcome is = absurd (cc)
 
--- where a job that is done tells that the file is right for the graph
-pub joined : (TellsFile : List ℕ → List ℕ → Outcome → Type 0) → ((graph_text bytes : List ℕ) → TellsFile graph_text bytes Done → Prepares graph_text bytes) → RoutesHaveFewestArcs → RoutesAreExactAfter TellsFile
-joined TellsFile right fewest graph_text bytes pairs_text old new first second =
-    let file = right graph_text bytes (at_zero (TellsFile graph_text bytes) first.0 first.1 first.2) in
-    let routed = at_zero (λ (outcome : Outcome). TellsRouted outcome (Some bytes) (Some pairs_text) old new) second.0 second.1 second.2 in
-    let written = routed.done refl in
-    (written.0, fewest graph_text bytes pairs_text written.0 file written.1, written.2)
+-- where a file is right for the graph
+pub joined : (IsFileOf : List ℕ → List ℕ → Type 0) → ((graph_text bytes : List ℕ) → IsFileOf graph_text bytes → Prepares graph_text bytes) → RoutesHaveFewestArcs → AnswersAreBestRoutes → RoutesAreExactAfter IsFileOf
+joined IsFileOf right fewest best graph_text bytes pairs_text old new is_file told =
+    let routed = told.done refl in
+    (routed.0, (best graph_text pairs_text routed.0).0 (fewest graph_text bytes pairs_text routed.0 (right graph_text bytes is_file) routed.1), routed.2)

@@ -6,6 +6,7 @@ use Rattle.outcomes.specs.declared.cause.Cause.{Cause}
 use Rattle.outcomes.specs.declared.cause.Cause.TheVariants as causes
 use Rattle.outcomes.specs.declared.outcome.Outcome.{Outcome}
 use Rattle.outcomes.specs.declared.outcome.Outcome.TheVariants as outcomes
+use Rattle.best_routes.specs.BestRoutes.{AreBestRoutes}
 use Rattle.ch_service.specs.declared.error.ServiceError.{ServiceError}
 use Rattle.ch_service.specs.Answer.{AnswersByFewest, graph_part, pairs_part, Prepares, Routes}
 use Rattle.ch_service.specs.Cause.{cause_of}
@@ -89,13 +90,16 @@ pub record Tells (job : Job) (outcome : Outcome) (first second left old new : Op
 abbrev pub EndsWith : ℕ → (Outcome → Type 0) → Type 0
 EndsWith status Says = (outcome : Outcome) × (status ≡ status_after outcome) × Says outcome
 
--- Where a job that tells this of the text of a graph and of a file ended with status 0, and routing by that file did too,
--- what is written are answers over that graph by least walks with the fewest arcs.
-abbrev pub RoutesAreExactAfter : (List ℕ → List ℕ → Outcome → Type 0) → Type 0
-RoutesAreExactAfter TellsFile = (graph_text bytes pairs_text : List ℕ) (old new : Option (List ℕ))
-    → EndsWith 0 (TellsFile graph_text bytes)
-    → EndsWith 0 (λ outcome. TellsRouted outcome (Some bytes) (Some pairs_text) old new)
-    → Writes (AnswersByFewest graph_text pairs_text) old new
+-- Where a file is this of the text of a graph, and routing by that file is done, what is written are best routes of that graph.
+abbrev pub RoutesAreExactAfter : (List ℕ → List ℕ → Type 0) → Type 0
+RoutesAreExactAfter IsFileOf = (graph_text bytes pairs_text : List ℕ) (old new : Option (List ℕ))
+    → IsFileOf graph_text bytes
+    → TellsRouted outcomes.Done (Some bytes) (Some pairs_text) old new
+    → Writes (AreBestRoutes graph_text pairs_text) old new
+
+-- a job that ended with status 0 is done
+abbrev pub ZeroIsDone : Type 0
+ZeroIsDone = (outcome : Outcome) → 0 ≡ status_after outcome → outcome ≡ outcomes.Done
 
 -- with which an answering job may end
 abbrev pub IsAnsweringStatus : ℕ → Type 0

@@ -34,7 +34,7 @@ pub use answering::{perform_answer, perform_joined};
 pub use checking::perform_check;
 pub use doing::perform;
 pub use informing::perform_info;
-pub use laws::{checked_routes_are_exact, prepared_routes_are_exact};
+pub use laws::{checked_routes_are_exact, prepared_routes_are_exact, zero_is_done};
 pub use preparing::perform_preparation;
 pub use routing::perform_route;
 pub use serving::perform_service;

@@ -1,6 +1,6 @@
 ghost use Rattle.std.specs.Prelude.{◌≡◌, All, IfOk, Ok, vec_len};
 ghost use Rattle.ch_estimate.specs.Leases.{CountId};
-ghost use Rattle.performing.specs.Lists.{AreFor};
+ghost use Rattle.std.specs.List.{AllZip};
 
 use ch_estimate::{Lease, Leases};
 use jobs::Order;
@@ -17,7 +17,7 @@ pub fn a_list_each<T: Drop, F: Fn(Order, Lease) -> Result<T, AllocError>>(
 ) -> Result<Vec<Vec<T>>, AllocError>
     requires callable { F.IsAlwaysCallable make }
     ensures count { IfOk result (λ lists. vec_len lists ≡ count) }
-    ensures made { IfOk result (λ lists. All (λ list. AreFor (λ order thing. (lease : CountId) × F.post make order lease (Ok thing)) orders.now list.items) lists.items) }
+    ensures made { IfOk result (λ lists. All (λ list. AllZip (λ order thing. (lease : CountId) × F.post make order lease (Ok thing)) orders.now list.items) lists.items) }
 {
     let mut lists = Vec::new(alloc);
     'lists: for _ in 0..count {
@@ -34,7 +34,7 @@ fn one_for_each<T: Drop, F: Fn(Order, Lease) -> Result<T, AllocError>>(
     make: &F,
 ) -> Result<Vec<T>, AllocError>
     requires callable { F.IsAlwaysCallable make.now }
-    ensures { IfOk result (λ list. AreFor (λ order thing. (lease : CountId) × F.post make.now order lease (Ok thing)) orders.now list.items) }
+    ensures { IfOk result (λ list. AllZip (λ order thing. (lease : CountId) × F.post make.now order lease (Ok thing)) orders.now list.items) }
 {
     let mut list = Vec::new(alloc);
     'orders: for order in orders {

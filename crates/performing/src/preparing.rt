@@ -7,7 +7,8 @@ ghost use Rattle.performing.specs.Status.{IsPreparingStatus, TellsPrepared, outc
 
 use crate::lists::a_list_each;
 use crate::outcome::outcome_of;
-use ch_estimate::{Depth, EdgeDifference, Estimator, Lease, Leases, Neighbours};
+use ch_estimate::key::{Balanced, Depth, EdgeDifference, Neighbours};
+use ch_estimate::{Estimator, Lease, Leases};
 use ch_service::{ServiceError, causes_tell_refusals, prepare_beside};
 use ch_workers::{Disposal, Gate, Options};
 use jobs::{Order, Preparation, Stint, Workers};
@@ -81,6 +82,7 @@ pub(crate) fn prepare_by<G: Read, W: Write, P: Gate, R: Threads + Wait + Sync>(
                 Order::Edges => Ok(Box::new(alloc, EdgeDifference::new(alloc, lease))?),
                 Order::Neighbours => Ok(Box::new(alloc, Neighbours::new(alloc, lease))?),
                 Order::Depth => Ok(Box::new(alloc, Depth::new(alloc, lease))?),
+                Order::Balanced => Ok(Box::new(alloc, Balanced::new(alloc, lease))?),
             }
         },
     )?;

@@ -1,18 +1,13 @@
-use Rattle.ch_service.specs.Answer.{IsLeastWalk, IsFewestWalk, Prepares}
+use Rattle.ch_service.specs.Answer.{IsFewestWalk, Prepares}
 use Rattle.ch_service.proofs.ByHierarchies.{prepared-in_memory, all_of, refused-preparing, refused-routing}
 use Rattle.std.proofs.Common.{rules, List, ℕ, ap, subst, sym, Some, Err}
 use Rattle.std.proofs.lemmas.Result.{err_from_is_err_and}
 use Rattle.ch_service.proofs.in_memory.routes_in_memory.Goals as goal
 
-pub returns-clause-exact : goal.returns-clause-exact
-returns-clause-exact g c =
-    prepared-in_memory IsLeastWalk c.args.graph.now c.args.pairs.now {none = c.new-file.result.items} {bytes = c.prepare.new.out.items} {slice = c.as_slice-bytes.result.now} {empty = c.new-text.result.items} c.route.new.out.items
-    (search rules) (search rules) (search rules) c.in_ok-prepare.ensures.prepared.prepares c.in_ok-route.ensures.exact
-
-pub returns-clause-fewest : goal.returns-clause-fewest
-returns-clause-fewest g c =
-    prepared-in_memory IsFewestWalk c.args.graph.now c.args.pairs.now {none = c.new-file.result.items} {bytes = c.prepare.new.out.items} {slice = c.as_slice-bytes.result.now} {empty = c.new-text.result.items} c.route.new.out.items
-    (search rules) (search rules) (search rules) c.in_ok-prepare.ensures.prepared.prepares c.in_ok-route.ensures.fewest
+pub returns-clause-best : goal.returns-clause-best
+returns-clause-best g c = (c.answers_are_best_routes.ensures c.args.graph.now c.args.pairs.now c.route.new.out.items).0
+    (prepared-in_memory IsFewestWalk c.args.graph.now c.args.pairs.now {none = c.new-file.result.items} {bytes = c.prepare.new.out.items} {slice = c.as_slice-bytes.result.now} {empty = c.new-text.result.items} c.route.new.out.items
+    (search rules) (search rules) (search rules) c.in_ok-prepare.ensures.prepared.prepares c.in_ok-route.ensures.fewest)
 
 pub returns-clause-good : goal.returns-clause-good
 returns-clause-good g c = c.in_ok-prepare.ensures.prepared.good

@@ -1,8 +1,7 @@
 use Rattle.std.proofs.Common.{Ok, ap, sym}
 use Rattle.std.proofs.lemmas.Result.{IfOk-at_ok}
 use Rattle.ch_graph.specs.Graph.{Graph}
-use Rattle.text_lines.specs.Lines.{lines_of}
-use Rattle.grfile.proofs.Sound.{graph_listed}
+use Rattle.grfile.proofs.SpelledTexts.{graph_spelled}
 use Rattle.grfile.proofs.Before.{graph_text, text_read, text_refused}
 use Rattle.grfile.proofs.graph_reader.read_graph_within.Goals as goal
 
@@ -13,7 +12,7 @@ returns-in_err-size g c = record {
 
 pub new-requires : goal.new-requires
 new-requires g c = let listed = c.in_ok-size.ensures.listed in
-    IfOk-at_ok _ listed.1 (graph_listed 0 (lines_of listed.0))
+    (IfOk-at_ok _ listed.1 (graph_spelled listed.0)).limits
 
 pub returns : goal.returns
 returns g c = record {

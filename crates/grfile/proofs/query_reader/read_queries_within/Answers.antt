@@ -1,7 +1,6 @@
 use Rattle.std.proofs.Common.{refl}
 use Rattle.std.proofs.lemmas.Result.{IfOk-at_ok}
-use Rattle.text_lines.specs.Lines.{lines_of}
-use Rattle.grfile.proofs.Sound.{pairs_listed}
+use Rattle.grfile.proofs.SpelledTexts.{pairs_spelled}
 use Rattle.grfile.proofs.Before.{pairs_text, text_read, text_refused}
 use Rattle.grfile.proofs.query_reader.read_queries_within.Goals as goal
 
@@ -14,4 +13,4 @@ returns-clause-reads g c = text_read (pairs_text c.args.nodes) (λ v. v.items) _
 
 pub returns-clause-in_range : goal.returns-clause-in_range
 returns-clause-in_range g c = let listed = c.in_ok-listed.ensures.listed in
-    IfOk-at_ok _ listed.1 (pairs_listed c.args.nodes 0 (lines_of listed.0))
+    (IfOk-at_ok _ listed.1 (pairs_spelled c.args.nodes listed.0)).within

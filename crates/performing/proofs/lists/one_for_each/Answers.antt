@@ -2,7 +2,7 @@ use Rattle.std.proofs.Common.{subst, rules, slice_index_or, Ok}
 use Rattle.std.proofs.lemmas.List.{take_all}
 use Rattle.ch_estimate.specs.Leases.{CountId}
 use Rattle.jobs.specs.declared.orders.Order.TheVariants.{Edges}
-use Rattle.performing.specs.Lists.{AreFor}
+use Rattle.std.specs.List.{AllZip}
 use Rattle.performing.proofs.OneForEach.{and_next}
 use Rattle.performing.proofs.lists.one_for_each.Goals as goal
 
@@ -12,4 +12,4 @@ orders-preserved g c =
     and_next (λ order thing. (lease : CountId) × goal.F-post g c.args.make.now order lease (Ok thing)) c.args.orders.now _ _ Edges _ (search rules) c.orders.invariant (c.in_ok-lease.lease, made) c.in_ok-push.ensures.items
 
 pub returns : goal.returns
-returns g c = subst (λ orders. AreFor (λ order thing. (lease : CountId) × goal.F-post g c.args.make.now order lease (Ok thing)) orders c.orders.list.items) (take_all c.orders.order-index c.args.orders.now (search rules)) c.orders.invariant
+returns g c = subst (λ orders. AllZip (λ order thing. (lease : CountId) × goal.F-post g c.args.make.now order lease (Ok thing)) orders c.orders.list.items) (take_all c.orders.order-index c.args.orders.now (search rules)) c.orders.invariant

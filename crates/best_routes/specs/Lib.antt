@@ -1,0 +1,2 @@
+pub mod BestRoutes
+pub mod Walks

@@ -1,0 +1,5 @@
+use Rattle.grfile.proofs.Readings.{pairs_exact}
+use Rattle.grfile.proofs.laws.pairs_are_spelled_exactly.Goals as goal
+
+pub returns : goal.returns
+returns c = pairs_exact
