@@ -1,12 +1,16 @@
-//! Worked cases of the layers from rows to hierarchies: small networks, and what is to come of them by hand; and threads
-//! that read the rows of a board while another commits.
+//! Worked cases of the layers from rows to hierarchies, and of the pure world: small networks, and what is to come of them by
+//! hand; and threads that read the rows of a book while another thread writes.
 //!
-//! Builds on `ch_overlay`, `ch_rowbook`, `ch_witness` and `ch_contract`, and has nothing but their tests. They are apart
+//! Builds on `ch_overlay`, `ch_rowbook`, `ch_witness`, `ch_contract` and `ch_core`, and has nothing but their tests. They are apart
 //! so that the proofs of the layers are made once.
 #![tactic(auto)]
 
 #[cfg(test)]
 mod boards;
+#[cfg(test)]
+mod book_races;
+#[cfg(test)]
+mod books;
 #[cfg(test)]
 mod networks;
 #[cfg(test)]
@@ -27,3 +31,5 @@ mod refused;
 mod searches;
 #[cfg(test)]
 mod shelf;
+#[cfg(test)]
+mod worlds;

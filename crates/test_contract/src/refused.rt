@@ -1,9 +1,12 @@
-//! What rows, searches, proposals and boards return where one growth is refused: `tests/refusals` runs each test
+//! What rows, searches, proposals and boards return where one growth is refused: `tests/program/refusals` runs each test
 //! once for each of its growths.
 //!
 //! A call that runs out of memory leaves its value as it was, is made again, and has to give what it gives with ample
 //! memory. What is used up by a refused call, as a graph, ends the test with that error, and so does a growth of what the
 //! test sets up.
+mod rows;
+mod worlds;
+
 ghost use Rattle.std.specs.Prelude.{◌≡◌, [], All, IfOk, length};
 ghost use Rattle.ch_graph.specs.Limits.{bound_of};
 ghost use Rattle.ch_rowbook.specs.Blanks.{name_of};

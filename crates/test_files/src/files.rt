@@ -1,13 +1,13 @@
-ghost use Rattle.std.specs.Prelude.{◌<◌, length};
-
 use ch_cost::Cost;
 use ch_graph::Hierarchy;
-use ch_query::Search;
 use hierfile::{HierError, WriteFault, read, read_within, write, write_within};
 use std::alloc::{AllocError, Global};
 use std::io::{self, ErrorKind, Read, Write};
 
 pub(crate) const MAGIC: u32 = 0x5243_4832;
+
+/// The magic of version 1, whose links have no arcs.
+pub(crate) const MAGIC_1: u32 = 0x5243_4831;
 
 const NONE: u32 = u32::MAX;
 
@@ -28,16 +28,6 @@ const FREE: [u32; 20] = [
 /// A row of three nodes, with a shortcut by way of the first.
 pub(crate) const ROW: [u32; 27] = [
     MAGIC, 3, 0, 3, 0, 6, 0, 1, 2, 0, 2, 0, 3, 1, NONE, 1, 0, 0, 2, 1, NONE, 1, 2, 0, 5, 2, 0,
-];
-
-/// The row with its first two links exchanged.
-const EXCHANGED: [u32; 27] = [
-    MAGIC, 3, 0, 3, 0, 6, 0, 1, 2, 1, 0, 0, 2, 1, NONE, 0, 2, 0, 3, 1, NONE, 1, 2, 0, 5, 2, 0,
-];
-
-/// The row without the link from its first node to its last.
-const WITHOUT_HALF: [u32; 21] = [
-    MAGIC, 3, 0, 2, 0, 6, 0, 1, 2, 1, 0, 0, 2, 1, NONE, 1, 2, 0, 5, 2, 0,
 ];
 
 /// Nodes 1 to 3, each joined to the next by way of node 0.
@@ -102,8 +92,20 @@ pub(crate) const HEAVY: [u32; 52] = [
     0,
 ];
 
-/// The greatest numbers that a head may have.
-pub(crate) const GREATEST: [u32; 6] = [MAGIC, 0x0200_0000, 0x0003_ffff, 0xfe00_0000, 0, 0];
+// The same of version 1.
+
+pub(crate) const ONE_ARC_1: [u32; 13] = [MAGIC_1, 2, 0, 1, 0, 7, 0, 1, 0, 1, 0, 7, NONE];
+
+/// A row of three nodes, with a shortcut by way of the first.
+pub(crate) const ROW_1: [u32; 24] = [
+    MAGIC_1, 3, 0, 3, 0, 6, 0, 1, 2, 0, 2, 0, 3, NONE, 1, 0, 0, 2, NONE, 1, 2, 0, 5, 0,
+];
+
+/// Nodes 1 to 3, each joined to the next by way of node 0.
+pub(crate) const BY_WAY_OF_0_1: [u32; 40] = [
+    MAGIC_1, 4, 0, 6, 0, 4, 0, 1, 2, 3, 0, 2, 0, 1, NONE, 0, 3, 0, 1, NONE, 1, 0, 0, 1, NONE, 1, 2,
+    0, 2, 0, 2, 0, 0, 1, NONE, 2, 3, 0, 2, 0,
+];
 
 pub(crate) fn bytes(alloc: Global, words: &[u32]) -> Result<Vec<u8>, AllocError> {
     let mut bytes = Vec::new(alloc);
@@ -111,11 +113,6 @@ pub(crate) fn bytes(alloc: Global, words: &[u32]) -> Result<Vec<u8>, AllocError>
         bytes.extend_from_slice(&word.to_be_bytes())?;
     }
     Ok(bytes)
-}
-
-// Why bytes are refused, or `None`.
-pub(crate) fn refusal(alloc: Global, mut bytes: &[u8]) -> Option<HierError> {
-    read(alloc, &mut bytes).err()
 }
 
 /// Whether a hierarchy, which has to be of version 2, is written as these bytes.
@@ -141,49 +138,6 @@ fn is_kept(alloc: Global, words: &[u32]) -> Result<bool, AllocError> {
     Ok(are_kept(alloc, bytes.as_slice()))
 }
 
-/// Other numbers at some places of a file, and what it is refused for with them.
-pub(crate) type Change = (&'static [(usize, u32)], HierError);
-
-/// Changes of the row.
-const CHANGES: [Change; 18] = [
-    (&[(1, 33_554_433), (2, 0)], HierError::TooBig),
-    (&[(2, 0), (3, 7)], HierError::TooBig),
-    (&[(4, 1), (5, NONE)], HierError::BoundTooBig),
-    (&[(6, 3), (7, 1)], HierError::RankRange),
-    (&[(6, 0), (7, 0)], HierError::RankTwice),
-    (&[(21, 1), (22, 1)], HierError::LinkEnds),
-    (&[(21, 1), (22, 3)], HierError::LinkEnds),
-    (&[(21, 1), (22, 0)], HierError::LinkOrder),
-    (&[(23, 0), (24, 7)], HierError::LinkWeight),
-    // Arcs: none, as many as there are nodes, and two or none of a link without a middle.
-    (&[(25, 0)], HierError::LinkWeight),
-    (&[(25, 3)], HierError::LinkWeight),
-    (&[(13, 2)], HierError::LinkWeight),
-    (&[(13, 0)], HierError::LinkWeight),
-    (&[(24, 5), (26, 3)], HierError::MiddleRange),
-    (&[(24, 5), (26, 2)], HierError::MiddleRank),
-    (&[(23, 0), (24, 4)], HierError::HalfSum),
-    (&[(23, 0), (24, 0)], HierError::HalfSum),
-    (&[(25, 1)], HierError::HalfSum),
-];
-
-// Why a file is refused with other numbers at some places, or `None`.
-fn refusal_of(
-    alloc: Global,
-    file: &[u32],
-    places: &[(usize, u32)],
-) -> Result<Option<HierError>, AllocError> {
-    let mut words = Vec::new(alloc);
-    words.extend_from_slice(file)?;
-    for (place, number) in places {
-        if let Some(word) = words.get_mut(*place) {
-            *word = *number;
-        }
-    }
-    let bytes = bytes(alloc, words.as_slice())?;
-    Ok(refusal(alloc, bytes.as_slice()))
-}
-
 /// Files that are written as they were read.
 const KEPT: [&[u32]; 6] = [&NO_NODE, &ONE_ARC, &FREE, &ROW, &HEAVY, &BY_WAY_OF_0];
 
@@ -203,122 +157,37 @@ fn keeps_files(rt: HostRuntime) -> Result<(), AllocError> {
     Ok(())
 }
 
+/// What a row of three nodes has to say: its version, its bound, and the cost of its last link.
+type Numbers = (u8, Cost, Cost);
+
 /// Whether a hierarchy has the numbers of the row.
-fn has_numbers(hierarchy: &Hierarchy) -> bool {
+fn has_numbers(hierarchy: &Hierarchy, (version, bound, cost): Numbers) -> bool {
     let links = hierarchy.links();
     let Some(last) = links.last() else {
         return false;
     };
     (hierarchy.nodes() == 3)
-        & (hierarchy.version() == 2)
-        & (hierarchy.bound() == Cost::of_walk(6, 2))
+        & (hierarchy.version() == version)
+        & (hierarchy.bound() == bound)
         & (links.len() == 3)
-        & (last.cost.cost() == Cost::of_walk(5, 2))
+        & (last.cost.cost() == cost)
         & (last.middle.node() == Some(0))
 }
 
-/// Whether the row is read with its numbers.
-fn row_has_numbers(alloc: Global) -> Result<bool, AllocError> {
-    match row(alloc)? {
-        Some(hierarchy) => Ok(has_numbers(&hierarchy)),
+/// Whether the row of a file is read with its numbers.
+fn row_has_numbers(alloc: Global, words: &[u32], numbers: Numbers) -> Result<bool, AllocError> {
+    match hierarchy_of(alloc, words)? {
+        Some(hierarchy) => Ok(has_numbers(&hierarchy, numbers)),
         None => Ok(false),
     }
 }
 
 #[test]
 fn reads_numbers(rt: HostRuntime) -> Result<(), AllocError> {
-    assert!(rt; row_has_numbers(rt.alloc())?);
-    Ok(())
-}
-
-/// Whether each front of a file but the whole of it is refused as cut.
-fn fronts_are_cut(alloc: Global, file: &[u8]) -> bool {
-    for length in 0..file.len() {
-        if refusal(alloc, &file[..length]) != Some(HierError::Truncated) {
-            return false;
-        }
-    }
-    true
-}
-
-/// Whether each of these bytes is refused for its fault.
-pub(crate) fn are_refused_for(alloc: Global, cases: &[(&[u8], HierError)]) -> bool {
-    for (bytes, fault) in cases {
-        if refusal(alloc, bytes) != Some(*fault) {
-            return false;
-        }
-    }
-    true
-}
-
-/// Bytes with another magic, or with a part of one.
-const OTHERS: [(&[u8], HierError); 4] = [
-    (b"SCH2", HierError::BadMagic),
-    (b"RX", HierError::BadMagic),
-    (b"RCH3", HierError::BadMagic),
-    (b"RCH", HierError::Truncated),
-];
-
-/// Whether a file has this many bytes, each front of it but the whole is refused as cut, and a byte more is refused too.
-pub(crate) fn is_cut(alloc: Global, words: &[u32], count: usize) -> Result<bool, AllocError> {
-    let mut file = bytes(alloc, words)?;
-    let are_cut = fronts_are_cut(alloc, file.as_slice()) & (file.len() == count);
-    file.push(0)?;
-    Ok(are_cut & (refusal(alloc, file.as_slice()) == Some(HierError::Trailing)))
-}
-
-#[test]
-fn refuses_cut_files(rt: HostRuntime) -> Result<(), AllocError> {
-    assert!(rt; is_cut(rt.alloc(), &ROW, 108)?);
-    assert!(rt; are_refused_for(rt.alloc(), &OTHERS));
-    Ok(())
-}
-
-/// Whether a file is refused as it is said with each of these changes.
-pub(crate) fn are_refused(
-    alloc: Global,
-    file: &[u32],
-    changes: &[Change],
-) -> Result<bool, AllocError> {
-    for (places, expected) in changes {
-        if refusal_of(alloc, file, places)? != Some(*expected) {
-            return Ok(false);
-        }
-    }
-    Ok(true)
-}
-
-/// Whether each of these files is refused with its changes.
-pub(crate) fn are_each_refused(
-    alloc: Global,
-    cases: &[(&[u32], &[Change])],
-) -> Result<bool, AllocError> {
-    for (file, changes) in cases {
-        if !are_refused(alloc, file, changes)? {
-            return Ok(false);
-        }
-    }
-    Ok(true)
-}
-
-/// Changes of the greatest head.
-const GREATEST_CHANGES: [Change; 3] = [
-    (&[], HierError::Truncated),
-    (&[(3, 0xfe00_0001)], HierError::TooBig),
-    (&[(1, 0x0200_0001)], HierError::TooBig),
-];
-
-/// Files that are refused, with changes or as they are.
-const REFUSED: [(&[u32], &[Change]); 3] = [
-    (&EXCHANGED, &[(&[], HierError::LinkOrder)]),
-    (&WITHOUT_HALF, &[(&[], HierError::HalfMissing)]),
-    (&GREATEST, &GREATEST_CHANGES),
-];
-
-#[test]
-fn refuses_files(rt: HostRuntime) -> Result<(), AllocError> {
-    assert!(rt; are_refused(rt.alloc(), &ROW, &CHANGES)?);
-    assert!(rt; are_each_refused(rt.alloc(), &REFUSED)?);
+    let numbers = (2, Cost::of_walk(6, 2), Cost::of_walk(5, 2));
+    assert!(rt; row_has_numbers(rt.alloc(), &ROW, numbers)?);
+    let numbers = (1, Cost::of_walk(6, 0), Cost::of_walk(5, 0));
+    assert!(rt; row_has_numbers(rt.alloc(), &ROW_1, numbers)?);
     Ok(())
 }
 
@@ -353,72 +222,11 @@ fn push_link(words: &mut Vec<u32>, magic: u32, from: u32, to: u32) -> Result<(),
     Ok(())
 }
 
-/// Whether a file is refused with its first link of more than 37 arcs, that from 6 to 7, which is the 229th, and not before
-/// it.
-fn is_refused_at_its_229th(alloc: Global, words: &[u32]) -> Result<bool, AllocError> {
-    let file = bytes(alloc, words)?;
-    let begins = 24 + 4 * 38 + 24 * 228;
-    let Some((before, link)) = file.as_slice().split_at_checked(begins) else {
-        return Ok(false);
-    };
-    let ends = begins + 24;
-    Ok(
-        (refusal(alloc, before) == Some(HierError::Truncated))
-            & (link.get(..8) == Some(b"\0\0\0\x06\0\0\0\x07".as_slice()))
-            & (file
-                .as_slice()
-                .get(..ends)
-                .map(|front| refusal(alloc, front))
-                == Some(Some(HierError::LinkWeight)))
-            & (refusal(alloc, file.as_slice()) == Some(HierError::LinkWeight)),
-    )
-}
-
-#[test]
-fn refuses_a_cascade(rt: HostRuntime) -> Result<(), AllocError> {
-    let words = cascade(rt.alloc(), MAGIC)?;
-    assert!(rt; is_refused_at_its_229th(rt.alloc(), words.as_slice())?);
-    Ok(())
-}
-
-/// Whether the least rise-fall walk from 1 to 3 is of two links, of two arcs each.
-fn goes_by_two_links(search: &mut Search) -> Result<bool, AllocError>
-    requires all { 3 < length search.old.ranks }
-{
-    match search.distance(1, 3)? {
-        Some(found) => Ok((found.cost == Cost::of_walk(4, 4)) & (found.links.len() == 2)),
-        None => Ok(false),
-    }
-}
-
-/// Whether the least walk from 1 to 3 goes so.
-fn joins_1_and_3(alloc: Global, hierarchy: &Hierarchy) -> Result<bool, AllocError> {
-    if hierarchy.nodes() <= 3 {
-        return Ok(false);
-    }
-    let mut search = Search::new(alloc, hierarchy)?;
-    goes_by_two_links(&mut search)
-}
-
-/// Whether a file is read, and nodes 1 and 3 of it are joined so.
-fn is_joined(alloc: Global, words: &[u32]) -> Result<bool, AllocError> {
-    match hierarchy_of(alloc, words)? {
-        Some(hierarchy) => joins_1_and_3(alloc, &hierarchy),
-        None => Ok(false),
-    }
-}
-
 // Returns the hierarchy of a file of these numbers, or `None`.
 pub(crate) fn hierarchy_of(alloc: Global, words: &[u32]) -> Result<Option<Hierarchy>, AllocError> {
     let bytes = bytes(alloc, words)?;
     let mut rest = bytes.as_slice();
     Ok(read(alloc, &mut rest).ok())
-}
-
-#[test]
-fn answers_by_a_file(rt: HostRuntime) -> Result<(), AllocError> {
-    assert!(rt; is_joined(rt.alloc(), &BY_WAY_OF_0)?);
-    Ok(())
 }
 
 // A reader that gives a few bytes at each call, fails after some calls, and may be interrupted at each other one.

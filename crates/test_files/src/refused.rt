@@ -1,4 +1,4 @@
-//! What the readers and the queries over a file return where one growth is refused: `tests/refusals` runs each test once
+//! What the readers and the queries over a file return where one growth is refused: `tests/program/refusals` runs each test once
 //! for each of its growths.
 //!
 //! A call that runs out of memory is made again, and has to give what it gives with ample memory. A growth of what a
@@ -6,8 +6,9 @@
 ghost use Rattle.std.specs.Prelude.{◌≡◌, ◌<◌, length, IfOk, IfSome};
 ghost use Rattle.ch_graph.specs.Unfolding.{Joined};
 
-use crate::files::{BY_WAY_OF_0, MAGIC, ONE_ARC, ROW, bytes, cascade};
-use crate::version_1::{BY_WAY_OF_0_1, MAGIC_1, ONE_ARC_1, ROW_1};
+use crate::files::{
+    BY_WAY_OF_0, BY_WAY_OF_0_1, MAGIC, MAGIC_1, ONE_ARC, ONE_ARC_1, ROW, ROW_1, bytes, cascade,
+};
 use ch_cost::Cost;
 use ch_graph::{Graph, Hierarchy, LinkId, Road};
 use ch_query::{Found, Search};

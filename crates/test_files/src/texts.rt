@@ -117,106 +117,6 @@ const PLACES: [Case; 11] = [
     ),
 ];
 
-/// Kinds and fields of lines.
-const KINDS: [Case; 12] = [
-    (b"x", Wanted::Fault(GrErrorKind::UnknownLine, 1)),
-    (b"pp sp 2 1", Wanted::Fault(GrErrorKind::UnknownLine, 1)),
-    (b"p max 2 1", Wanted::Fault(GrErrorKind::UnknownLine, 1)),
-    (b"p max x y", Wanted::Fault(GrErrorKind::UnknownLine, 1)),
-    (
-        b"p sp 2 1\nab 1 2 7",
-        Wanted::Fault(GrErrorKind::UnknownLine, 2),
-    ),
-    (
-        b"p sp 2 1\nq 1 2",
-        Wanted::Fault(GrErrorKind::UnknownLine, 2),
-    ),
-    (
-        b"p sp 2 1\n\ra 1 2 7",
-        Wanted::Fault(GrErrorKind::UnknownLine, 2),
-    ),
-    (b"p max 2", Wanted::Fault(GrErrorKind::FieldCount, 1)),
-    (b"p sp 2 1 1", Wanted::Fault(GrErrorKind::FieldCount, 1)),
-    (
-        b"p sp 2 1\na 1 2",
-        Wanted::Fault(GrErrorKind::FieldCount, 2),
-    ),
-    (
-        b"p sp 2 1\na 1 2 7 c",
-        Wanted::Fault(GrErrorKind::FieldCount, 2),
-    ),
-    (
-        b"c\r\np sp 2 2\na 1 2 7\na 1 2\n",
-        Wanted::Fault(GrErrorKind::FieldCount, 4),
-    ),
-];
-
-/// Numbers and ranges of a problem line.
-const PROBLEMS: [Case; 7] = [
-    (b"p sp x 1", Wanted::Fault(GrErrorKind::NotANumber, 1)),
-    (
-        b"p sp 33554433 -1",
-        Wanted::Fault(GrErrorKind::NotANumber, 1),
-    ),
-    (b"p sp 2 1\r\r\n", Wanted::Fault(GrErrorKind::NotANumber, 1)),
-    (
-        b"p sp 33554433 134217729",
-        Wanted::Fault(GrErrorKind::TooManyNodes, 1),
-    ),
-    (
-        b"p sp 99999999999999999999999999999999 0",
-        Wanted::Fault(GrErrorKind::TooManyNodes, 1),
-    ),
-    (
-        b"p sp 2 134217729",
-        Wanted::Fault(GrErrorKind::TooManyArcs, 1),
-    ),
-    (
-        b"p sp 2 18446744073709551616",
-        Wanted::Fault(GrErrorKind::TooManyArcs, 1),
-    ),
-];
-
-/// Numbers and ranges of an arc line.
-const ARCS: [Case; 9] = [
-    (
-        b"p sp 2 1\na 1 3 7",
-        Wanted::Fault(GrErrorKind::NodeRange, 2),
-    ),
-    (
-        b"p sp 2 1\na 3 1 0",
-        Wanted::Fault(GrErrorKind::NodeRange, 2),
-    ),
-    (
-        b"p sp 2 1\na 0 2 7",
-        Wanted::Fault(GrErrorKind::NodeRange, 2),
-    ),
-    (
-        b"p sp 2 1\na 18446744073709551617 2 7",
-        Wanted::Fault(GrErrorKind::NodeRange, 2),
-    ),
-    (
-        b"p sp 2 1\na 0 2 x",
-        Wanted::Fault(GrErrorKind::NotANumber, 2),
-    ),
-    (
-        b"p sp 2 1\na 1 2 7x",
-        Wanted::Fault(GrErrorKind::NotANumber, 2),
-    ),
-    (
-        b"p sp 2 1\na 1 2 +7",
-        Wanted::Fault(GrErrorKind::NotANumber, 2),
-    ),
-    (
-        b"p sp 2 1\na 1 2 4294967296",
-        Wanted::Fault(GrErrorKind::WeightTooBig, 2),
-    ),
-    (
-        b"p sp 2 1\na 1 2 18446744073709551623",
-        Wanted::Fault(GrErrorKind::WeightTooBig, 2),
-    ),
-];
-
 const PAIRS: [Case; 14] = [
     (
         b"c\np aux sp p2p 3\r\nq 1 3\n\nq\t3 3\r\nc\nq 2 01 ",
@@ -371,38 +271,10 @@ fn is_each_read(alloc: Global, cases: &[Case]) -> bool {
     true
 }
 
-/// Whether the graphs are read.
-fn reads_graphs(alloc: Global) -> bool {
-    is_each_read(alloc, &GRAPHS)
-}
-
-/// Whether the faults of the places of lines are returned.
-fn tells_places(alloc: Global) -> bool {
-    is_each_read(alloc, &PLACES)
-}
-
-/// Whether the faults of the kinds and fields of lines are returned.
-fn tells_kinds(alloc: Global) -> bool {
-    is_each_read(alloc, &KINDS)
-}
-
-/// Whether the faults of problem lines are returned.
-fn tells_problems(alloc: Global) -> bool {
-    is_each_read(alloc, &PROBLEMS)
-}
-
-/// Whether the faults of arc lines are returned.
-fn tells_arcs(alloc: Global) -> bool {
-    is_each_read(alloc, &ARCS)
-}
-
 #[test]
 fn graphs_however_cut(rt: HostRuntime) {
-    assert!(rt; reads_graphs(rt.alloc()));
-    assert!(rt; tells_places(rt.alloc()));
-    assert!(rt; tells_kinds(rt.alloc()));
-    assert!(rt; tells_problems(rt.alloc()));
-    assert!(rt; tells_arcs(rt.alloc()));
+    assert!(rt; is_each_read(rt.alloc(), &GRAPHS));
+    assert!(rt; is_each_read(rt.alloc(), &PLACES));
 }
 
 /// Whether the query file is read as expected, whole or cut in two at any place, and byte by byte.

@@ -1,4 +1,4 @@
-//! What the plain search and the test of a hierarchy return where one growth is refused: `tests/refusals` runs each test
+//! What the plain search and the test of a hierarchy return where one growth is refused: `tests/program/refusals` runs each test
 //! here once for each of its growths.
 ghost use Rattle.std.specs.Prelude.{◌≡◌, IfOk};
 

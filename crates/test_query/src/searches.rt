@@ -16,20 +16,6 @@ const TWO_TOPS: &[Given] = &[
     (3, 1, (1, 1), None),
 ];
 
-fn two_tops(alloc: Global) -> Result<Hierarchy, Fail>
-    ensures { IfOk result (λ h. length h.ranks ≡ 4) }
-{
-    hierarchy_of(alloc, &[0, 1, 2, 3], TWO_TOPS, (15, 3))
-}
-
-/// What a walk between two of these nodes costs at least, found by hand.
-static COSTS: [[Option<Numbers>; 4]; 4] = [
-    [Some((0, 0)), Some((6, 2)), Some((4, 1)), Some((5, 1))],
-    [None, Some((0, 0)), None, None],
-    [None, Some((4, 1)), Some((0, 0)), None],
-    [None, Some((1, 1)), None, Some((0, 0))],
-];
-
 /// Two rise-fall walks from 0 to 1 of length 4: over 2, where the sides meet first, of three arcs, and over 3 of two.
 const TIED: &[Given] = &[
     (0, 2, (1, 1), None),
@@ -199,40 +185,5 @@ fn all_hold_so(alloc: Global, cases: &[Case]) -> Result<bool, Fail> {
 #[test]
 fn least_walks(rt: HostRuntime) -> Result<(), Fail> {
     assert!(rt; all_hold_so(rt.alloc(), CASES)?);
-    Ok(())
-}
-
-/// Whether a thousand calls of a search return the costs that were found by hand.
-fn answers_a_thousand(search: &mut Search) -> Result<bool, Fail>
-    requires { length search.old.ranks ≡ 4 }
-{
-    let mut holds = true;
-    for call in 0..1000_u32 {
-        let source = (call / 4) % 4;
-        let target = call % 4;
-        let found = search.distance(source, target)?;
-        let cost = found.map(|walk| walk.cost);
-        holds &= cost == COSTS[source as usize][target as usize].map(cost_of);
-    }
-    Ok(holds)
-}
-
-/// Whether one search of a hierarchy gives them.
-fn one_search_answers(alloc: Global, hierarchy: &Hierarchy) -> Result<bool, Fail>
-    requires { length hierarchy.now.ranks ≡ 4 }
-{
-    let mut search = Search::new(alloc, hierarchy)?;
-    answers_a_thousand(&mut search)
-}
-
-/// Whether one search of the hierarchy of two tops gives them.
-fn two_tops_are_searched(alloc: Global) -> Result<bool, Fail> {
-    let hierarchy = two_tops(alloc)?;
-    one_search_answers(alloc, &hierarchy)
-}
-
-#[test]
-fn a_thousand_calls_of_one_search(rt: HostRuntime) -> Result<(), Fail> {
-    assert!(rt; two_tops_are_searched(rt.alloc())?);
     Ok(())
 }

@@ -1,4 +1,4 @@
-//! Queries from several starts to several ends, against the least over all pairs, and small ones by hand.
+//! Queries from several starts to several ends, small ones by hand.
 ghost use Rattle.std.specs.Prelude.{◌≡◌, ◌<◌, length, IfOk, OnOk};
 ghost use Rattle.ch_query.specs.Seeds.{AreSeeds};
 
@@ -11,7 +11,7 @@ use std::alloc::{AllocError, Global};
 use std::test::Fail;
 
 /// A node, and what it costs to begin or to end there.
-pub type GivenSeed = (u32, Numbers);
+type GivenSeed = (u32, Numbers);
 
 /// Puts a seed into a list, if it is one of a hierarchy.
 fn put_seed(
@@ -32,7 +32,7 @@ fn put_seed(
 }
 
 /// The seeds that are given.
-pub fn seeds_of(
+fn seeds_of(
     alloc: Global,
     hierarchy: &Hierarchy,
     given: &[GivenSeed],
@@ -44,163 +44,6 @@ pub fn seeds_of(
         put_seed(hierarchy, *seed, &mut seeds)?;
     }
     Ok(seeds)
-}
-
-/// The lesser of two costs, where there are any.
-pub fn lesser(first: Option<Cost>, second: Option<Cost>) -> Option<Cost> {
-    match (first, second) {
-        (Some(one), Some(other)) if other.is_below(one) => second,
-        (None, _) => second,
-        _ => first,
-    }
-}
-
-/// What a start, a way and an end cost together.
-pub fn sum(start: Cost, way: Option<Cost>, end: Cost) -> Option<Cost> {
-    start.checked_plus(way?)?.checked_plus(end)
-}
-
-/// The least from one start to any of the ends, pair by pair.
-fn least_from(search: &mut Search, start: Seed, ends: &[Seed]) -> Result<Option<Cost>, AllocError>
-    requires start_in { start.node < length search.old.ranks }
-    requires ends { AreSeeds search.old ends.now }
-    ensures { search.new ≡ search.old }
-{
-    let mut least = None;
-    'ends: for at in 0..ends.len() {
-        let end = ends[at];
-        let way = search.distance(start.node, end.node)?;
-        let sum = sum(start.cost, way.map(|way| way.cost), end.cost);
-        least = lesser(least, sum);
-    }
-    Ok(least)
-}
-
-/// The least over all pairs.
-fn least_of_pairs(
-    search: &mut Search,
-    starts: &[Seed],
-    ends: &[Seed],
-) -> Result<Option<Cost>, AllocError>
-    requires starts { AreSeeds search.old starts.now }
-    requires ends { AreSeeds search.old ends.now }
-    ensures { search.new ≡ search.old }
-{
-    let mut least = None;
-    'starts: for at in 0..starts.len() {
-        let sum = least_from(search, starts[at], ends)?;
-        least = lesser(least, sum);
-    }
-    Ok(least)
-}
-
-/// What links cost that lead from one node to another, if they do.
-fn cost_along(hierarchy: &Hierarchy, from: u32, links: &[LinkId], to: u32) -> Option<Cost> {
-    let mut cost = Cost::ZERO;
-    let mut node = from;
-    for id in links {
-        let link = hierarchy.links().get(id.0)?;
-        if link.from != node {
-            return None;
-        }
-        cost = cost.checked_plus(link.cost.cost())?;
-        node = link.to;
-    }
-    (node == to).then_some(cost)
-}
-
-/// Whether the links that were found lead from their start to their end and cost what is said with both.
-fn is_walk(hierarchy: &Hierarchy, starts: &[Seed], ends: &[Seed], found: &FoundBetween) -> bool {
-    let (Some(start), Some(end)) = (starts.get(found.start), ends.get(found.end)) else {
-        return false;
-    };
-    let way = cost_along(hierarchy, start.node, found.links.as_slice(), end.node);
-    sum(start.cost, way, end.cost) == Some(found.cost)
-}
-
-/// Whether a search finds this least, and a walk of that cost.
-pub fn is_found_between(
-    search: &mut Search,
-    hierarchy: &Hierarchy,
-    starts: &[Seed],
-    ends: &[Seed],
-    least: Option<Cost>,
-) -> Result<bool, AllocError>
-    requires starts { AreSeeds search.old starts.now }
-    requires ends { AreSeeds search.old ends.now }
-    ensures { search.new ≡ search.old }
-{
-    let cost = search.cost_between(starts, ends)?;
-    let found = search.between(starts, ends)?;
-    let holds = match found {
-        Some(found) => least == Some(found.cost) && is_walk(hierarchy, starts, ends, &found),
-        None => least.is_none(),
-    };
-    Ok(holds & (cost == least))
-}
-
-/// Whether what is found is the least over all pairs, and a walk of that cost.
-fn is_least(
-    search: &mut Search,
-    hierarchy: &Hierarchy,
-    starts: &[Seed],
-    ends: &[Seed],
-) -> Result<bool, AllocError>
-    requires starts { AreSeeds search.old starts.now }
-    requires ends { AreSeeds search.old ends.now }
-    ensures { search.new ≡ search.old }
-{
-    let least = least_of_pairs(search, starts, ends)?;
-    is_found_between(search, hierarchy, starts, ends, least)
-}
-
-/// A start or an end for a call, by a place among all of the calls.
-fn mixed(call: u32, place: u32) -> GivenSeed {
-    let number = u64::from(call) * 7919 + u64::from(place) * 104_729;
-    let node = (number % 5) as u32;
-    let weight = number % 13;
-    (node, (weight, 1))
-}
-
-/// Whether a query of three starts and two ends finds the least over all pairs.
-fn is_least_in_call(
-    alloc: Global,
-    search: &mut Search,
-    hierarchy: &Hierarchy,
-    call: u32,
-) -> Result<bool, AllocError>
-    requires { search.old ≡ hierarchy.now }
-    ensures { search.new ≡ search.old }
-{
-    let starts = seeds_of(
-        alloc,
-        hierarchy,
-        &[mixed(call, 0), mixed(call, 1), mixed(call, 2)],
-    )?;
-    let ends = seeds_of(alloc, hierarchy, &[mixed(call, 3), mixed(call, 4)])?;
-    is_least(search, hierarchy, &starts, &ends)
-}
-
-/// Whether 2,500 queries of one search do.
-fn all_are_least(alloc: Global, hierarchy: &Hierarchy) -> Result<bool, Fail> {
-    let mut search = Search::new(alloc, hierarchy)?;
-    let mut holds = true;
-    'calls: for call in 0..2500_u32 {
-        holds &= is_least_in_call(alloc, &mut search, hierarchy, call)?;
-    }
-    Ok(holds)
-}
-
-/// Whether those of the drawn hierarchy do.
-fn drawn_are_least(alloc: Global) -> Result<bool, Fail> {
-    let hierarchy = hierarchy_of(alloc, DRAWN_RANKS, DRAWN, (20, 4))?;
-    all_are_least(alloc, &hierarchy)
-}
-
-#[test]
-fn the_least_over_all_pairs(rt: HostRuntime) -> Result<(), Fail> {
-    assert!(rt; drawn_are_least(rt.alloc())?);
-    Ok(())
 }
 
 /// What is found: the cost, the places of the start and the end, and the links.

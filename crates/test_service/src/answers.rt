@@ -1,5 +1,5 @@
 use crate::examples::{EXAMPLES, Example};
-use crate::kit::{Case, Command, answer_alone, end_so, ends_so, joined, prepared, run};
+use crate::kit::{Command, answer_alone, ends_so};
 use ch_service::{ServiceError, WriteFault, answer_joined};
 use ch_unpack::UnpackError;
 use ch_workers::BuildError;
@@ -73,61 +73,20 @@ fn is_stopped(ended: Result<(), ServiceError>, out: &Short, whole: &[u8], left: 
     (ended == end) & (out.taken.as_slice() == &whole[..left.min(whole.len())])
 }
 
-/// Whether the example is answered from a joined input, in which this line parts the texts.
-fn is_right_joined<R: Threads + Wait + Sync>(
-    rt: &R,
-    alloc: Global,
-    example: &Example,
-    line: &[u8],
-) -> Result<bool, AllocError> {
-    let input = joined(alloc, example.graph, line, example.pairs)?;
-    Ok(ends_so(
-        rt,
-        alloc,
-        Command::Joined(input.as_slice()),
-        Ok(()),
-        example.answers,
-    ))
-}
-
-/// Whether the example is answered by its graph's file.
-fn is_right_by_file<R: Threads + Wait + Sync>(rt: &R, alloc: Global, example: &Example) -> bool {
-    let file = prepared(rt, alloc, example.graph);
-    let command = Command::Route(file.as_slice(), example.pairs);
-    ends_so(rt, alloc, command, Ok(()), example.answers)
-}
-
-/// Whether the example is answered from two texts, from a joined input, and by its graph's file.
-fn is_right<R: Threads + Wait + Sync>(
-    rt: &R,
-    alloc: Global,
-    example: &Example,
-) -> Result<bool, AllocError> {
-    let command = Command::Answer(example.graph, example.pairs);
-    let are_right = ends_so(rt, alloc, command, Ok(()), example.answers)
-        & is_right_by_file(rt, alloc, example);
-    let is_plain_right = is_right_joined(rt, alloc, example, b"%\n")?;
-    Ok(are_right & is_plain_right & is_right_joined(rt, alloc, example, b"%\r\n")?)
-}
-
-/// Whether each of these examples is.
-fn are_right<R: Threads + Wait + Sync>(
-    rt: &R,
-    alloc: Global,
-    examples: &[Example],
-) -> Result<bool, AllocError> {
+/// Whether each of these examples is answered.
+fn are_right<R: Threads + Wait + Sync>(rt: &R, alloc: Global, examples: &[Example]) -> bool {
     for example in examples {
-        if !is_right(rt, alloc, example)? {
-            return Ok(false);
+        let command = Command::Answer(example.graph, example.pairs);
+        if !ends_so(rt, alloc, command, Ok(()), example.answers) {
+            return false;
         }
     }
-    Ok(true)
+    true
 }
 
 #[test]
-fn worked_examples(rt: HostRuntime) -> Result<(), Fail> {
-    assert!(rt; are_right(&rt, rt.alloc(), &EXAMPLES)?);
-    Ok(())
+fn worked_examples(rt: HostRuntime) {
+    assert!(rt; are_right(&rt, rt.alloc(), &EXAMPLES));
 }
 
 /// What comes of a joined input without a second part.
@@ -135,44 +94,6 @@ pub(crate) const NO_PAIRS: ServiceError = ServiceError::Queries(GrError {
     kind: GrErrorKind::NoProblemLine,
     line: 0,
 });
-
-/// Joined inputs that are refused: without a line that is `%`, behind the first such line, and with a blank before it.
-const REFUSED: [Case; 7] = [
-    (Command::Joined(b"p sp 2 1\na 1 2 7\n"), Err(NO_PAIRS), b""),
-    (Command::Joined(b"p sp 2 1\na 1 2 7"), Err(NO_PAIRS), b""),
-    (Command::Joined(b"p sp 2 1\na 1 2 7\n%"), Err(NO_PAIRS), b""),
-    (
-        Command::Joined(b"p sp 2 1\na 1 2 7\r\n%\r"),
-        Err(NO_PAIRS),
-        b"",
-    ),
-    (
-        Command::Joined(b"c %\np sp 2 1\na 1 2 7\n%\n"),
-        Err(NO_PAIRS),
-        b"",
-    ),
-    (
-        Command::Joined(b"p sp 1 0\n%\np aux sp p2p 1\n%\nq 1 1\n"),
-        Err(ServiceError::Queries(GrError {
-            kind: GrErrorKind::UnknownLine,
-            line: 2,
-        })),
-        b"",
-    ),
-    (
-        Command::Joined(b"p sp 1 0\n %\np aux sp p2p 0\n"),
-        Err(ServiceError::Graph(GrError {
-            kind: GrErrorKind::UnknownLine,
-            line: 2,
-        })),
-        b"",
-    ),
-];
-
-#[test]
-fn joined_inputs_that_are_refused(rt: HostRuntime) {
-    assert!(rt; end_so(&rt, rt.alloc(), &REFUSED));
-}
 
 const GRAPH: &[u8] = b"p sp 2 1\na 1 2 7\n";
 
@@ -331,84 +252,6 @@ fn are_told_behind<R: Threads + Wait + Sync>(rt: &R, alloc: Global, cases: &[(u6
 fn reads_that_fail(rt: HostRuntime) {
     assert!(rt; are_told(&rt, rt.alloc(), &BROKEN));
     assert!(rt; are_told_behind(&rt, rt.alloc(), &BROKEN_BEHIND));
-}
-
-/// This many times these bytes, behind a first line.
-fn repeated(alloc: Global, first: &[u8], line: &[u8]) -> Result<Vec<u8>, AllocError> {
-    let mut text = Vec::from_slice(alloc, first)?;
-    for _ in 0..20000u32 {
-        text.extend_from_slice(line)?;
-    }
-    Ok(text)
-}
-
-/// Whether the pairs are answered so, and where the writer takes only this many bytes it gets the first of them.
-fn is_answered_as_far<R: Threads + Wait + Sync>(
-    rt: &R,
-    alloc: Global,
-    command: Command<'_>,
-    answers: &[u8],
-    left: usize,
-) -> bool {
-    let mut out = short_writer(alloc, left, End::Fails);
-    let result = run(rt, alloc, command, &mut out);
-    is_stopped(result, &out, answers, left) & ends_so(rt, alloc, command, Ok(()), answers)
-}
-
-/// Whether many pairs of one node are.
-fn are_many_answered<R: Threads + Wait + Sync>(rt: &R, alloc: Global) -> Result<bool, AllocError> {
-    let pairs = repeated(alloc, b"p aux sp p2p 20000\n", b"q 1 1\n")?;
-    let answers = repeated(alloc, b"", b"r 1 1 0 0 1\n")?;
-    let command = Command::Answer(b"p sp 1 0\n", pairs.as_slice());
-    let is_answered = is_answered_as_far(rt, alloc, command, answers.as_slice(), 131_075);
-    Ok(is_answered & (answers.len() == 240_000))
-}
-
-#[test]
-fn many_answers(rt: HostRuntime) -> Result<(), Fail> {
-    assert!(rt; are_many_answered(&rt, rt.alloc())?);
-    Ok(())
-}
-
-/// How many nodes the row has: its line doesn't fit into what is gathered.
-const LONG: u32 = 13000;
-
-/// The text of a row of this many nodes, each with an arc of weight 1 to the next.
-fn long_row(alloc: Global) -> Result<String, AllocError> {
-    let mut text = format!(in alloc; "p sp {LONG} 12999\n")?;
-    for node in 1..LONG {
-        let arc = format!(in alloc; "a {node} {} 1\n", node + 1)?;
-        text.push_str(arc.as_str())?;
-    }
-    Ok(text)
-}
-
-/// The answers to the first node and the last, and to the second and the first.
-fn long_answers(alloc: Global) -> Result<String, AllocError> {
-    let mut text = String::from_str(alloc, "r 1 13000 12999 12999")?;
-    for node in 1..=LONG {
-        let word = format!(in alloc; " {node}")?;
-        text.push_str(word.as_str())?;
-    }
-    text.push_str("\nn 2 1\n")?;
-    Ok(text)
-}
-
-const LONG_PAIRS: &[u8] = b"p aux sp p2p 2\nq 1 13000\nq 2 1\n";
-
-/// Whether the row is answered so.
-fn is_row_answered<R: Threads + Wait + Sync>(rt: &R, alloc: Global) -> Result<bool, AllocError> {
-    let row = long_row(alloc)?;
-    let answers = long_answers(alloc)?;
-    let command = Command::Answer(row.as_bytes(), LONG_PAIRS);
-    let is_answered = is_answered_as_far(rt, alloc, command, answers.as_bytes(), 66_000);
-    Ok(is_answered & (answers.len() == 66_922))
-}
-
-#[test]
-fn a_line_of_many_nodes(rt: HostRuntime) -> Result<(), Fail> {
-    assert!(rt; is_row_answered(&rt, rt.alloc())?);
-    Ok(())
 }
 
 const OWN: GrError = GrError {

@@ -97,20 +97,20 @@ pub(crate) const ONE_ARC_TEXT: &[u8] = b"p sp 2 1\na 1 2 7\n";
 pub(crate) const ROW_TEXT: &[u8] = b"p sp 3 2\na 2 1 2\na 1 3 3\n";
 
 /// The text of two nodes, joined both ways by arcs of weight 0.
-pub(crate) const FREE_TEXT: &[u8] = b"p sp 2 2\na 1 2 0\na 2 1 0\n";
+const FREE_TEXT: &[u8] = b"p sp 2 2\na 1 2 0\na 2 1 0\n";
 
 /// The text of an arc from 2 to 3, and a way over 1 that is as long.
-pub(crate) const FEWEST_TEXT: &[u8] = b"p sp 3 3\na 2 1 0\na 1 3 5\na 2 3 5\n";
+const FEWEST_TEXT: &[u8] = b"p sp 3 3\na 2 1 0\na 1 3 5\na 2 3 5\n";
 
 /// Arcs of the greatest weight between four nodes; the way 3, 2, 1, 4 is heavy.
-pub(crate) const HEAVIEST: &[u8] =
+const HEAVIEST: &[u8] =
     b"p sp 4 4\na 3 1 4294967295\na 1 2 4294967295\na 2 1 4294967295\na 1 4 4294967295\n";
 
 /// Arcs of weight 1 between four nodes; the ways 3, 1, 4 and 3, 2, 4 are equally long.
-pub(crate) const TIE: &[u8] = b"p sp 4 4\na 3 1 1\na 1 4 1\na 3 2 1\na 2 4 1\n";
+const TIE: &[u8] = b"p sp 4 4\na 3 1 1\na 1 4 1\na 3 2 1\na 2 4 1\n";
 
 /// The text of ways from 1 to 2: over 4, of length 6, and over 3, of length 8.
-pub(crate) const TWO_TOPS: &[u8] = b"p sp 4 4\na 1 3 4\na 3 2 4\na 1 4 5\na 4 2 1\n";
+const TWO_TOPS: &[u8] = b"p sp 4 4\na 1 3 4\na 3 2 4\na 1 4 5\na 4 2 1\n";
 
 /// The file of the graph of no node.
 pub(crate) const NO_NODE: &[u8] = b"RCH2\0\0\0\0\0\0\0\0\0\0\0\0\0\0\0\0\0\0\0\0";
@@ -120,32 +120,9 @@ pub(crate) const ONE_ARC: &[u8] =
     b"RCH2\0\0\0\x02\0\0\0\0\0\0\0\x01\0\0\0\0\0\0\0\x07\0\0\0\0\0\0\0\x01\
 \0\0\0\0\0\0\0\x01\0\0\0\0\0\0\0\x07\0\0\0\x01\xff\xff\xff\xff";
 
-/// The same in version 1, which has no arcs.
-pub(crate) const ONE_ARC_V1: &[u8] =
-    b"RCH1\0\0\0\x02\0\0\0\0\0\0\0\x01\0\0\0\0\0\0\0\x07\0\0\0\0\0\0\0\x01\
-\0\0\0\0\0\0\0\x01\0\0\0\0\0\0\0\x07\xff\xff\xff\xff";
-
 /// The file of a row of three nodes, 2 to 1 of weight 2 and 1 to 3 of weight 3: its last link is the shortcut.
 pub(crate) const ROW: &[u8] =
     b"RCH2\0\0\0\x03\0\0\0\0\0\0\0\x03\0\0\0\0\0\0\0\x06\0\0\0\0\0\0\0\x01\0\0\0\x02\
 \0\0\0\0\0\0\0\x02\0\0\0\0\0\0\0\x03\0\0\0\x01\xff\xff\xff\xff\
 \0\0\0\x01\0\0\0\0\0\0\0\0\0\0\0\x02\0\0\0\x01\xff\xff\xff\xff\
 \0\0\0\x01\0\0\0\x02\0\0\0\0\0\0\0\x05\0\0\0\x02\0\0\0\0";
-
-/// The same in version 1.
-pub(crate) const ROW_V1: &[u8] =
-    b"RCH1\0\0\0\x03\0\0\0\0\0\0\0\x03\0\0\0\0\0\0\0\x06\0\0\0\0\0\0\0\x01\0\0\0\x02\
-\0\0\0\0\0\0\0\x02\0\0\0\0\0\0\0\x03\xff\xff\xff\xff\
-\0\0\0\x01\0\0\0\0\0\0\0\0\0\0\0\x02\xff\xff\xff\xff\
-\0\0\0\x01\0\0\0\x02\0\0\0\0\0\0\0\x05\0\0\0\0";
-
-/// A file of four nodes of which 2 to 4 are joined, each to the next, by shortcuts by way of node 1: the walk from 2 to 4
-/// goes over it twice.
-pub(crate) const TWICE: &[u8] =
-    b"RCH2\0\0\0\x04\0\0\0\0\0\0\0\x06\0\0\0\0\0\0\0\x04\0\0\0\0\0\0\0\x01\0\0\0\x02\0\0\0\x03\
-\0\0\0\0\0\0\0\x02\0\0\0\0\0\0\0\x01\0\0\0\x01\xff\xff\xff\xff\
-\0\0\0\0\0\0\0\x03\0\0\0\0\0\0\0\x01\0\0\0\x01\xff\xff\xff\xff\
-\0\0\0\x01\0\0\0\0\0\0\0\0\0\0\0\x01\0\0\0\x01\xff\xff\xff\xff\
-\0\0\0\x01\0\0\0\x02\0\0\0\0\0\0\0\x02\0\0\0\x02\0\0\0\0\
-\0\0\0\x02\0\0\0\0\0\0\0\0\0\0\0\x01\0\0\0\x01\xff\xff\xff\xff\
-\0\0\0\x02\0\0\0\x03\0\0\0\0\0\0\0\x02\0\0\0\x02\0\0\0\0";

@@ -112,41 +112,7 @@ pub(crate) fn ends_so<R: Threads + Wait + Sync>(
 /// A command, how it ends, and what it writes.
 pub(crate) type Case = (Command<'static>, Result<(), ServiceError>, &'static [u8]);
 
-/// Whether each of these commands ends so.
-pub(crate) fn end_so<R: Threads + Wait + Sync>(rt: &R, alloc: Global, cases: &[Case]) -> bool {
-    for (command, end, written) in cases {
-        if !ends_so(rt, alloc, *command, *end, written) {
-            return false;
-        }
-    }
-    true
-}
-
-/// The file of a graph's hierarchy, or what was written before `prepare` was refused.
-pub(crate) fn prepared<R: Threads + Wait + Sync>(
-    rt: &R,
-    alloc: Global,
-    mut graph: &[u8],
-) -> Vec<u8> {
-    let mut out = Vec::new(alloc);
-    let _ = prepare_alone(rt, alloc, &mut graph, &mut out);
-    out
-}
-
-/// Both texts, parted by a line.
-pub(crate) fn joined(
-    alloc: Global,
-    graph: &[u8],
-    line: &[u8],
-    pairs: &[u8],
-) -> Result<Vec<u8>, AllocError> {
-    let mut input = Vec::from_slice(alloc, graph)?;
-    input.extend_from_slice(line)?;
-    input.extend_from_slice(pairs)?;
-    Ok(input)
-}
-
-/// An estimator of this kind, which received nothing.
+/// An estimator of this kind, or by depth where it is none of the first, which received nothing.
 pub(crate) fn estimator_of(
     alloc: Global,
     leases: &mut Leases,
@@ -158,7 +124,7 @@ pub(crate) fn estimator_of(
     match kind {
         Order::Edges => Ok(Box::new(alloc, EdgeDifference::new(alloc, lease))?),
         Order::Neighbours => Ok(Box::new(alloc, Neighbours::new(alloc, lease))?),
-        Order::Depth => Ok(Box::new(alloc, Depth::new(alloc, lease))?),
+        _ => Ok(Box::new(alloc, Depth::new(alloc, lease))?),
     }
 }
 

@@ -1,5 +1,6 @@
-//! Tests of the calls of `ch_service`, and of the jobs of `performing`, from without, as a program makes them: the worked
-//! examples, networks that are drawn, refusals, and readers, writers and destinations that fail.
+//! Tests of the calls of `ch_service`, of requests and their replies, of the command line, of the jobs of `performing` and of what
+//! `terminal` shows, from without, as a program makes them: the worked examples, refusals, and readers, writers and destinations
+//! that fail. `tests/program/small` runs the commands on more texts and files.
 //!
 //! A crate of its own, so that what it tests is proved once and nothing waits for its tests. It has no code but tests.
 #![tactic(auto)]
@@ -9,28 +10,22 @@ mod answers;
 #[cfg(test)]
 mod destinations;
 #[cfg(test)]
-mod drawn;
+mod endings;
 #[cfg(test)]
 mod examples;
 #[cfg(test)]
-mod hostile_files;
+mod failing;
 #[cfg(test)]
 mod kit;
 #[cfg(test)]
-mod orders;
-#[cfg(test)]
-mod plain;
-#[cfg(test)]
-mod prepared_files;
+mod meters;
 #[cfg(test)]
 mod refused;
 #[cfg(test)]
-mod routes;
+mod replies;
 #[cfg(test)]
 mod statuses;
 #[cfg(test)]
-mod stints;
-#[cfg(test)]
-mod version_1;
+mod words;
 #[cfg(test)]
 mod workers;

@@ -1,14 +1,16 @@
-//! What the commands return where one growth is refused: `tests/refusals` runs each test once for each of its growths.
+//! What the commands return where one growth is refused: `tests/program/refusals` runs each test once for each of its growths.
 //!
 //! A command either does all its work or reports that memory ran out, and has then written whole lines, `prepare`
 //! nothing. Made again it does its work. A growth of what a test sets up ends the test with that error. Writers have
 //! room from the start, so that none of them runs out of memory.
+mod requests;
+
 use crate::answers::{JOINED, NO_PAIRS};
 use crate::examples::{EXAMPLES, Example, NO_NODE, ONE_ARC, ONE_ARC_TEXT, ROW, ROW_TEXT};
 use crate::kit::{Case, Command, options, run, two_lists};
-use crate::version_1::{TO_TOO_LONG, TOO_LONG, cascade};
 use ch_estimate::Leases;
 use ch_service::{Cause, ServiceError, answer, prepare};
+use ch_unpack::UnpackError;
 use ch_workers::OpenGate;
 use jobs::Order;
 use std::alloc::{AllocError, Global};
@@ -120,6 +122,41 @@ const ROUTED: [Case; 2] = [
 fn route_by_a_file(rt: HostRuntime) {
     assert!(rt; end_so(&rt, rt.alloc(), &ROUTED));
 }
+
+const TOO_LONG: ServiceError = ServiceError::Unpack(UnpackError::TooLong);
+
+/// Adds a link of the cascade.
+fn push_link(file: &mut Vec<u8>, from: u32, to: u32) -> Result<(), AllocError> {
+    let lower = from.min(to);
+    file.extend_from_slice(&from.to_be_bytes())?;
+    file.extend_from_slice(&to.to_be_bytes())?;
+    file.extend_from_slice(&1u64.wrapping_shl(lower).to_be_bytes())?;
+    file.extend_from_slice(&lower.checked_sub(1).unwrap_or(u32::MAX).to_be_bytes())
+}
+
+/// The file of 38 nodes, each of the rank of its number, in which each two are linked: of the length that two to the lesser
+/// number is, by way of the node before the lesser.
+fn cascade(alloc: Global) -> Result<Vec<u8>, AllocError> {
+    let mut file = Vec::from_slice(alloc, b"RCH1\0\0\0\x26\0\0\0\0\0\0\x05\x7e")?;
+    file.extend_from_slice(&158_913_789_915u64.to_be_bytes())?;
+    for rank in 0..38u32 {
+        file.extend_from_slice(&rank.to_be_bytes())?;
+    }
+    for from in 0..38u32 {
+        for to in 0..38u32 {
+            if from != to {
+                push_link(&mut file, from, to)?;
+            }
+        }
+    }
+    Ok(file)
+}
+
+/// Pairs of the cascade of which the last one's route is too long, and the line that answers the one before.
+const TO_TOO_LONG: [(&[u8], &[u8]); 2] = [
+    (b"p aux sp p2p 1\nq 38 37\n", b""),
+    (b"p aux sp p2p 2\nq 3 2\nq 38 37\n", b"r 3 2 2 2 3 1 2\n"),
+];
 
 /// Whether each of these routes of a file is too long.
 fn are_too_long<R: Threads + Wait + Sync>(

@@ -1,6 +1,11 @@
-use crate::examples::{ONE_ARC, ONE_ARC_TEXT, ONE_ARC_V1, ROW, TWICE};
-use crate::orders::preparing;
-use jobs::{Check, Job, Order, Workers};
+//! Jobs whose readers or writers fail, and refusals that no text brings about.
+use crate::examples::{ONE_ARC, ONE_ARC_TEXT, ROW, ROW_TEXT};
+use crate::kit::prepare_alone;
+use ch_service::{ServiceError, WriteFault, route};
+use ch_unpack::UnpackError;
+use ch_workers::BuildError;
+use jobs::{Check, Job, Order, Preparation, Workers};
+use outcomes::Outcome;
 use performing::perform;
 use std::alloc::Global;
 use std::io::{self, ErrorKind, Read, Write};
@@ -29,7 +34,7 @@ impl Write for Broken {
 
 /// What a job reads.
 #[derive(Clone, Copy)]
-pub(crate) enum Given {
+enum Given {
     /// These bytes.
     Bytes(&'static [u8]),
     /// This byte, before a read that fails.
@@ -69,7 +74,7 @@ const JOINED: Job<'static> = Job::Answer {
 const PAIRS: &[u8] = b"p aux sp p2p 2\nq 1 2\nq 2 1\n";
 
 /// Whether the job ends with this status, these bytes written, and this line on standard error.
-pub(crate) fn is_ended<A: Read, B: Read, R: Threads + Wait + Sync>(
+fn is_ended<A: Read, B: Read, R: Threads + Wait + Sync>(
     rt: &R,
     alloc: Global,
     job: &Job<'_>,
@@ -85,302 +90,18 @@ pub(crate) fn is_ended<A: Read, B: Read, R: Threads + Wait + Sync>(
     (ended == status) & (written.as_slice() == out) & (told.as_slice() == err)
 }
 
-/// A job, what it reads first and second, its status, what it writes, and the line on standard error.
-pub(crate) type Case = (Job<'static>, Given, Given, u8, &'static [u8], &'static [u8]);
-
-/// Whether each of these jobs ends so.
-pub(crate) fn are_ended<R: Threads + Wait + Sync>(rt: &R, alloc: Global, cases: &[Case]) -> bool {
-    for (job, first, second, status, out, err) in cases {
-        let (mut first, mut second) = (*first, *second);
-        if !is_ended(rt, alloc, job, &mut first, &mut second, *status, out, err) {
-            return false;
-        }
-    }
-    true
-}
-
-/// Of two texts.
-const OF_TWO: [Case; 4] = [
-    (
-        TWO,
-        Given::Bytes(ONE_ARC_TEXT),
-        Given::Bytes(PAIRS),
-        0,
-        b"r 1 2 7 1 1 2\nn 2 1\n",
-        b"",
-    ),
-    (
-        TWO,
-        Given::Bytes(b"p sp 2 1\na 1 3 7\n"),
-        Given::Bytes(PAIRS),
-        3,
-        b"",
-        b"routecli: graph: NodeRange line 2\n",
-    ),
-    (
-        TWO,
-        Given::Bytes(ONE_ARC_TEXT),
-        Given::Bytes(b"p aux sp p2p 2\nq 1 2\nq 2 3\n"),
-        5,
-        b"",
-        b"routecli: queries: NodeRange line 3\n",
-    ),
-    (
-        TWO,
-        Given::Bytes(ONE_ARC_TEXT),
-        Given::Bytes(b""),
-        5,
-        b"",
-        b"routecli: queries: NoProblemLine line 0\n",
-    ),
-];
-
-/// Of the same in one input, and of a graph without the line that parts them.
-const OF_ONE: [Case; 5] = [
-    (
-        JOINED,
-        Given::Bytes(b"p sp 2 1\na 1 2 7\n%\np aux sp p2p 2\nq 1 2\nq 2 1\n"),
-        Given::Nothing,
-        0,
-        b"r 1 2 7 1 1 2\nn 2 1\n",
-        b"",
-    ),
-    (
-        JOINED,
-        Given::Bytes(b"p sp 2 1\na 1 3 7\n%\np aux sp p2p 2\nq 1 2\nq 2 1\n"),
-        Given::Nothing,
-        3,
-        b"",
-        b"routecli: graph: NodeRange line 2\n",
-    ),
-    (
-        JOINED,
-        Given::Bytes(b"p sp 2 1\na 1 2 7\n%\np aux sp p2p 2\nq 1 2\nq 2 3\n"),
-        Given::Nothing,
-        5,
-        b"",
-        b"routecli: queries: NodeRange line 3\n",
-    ),
-    (
-        JOINED,
-        Given::Bytes(b"p sp 2 1\na 1 2 7\n%\n"),
-        Given::Nothing,
-        5,
-        b"",
-        b"routecli: queries: NoProblemLine line 0\n",
-    ),
-    (
-        JOINED,
-        Given::Bytes(ONE_ARC_TEXT),
-        Given::Nothing,
-        5,
-        b"",
-        b"routecli: queries: NoProblemLine line 0\n",
-    ),
-];
-
-#[test]
-fn two_texts_and_joined_ones(rt: HostRuntime) {
-    assert!(rt; are_ended(&rt, rt.alloc(), &OF_TWO));
-    assert!(rt; are_ended(&rt, rt.alloc(), &OF_ONE));
-}
-
-pub(crate) const ROUTE: Job<'static> = Job::Route {
+const ROUTE: Job<'static> = Job::Route {
     hierarchy: "a.rch",
     queries: "pairs.p2p",
 };
 
-const ROUTED: [Case; 6] = [
-    (
-        ROUTE,
-        Given::Bytes(ONE_ARC),
-        Given::Bytes(PAIRS),
-        0,
-        b"r 1 2 7 1 1 2\nn 2 1\n",
-        b"",
-    ),
-    (
-        ROUTE,
-        Given::Bytes(ONE_ARC_V1),
-        Given::Bytes(PAIRS),
-        0,
-        b"r 1 2 7 1 1 2\nn 2 1\n",
-        b"",
-    ),
-    (
-        ROUTE,
-        Given::Bytes(b"RCH3"),
-        Given::Bytes(b""),
-        4,
-        b"",
-        b"routecli: hierarchy: BadMagic\n",
-    ),
-    (
-        ROUTE,
-        Given::Bytes(b"RCH"),
-        Given::Bytes(b""),
-        4,
-        b"",
-        b"routecli: hierarchy: Truncated\n",
-    ),
-    (
-        ROUTE,
-        Given::Bytes(TWICE),
-        Given::Bytes(b"p aux sp p2p 1\nq 2 4\n"),
-        4,
-        b"",
-        b"routecli: hierarchy: TooLong\n",
-    ),
-    (
-        ROUTE,
-        Given::Bytes(ONE_ARC),
-        Given::Bytes(b""),
-        5,
-        b"",
-        b"routecli: queries: NoProblemLine line 0\n",
-    ),
-];
-
-#[test]
-fn routes(rt: HostRuntime) {
-    assert!(rt; are_ended(&rt, rt.alloc(), &ROUTED));
-}
-
-pub(crate) const INFO: Job<'static> = Job::Info { hierarchy: "a.rch" };
-
-const INFORMED: [Case; 7] = [
-    (
-        INFO,
-        Given::Bytes(ONE_ARC),
-        Given::Nothing,
-        0,
-        b"version 2\nnodes 2\nlinks 1\nbound 7\nbytes 56\n",
-        b"",
-    ),
-    (
-        INFO,
-        Given::Bytes(ONE_ARC_V1),
-        Given::Nothing,
-        0,
-        b"version 1\nnodes 2\nlinks 1\nbound 7\nbytes 52\n",
-        b"",
-    ),
-    (
-        INFO,
-        Given::Bytes(ROW),
-        Given::Nothing,
-        0,
-        b"version 2\nnodes 3\nlinks 3\nbound 6\nbytes 108\n",
-        b"",
-    ),
-    (
-        INFO,
-        Given::Bytes(b"RCH2\0\0\0\0\0\0\0\0\0\0\0\0\0\0\0\0\0\0\0\0"),
-        Given::Nothing,
-        0,
-        b"version 2\nnodes 0\nlinks 0\nbound 0\nbytes 24\n",
-        b"",
-    ),
-    (
-        INFO,
-        Given::Bytes(b""),
-        Given::Nothing,
-        4,
-        b"",
-        b"routecli: hierarchy: Truncated\n",
-    ),
-    (
-        INFO,
-        Given::Bytes(ONE_ARC_TEXT),
-        Given::Nothing,
-        4,
-        b"",
-        b"routecli: hierarchy: BadMagic\n",
-    ),
-    (
-        INFO,
-        Given::Bytes(b"RCH2\0\0\0\0\0\0\0\0\0\0\0\0\0\0\0\0\0\0\0\0x"),
-        Given::Nothing,
-        4,
-        b"",
-        b"routecli: hierarchy: Trailing\n",
-    ),
-];
-
-#[test]
-fn what_files_have(rt: HostRuntime) {
-    assert!(rt; are_ended(&rt, rt.alloc(), &INFORMED));
-}
+const INFO: Job<'static> = Job::Info { hierarchy: "a.rch" };
 
 const CHECK: Job<'static> = Job::Check(Check {
     graph: "a.gr",
     hierarchy: "a.rch",
     progress: false,
 });
-
-const CHECKED: [Case; 7] = [
-    (
-        CHECK,
-        Given::Bytes(ONE_ARC_TEXT),
-        Given::Bytes(ONE_ARC),
-        0,
-        b"right\n",
-        b"",
-    ),
-    (
-        CHECK,
-        Given::Bytes(b"p sp 3 1\na 1 2 7\n"),
-        Given::Bytes(ONE_ARC),
-        9,
-        b"wrong: nodes\n",
-        b"",
-    ),
-    (
-        CHECK,
-        Given::Bytes(b"p sp 2 2\na 1 2 6\na 2 1 7\n"),
-        Given::Bytes(ONE_ARC),
-        9,
-        b"wrong: pair 1 2\n",
-        b"",
-    ),
-    (
-        CHECK,
-        Given::Bytes(b"p sp 2 1\na 1 2 8\n"),
-        Given::Bytes(ONE_ARC),
-        10,
-        b"not shown: bound\n",
-        b"",
-    ),
-    (
-        CHECK,
-        Given::Bytes(b"p sp 2 1\na 1 3 7\n"),
-        Given::Bytes(b"RCH3"),
-        3,
-        b"",
-        b"routecli: graph: NodeRange line 2\n",
-    ),
-    (
-        CHECK,
-        Given::Bytes(ONE_ARC_TEXT),
-        Given::Bytes(b"RCH3"),
-        4,
-        b"",
-        b"routecli: hierarchy: BadMagic\n",
-    ),
-    (
-        CHECK,
-        Given::Bytes(ONE_ARC_TEXT),
-        Given::Bytes(ONE_ARC_V1),
-        4,
-        b"",
-        b"routecli: hierarchy: OldVersion\n",
-    ),
-];
-
-#[test]
-fn checks(rt: HostRuntime) {
-    assert!(rt; are_ended(&rt, rt.alloc(), &CHECKED));
-}
 
 /// Whether a job ends with status 7 and the line of a failed read, and writes nothing.
 fn is_unread<R: Threads + Wait + Sync>(
@@ -423,9 +144,17 @@ const FAILED: [(Job, Given, Given); 9] = [
     (CHECK, Given::Bytes(ONE_ARC_TEXT), Given::Nothing),
 ];
 
-#[test]
-fn failed_reads(rt: HostRuntime) {
-    assert!(rt; are_unread(&rt, rt.alloc(), &FAILED));
+/// To prepare without workers.
+fn preparing() -> Job<'static> {
+    Job::Prepare(Preparation {
+        graph: "a.gr",
+        out: "a.rch",
+        workers: Workers::none(),
+        seed: 1,
+        order: Order::Edges,
+        stint: None,
+        progress: false,
+    })
 }
 
 /// Jobs of which a reader fails after the first byte.
@@ -442,14 +171,15 @@ const FAILED_SECOND: [(Job, Given, Given); 9] = [
 ];
 
 #[test]
-fn failed_second_reads(rt: HostRuntime) {
+fn failed_reads(rt: HostRuntime) {
+    assert!(rt; are_unread(&rt, rt.alloc(), &FAILED));
     assert!(rt; are_unread(&rt, rt.alloc(), &FAILED_SECOND));
-    let job = preparing(Order::Edges, Workers::none(), None);
-    assert!(rt; is_unread(&rt, rt.alloc(), &job, Given::First(b'p'), Given::Nothing));
+    let prepare = (preparing(), Given::First(b'p'), Given::Nothing);
+    assert!(rt; are_unread(&rt, rt.alloc(), &[prepare]));
 }
 
 /// Whether a job ends with status 7 and the line of a failed write, where the writer fails.
-pub(crate) fn is_unwritten<R: Threads + Wait + Sync>(
+fn is_unwritten<R: Threads + Wait + Sync>(
     rt: &R,
     alloc: Global,
     job: &Job<'_>,
@@ -469,16 +199,29 @@ pub(crate) fn is_unwritten<R: Threads + Wait + Sync>(
     (status == 7) & (err.as_slice() == b"routecli: write\n".as_slice())
 }
 
-#[test]
-fn failed_writes(rt: HostRuntime) {
-    let (graph, pairs) = (Given::Bytes(ONE_ARC_TEXT), Given::Bytes(PAIRS));
-    assert!(rt; is_unwritten(&rt, rt.alloc(), &TWO, graph, pairs));
+/// Whether each of these jobs does.
+fn are_unwritten<R: Threads + Wait + Sync>(
+    rt: &R,
+    alloc: Global,
+    cases: &[(Job<'_>, Given, Given)],
+) -> bool {
+    for (job, first, second) in cases {
+        if !is_unwritten(rt, alloc, job, *first, *second) {
+            return false;
+        }
+    }
+    true
 }
 
 #[test]
-fn a_failed_write_of_what_a_file_has(rt: HostRuntime) {
-    let file = Given::Bytes(ONE_ARC);
-    assert!(rt; is_unwritten(&rt, rt.alloc(), &INFO, file, Given::Nothing));
+fn failed_writes(rt: HostRuntime) {
+    let (graph, pairs) = (Given::Bytes(ONE_ARC_TEXT), Given::Bytes(PAIRS));
+    let jobs = [
+        (TWO, graph, pairs),
+        (INFO, Given::Bytes(ONE_ARC), Given::Nothing),
+        (preparing(), graph, Given::Nothing),
+    ];
+    assert!(rt; are_unwritten(&rt, rt.alloc(), &jobs));
 }
 
 #[test]
@@ -495,4 +238,66 @@ fn a_lost_line_keeps_the_status(rt: HostRuntime) {
         &mut Broken,
     );
     assert!(rt; status == 3);
+}
+
+/// Refusals that no text brings about, or none that is short; the status of each, and the line on standard error.
+const REPORTED: [(ServiceError, u8, &[u8]); 3] = [
+    (
+        ServiceError::Build(BuildError::Mixed),
+        8,
+        b"routecli: mixed\n",
+    ),
+    (
+        ServiceError::Build(BuildError::OutOfMemory),
+        6,
+        b"routecli: memory\n",
+    ),
+    (
+        ServiceError::Unpack(UnpackError::TooLong),
+        4,
+        b"routecli: hierarchy: TooLong\n",
+    ),
+];
+
+fn is_reported(alloc: Global, error: &ServiceError, status: u8, line: &[u8]) -> bool {
+    let mut err = Vec::new(alloc);
+    let reported = Outcome::Refused(error.cause()).report(&mut err);
+    (reported == status) & (err.as_slice() == line)
+}
+
+/// Whether each of these refusals is reported so.
+fn are_reported(alloc: Global, cases: &[(ServiceError, u8, &[u8])]) -> bool {
+    for (error, status, line) in cases {
+        if !is_reported(alloc, error, *status, line) {
+            return false;
+        }
+    }
+    true
+}
+
+#[test]
+fn refusals_are_reported(rt: HostRuntime) {
+    assert!(rt; are_reported(rt.alloc(), &REPORTED));
+}
+
+#[test]
+fn a_write_of_routes_that_fails(rt: HostRuntime) {
+    let mut room = [0u8; 18];
+    let mut out = room.as_mut_slice();
+    let (mut hier, mut pairs) = (ONE_ARC, b"p aux sp p2p 2\nq 1 2\nq 2 1\n".as_slice());
+    let result = route(rt.alloc(), &mut hier, &mut pairs, &mut out);
+    let written = 18;
+    let is_stopped = result == Err(ServiceError::Write(WriteFault { written }));
+    assert!(rt; is_stopped & (room.as_slice() == b"r 1 2 7 1 1 2\nn 2 ".as_slice()));
+}
+
+#[test]
+fn a_write_of_a_hierarchy_that_fails(rt: HostRuntime) {
+    let mut room = [0u8; 30];
+    let mut out = room.as_mut_slice();
+    let mut graph = ROW_TEXT;
+    let result = prepare_alone(&rt, rt.alloc(), &mut graph, &mut out);
+    let written = 30;
+    let is_stopped = result == Err(ServiceError::Write(WriteFault { written }));
+    assert!(rt; is_stopped & (room.as_slice() == &ROW[..30]));
 }

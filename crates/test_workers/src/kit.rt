@@ -64,23 +64,13 @@ pub(crate) fn tie(alloc: Global) -> Result<Graph, Fail> {
 
 /// The grid of 25 nodes `5i + j`, with both directions between nodes next to each other, of weights from 1 to 7.
 pub(crate) fn grid(alloc: Global) -> Result<Graph, Fail> {
-    grid_of(alloc, false)
-}
-
-/// The same with weights from 0 to 2, so that many walks are of one length.
-pub(crate) fn flat_grid(alloc: Global) -> Result<Graph, Fail> {
-    grid_of(alloc, true)
-}
-
-/// The grid with weights of the one kind or the other.
-fn grid_of(alloc: Global, is_flat: bool) -> Result<Graph, Fail> {
     let mut arcs = Vec::new(alloc);
     'nodes: for node in 0..25u32 {
         if node % 5 != 4 {
-            add_both(&mut arcs, node, node + 1, is_flat)?;
+            add_both(&mut arcs, node, node + 1)?;
         }
         if node < 20 {
-            add_both(&mut arcs, node, node + 5, is_flat)?;
+            add_both(&mut arcs, node, node + 5)?;
         }
     }
     let graph = Graph::checked(25, arcs)?;
@@ -88,14 +78,10 @@ fn grid_of(alloc: Global, is_flat: bool) -> Result<Graph, Fail> {
 }
 
 /// Puts in the arcs between two nodes of the grid, in both directions. Their weight is 1 and the product of the numbers
-/// of the nodes, counted from 1, by its remainder of 7; in the flat grid it is the remainder of 3.
-fn add_both(arcs: &mut Vec<Road>, a: u32, b: u32, is_flat: bool) -> Result<(), AllocError> {
+/// of the nodes, counted from 1, by its remainder of 7.
+fn add_both(arcs: &mut Vec<Road>, a: u32, b: u32) -> Result<(), AllocError> {
     let product = a.wrapping_add(1).wrapping_mul(b.wrapping_add(1));
-    let weight = if is_flat {
-        product % 3
-    } else {
-        1 + product % 7
-    };
+    let weight = 1 + product % 7;
     arcs.push(Road {
         from: a,
         to: b,

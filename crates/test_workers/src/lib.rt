@@ -1,8 +1,9 @@
-//! Tests of the workers from without, as a program calls them: options and what is refused, the order of one worker,
-//! workers who overtake each other, throngs, what workers keep from shift to shift, stints, estimators and their leases,
-//! receipts and the costs of hierarchies.
+//! Tests of what an order is made by, and of the workers from without, as a program calls them: queues, estimators
+//! and their leases; options and what is refused, the order of one worker, workers who overtake each
+//! other, what workers keep from shift to shift, stints, receipts and the costs of hierarchies.
 //!
-//! A crate of its own, so that `ch_workers` is proved once and nothing waits for its tests. It has no code but tests.
+//! A crate of its own, so that `ch_multiqueue`, `ch_estimate` and `ch_workers` are proved once and nothing waits for their tests.
+//! It has no code but tests.
 #![tactic(auto)]
 
 #[cfg(test)]
@@ -18,13 +19,13 @@ mod costs;
 #[cfg(test)]
 mod drops;
 #[cfg(test)]
+mod estimators;
+#[cfg(test)]
 mod four;
 #[cfg(test)]
 mod gates;
 #[cfg(test)]
 mod keeping;
-#[cfg(test)]
-mod keys;
 #[cfg(test)]
 mod kit;
 #[cfg(test)]
@@ -34,14 +35,12 @@ mod limits;
 #[cfg(test)]
 mod orders;
 #[cfg(test)]
-mod refusals;
+mod queues;
 #[cfg(test)]
 mod refused;
 #[cfg(test)]
 mod stations;
 #[cfg(test)]
 mod stints;
-#[cfg(test)]
-mod throngs;
 #[cfg(test)]
 mod traces;

@@ -1,9 +1,10 @@
-//! What builds return where one growth is refused: `tests/refusals` runs each test once for each of its growths.
+//! What builds return where one growth is refused: `tests/program/refusals` runs each test once for each of its growths.
 //!
 //! A build that runs out of memory is made again. The costs of what is built are those of the plain search, whichever
 //! growth was refused: a worker that runs out of memory leaves its work to the others and to the sweep. A growth of what
 //! a test sets up ends the test with that error.
 mod drops;
+mod order;
 
 use crate::costs::are_least;
 use crate::kit::{Keys, ONE, TWO, built_by, grid, tie};

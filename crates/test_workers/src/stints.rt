@@ -1,7 +1,6 @@
 use crate::costs::are_least;
 use crate::kit::{Keys, ONE, TWO, grid, row, tie};
 use crate::stations::{Both, Tally, Trail};
-use crate::throngs::THRONGS;
 use crate::traces::{Traces, built_by};
 use ch_contract::Contraction;
 use ch_graph::Graph;
@@ -175,6 +174,18 @@ fn all_do_both<R: Threads + Wait + Sync>(
     }
     Ok(holds)
 }
+
+/// Numbers of workers, and their keys.
+const THRONGS: &[(u32, Keys)] = &[
+    (0, Keys::Greatest),
+    (1, Keys::Greatest),
+    (2, Keys::Greatest),
+    (8, Keys::Greatest),
+    (0, Keys::Drawn(7)),
+    (1, Keys::Drawn(7)),
+    (2, Keys::Drawn(7)),
+    (8, Keys::Drawn(7)),
+];
 
 #[test]
 fn the_grid_and_the_tie_by_stints(rt: HostRuntime) -> Result<(), Fail> {

@@ -1,5 +1,0 @@
-use Rattle.test_workers.proofs.keys.gives.Goals as goal
-
--- each estimator is one that was made for a lease
-pub build-requires-clause-untold : goal.build-requires-clause-untold
-build-requires-clause-untold g c _ _ k d h j e i = (c.in_ok-lists.ensures.made k d h j e i).1.1
