@@ -1,4 +1,5 @@
-ghost use Rattle.std.specs.Prelude.{◌≡◌, ◌≢◌, ◌≤◌, ◌^◌, Ok, Err, IfOk, IsTrue, OnOk, Some, length, map};
+ghost use Rattle.std.specs.Prelude.{◌≡◌, ◌≢◌, ◌≤◌, ◌<◌, ◌+◌, ◌-◌, ◌*◌, ◌^◌, Ok, Err, IfErr, IfOk, IsTrue, OnOk, Some, length, map, min};
+ghost use Rattle.ch_check.specs.declared.fault.Fault.TheVariants.{Work};
 ghost use Rattle.std.specs.List.{slice_get};
 ghost use Rattle.std.specs.Option.{IsSomeAnd};
 ghost use Rattle.ch_cost.specs.Cost.{◌≼◌};
@@ -47,7 +48,9 @@ pub struct Finder {
 
 impl Finder {
     /// No way is found yet. It takes no memory yet. All searches of a check of a hierarchy of this many links are its own.
-    pub fn new(alloc: Global, links: usize) -> Finder {
+    pub fn new(alloc: Global, links: usize) -> Finder
+        ensures limit { result.rest ≡ min (links * 2 ^ 8 + 2 ^ 22) (2 ^ 64 - 1) }
+    {
         Finder {
             alloc,
             rest: (links as u64)
@@ -185,7 +188,10 @@ impl Finder {
 }
 
 /// How many nodes may still be settled after so many more, if they may.
-fn rest_of(rest: u64, settled: usize) -> Result<u64, Fault> {
+fn rest_of(rest: u64, settled: usize) -> Result<u64, Fault>
+    ensures rest { IfOk result (λ left. left + settled ≡ rest) }
+    ensures work { IfErr result (λ fault. (fault ≡ Work) × (rest < settled)) }
+{
     rest.checked_sub(settled as u64).ok_or(Fault::Work)
 }
 
