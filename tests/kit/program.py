@@ -1,6 +1,7 @@
 """Where the program is, how the C++ programs of bench/ are compiled, and what a run takes."""
 import os
 import pathlib
+import re
 import shutil
 import subprocess
 import sys
@@ -18,10 +19,33 @@ PROGRAM = pathlib.Path(os.environ.get("ROUTECLI") or ROOT / "crates/routecli/out
 # The library, likewise, with the environment variable DOMETHYME_LIBRARY.
 LIBRARY = pathlib.Path(os.environ.get("DOMETHYME_LIBRARY") or ROOT / "out/library/libdomethyme.so.1").resolve()
 
+# What only a hang exceeds, in seconds: no test expects a run to end sooner.
+SECONDS = 1800
+NOBODY = 65534
+
+
+# The orders that take turns where `--stint` is given.
+IN_TURN = ["edges", "neighbours", "depth"]
+
+
+def offered_orders() -> list[str]:
+    """The orders of the program's help."""
+    said = subprocess.run([PROGRAM, "prepare", "--help"], check=True, stdout=subprocess.PIPE, text=True).stdout
+    values: list[str] = re.findall(r"--order .*possible values: ([^]]*)\]", said)
+    return values[0].split(", ")
+
 
 def need_program() -> None:
     if not PROGRAM.exists():
         sys.exit(f"{PROGRAM} isn't built: README.md says how")
+
+
+def as_nobody() -> None:
+    """Before a run as root, to whom no file is closed."""
+    if os.getuid() == 0:
+        os.setgroups([])
+        os.setgid(NOBODY)
+        os.setuid(NOBODY)
 
 
 def compiled(folder: Path, name: str) -> pathlib.Path | None:
@@ -49,17 +73,17 @@ def linked(folder: Path, source: str) -> pathlib.Path:
         subprocess.run([ROOT / "packaging/build-library"], check=True)
     target = pathlib.Path(folder) / pathlib.Path(source).stem
     words = ["g++", "-std=c++17"] if source.endswith(".cpp") else ["gcc"]
-    words += ["-O3", "-pthread", f"-I{ROOT}/packaging/library", f"-I{ROOT}/tests/library_programs", "-o", str(target)]
+    words += ["-O3", "-pthread", f"-I{ROOT}/packaging/library", f"-I{ROOT}/tests/library", "-o", str(target)]
     subprocess.run([*words, str(ROOT / "bench" / source), str(LIBRARY), f"-Wl,-rpath,{LIBRARY.parent}"], check=True)
     return target
 
 
 def refuse_library(folder: Path) -> str:
-    """The library that refuses calls of the system (tests/refuse_call.c), compiled into the folder."""
+    """The library that refuses calls of the system (tests/program/refuse_call.c), compiled into the folder."""
     compiler = shutil.which("cc") or shutil.which("gcc") or shutil.which("g++")
     if compiler is None:
-        sys.exit("tests/refuse_call.c can't be compiled, which needs gcc")
-    library, source = str(pathlib.Path(folder) / "refuse.so"), str(ROOT / "tests/refuse_call.c")
+        sys.exit("tests/program/refuse_call.c can't be compiled, which needs gcc")
+    library, source = str(pathlib.Path(folder) / "refuse.so"), str(ROOT / "tests/program/refuse_call.c")
     subprocess.run([compiler, "-x", "c", "-shared", "-fPIC", "-O1", "-o", library, source, "-ldl"], check=True)
     return library
 
