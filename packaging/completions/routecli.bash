@@ -33,7 +33,8 @@ _routecli() {
 
     case $option in
         --order)
-            mapfile -t COMPREPLY < <(compgen -P "$prefix" -W 'edges neighbours depth' -- "$cur")
+            words=$("$1" prepare --help 2>/dev/null | sed -n 's/.*possible values: \([^]]*\).*/\1/p')
+            mapfile -t COMPREPLY < <(compgen -P "$prefix" -W "${words//,/}" -- "$cur")
             return
             ;;
         -*) return ;; # a number

@@ -80,7 +80,7 @@ complete -c routecli -n __routecli_takes_input -a - -d 'With - for both files, s
 complete -c routecli -n '__routecli_lacks workers prepare' -l workers -x -d 'Number of threads that contract nodes, 0 to 64'
 complete -c routecli -n '__routecli_lacks seed prepare' -l seed -x -d 'Seed of the random choices of the threads, 0 to 18446744073709551615'
 complete -c routecli -n '__routecli_lacks order prepare' -l order -x -d 'Which nodes are contracted first' \
-    -a 'edges\t"those that leave the fewest arcs" neighbours\t"also counts contracted neighbours" depth\t"the depth of a node"'
+    -a "(routecli prepare --help 2>/dev/null | string match -r 'possible values: [^]]*' | string replace 'possible values: ' '' | string split ', ')"
 complete -c routecli -n '__routecli_lacks stint prepare' -l stint -x -d 'Switch a thread to its next order after C contractions'
 complete -c routecli -n '__routecli_lacks progress prepare check' -l progress -d 'Show on standard error how many nodes are contracted'
 complete -c routecli -n '__routecli_lacks explain answer prepare route serve info check' -l explain -d 'Explain a refusal in more lines on standard error'

@@ -147,7 +147,8 @@ uint32_t domethyme_lengths(domethyme *handle, const domethyme_pair *pairs, size_
  * and 8 for each node that is selected and for each link to one, with room for up to as many again; 12 if there are 2^32 such
  * links or one is as long as that. The handle keeps that for the next table to the same targets, in the same order, until one to
  * others comes. All handles of the hierarchy share the last one that any of them made, those opened earlier too, and the last
- * that has it frees it. A call with no targets lets both go. No call waits for another. */
+ * that has it frees it. A call with no targets lets both go. No call waits for another: of selections that are made at the same
+ * time one is shared. */
 uint32_t domethyme_table(domethyme *handle, const uint32_t *sources, size_t source_count,
                          const uint32_t *targets, size_t target_count, uint64_t *lengths, size_t room);
 

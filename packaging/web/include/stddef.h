@@ -1,0 +1,3 @@
+/* The toolchain's clang has no headers. */
+typedef __SIZE_TYPE__ size_t;
+#define NULL ((void *)0)
