@@ -21,7 +21,7 @@ pandas: where one is missing, the call that needs it raises ImportError.
 
 Errors are DomethymeErrors, listed in `domethyme.errors`; arguments that can't be used raise ValueError.
 """
-import importlib
+import importlib.util
 from typing import TYPE_CHECKING, Any
 
 from .deprecated import warn_renamed
@@ -54,6 +54,16 @@ Fault = DomethymeError
 RENAMED = {"NO_WAY": "NO_PATH", "NotShown": "NotProved"}
 # The modules of what needs numpy.
 LATER = {"Network": ".network.network", "Routes": ".routes"}
+
+
+# (of what `from domethyme import *` loads)
+if importlib.util.find_spec("numpy") is None:
+    for _name in LATER:
+        __all__.remove(_name)
+
+
+def __dir__() -> list[str]:
+    return sorted({*globals(), *LATER})
 
 
 def __getattr__(name: str) -> Any:

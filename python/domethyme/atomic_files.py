@@ -5,6 +5,7 @@ import contextlib
 import errno
 import io
 import os
+import pathlib
 import shutil
 import stat
 import sys
@@ -80,12 +81,16 @@ def make_temp_file(path: StrPath, target: str) -> str:
     if os.path.exists(target):
         permissions = stat.S_IMODE(os.stat(target).st_mode)
     else:
-        mask = os.umask(0)
-        os.umask(mask)
-        permissions = 0o666 & ~mask
+        permissions = 0o666 & ~umask()
     os.fchmod(handle, permissions)
     os.close(handle)
     return temp_path
+
+
+def umask() -> int:
+    """The permissions that new files of this process don't get. (os.umask would take it away from other threads for a moment.)"""
+    lines = pathlib.Path("/proc/self/status").read_text(encoding="ascii", errors="replace").splitlines()
+    return next(int(line.split()[1], 8) for line in lines if line.startswith("Umask:"))
 
 
 def replace_all(temp_paths: list[str], targets: list[str]) -> None:

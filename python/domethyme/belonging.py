@@ -46,13 +46,15 @@ class Origin(NamedTuple):
             raise NetworkError(f"is of the network {self.name} with {self.nodes} nodes, and {hierarchy} has {nodes}", pairs)
 
 
-def compare_files(hierarchy: str, network: str, whole: bool = False) -> None:
-    """Raises WrongHierarchy where a file isn't that of the network that a tool's argument names, and errors of both."""
+def compare_files(hierarchy: str, network: str, whole: bool = False) -> "MappedNetwork":
+    """The network that a tool's argument names. Raises WrongHierarchy where a file isn't that of it, and errors of both."""
     from .network.from_tables import load_network_or_dimacs
 
     with open_hierarchy_file(hierarchy) as file:
         read_header(file.fileno(), hierarchy)
-        compare(file.fileno(), hierarchy, load_network_or_dimacs(network), whole)
+        opened = load_network_or_dimacs(network)
+        compare(file.fileno(), hierarchy, opened, whole)
+    return opened
 
 
 def compare(file: int, name: str, network: "MappedNetwork", whole: bool = False) -> None:
@@ -91,4 +93,4 @@ def older_hierarchy(prefix: str) -> str | None:
     hierarchy, graph = f"{prefix}.rch", f"{prefix}.gr"
     if not os.path.exists(hierarchy) or os.stat(hierarchy).st_mtime_ns >= os.stat(graph).st_mtime_ns:
         return None
-    return f"{hierarchy} is older than {graph}: run `routecli prepare --order depth {graph} {hierarchy}` again"
+    return f"{hierarchy} is older than {graph}: run `routecli prepare --order balanced {graph} {hierarchy}` again"

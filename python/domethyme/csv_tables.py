@@ -24,6 +24,8 @@ ALIKE = 0.7
 # How a formula begins for programs that show tables, and what is a number to them.
 FORMULA, NUMBER = re.compile("'*[-=+@\t\r]"), re.compile(r"[-+]?[0-9]*\.?[0-9]+(?:[eE][-+]?[0-9]+)?")
 DIGITS = re.compile("[-+]?[0-9]{1,4000}")
+# (characters of a field: the line of a road of three million points; csv has 131,072 by default)
+csv.field_size_limit(max(csv.field_size_limit(), 1 << 26))
 
 
 @contextlib.contextmanager
@@ -150,7 +152,7 @@ def parse_float(
 ) -> float:
     """The value of a decimal number, from low to high."""
     try:
-        value = float(text)
+        value = plain_float(text)
     except ValueError as error:
         raise NetworkError(f"{what} {excerpt(text)} is no number", path, row) from error
     if not math.isfinite(value):
@@ -158,6 +160,11 @@ def parse_float(
     if not low <= value <= high:
         raise NetworkError(f"{what} {excerpt(text)} isn't from {low:g} to {high:g}", path, row)
     return value
+
+
+def plain_float(text: str) -> float:
+    """The value of a number, without the digits of other alphabets and the lines below that Python takes. Raises ValueError."""
+    return float(text if text.isascii() and "_" not in text else "")
 
 
 def escape_formula(text: str) -> str:

@@ -1,5 +1,6 @@
 """Old words of public names. Each works until the next version, and warns with what is used now."""
 import warnings
+from collections.abc import Mapping, Sequence
 from typing import Any, Literal
 
 Side = Literal["from", "to"]
@@ -27,6 +28,25 @@ def check_by(by: str | None) -> None:
     if by is not None:
         says = "matrix(by=) goes with the next version: leave it out, since the library makes all tables"
         warnings.warn(says, DeprecationWarning, stacklevel=3)
+
+
+def radius_of(radius: float, old: float | None, name: str) -> float:
+    """The radius that a caller of a method means, who may have given it by an old word, METHOD(WORD=)."""
+    if old is None:
+        return radius
+    warn_renamed(name, f"{name.partition('(')[0]}(radius=)", 4)
+    return old
+
+
+def current_options(words: Sequence[str], renamed: Mapping[str, str]) -> tuple[list[str], list[str]]:
+    """The arguments of a program, with options by an old word as they are called now; and a line for each of these to say so."""
+    current, lines = list(words), []
+    for place, word in enumerate(current[: current.index("--")] if "--" in current else current):
+        option, equals, value = word.partition("=")
+        if option in renamed:
+            lines.append(f"{option} is now {renamed[option]}; the old word goes with the next version")
+            current[place] = f"{renamed[option]}{equals}{value}"
+    return current, lines
 
 
 def side_of(side: Side | bool, end: bool | None) -> Side:

@@ -1,13 +1,20 @@
 """Graphs, pairs and answers as texts, in the formats of docs/FORMATS.md, where nodes are numbered from 1. The path `-`
 is standard input. What is wrong is a NetworkError with file and row. Needs nothing but Python's own library."""
-from collections.abc import Collection, Iterable, Iterator
-from typing import IO, NamedTuple
+import itertools
+from collections.abc import Collection, Iterable, Iterator, Sequence
+from typing import IO, TYPE_CHECKING, Any, NamedTuple
 
 from .csv_tables import open_input, parse_int
 from .errors import NetworkError
 from .limits import MAX_LINES, MAX_NODES
 from .program import StrPath
 from .protocol import RouteReply, parse_reply
+
+if TYPE_CHECKING:
+    from numpy.typing import NDArray
+
+# Arcs whose text is in memory at once.
+ROWS_AT_ONCE = 1 << 16
 
 
 class GraphLists(NamedTuple):
@@ -49,11 +56,17 @@ def read_graph(path: StrPath) -> GraphLists:
     return graph
 
 
-def write_graph(file: IO[str], nodes: int, arcs: Collection[Iterable[int]], comments: Iterable[str] = ()) -> None:
-    """Writes a .gr file: the comments, a line each, the problem line, and an arc line for each (start, end, weight)."""
-    file.writelines(f"c {comment}\n" for comment in comments)
-    file.write(f"p sp {nodes} {len(arcs)}\n")
-    file.writelines(f"a {start} {end} {weight}\n" for start, end, weight in arcs)
+def write_graph(
+    file: IO[bytes], nodes: int, arcs: "Sequence[Sequence[int] | NDArray[Any]]", comments: Iterable[str] = ()
+) -> None:
+    """Writes a .gr file: the comments, a line each, the problem line, and a line for each arc. `arcs` are three lists or arrays, of
+    which parts are in memory as text: the nodes from and to, from 1, and the weights."""
+    file.writelines(f"c {comment}\n".encode() for comment in comments)
+    file.write(b"p sp %d %d\n" % (nodes, len(arcs[0])))
+    for low in range(0, len(arcs[0]), ROWS_AT_ONCE):
+        parts = (column[low : low + ROWS_AT_ONCE] for column in arcs)
+        columns = [part if isinstance(part, Sequence) else part.tolist() for part in parts]
+        file.write(b"a %d %d %d\n" * len(columns[0]) % tuple(itertools.chain.from_iterable(zip(*columns))))
 
 
 def write_pairs(file: IO[str], pairs: Collection[tuple[int, int]], comments: Iterable[str] = ()) -> None:

@@ -22,7 +22,7 @@ if TYPE_CHECKING:
     import numpy as np
     from numpy.typing import ArrayLike, NDArray
 
-Order = Literal["edges", "neighbours", "depth"]
+Order = Literal["edges", "neighbours", "depth", "balanced"]
 # What `routecli check` ends with where a hierarchy isn't right, or neither is shown.
 WRONG, NOT_SHOWN = 9, 10
 
@@ -96,11 +96,8 @@ class Graph:
 
     def write(self, path: StrPath) -> None:
         """Writes the text of the graph. The file is whole; at an exception it is as it was before. Raises OSError."""
-        import numpy as np
-
-        arcs = np.column_stack([self.from_nodes + 1, self.to_nodes + 1, self.weights])
-        with atomic_write(path) as file:
-            dimacs.write_graph(file, self.nodes, arcs.tolist())
+        with atomic_write(path, "wb") as file:
+            dimacs.write_graph(file, self.nodes, [self.from_nodes + 1, self.to_nodes + 1, self.weights])
 
     def prepare(self, hierarchy: StrPath, **options: Any) -> Hierarchy:
         """Prepares the graph as `prepare` does, and returns the Hierarchy with the graph's keys. Keys that are all str or int are
@@ -111,8 +108,7 @@ class Graph:
 def scaled(weights: "ArrayLike", scale: float) -> "NDArray[np.int64]":
     import numpy as np
 
-    if not 0 < scale < math.inf:
-        raise ValueError(f"the scale has to be above 0, and is {scale:g}")
+    need_scale(scale)
     try:
         products = np.asarray(weights, float) * scale
     except TypeError:
@@ -126,12 +122,18 @@ def scaled(weights: "ArrayLike", scale: float) -> "NDArray[np.int64]":
     return rounded
 
 
+def need_scale(scale: float) -> None:
+    if not 0 < scale < math.inf:
+        raise ValueError(f"the scale has to be above 0, and is {scale:g}")
+
+
 def unscaled(lengths: Any, scale: float = 1) -> Any:
     """Lengths as floats in the unit that weights had before `scale`: lengths / scale, and inf if there is no path.
 
     `lengths` are what a Hierarchy returned: an int or None, an array, or a Series or DataFrame of pandas. The result is a
-    float, or is like the argument, of the same shape. Floats are exact up to 2^53.
+    float, or is like the argument, of the same shape. Floats are exact up to 2^53. Raises ValueError for a scale that isn't above 0.
     """
+    need_scale(scale)
     if lengths is None:
         return math.inf
     floats = lengths / scale
@@ -155,14 +157,15 @@ def write_graph(
 
 
 def prepare(
-    graph: "Graph | StrPath", hierarchy: StrPath, order: Order = "depth", workers: int | None = None,
+    graph: "Graph | StrPath", hierarchy: StrPath, order: Order | None = None, workers: int | None = None,
     seed: int | None = None, program: StrPath | None = None, switch_order_after: int | None = None, *,
     stint: int | None = None
 ) -> Hierarchy:
     """Makes the file of the hierarchy of a Graph, or of a graph's file, by `routecli prepare`. Returns the Hierarchy. At an
     exception its file is as it was before.
 
-    order               edges, neighbours or depth: which nodes go first
+    order               edges, neighbours, depth or balanced: which nodes go first; without it balanced, and with
+                        `switch_order_after`, which takes the first three, depth
     workers             threads, 0 to 64; without it 4
     seed                of the draws of nodes, 0 to 18446744073709551615; without it 1
     switch_order_after  after how many nodes a worker takes the next order, from 1; without it none does. `stint` is its old word
@@ -174,6 +177,8 @@ def prepare(
     if stint is not None:
         warn_renamed("prepare(stint=)", "prepare(switch_order_after=)")
         switch_order_after = stint
+    if order is None:
+        order = "balanced" if switch_order_after is None else "depth"
     found = find_program(program)
     library.load_library()  # (the result is a Hierarchy: what it needs is looked for before the work)
     options = {"--order": order, "--workers": workers, "--seed": seed, "--stint": switch_order_after}
@@ -183,8 +188,8 @@ def prepare(
     if ended.returncode != 0:
         raise error_from_exit(ended.returncode, ended.stderr)
     keys = graph.keys if isinstance(graph, Graph) else None
-    if keys is not None and keys.can_be_saved():
-        keys.save(hierarchy)
+    if keys is not None:
+        keys.save(hierarchy) if keys.can_be_saved() else keys.belong_to(hierarchy)
     return Hierarchy(hierarchy, keys=keys)
 
 

@@ -2,14 +2,16 @@
 import functools
 import operator
 import os
+import zlib
 from collections.abc import Hashable, Iterable, Mapping, Sequence
 from typing import TYPE_CHECKING, Any, Literal, Union, overload
 
-from .deprecated import check_by, side_of
-from .errors import NoSuchNode
+from .deprecated import check_by, radius_of, side_of
+from .errors import NoSuchNode, WrongHierarchy
 from .extras import need
-from .hierarchy_file import open_hierarchy_file, pread_all, read_header
+from .hierarchy_file import file_stamp, open_hierarchy_file, pread_all, read_header
 from .keys import Keys, as_list
+from .limits import DEFAULT_RADIUS
 from .network.tables import Side
 from .program import StrPath
 from .route import Route, Rows
@@ -25,8 +27,6 @@ if TYPE_CHECKING:
 
 MAX_ADDED = (1 << 32) - 1
 
-# How many metres away the nearest node may be.
-DEFAULT_MAX_METRES = 1000.0
 # The greatest limit of what is reached, and the minutes of contours that nobody chose.
 MAX_LIMIT = 1 << 62
 DEFAULT_MINUTES = (5, 10, 15)
@@ -40,7 +40,8 @@ class Hierarchy:
 
     The library libdomethyme answers, in this process. It has read the file when the object was made, so another file that
     takes its name later changes nothing. Several threads may ask at once, and other threads of Python go on meanwhile. A
-    child of a fork has the hierarchy too, if no other thread ran at that moment. A pickled object reads its file again.
+    child of a fork has the hierarchy too, if no other thread ran at that moment. A pickled object reads its file again, and
+    raises WrongHierarchy for another file.
 
     Nodes are numbered from 0, as rows of arrays are: node n is node n + 1 of a file. With `keys` all methods take and give
     the user's own keys in their place. Lengths are whole numbers in the unit of the graph's weights.
@@ -67,10 +68,21 @@ class Hierarchy:
         Raises HierarchyNotFound, HierarchyError, OutOfMemory, LibraryNotFound, NetworkError, WrongHierarchy for that of another
         network, and ValueError for keys that don't fit.
         """
-        self.path, self._name = path, os.fspath(path)
+        self._open(path, keys, network, compare_all, None)
+
+    def _open(
+        self, path: StrPath, keys: "Keys | Mapping[Any, int] | Iterable[Hashable] | None", network: "Network | StrPath | None",
+        compare_all: bool, checksum: int | None
+    ) -> None:
+        """Reads the file, which has to have the checksum if one is given. Raises WrongHierarchy, and what `__init__` does."""
+        self.path, self._name, self._checksum = path, os.fspath(path), checksum
+        self._full_path = os.path.abspath(self._name)
         with open_hierarchy_file(self._name) as file:
             self.nodes, self.links = read_header(file.fileno(), self._name)
-            data = pread_all(file.fileno(), 0, os.fstat(file.fileno()).st_size)
+            self._stamp = file_stamp(file.fileno())
+            data = pread_all(file.fileno(), 0, self._stamp.size)
+            if checksum not in (None, zlib.crc32(data)):
+                raise WrongHierarchy(f"{self._name}: is another file than that of the Hierarchy that was pickled")
             self.keys = None if keys is None else Keys(keys, self.nodes)
             if self.keys is not None:
                 self.keys.check_consistent(path, data)
@@ -81,6 +93,7 @@ class Hierarchy:
                 network = Network(network)
             self.network, self._compare_all = network, compare_all
             self._router = Router(data, self._name)
+            del data  # (the library has what it needs of it)
             if self.network is not None:
                 self.network.compare(file.fileno(), self._name, compare_all)
 
@@ -94,8 +107,13 @@ class Hierarchy:
         return f"<Hierarchy {self._name} of {self.nodes} nodes and {self.links} links>"
 
     def __reduce__(self) -> tuple[Any, ...]:
-        more = {"keys": self.keys, "network": self.network, "compare_all": self._compare_all}
-        return functools.partial(Hierarchy, **more), (self.path,)
+        """The file is read again by its absolute path, and has to be the same. Raises WrongHierarchy where it was replaced already."""
+        if self._checksum is None:
+            with open_hierarchy_file(self._full_path) as file:
+                if file_stamp(file.fileno()) != self._stamp:
+                    raise WrongHierarchy(f"{self._name}: was replaced since it was read, so no other process can read it again")
+                self._checksum = zlib.crc32(pread_all(file.fileno(), 0, self._stamp.size))
+        return reopened, (self._full_path, self.keys, self.network, self._compare_all, self._checksum)
 
     def close(self) -> None:
         """Frees the memory. Questions then raise ValueError, as those of a closed file do."""
@@ -115,7 +133,7 @@ class Hierarchy:
         """The shortest route from one of several nodes to one of several, None if there is no path.
 
         `starts` and `ends` are a node or more each: a mapping from nodes to the length that is added there, rows of (node, added
-        length), or nodes alone with 0 added. Added lengths are whole numbers from 0 to 4294967295. The route's source and target
+        length), or nodes alone with 0 added; a row that is a key is that key. Added lengths are whole numbers from 0 to 4294967295. The route's source and target
         are those that were taken, and its length has what was added. Raises NoSuchNode and ValueError.
         """
         return self._route(self._router.between(self._ends("starts", starts), self._ends("ends", ends)))
@@ -183,26 +201,28 @@ class Hierarchy:
 
     @overload
     def nearest(
-        self, lon: float, lat: float, side: Side | bool = "from", *, within: float = DEFAULT_MAX_METRES,
+        self, lon: float, lat: float, side: Side | bool = "from", *, radius: float = DEFAULT_RADIUS, within: float | None = None,
         end: bool | None = None
     ) -> tuple[Any, float]: ...
     @overload
     def nearest(
-        self, lon: Rows, lat: Rows, side: Side | bool = "from", *, within: float = DEFAULT_MAX_METRES,
+        self, lon: Rows, lat: Rows, side: Side | bool = "from", *, radius: float = DEFAULT_RADIUS, within: float | None = None,
         end: bool | None = None
     ) -> "tuple[NDArray[Any], NDArray[np.float64]]": ...
     def nearest(
-        self, lon: Any, lat: Any, side: Side | bool = "from", *, within: float = DEFAULT_MAX_METRES, end: bool | None = None
+        self, lon: Any, lat: Any, side: Side | bool = "from", *, radius: float = DEFAULT_RADIUS, within: float | None = None,
+        end: bool | None = None
     ) -> tuple[Any, Any]:
         """The node nearest to each place in degrees, or its key, and how many metres away it is along the great circle: one
         where routes begin, or with side="to" one where they end, which differ at junctions with turn restrictions. Two numbers
-        give a node and a float, two arrays give two arrays. Needs the network. Raises NoSuchNode where none is
-        `within` so many metres, and ValueError."""
+        give a node and a float, two arrays give two arrays. Needs the network. Raises NoSuchNode where none is within
+        `radius` metres, and ValueError."""
+        radius = radius_of(radius, within, "nearest(within=)")
         nodes, metres = self._need_network().nearest(lon, lat, side_of(side, end))
         for place, away in enumerate([metres] if isinstance(metres, float) else metres.ravel().tolist()):
-            if not away <= within:
+            if not away <= radius:
                 nearest = f"the nearest is {away:,.0f} m away; lon comes before lat"
-                raise NoSuchNode(f"place {place} has no node within {within:g} m: {nearest}", place)
+                raise NoSuchNode(f"place {place} has no node within {radius:g} m: {nearest}", place)
         if self.keys is None:
             return nodes, metres
         return (self.keys.key(nodes) if isinstance(nodes, int) else self.keys.of(nodes)), metres
@@ -233,7 +253,7 @@ class Hierarchy:
     def within(
         self, place: Rows, minutes: Sequence[float] = (), *, metres: Sequence[float] = (), shape: "Shape" = "polygons",
         generalize: float = 0.0, denoise: float = 0.0, colors: Sequence[str] = (), towards: bool = False,
-        max_metres: float = DEFAULT_MAX_METRES
+        radius: float = DEFAULT_RADIUS, max_metres: float | None = None
     ) -> dict[str, Any]:
         """What is reached from a place (lon, lat) in degrees, or from the nearest of several, as GeoJSON: a
         FeatureCollection with a Feature for each number of minutes, the greatest first, with the properties of Mapbox's
@@ -247,12 +267,12 @@ class Hierarchy:
         denoise     without parts and holes smaller than this share, from 0 to 1, of the largest part
         colors      six hexadecimal digits for each number
         towards     as for `reach`
-        max_metres  how far away a road may be
+        radius      how many metres away a road may be
 
         The lengths are the library's. Polygons and lines are drawn from them and aren't proved. Raises NoSuchNode if no
         road is near enough, ValueError, and what `reach` does.
         """
-        network = self._need_network()
+        network, radius = self._need_network(), radius_of(radius, max_metres, "within(max_metres=)")
         for name in ("numpy", "scipy", "contourpy", "shapely"):
             need(name)
         from . import batch
@@ -264,7 +284,7 @@ class Hierarchy:
         limits = isochrones.limits(roads.unit, minutes if is_metres else asked, metres)
         if max(limits) > MAX_LIMIT:
             raise ValueError(f"{max(asked):g} is too much: lengths are asked for up to 2^62")
-        points = network.points_on_roads(place, max_metres)
+        points = network.points_on_roads(place, radius)
         reach = isochrones.reach_from(roads, points, limits, functools.partial(batch.reach, self._router))
         style = isochrones.Style(shape, generalize, denoise, colors, roads.texts[0])
         return isochrones.features(reach, asked, "distance" if is_metres else "time", style)
@@ -290,7 +310,7 @@ class Hierarchy:
     def _ends(self, name: str, ends: Ends) -> list[tuple[int, int]]:
         """One side of `between`: nodes from 0, and what is added at each."""
         rows = ends.items() if isinstance(ends, Mapping) else [
-            row if isinstance(row, tuple) and len(row) == 2 else (row, 0) for row in ends
+            row if isinstance(row, tuple) and len(row) == 2 and not self._is_key(row) else (row, 0) for row in ends
         ]
         found = []
         for node, added in rows:
@@ -304,11 +324,21 @@ class Hierarchy:
             raise ValueError(f"the lengths added at {name} have to be from 0 to {MAX_ADDED}")
         return found
 
+    def _is_key(self, row: Hashable) -> bool:
+        return self.keys is not None and self.keys.names_any(row)
+
     def _route(self, answer: RouterResult | None) -> Route | None:
         if answer is None:
             return None
         nodes: list[Any] = list(answer.nodes if self.keys is None else map(self.keys.key, answer.nodes))
-        return Route(nodes[0], nodes[-1], answer.length, nodes, answer.nodes)
+        return Route(nodes[0], nodes[-1], answer.length, nodes, answer.nodes, answer.added)
+
+
+def reopened(path: str, keys: Keys | None, network: "Network | None", compare_all: bool, checksum: int) -> Hierarchy:
+    """The Hierarchy that was pickled."""
+    hierarchy = Hierarchy.__new__(Hierarchy)
+    hierarchy._open(path, keys, network, compare_all, checksum)
+    return hierarchy
 
 
 def refuse_towards(towards: bool) -> None:

@@ -1,7 +1,7 @@
 """Opens and reads the file of a hierarchy."""
 import os
 import stat
-from typing import IO
+from typing import IO, NamedTuple
 
 from .errors import HierarchyError, HierarchyNotFound, os_reason
 
@@ -29,6 +29,20 @@ def open_nonblocking(name: str, flags: int) -> int:
     return os.open(name, flags | os.O_NONBLOCK)
 
 
+class FileStamp(NamedTuple):
+    """The state of an open file, by which another one of its name is told: device, inode, bytes, and nanoseconds of its time."""
+
+    device: int
+    inode: int
+    size: int
+    modified: int
+
+
+def file_stamp(file: int) -> FileStamp:
+    found = os.fstat(file)
+    return FileStamp(found.st_dev, found.st_ino, found.st_size, found.st_mtime_ns)
+
+
 def read_header(file: int, name: str) -> tuple[int, int]:
     """The numbers of nodes and links of a file, by its head, which has to fit its size."""
     head, size = os.pread(file, HEAD_BYTES, 0), os.fstat(file).st_size
@@ -40,7 +54,11 @@ def read_header(file: int, name: str) -> tuple[int, int]:
     return nodes, links
 
 
-def pread_all(file: int, place: int, size: int) -> bytes:
-    """Bytes of an open file, as far as it has them."""
-    parts = [os.pread(file, min(MAX_READ, size - begin), place + begin) for begin in range(0, size, MAX_READ)]
-    return parts[0] if len(parts) == 1 else b"".join(parts)
+def pread_all(file: int, place: int, size: int) -> bytearray:
+    """Bytes of an open file, as far as it has them, which are in memory once."""
+    found, begin = bytearray(size), 0
+    with memoryview(found) as view:
+        while count := os.preadv(file, [view[begin : begin + MAX_READ]], place + begin):
+            begin += count
+    del found[begin:]
+    return found

@@ -11,6 +11,7 @@ from .belonging import digest_of
 from .csv_tables import open_table
 from .deprecated import old_word
 from .errors import FileError, NoSuchNode, os_reason
+from .limits import MAX_NODES
 from .program import StrPath
 
 if TYPE_CHECKING:
@@ -21,7 +22,8 @@ FORMAT = "domethyme keys 1"
 
 
 class Keys:
-    """The key of each node. A node may have none (None), and each key names one node. Saved keys know the file that they are of."""
+    """The key of each node. A node may have none (None), and each key names one node. Keys know the files that they were saved for, or
+    whose graph had them, and are refused for others."""
 
     def __init__(self, keys: "Keys | Mapping[Any, int] | Iterable[Hashable]", nodes: int | None = None) -> None:
         """Of a mapping from keys to nodes, counted from 0, or of a key for each node in order, None for no key.
@@ -31,12 +33,12 @@ class Keys:
         self._names: list[Hashable]
         self._nodes: dict[Any, int]
         self._ambiguous: set[Hashable] = set()
-        self._digest: str | None = None
+        self._digests: frozenset[str] = frozenset()
         self._is_partial = isinstance(keys, Mapping)
         if isinstance(keys, Keys):
             vars(self).update(vars(keys))
         elif isinstance(keys, Mapping):
-            self._names = keys_by_node(keys)
+            self._names = keys_by_node(keys, MAX_NODES if nodes is None else nodes)
             self._nodes = {to_python_scalar(key): int(node) for key, node in keys.items()}
         else:
             self._names = [to_python_scalar(key) for key in keys]
@@ -95,19 +97,23 @@ class Keys:
         saved = {"format": FORMAT, "hierarchy": digest, "keys": self._names, "chosen": chosen}
         with atomic_write(keys_path(hierarchy)) as file:
             json.dump(saved, file, ensure_ascii=False, separators=(",", ":"))
-        self._digest = self._digest and digest
+        self._digests |= {digest}
+
+    def belong_to(self, hierarchy: StrPath) -> None:
+        """Notes that these are keys of a hierarchy's file. Raises FileError."""
+        self._digests |= {digest_of(hierarchy)}
 
     def can_be_saved(self) -> bool:
         """Whether all keys are str or int."""
         return all(key is None or type(key) in (str, int) for key in self._names)
 
-    def check_consistent(self, hierarchy: StrPath, data: bytes) -> None:
+    def check_consistent(self, hierarchy: StrPath, data: bytes | bytearray) -> None:
         """Raises ValueError where these are the saved keys of another file than the hierarchy's, whose bytes are given, or where the
         keys saved beside it are its own and have a key at another node."""
-        if self._digest is None and not os.path.exists(keys_path(hierarchy)):
+        if not self._digests and not os.path.exists(keys_path(hierarchy)):
             return
         digest = hashlib.sha256(data).hexdigest()
-        if self._digest not in (None, digest):
+        if self._digests and digest not in self._digests:
             again = "if its nodes are numbered as in that file, save them for it: keys.save(path)"
             raise ValueError(f"the keys were saved for another file than {os.fspath(hierarchy)}: {again}")
         try:
@@ -129,13 +135,15 @@ class Keys:
     def __contains__(self, key: Hashable) -> bool:
         return key in self._nodes
 
+    def names_any(self, key: Any) -> bool:
+        """Whether a value is the key of a node, or of several."""
+        return is_hashable(key) and (key in self._nodes or key in self._ambiguous)
+
     def node(self, key: Hashable) -> int:
         """The node of a key, from 0. Raises NoSuchNode."""
-        try:
+        if is_hashable(key) and key in self._nodes:
             return self._nodes[key]
-        except (KeyError, TypeError):
-            number = "several nodes" if key in self._ambiguous else "no node"
-            raise NoSuchNode(f"key {key!r} names {number}", key) from None
+        raise NoSuchNode(f"key {key!r} names {'several nodes' if self.names_any(key) else 'no node'}", key)
 
     def key(self, node: int) -> Hashable:
         """The key of a node, None where it has none."""
@@ -181,16 +189,17 @@ def load_if_matching(hierarchy: StrPath, digest: str) -> Keys | None:
         raise FileError(os_reason(error), path) from error
     except (ValueError, TypeError, LookupError) as error:
         raise FileError("has no keys as Keys.save writes them", path) from error
-    keys._digest, keys._is_partial = digest, True
+    keys._digests, keys._is_partial = frozenset({digest}), True
     return keys
 
 
-def keys_by_node(nodes: Mapping[Any, int]) -> list[Hashable]:
-    """The key of each node of a mapping from keys to nodes."""
+def keys_by_node(nodes: Mapping[Any, int], count: int) -> list[Hashable]:
+    """The key of each node of a mapping from keys to nodes, of which there are `count` at most."""
+    for key, node in nodes.items():
+        if int(node) != node or not 0 <= node < count:
+            raise ValueError(f"key {key!r} names {node!r}, which is no node")
     names: list[Hashable] = [None] * (max(map(int, nodes.values()), default=-1) + 1)
     for key, node in nodes.items():
-        if int(node) != node or node < 0:
-            raise ValueError(f"key {key!r} names {node!r}, which is no node")
         if names[int(node)] is not None:
             raise ValueError(f"keys {names[int(node)]!r} and {key!r} name one node")
         names[int(node)] = to_python_scalar(key)
@@ -214,6 +223,14 @@ def parse_key(text: str) -> Hashable:
 def to_python_scalar(key: Any) -> Any:
     """A scalar of numpy as the Python object that equals it; anything else as it is."""
     return key.item() if type(key).__module__ == "numpy" else key
+
+
+def is_hashable(key: Any) -> bool:
+    try:
+        hash(key)
+    except TypeError:
+        return False
+    return True
 
 
 def is_missing(key: Any) -> bool:

@@ -4,3 +4,5 @@ MAX_NODES = 1 << 25
 MAX_LINES = 1 << 27
 MAX_WEIGHT = (1 << 32) - 1
 MAX_CELLS = 1 << 29
+# How many metres away the nearest node or road may be, where nobody says so.
+DEFAULT_RADIUS = 1000.0

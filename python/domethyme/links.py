@@ -84,7 +84,7 @@ class Links(NamedTuple):
     def _place(self, row: int) -> int:
         return HEAD_BYTES + 4 * self.nodes + row * self.kind.itemsize
 
-    def _checked(self, data: bytes) -> NDArray[Any]:
+    def _checked(self, data: bytes | bytearray) -> NDArray[Any]:
         table = np.frombuffer(data, self.kind)
         most = max(table["start"].max(initial=0), table["end"].max(initial=0))
         if most >= self.nodes or (table["start"] == table["end"]).any() or table["weight"].min(initial=0) < 0:

@@ -19,6 +19,7 @@ class Route(NamedTuple):
     length           its length, in the unit of the graph's weights, with what `between` adds at its ends
     nodes            its nodes from the first to the last, or their keys
     node_indices     its nodes from 0, whatever keys there are
+    added            what `between` has added to the weights of its arcs
     """
 
     source: Hashable
@@ -26,6 +27,7 @@ class Route(NamedTuple):
     length: int
     nodes: list[Any]
     node_indices: list[int]
+    added: int = 0
 
     @property
     def arcs(self) -> int:

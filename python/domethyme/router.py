@@ -32,12 +32,13 @@ PATIENCE, PAUSE = 60.0, 0.01
 
 
 class RouterResult(NamedTuple):
-    """A shortest path: its ends, its length, with what is added at its ends, and its nodes."""
+    """A shortest path: its ends, its length, with what is added at its ends, its nodes, and what is added."""
 
     source: int
     target: int
     length: int
     nodes: list[int]
+    added: int = 0
 
 
 class Searcher:
@@ -51,10 +52,11 @@ class Searcher:
         self.route_info, self.between_info = RouteInfo(), BetweenInfo()
         self._resize_buffer(INITIAL_NODES)
 
-    def open(self, data: bytes) -> int:
+    def open(self, data: bytes | bytearray) -> int:
         """Opens the bytes of a file, and returns its nodes. Raises HierarchyError, with its first fault, and OutOfMemory."""
         number = ctypes.c_uint32()
-        self._check(self._library.domethyme_open(self._at, data, len(data)))
+        whole = data if isinstance(data, bytes) else (ctypes.c_char * len(data)).from_buffer(data)
+        self._check(self._library.domethyme_open(self._at, whole, len(data)))
         self._check(self._library.domethyme_nodes(self._at, byref(number)))
         return number.value
 
@@ -129,7 +131,7 @@ class Searcher:
 class Router:
     """A hierarchy of so many `nodes`, and its seats."""
 
-    def __init__(self, data: bytes, name: str) -> None:
+    def __init__(self, data: bytes | bytearray, name: str) -> None:
         """Opens the bytes of a file that messages call `name`. Raises HierarchyError, OutOfMemory and LibraryNotFound."""
         self.name, self._first = name, Searcher(name)
         self.nodes = self._first.open(data)
@@ -176,7 +178,8 @@ class Router:
             if not seat.between(start_seeds, end_seeds):
                 return None
             info = seat.between_info
-            return RouterResult(starts[info.start][0], ends[info.end][0], info.length, seat.nodes[: info.nodes])
+            (source, before), (target, behind) = starts[info.start], ends[info.end]
+            return RouterResult(source, target, info.length, seat.nodes[: info.nodes], before + behind)
 
     def _acquire(self) -> Searcher:
         """A seat: one that is idle, or another one; without memory for one it waits for one that is lent. Raises OutOfMemory."""

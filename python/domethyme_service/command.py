@@ -21,6 +21,7 @@ from typing import Any, NoReturn
 from gunicorn import systemd
 
 from domethyme import DomethymeError, find_program
+from domethyme.deprecated import current_options
 
 from .access import ORIGIN, AccessPolicy
 from .dataset import DatasetPaths
@@ -40,6 +41,10 @@ PROBE_SUFFIX = ".probe"
 BACKLOG = 1024
 # Bytes that the kernel buffers of a client: a worker peeks at the complete head of a request before it reads it.
 RECEIVE_BUFFER = 1 << 18
+RENAMED_OPTIONS = {
+    "--fronts": "--workers", "--checked": "--verify", "--within": "--radius", "--default-radius": "--radius",
+    "--table-cells": "--max-table-cells",
+}
 REMOVED_OPTIONS = {
     "--connections": "worker_connections of nginx",
     "--client-connections": f"limit_conn in {NGINX}",
@@ -48,26 +53,26 @@ REMOVED_OPTIONS = {
 
 
 def argument_parser() -> argparse.ArgumentParser:
-    """The arguments of the command. The second name of an option is its old one."""
+    """The arguments of the command."""
     parser = argparse.ArgumentParser(
         prog="domethyme-serve", description=__doc__, epilog=EXAMPLES, formatter_class=argparse.RawDescriptionHelpFormatter
     )
     add = parser.add_argument
     add("hierarchy", metavar="HIERARCHY", help="the file of a hierarchy")
     graph = "the graph for which the hierarchy has to be right, proved at each start"
-    add("--verify", "--checked", metavar="GRAPH", help=graph)
+    add("--verify", metavar="GRAPH", help=graph)
     add("--network", metavar="NETWORK", help="the beginning of its network's file names: places on roads, OSRM's API")
     add("--compare-all", action="store_true", help="compare all links with the network, also of more than ten million")
-    radius = "metres from a place to a road (1000)"
-    add("--default-radius", "--within", metavar="METRES", type=int_between(0, 10_000_000), default=1000, help=radius)
+    radius = "metres from a place to a road, where a request has no radiuses (1000)"
+    add("--radius", metavar="METRES", type=int_between(0, 10_000_000), default=1000, help=radius)
     add("--bind", metavar="unix:PATH", help=f"listen at a unix socket, for nginx, and at PATH{PROBE_SUFFIX}, for probes")
     add("--host", metavar="ADDRESS", default="127.0.0.1", help="the address of the loopback to listen at (127.0.0.1)")
     add("--port", metavar="PORT", type=int_between(0, 65535), default=5000, help="the port, 0 for any that is free (5000)")
     workers = f"processes that answer, {MIN_WORKERS} or more ({MIN_WORKERS})"
-    add("--workers", "--fronts", metavar="N", type=int_between(1, 64), default=MIN_WORKERS, help=workers)
+    add("--workers", metavar="N", type=int_between(1, 64), default=MIN_WORKERS, help=workers)
     add("--tables", choices=("fast", "proved"), help=argparse.SUPPRESS)
     cells = "cells of a table (1000000)"
-    add("--max-table-cells", "--table-cells", metavar="N", type=int_between(1, 4_000_000), default=1_000_000, help=cells)
+    add("--max-table-cells", metavar="N", type=int_between(1, 4_000_000), default=1_000_000, help=cells)
     add("--program", metavar="FILE", help="routecli, for --verify: by default that of ROUTECLI, on PATH, or built here")
     host = "a host that requests may be for, * for any; several times"
     add("--allowed-host", metavar="NAME", action="append", default=[], help=host)
@@ -129,11 +134,14 @@ def listen_tcp(host: str, port: int) -> str:
 
 
 def listen_unix(path: str) -> str:
-    """The same for a unix socket of mode 0660; a socket that is there already is replaced. (gunicorn would change the owner
+    """The same for a unix socket of mode 0660; a socket at which nobody listens is replaced. (gunicorn would change the owner
     of its own, which the systemd unit doesn't allow.) Raises StartupError."""
     before = os.umask(0o117)
     try:
         if pathlib.Path(path).is_socket():
+            with socket.socket(socket.AF_UNIX) as asking:
+                if asking.connect_ex(path) == 0:
+                    raise StartupError(f"can't listen at unix:{path}: another service does")
             os.unlink(path)
         return listen(socket.AF_UNIX, path)
     except OSError as error:
@@ -159,7 +167,10 @@ def check_loopback(address: str) -> None:
 
 def main(words: Sequence[str] | None = None) -> None:
     """The command; ends the process."""
-    args = argument_parser().parse_args(words)
+    current, lines = current_options(sys.argv[1:] if words is None else words, RENAMED_OPTIONS)
+    for line in lines:
+        print(f"domethyme-serve: {line}", file=sys.stderr)
+    args = argument_parser().parse_args(current)
     # (other lines than the access log's go where gunicorn's do)
     access_log = logging.getLogger("domethyme_service.access")
     access_log.addHandler(logging.StreamHandler())
@@ -174,7 +185,7 @@ def main(words: Sequence[str] | None = None) -> None:
     try:
         program = None if args.verify is None else find_program(args.program)
         paths = DatasetPaths(args.hierarchy, args.network, args.verify, program, args.compare_all)
-        options = Options(AccessPolicy.from_options(args.allowed_host, args.cors), args.default_radius, args.max_table_cells)
+        options = Options(AccessPolicy.from_options(args.allowed_host, args.cors), args.radius, args.max_table_cells)
         bind, has_probe = open_sockets(args)
         Application(paths, options, bind, max(args.workers, MIN_WORKERS), has_probe, args.log_places).run()
     except (StartupError, DomethymeError, OSError) as fault:

@@ -1,13 +1,12 @@
 """The dataset that workers serve: a hierarchy and its network. Its files are opened and compared with one another before the
 workers are forked, so they share its memory."""
 import ctypes
-import os
 import signal
 from typing import NamedTuple
 
 from domethyme import belonging
 from domethyme.graphs import run_check
-from domethyme.hierarchy_file import open_hierarchy_file, pread_all, read_header
+from domethyme.hierarchy_file import FileStamp, file_stamp, open_hierarchy_file, pread_all, read_header
 from domethyme.network.grid import columns_per_band
 from domethyme.network.snapping import RoadIndex
 from domethyme.router import Router
@@ -37,7 +36,7 @@ class Dataset(NamedTuple):
     router: Router
     links: int
     roads: RoadIndex | None
-    stamp: tuple[int, ...]
+    stamp: FileStamp
 
 
 def open_dataset(paths: DatasetPaths) -> Dataset:
@@ -48,7 +47,7 @@ def open_dataset(paths: DatasetPaths) -> Dataset:
         _, links = read_header(number, paths.hierarchy)
         if paths.graph is not None and paths.program is not None:
             run_check(paths.program, paths.graph, f"/proc/self/fd/{number}", paths.hierarchy, [number], end_with_parent)
-        router = Router(pread_all(number, 0, stamp[2]), paths.hierarchy)
+        router = Router(pread_all(number, 0, stamp.size), paths.hierarchy)
         roads = None if paths.network is None else RoadIndex(paths.network)
         if roads is not None:
             roads.arrays.file.verify(EAGER_VERIFY_BYTES)
@@ -65,9 +64,3 @@ def open_dataset(paths: DatasetPaths) -> Dataset:
 def end_with_parent(number: int = signal.SIGKILL) -> None:
     """Has the kernel send a signal to this process when its parent ends."""
     ctypes.CDLL(None).prctl(PR_SET_PDEATHSIG, int(number))
-
-
-def file_stamp(file: int) -> tuple[int, ...]:
-    """The state of an open file: device, inode, size, and modification time in nanoseconds."""
-    found = os.fstat(file)
-    return found.st_dev, found.st_ino, found.st_size, found.st_mtime_ns

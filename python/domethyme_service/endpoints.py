@@ -14,7 +14,7 @@ from .static import PAGE_FILES
 
 UNSUPPORTED_VALUES = "snapping=any and flatbuffers aren't supported"
 RADIUSES = Parameter(
-    "radiuses", "for each place metres, `unlimited`, or nothing for that of `--default-radius`",
+    "radiuses", "for each place metres, `unlimited`, or nothing for that of `--radius`",
     per_place(parse_radius, "there has to be a radius for each place"), "are metres, or unlimited", "",
 )
 BEARINGS = Parameter(

@@ -6,6 +6,7 @@ import ctypes
 import gc
 import logging
 import os
+import pathlib
 import platform
 import select
 import signal
@@ -23,7 +24,7 @@ from . import VERSION
 from .dataset import DatasetPaths, end_with_parent, open_dataset
 from .errors import StartupError
 from .metrics import SharedMetrics
-from .worker import Slots, Worker
+from .worker import END_SIGNALS, Slots, Worker
 from .wsgi import Options, Service
 
 # Seconds after which gunicorn kills a worker that doesn't report, more than an answer may take; and for the service to end.
@@ -31,7 +32,6 @@ TIMEOUT, GRACEFUL_SECONDS = 30, 30
 # Generations of workers, one for each load of the files, that can have rows of metrics at once.
 MAX_GENERATIONS = 8
 M_ARENA_MAX = -8  # (malloc.h)
-END_SIGNALS = (signal.SIGTERM, signal.SIGINT, signal.SIGQUIT)
 FIXED_SETTINGS = {
     "worker_class": "domethyme_service.worker.Worker", "preload_app": True, "threads": 1, "timeout": TIMEOUT,
     "daemon": False, "reload": False, "limit_request_line": 0, "limit_request_fields": 100,
@@ -124,6 +124,11 @@ class Arbiter(gunicorn.arbiter.Arbiter):  # type: ignore[misc] # (gunicorn has n
             run_trial(self.app, writes)
         os.close(writes)
 
+    def handle_ttou(self) -> None:
+        """Ends a worker, but not the last one that isn't for probes."""
+        if self.num_workers > 1 + self.app.has_probe:
+            super().handle_ttou()
+
     def handle_usr2(self) -> None:
         log.error("SIGUSR2 is not supported: SIGHUP reads the files again, and a restart takes another version")
 
@@ -180,6 +185,14 @@ class Arbiter(gunicorn.arbiter.Arbiter):  # type: ignore[misc] # (gunicorn has n
         self.app.metrics.own.reload_failures_total += 1
         self.app.metrics.own.last_reload_failed = 1
 
+    def spawn_worker(self) -> int:
+        """Forks a worker. Until it handles signals itself those to end it wait: it would take them for the arbiter's."""
+        signal.pthread_sigmask(signal.SIG_BLOCK, END_SIGNALS)
+        try:
+            return int(super().spawn_worker())
+        finally:
+            signal.pthread_sigmask(signal.SIG_UNBLOCK, END_SIGNALS)
+
     def kill_worker(self, pid: int, sig: int) -> None:
         """Sends a signal to a worker, to end it; SIGABRT if it doesn't report."""
         if sig == signal.SIGABRT:
@@ -230,8 +243,11 @@ def failure_reason(error: Exception) -> str:
 
 
 def run_trial(app: Application, pipe: int) -> NoReturn:
-    """Opens the files in this forked process, writes a report to a pipe, and ends; it ends with the arbiter, too."""
+    """Opens the files in this forked process, writes a report to a pipe, and ends; it ends with the arbiter, too. If memory runs out
+    this process is killed before the others."""
     try:
+        with contextlib.suppress(OSError):
+            pathlib.Path("/proc/self/oom_score_adj").write_text("1000", encoding="ascii")
         for number in (signal.SIGHUP, signal.SIGINT, signal.SIGTERM, signal.SIGCHLD):
             signal.signal(number, signal.SIG_IGN if number == signal.SIGHUP else signal.SIG_DFL)
         end_with_parent()

@@ -46,12 +46,12 @@ def nearest(engine: Engine, request: Request) -> str:
 
 def snap_candidates(roads: RoadIndex, request: Request, number: int, count: int) -> list[SnappedPoint]:
     """The nearest points of roads to a place, within its radius and its bearing."""
-    place, max_metres, bearing = request.places[number], request.values[RADIUSES][number], request.values[BEARINGS][number]
+    place, radius, bearing = request.places[number], request.values[RADIUSES][number], request.values[BEARINGS][number]
     if bearing is None:
         snapped_points = roads.nearest(place, count)
     else:
-        snapped_points = nearest_with_bearing(roads, place, count, BearingRange(*bearing), max_metres)
-    return [snapped for snapped in snapped_points if snapped.metres <= max_metres]
+        snapped_points = nearest_with_bearing(roads, place, count, BearingRange(*bearing), radius)
+    return [snapped for snapped in snapped_points if snapped.metres <= radius]
 
 
 def snap_places(roads: RoadIndex, request: Request) -> list[SnappedPoint]:
@@ -64,8 +64,8 @@ def snap_places(roads: RoadIndex, request: Request) -> list[SnappedPoint]:
         parts = (places[begin : begin + SNAP_BATCH] for begin in range(0, len(places), SNAP_BATCH))
         points = itertools.chain.from_iterable(map(roads.nearest_batch, parts))
     found: list[SnappedPoint] = []
-    for snapped, max_metres in zip(points, radiuses):
-        if snapped is None or snapped.metres > max_metres:
+    for snapped, radius in zip(points, radiuses):
+        if snapped is None or snapped.metres > radius:
             raise no_segment_error(roads, request, len(found))
         found.append(snapped)
     return found
@@ -73,7 +73,7 @@ def snap_places(roads: RoadIndex, request: Request) -> list[SnappedPoint]:
 
 def no_segment_error(roads: RoadIndex, request: Request, number: int) -> RequestError:
     """A place without a road near it: which place, its radius, and the bounding box of the roads."""
-    (lon, lat), max_metres = request.places[number], request.values[RADIUSES][number]
+    (lon, lat), radius = request.places[number], request.values[RADIUSES][number]
     west, south, east, north = roads.box
 
     def is_near(x: float, y: float) -> bool:
@@ -83,7 +83,7 @@ def no_segment_error(roads: RoadIndex, request: Request, number: int) -> Request
     within_what = " of that bearing" if request.values[BEARINGS][number] else ""
     return RequestError(
         400, "NoSegment",
-        f"there is no road{within_what} within {max_metres:g} m of place {number}, {lon:g},{lat:g} (LON,LAT{hint}). "
+        f"there is no road{within_what} within {radius:g} m of place {number}, {lon:g},{lat:g} (LON,LAT{hint}). "
         f"The roads are from {west:.4f},{south:.4f} to {east:.4f},{north:.4f}. No segment for coordinate {number}",
     )
 
@@ -112,8 +112,8 @@ def route(engine: Engine, request: Request) -> str:
         if leg is None:
             raise RequestError(400, "NoRoute", f"there is no route from place {len(legs)} to place {len(legs) + 1}")
         legs.append(leg)
-    for leg in legs:
-        geometries.append(geometry := leg_geometry(roads, leg))
+    for leg, ends in zip(legs, itertools.pairwise(points)):
+        geometries.append(geometry := leg_geometry(roads, leg, *ends))
         budget.spend(0 if geometry is None else len(geometry.points))
     for each in zip(itertools.pairwise(points), legs, geometries):
         leg_json = leg_response(roads, request, *each)

@@ -7,10 +7,8 @@ import numpy as np
 
 from domethyme.network.geo import Point
 from domethyme.network.leg_geometry import LegGeometry
-from domethyme.network.net_file import UNITS
 from domethyme.network.network import Floats
 from domethyme.network.polyline import Line, encode_polylines, points_array
-from domethyme.network.snapping import segment_metres
 
 from .errors import too_big
 from .json_text import Json
@@ -42,8 +40,10 @@ class Budget:
 
 def leg_lines(geometries: Sequence[LegGeometry | None], ends: list[Point]) -> list[Line]:
     """The line of each leg, from a place to the next."""
-    inner = ([] if geometry is None else geometry.line(0, len(geometry.arcs)) for geometry in geometries)
-    return [[list(begin), *some, list(end)] for begin, some, end in zip(ends, inner, ends[1:])]
+    return [
+        [list(begin), list(end)] if geometry is None else geometry.line(0, len(geometry.arcs))
+        for begin, geometry, end in zip(ends, geometries, ends[1:])
+    ]
 
 
 def join_lines(lines: Iterable[Line]) -> Line:
@@ -53,11 +53,11 @@ def join_lines(lines: Iterable[Line]) -> Line:
 
 
 def simplify_lines(lines: Sequence[Line], budget: Budget) -> list[Line]:
-    """The lines simplified with a tolerance of a thousandth of the extent of all."""
+    """The lines, each of which begins where the one before ends, simplified with a tolerance of a thousandth of the extent of all."""
     arrays = [points_array(line) for line in lines]
-    shrink = np.array([math.cos(math.radians(arrays[0][0, 1])), 1.0])
-    low, high = (side([side(array, axis=0) for array in arrays], axis=0) for side in (np.min, np.max))
-    tolerance = float(((high - low) * shrink).max()) / 1000
+    east, north = np.concatenate(arrays).T
+    shrink = math.cos(math.radians(north[0]))
+    tolerance = float(max(np.ptp(np.unwrap(east, period=360)) * shrink, np.ptp(north))) / 1000
     return [simplified(array, tolerance, budget).tolist() for array in arrays]
 
 
@@ -68,19 +68,17 @@ def encode_geometries(lines: Sequence[Line], format_: str) -> list[Geometry]:
     return list(encode_polylines(lines, 6 if format_ == "polyline6" else 5))
 
 
-def annotate(geometry: LegGeometry, names: list[str]) -> dict[str, list[float | None]]:
-    """The annotations of these names: for each segment of the leg's line its metres, seconds, weight and speed, an arc's
+def annotate(geometry: LegGeometry, names: list[str]) -> Json:
+    """The annotations of these names: for each segment of the leg's full line its metres, seconds, weight and speed, an arc's
     divided by metres; for each point the OpenStreetMap id of its node, or 0. Durations and speeds are None if the
     network has no seconds."""
-    found: dict[str, list[float | None]] = {name: [] for name in names}
-    segments, computed = segments_by_arc(geometry), [name for name in names if name != "nodes"]
-    for arc_index, steps in enumerate(segments):
-        total, totals = sum(steps), geometry.figures(arc_index, arc_index + 1)
-        duration = totals["duration"]
-        for metres in steps:
-            share = metres / total
+    found: Json = {name: [] for name in names}
+    computed = [name for name in names if name != "nodes"]
+    for totals, metres in geometry.segments():
+        total, duration = sum(metres), totals["duration"]
+        for share in (each / total for each in metres):
             values = {
-                "weight": totals["weight"] * share, "distance": totals["distance"] * share, "datasources": 0.0,
+                "weight": totals["weight"] * share, "distance": totals["distance"] * share, "datasources": 0,
                 "duration": None if duration is None else duration * share,
                 "speed": None if duration is None else totals["distance"] / duration if duration else 0.0,
             }
@@ -88,29 +86,26 @@ def annotate(geometry: LegGeometry, names: list[str]) -> dict[str, list[float | 
                 value = values[name]
                 found[name].append(None if value is None else round(value, 3))
     if "nodes" in found:
-        found["nodes"] = [*osm_node_ids(geometry, segments)]
+        found["nodes"] = osm_node_ids(geometry)
     return found
 
 
-def osm_node_ids(geometry: LegGeometry, segments: list[list[float]]) -> list[float]:
-    """The OpenStreetMap id of each point of the line, one more than segments; 0 for none."""
-    roads, arrays = geometry.roads, geometry.roads.arrays
-    starts, last = arrays.arc_from[geometry.arcs].tolist(), int(arrays.arc_to[geometry.arcs[-1]])
-    found = [id_ for node, steps in zip(starts, segments) for id_ in [roads.osm_id(node), *[0] * (len(steps) - 1)]]
-    found[0] *= geometry.leg.begin == 0.0
-    return [*found, roads.osm_id(last) * (geometry.leg.end == 1.0)]
-
-
-def segments_by_arc(geometry: LegGeometry) -> list[list[float]]:
-    """The metres of the segments of each arc; of an arc of no length they are equal, above 0."""
-    points = [(lon / UNITS, lat / UNITS) for lon, lat in geometry.points.tolist()]
-    arcs = [segment_metres(points[low:high]) for low, high in itertools.pairwise(geometry.begins.tolist())]
-    return [metres if sum(metres) else [1.0] * len(metres) for metres in arcs]
+def osm_node_ids(geometry: LegGeometry) -> list[int]:
+    """The OpenStreetMap id of each point of the line, one more than segments; 0 for none. A line of one point has none."""
+    roads, arrays, (begins, ends) = geometry.roads, geometry.roads.arrays, geometry.shown_arcs
+    found = [0] * (ends[-1] + 1)
+    for number, (place, node) in enumerate(zip(begins, arrays.arc_from[geometry.arcs].tolist())):
+        if number or geometry.leg.begin == 0.0:
+            found[place] = found[place] or roads.osm_id(node)
+    if geometry.leg.end == 1.0:
+        found[-1] = found[-1] or roads.osm_id(int(arrays.arc_to[geometry.arcs[-1]]))
+    return found if ends[-1] else []
 
 
 def simplified(points: Floats, tolerance: float, budget: Budget) -> Floats:
     """A line without points within `tolerance`, in degrees of latitude, of what is left (Douglas, Peucker 1973)."""
-    flat: list[complex] = (points[:, 0] * math.cos(math.radians(points[0, 1])) + 1j * points[:, 1]).tolist()
+    east = np.unwrap(points[:, 0], period=360) * math.cos(math.radians(points[0, 1]))
+    flat: list[complex] = (east + 1j * points[:, 1]).tolist()
     is_kept = np.zeros(len(points), dtype=bool)
     is_kept[[0, -1]] = True
     stack = [(0, len(points) - 1)]

@@ -1,4 +1,5 @@
 """Queries to a hierarchy in this process's memory (domethyme.router), which the library proves. Nodes are numbered from 1."""
+import functools
 import json
 from collections.abc import Sequence
 
@@ -7,6 +8,7 @@ import numpy as np
 from domethyme import LibraryNotFound, batch
 from domethyme.network.groups import Ints
 from domethyme.network.legs import SnapEnds
+from domethyme.network.net_file import MappedNetwork
 from domethyme.protocol import RouteReply
 from domethyme.router import Router
 
@@ -14,28 +16,35 @@ from .errors import invalid_value, not_implemented
 from .metrics import SharedMetrics
 
 Pair = tuple[int, int]
+# Keys whose JSON is kept.
+JSON_CACHE_SIZE = 1 << 14
 
 
 class NodeKeys:
-    """The keys of a network's nodes, in order; empty if they have none."""
+    """The keys of a network's nodes, which are read in its file; none if it has none, or there is no network."""
 
-    def __init__(self, keys: Sequence[str] = ()) -> None:
-        self._nodes = {key: node for node, key in enumerate(keys, 1)}
-        self._json_keys = [json.dumps(key, ensure_ascii=False).encode("utf-8", "replace") for key in keys]
+    def __init__(self, network: MappedNetwork | None = None) -> None:
+        self._network = network if network is not None and network.has_keys else None
+        self._json_key = functools.lru_cache(JSON_CACHE_SIZE)(self._as_json)
 
     def node(self, key: object, name: str) -> int:
         """The node of a key. Raises RequestError, which names the parameter, if there is none."""
-        found = self._nodes.get(key) if isinstance(key, str) else None
+        if self._network is None:
+            raise invalid_value(f"there is no {name}: the nodes have no keys")
+        found = self._network.node(key) if isinstance(key, str) else None
         if found is None:
-            has_keys = f"{name} is the key of no node"
-            raise invalid_value(has_keys if self._nodes else f"there is no {name}: the nodes have no keys")
+            raise invalid_value(f"{name} is the key of no node")
         return found
 
     def add_keys(self, answer: bytes, pair: Pair) -> bytes:
         """The JSON object of a pair's answer, with the keys of both nodes added if nodes have keys."""
-        if not self._json_keys:
+        if self._network is None:
             return answer
-        return b'%b,"from_key":%b,"to_key":%b}' % (answer[:-1], *(self._json_keys[node - 1] for node in pair))
+        return b'%b,"from_key":%b,"to_key":%b}' % (answer[:-1], *map(self._json_key, pair))
+
+    def _as_json(self, node: int) -> bytes:
+        key = None if self._network is None else self._network.key(node)
+        return json.dumps(key, ensure_ascii=False).encode("utf-8", "replace")
 
 
 class Queries:
@@ -51,12 +60,13 @@ class Queries:
 
     def route(self, source: int, target: int) -> RouteReply | None:
         """A shortest path, None if there is none."""
-        return self.between({source: (0, 0)}, {target: (0, 0)})
+        return self.between({source - 1: (0, 0)}, {target - 1: (0, 0)})
 
     def between(self, exits: SnapEnds, entries: SnapEnds) -> RouteReply | None:
-        """A shortest path from one of several nodes to one of several, with the weights of both ends added; or None."""
+        """A shortest path from one of several nodes to one of several, with the weights of both ends added; or None. The nodes
+        that are given count from 0."""
         self._metrics.own.queries_total += 1
-        sides = [[(node - 1, side[node][0]) for node in sorted(side)] for side in (exits, entries)]
+        sides = [[(node, side[node][0]) for node in sorted(side)] for side in (exits, entries)]
         found = self.router.between(sides[0], sides[1])
         if found is None:
             return None

@@ -15,7 +15,7 @@ POLICY = (
 )
 HEADERS = {"Content-Security-Policy": POLICY, "Referrer-Policy": "no-referrer", "Cache-Control": "no-cache"}
 CACHE_ONE_DAY = {"Cache-Control": "public, max-age=86400"}
-NO_CACHE = {"Cache-Control": "no-cache"}
+NO_CACHE, NO_STORE = {"Cache-Control": "no-cache"}, {"Cache-Control": "no-store"}
 FILES = [file for file in sorted(FOLDER.iterdir()) if file.suffix in MEDIA_TYPES]
 # The media type and the bytes of each file, by its path.
 PAGE_FILES = {f"/map/{file.name}": (MEDIA_TYPES[file.suffix], file.read_bytes()) for file in FILES}

@@ -40,6 +40,7 @@ MAX_HEAD, MAX_LINE, SHORT_BODY, SHORT_PATH, SHORT_TARGET = 1 << 17, 65_600, 2048
 MAX_WAITING = 500
 # The control characters that a head may not contain.
 CONTROL_CHARACTERS = bytes([*range(9), 11, 12, *range(14, 32), 127])
+END_SIGNALS = (signal.SIGTERM, signal.SIGINT, signal.SIGQUIT)
 BODY_LENGTH = re.compile(rb"\ncontent-length:[ \t]*([0-9]{1,4})[ \t]*\r")
 HANGUP_EVENTS = select.EPOLLRDHUP | select.EPOLLHUP | select.EPOLLERR
 access_log, log = logging.getLogger("domethyme_service.access"), logging.getLogger("domethyme_service")
@@ -118,6 +119,15 @@ class Worker(SyncWorker):  # type: ignore[misc] # (gunicorn has no types)
     # Of the arbiter: which load of the files it serves, whether it answers probes, and whether it was sent a signal to end.
     generation, is_probe, is_stopping = 0, False, False
 
+    @property
+    def age(self) -> tuple[int, bool, int]:
+        """The arbiter ends workers of the least age: those of replaced files first, and the one for probes behind others of its files."""
+        return self.generation, self.is_probe, self._age
+
+    @age.setter
+    def age(self, number: int) -> None:
+        self._age = number
+
     def init_process(self) -> None:
         """In the new process: has it end with the arbiter, and count in its own row."""
         end_with_parent(signal.SIGTERM)
@@ -131,6 +141,7 @@ class Worker(SyncWorker):  # type: ignore[misc] # (gunicorn has no types)
     def init_signals(self) -> None:
         super().init_signals()
         signal.signal(signal.SIGALRM, self.handle_alarm)
+        signal.pthread_sigmask(signal.SIG_UNBLOCK, END_SIGNALS)
 
     def handle_alarm(self, _number: int, _frame: object) -> None:
         if self.seconds:
@@ -228,6 +239,8 @@ class Worker(SyncWorker):  # type: ignore[misc] # (gunicorn has no types)
             return connection.client.close()
         except Exception:  # (gunicorn's errors of heads have no common class)
             return self.reject(connection, malformed())
+        # (as nginx does: gunicorn takes SCRIPT_NAME, and X_Y for X-Y)
+        request.headers = [(name, value) for name, value in request.headers if "_" not in name]
         until = time.monotonic() + SLOT_SECONDS
         connection = Connection(connection.client, connection.address, until, request, is_long(request))
         if connection.is_long and (self.queue or not self.slots.acquire()):

@@ -24,7 +24,7 @@ from .metrics import SharedMetrics
 from .osrm_request import parse_request
 from .parameters import Context
 from .queries import NodeKeys, Queries
-from .static import CACHE_ONE_DAY, HEADERS, NO_CACHE, PAGE_FILES
+from .static import CACHE_ONE_DAY, HEADERS, NO_CACHE, NO_STORE, PAGE_FILES
 from .tiles import Tiles
 
 T = TypeVar("T")
@@ -79,7 +79,7 @@ class Service:
 
     def __init__(self, dataset: Dataset, options: Options, metrics: SharedMetrics) -> None:
         self.dataset, self.options, self.metrics = dataset, options, metrics
-        roads, keys = dataset.roads, NodeKeys(() if dataset.roads is None else dataset.roads.arrays.keys())
+        roads, keys = dataset.roads, NodeKeys(None if dataset.roads is None else dataset.roads.arrays)
         self.queries = Queries(dataset.router, dataset.links, metrics, keys)
         self.engine = None if roads is None else osrm.Engine(self.queries, roads, options.max_table_cells)
         self.tiles = None if roads is None else Tiles(roads.arrays)
@@ -142,7 +142,9 @@ class Service:
         call.endpoint.values(call.query)
         if call.endpoint.name == "/map/about":
             return Response(tiles.about_json, headers=NO_CACHE)
-        return Response(tiles.read(call.path), headers=CACHE_ONE_DAY)
+        # (of another version while files are replaced, when both are asked for)
+        is_asked_for = call.query.get("v", tiles.about["version"]) == tiles.about["version"]
+        return Response(tiles.read(call.path), headers=CACHE_ONE_DAY if is_asked_for else NO_STORE)
 
     def places(self, call: Call) -> Response:
         """Answers a request of OSRM's API, or for what is reached, as Mapbox's API has it."""

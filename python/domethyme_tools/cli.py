@@ -8,11 +8,15 @@ import signal
 import stat
 import sys
 from collections.abc import Callable, Iterable, Iterator, Mapping
-from typing import IO, Any, NoReturn
+from typing import IO, TYPE_CHECKING, Any, NoReturn
 
 from domethyme import belonging
 from domethyme.csv_tables import escape_formula
+from domethyme.deprecated import current_options
 from domethyme.errors import DomethymeError, FileError
+
+if TYPE_CHECKING:
+    from domethyme.network.net_file import MappedNetwork
 
 
 class ToolError(FileError):
@@ -61,7 +65,9 @@ def require_packages() -> Iterator[None]:
     try:
         yield
     except ModuleNotFoundError as error:
-        remedy = "run tools/check_packages, and the tool by /usr/bin/python3"
+        is_clone = (pathlib.Path(__file__).resolve().parents[2] / "tools/check_packages").exists()
+        of_clone, of_wheel = "run tools/check_packages, and the tool by /usr/bin/python3", "pip install 'domethyme[tools,service]'"
+        remedy = of_clone if is_clone else of_wheel
         warn(f"Python's module {error.name} is missing: {remedy}")
         sys.exit(1)
 
@@ -81,12 +87,9 @@ def argument_parser(doc: str | None, *examples: str) -> argparse.ArgumentParser:
 def current_arguments(renamed: Mapping[str, str]) -> list[str]:
     """The arguments of this call, with options by an old word as they are called now: a line says so for each. The old
     words go with the next version."""
-    arguments = sys.argv[1:]
-    for place, word in enumerate(arguments[: arguments.index("--")] if "--" in arguments else arguments):
-        option, equals, value = word.partition("=")
-        if option in renamed:
-            warn(f"{option} is now {renamed[option]}; the old word goes with the next version")
-            arguments[place] = f"{renamed[option]}{equals}{value}"
+    arguments, lines = current_options(sys.argv[1:], renamed)
+    for line in lines:
+        warn(line)
     return arguments
 
 
@@ -100,10 +103,12 @@ def add_compare_all(parser: argparse.ArgumentParser) -> None:
     parser.add_argument("--compare-all", action="store_true", help="compare all links, also of more than ten million")
 
 
-def need_hierarchy(options: argparse.Namespace) -> None:
-    """Raises WrongHierarchy where --hierarchy names one of another network than NETWORK."""
-    if options.hierarchy is not None:
-        belonging.compare_files(options.hierarchy, options.network, options.compare_all)
+def need_hierarchy(options: argparse.Namespace) -> "MappedNetwork | None":
+    """The network that was compared with that of --hierarchy, to be used in place of its files, which may have been replaced since;
+    None without that option. Raises WrongHierarchy where it names one of another network than NETWORK."""
+    if options.hierarchy is None:
+        return None
+    return belonging.compare_files(options.hierarchy, options.network, options.compare_all)
 
 
 def refuse_overwriting(

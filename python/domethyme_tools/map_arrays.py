@@ -15,7 +15,7 @@ import shutil
 import subprocess
 import tempfile
 from collections.abc import Callable, Iterator, Sequence
-from typing import IO, Any, NamedTuple
+from typing import Any, NamedTuple
 
 import numpy as np
 from numpy.typing import NDArray
@@ -128,13 +128,13 @@ class Folder:
                 for line in process.stdout or ():
                     bar.update(int(line) - bar.n)
 
-    def run(self, *words: Any, out: "IO[Any] | int" = subprocess.DEVNULL) -> None:
-        """Runs a command, whose standard output is the file `out`."""
-        with self.running([words[0], self.path, *map(str, words[1:])], self.path, out):
+    def run(self, *words: Any) -> None:
+        """Runs a command."""
+        with self.running([words[0], self.path, *map(str, words[1:])], self.path, subprocess.DEVNULL):
             pass
 
     @contextlib.contextmanager
-    def running(self, words: list[str], path: StrPath, out: "IO[Any] | int") -> "Iterator[subprocess.Popen[bytes]]":
+    def running(self, words: list[str], path: StrPath, out: int) -> "Iterator[subprocess.Popen[bytes]]":
         """A command that runs in the block, and has to end well after it; an exception in the block kills it."""
         command = [self.program, *words]
         with subprocess.Popen(command, stdin=subprocess.DEVNULL, stdout=out, stderr=subprocess.PIPE) as process:

@@ -50,11 +50,13 @@ from domethyme.network.tables import ENDS, KEY, Side, is_coordinates, paths_of
 from .cli import (
     ToolError, add_hierarchy, argument_parser, current_arguments, need_hierarchy, refuse_overwriting, warn, write_rows
 )
-from .on_roads import request_lines
+from .on_roads import open_road_index, request_lines
 
 SIDES: tuple[Side, Side] = ("from", "to")
 PREFIXES, NO_PREFIXES = ("from_", "to_"), ("", "")
 SWAPPED = "are longitude and latitude swapped?"
+# The old words of --radius.
+OLD_RADIUS = {"--within": "--radius", "--max-distance": "--radius"}
 
 
 def parse_args() -> argparse.Namespace:
@@ -66,14 +68,14 @@ def parse_args() -> argparse.Namespace:
     parser.add_argument("network", metavar="NETWORK", help="the network, or a .co file")
     parser.add_argument("trips", metavar="TRIPS", help="the table of trips, or with --matrix of places")
     parser.add_argument("-o", dest="output", metavar="PAIRS", default="-", help="by default standard output")
-    add_max_distance(parser, "node")
+    add_radius(parser, "node")
     parser.add_argument("--skip-far", action="store_true", help="leave out trips with such a place, and report how many")
     parser.add_argument("--matrix", action="store_true",
                         help="from each place to each; goes with the next version: see table")
     parser.add_argument("--snapped", metavar="FILE", help="write the table of trips with their nodes too")
     parser.add_argument("--on-roads", action="store_true", help="write lines for routecli serve, with places on roads")
     add_hierarchy(parser)
-    options = parser.parse_args(current_arguments({"--within": "--max-distance"}))
+    options = parser.parse_args(current_arguments(OLD_RADIUS))
     if options.on_roads and (options.matrix or options.skip_far or options.snapped):
         parser.error("--on-roads goes with neither --matrix, --skip-far nor --snapped")
     if is_coordinates(options.trips) and not options.matrix:
@@ -86,10 +88,10 @@ def parse_args() -> argparse.Namespace:
     return options
 
 
-def add_max_distance(parser: argparse.ArgumentParser, what: str) -> None:
-    """Adds the option --max-distance, by how far a place is from what."""
+def add_radius(parser: argparse.ArgumentParser, what: str) -> None:
+    """Adds the option --radius, by how far a place is from what."""
     far = f"refuse a place that is further from each {what} (default: 1000)"
-    parser.add_argument("--max-distance", metavar="METRES", type=distance, default=1000.0, help=far)
+    parser.add_argument("--radius", metavar="METRES", type=distance, default=1000.0, help=far)
 
 
 def distance(text: str) -> float:
@@ -159,25 +161,25 @@ def begins_of(index: NodeIndex, ends: Ints) -> Ints:
     return numpy.fromiter(begins, numpy.int64, len(different))[places] + 1
 
 
-def snap(trips: Trips, index: NodeIndex, within: float, skip_far: bool) -> tuple[list[list[Any]], list[Ints], list[Floats]]:
+def snap(trips: Trips, index: NodeIndex, radius: float, skip_far: bool) -> tuple[list[list[Any]], list[Ints], list[Floats]]:
     """The fields of the trips whose places are near enough, and for each end (from, to) their nodes, and the metres to
     them. A trip with a place that is too far is left out, or refused."""
     nodes, metres = zip(*(nodes_at(index, places, side) for places, side in zip(trips.ends, SIDES)))
-    far = (metres[0] > within) | (metres[1] > within)
+    far = (metres[0] > radius) | (metres[1] > radius)
     if far.any():
         if not skip_far:
-            raise too_far_error(trips, metres, index, within)
+            raise too_far_error(trips, metres, index, radius)
         print(f"nearest: left out {far.sum()} of {len(far)} rows, which are too far from each node", file=sys.stderr)
     fields = list(itertools.compress(trips.fields, ~far))
     return fields, [each[~far] for each in nodes], [each[~far] for each in metres]
 
 
-def too_far_error(trips: Trips, metres: Sequence[Floats], index: NodeIndex, within: float) -> ToolError:
+def too_far_error(trips: Trips, metres: Sequence[Floats], index: NodeIndex, radius: float) -> ToolError:
     """What to report of the first trip with a place that is too far, by the metres of its ends."""
-    trip, end = min((int((each > within).argmax()), end) for end, each in enumerate(metres) if (each > within).any())
+    trip, end = min((int((each > radius).argmax()), end) for end, each in enumerate(metres) if (each > radius).any())
     prefix, (lon, lat) = trips.prefixes[end], trips.ends[end][trip]
-    is_swapped = abs(lon) <= 90 and nodes_at(index, [(lat, lon)])[1][0] <= within
-    doubt = f": {SWAPPED}" if is_swapped else f", and --max-distance is {within:g} m"
+    is_swapped = abs(lon) <= 90 and nodes_at(index, [(lat, lon)])[1][0] <= radius
+    doubt = f": {SWAPPED}" if is_swapped else f", and --radius is {radius:g} m"
     message = f"{prefix}lon {lon}, {prefix}lat {lat} is {metres[end][trip]:,.0f} m from the nearest node{doubt}"
     return ToolError(message, trips.path, trips.rows[trip])
 
@@ -224,18 +226,18 @@ def snapped_rows(
 
 def main() -> None:
     options = parse_args()
-    need_hierarchy(options)
+    opened = need_hierarchy(options)
     if options.on_roads:
-        trips = read_trips(options.trips, PREFIXES)
+        roads, trips = open_road_index(options.network, opened), read_trips(options.trips, PREFIXES)
         rows = list(zip(trips.rows, trips.ends[0], trips.ends[1]))
         with atomic_write(options.output) as file:
-            file.writelines(f"{line}\n" for line in request_lines(options.network, rows, options.max_distance, trips.path))
+            file.writelines(f"{line}\n" for line in request_lines(roads, rows, options.radius, trips.path))
         return
-    index = load_node_index(options.network)
+    index = load_node_index(options.network) if opened is None else NodeIndex(opened)
     trips = read_places(options.trips) if options.matrix else read_trips(options.trips, PREFIXES)
     keys = index.keys() if options.snapped else ()
     columns = snapped_columns(trips, options.matrix, len(keys) > 0) if options.snapped else []
-    fields, (starts, ends), metres = snap(trips, index, options.max_distance, options.skip_far)
+    fields, (starts, ends), metres = snap(trips, index, options.radius, options.skip_far)
     begins = begins_of(index, ends)
     pairs: Collection[tuple[int, int]] = Matrix(starts, ends, begins)
     if not options.matrix:

@@ -11,6 +11,7 @@ from domethyme.errors import DomethymeError
 from domethyme.network.geo import Point
 from domethyme.network.leg_geometry import leg_geometry, leg_totals
 from domethyme.network.legs import EMPTY_LEG, Leg, choose_leg, is_same_node
+from domethyme.network.net_file import MappedNetwork
 from domethyme.network.snapping import RoadIndex, SnappedPoint
 from domethyme.network.tables import is_coordinates, reject_wrong_suffix
 from domethyme.program import StrPath
@@ -39,58 +40,57 @@ class RoadRoute(NamedTuple):
     line: list[Point] | None = None
 
 
-def open_road_index(network: StrPath) -> RoadIndex:
-    """The network's roads. Those of a DIMACS file have no lines."""
+def open_road_index(network: StrPath, opened: MappedNetwork | None = None) -> RoadIndex:
+    """The roads of a network, which may be open already. Those of a DIMACS file have no lines."""
     reject_wrong_suffix(network)
     if is_coordinates(network):
         raise ToolError("has no roads but nodes: --on-roads is for networks of osm_to_gr", network)
-    return RoadIndex(str(network))
+    return RoadIndex(str(network) if opened is None else opened)
 
 
-def snap_places(roads: RoadIndex, places: Iterable[PlaceOfRow], within: float, path: str) -> Iterator[SnappedPoint]:
+def snap_places(roads: RoadIndex, places: Iterable[PlaceOfRow], radius: float, path: str) -> Iterator[SnappedPoint]:
     """The points of roads that are nearest to places of a table. Raises ToolError for one that is too far."""
     left = iter(places)
     while batch := list(itertools.islice(left, SNAP_BATCH)):
         found = roads.nearest_batch([place for _, _, place in batch])
         for snapped, (row, prefix, (lon, lat)) in zip(found, batch):
-            if snapped.metres > within:
-                far = f"{snapped.metres:,.0f} m from the nearest road, and --max-distance is {within:g} m"
+            if snapped.metres > radius:
+                far = f"{snapped.metres:,.0f} m from the nearest road, and --radius is {radius:g} m"
                 raise ToolError(f"{prefix}lon {lon}, {prefix}lat {lat} is {far}", path, row)
             yield snapped
 
 
 def snap_trips(
-    roads: RoadIndex, trips: Iterable[Trip], within: float, path: str
+    roads: RoadIndex, trips: Iterable[Trip], radius: float, path: str
 ) -> Iterator[tuple[SnappedPoint, SnappedPoint]]:
     """The points of roads that are nearest to both places of each trip. Raises ToolError for one that is too far."""
     places = ((row, prefix, place) for row, *ends in trips for prefix, place in zip(("from_", "to_"), ends))
-    points = snap_places(roads, places, within, path)
+    points = snap_places(roads, places, radius, path)
     return zip(points, points)
 
 
 def format_request(start: SnappedPoint, end: SnappedPoint, path: str, row: int | None) -> bytes:
     """The one line that asks for a trip; where nothing has to be asked, one that any reply will do for."""
     if is_same_node(start, end):
-        return b"b %d 0 : %d 0" % (start.copies[0], start.copies[0])
+        return b"b %d 0 : %d 0" % (start.copies[0] + 1, start.copies[0] + 1)
     if max(len(start.exits), len(end.entries)) > MAX_SEEDS:
         most = f"more than {MAX_SEEDS} nodes, which one line can't ask for"
         raise ToolError(f"begins or ends at a junction with {most}", path, row)
     starts, ends = (
-        b" ".join(b"%d %d" % (node, weight) for node, (weight, _) in sorted(sides.items()))
+        b" ".join(b"%d %d" % (node + 1, weight) for node, (weight, _) in sorted(sides.items()))
         for sides in (start.exits, end.entries)
     )
     return b"b %b : %b" % (starts, ends)
 
 
-def request_lines(network: StrPath, trips: Sequence[Trip], within: float, path: str) -> Iterator[str]:
+def request_lines(roads: RoadIndex, trips: Sequence[Trip], radius: float, path: str) -> Iterator[str]:
     """A line `b S1 C1 .. : T1 D1 ..` of `routecli serve` for each trip."""
-    for trip, ends in zip(trips, snap_trips(open_road_index(network), trips, within, path)):
+    for trip, ends in zip(trips, snap_trips(roads, trips, radius, path)):
         yield format_request(*ends, path, trip[0]).decode()
 
 
-def routes_on_roads(network: StrPath, replies: str, path: str, trips: Sequence[Trip]) -> Iterator[RoadRoute]:
+def routes_on_roads(roads: RoadIndex, replies: str, path: str, trips: Sequence[Trip]) -> Iterator[RoadRoute]:
     """The routes of trips by the replies in a file, of which the first line is `ready NODES LINKS 2`, in order."""
-    roads = open_road_index(network)
     snapped = zip(trips, snap_trips(roads, trips, float("inf"), path))
     with open_input(replies) as stream:
         ready = parse_ready(next(stream, b""))
@@ -115,9 +115,9 @@ def routes_on_roads(network: StrPath, replies: str, path: str, trips: Sequence[T
 
 def route_of(roads: RoadIndex, start: SnappedPoint, end: SnappedPoint, leg: Leg) -> RoadRoute:
     """The route along a leg."""
-    geometry, figures = leg_geometry(roads, leg), leg_totals(roads, leg)
+    geometry, figures = leg_geometry(roads, leg, start, end), leg_totals(roads, leg)
     if geometry is None:
-        return RoadRoute(0, 0, 0.0, 0.0, [], [(start.lon, start.lat), (end.lon, end.lat)])
+        return RoadRoute(0, 0, figures["duration"], 0.0, [], [(start.lon, start.lat), (end.lon, end.lat)])
     names = [roads.arc(arc).name for arc in leg.arcs]
     begins = [index for index, name in enumerate(names) if not index or names[index - 1] != name]
     steps = []

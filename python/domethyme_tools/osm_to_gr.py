@@ -43,7 +43,7 @@ import contextlib
 import os
 import sys
 from collections.abc import Callable, Iterator
-from typing import IO, Any, NamedTuple
+from typing import NamedTuple
 
 import numpy as np
 from numpy.typing import NDArray
@@ -55,7 +55,7 @@ from domethyme.limits import MAX_LINES, MAX_NODES
 from domethyme.network import net_file
 from domethyme.network.groups import offsets
 from domethyme.network.sphere import Floats
-from domethyme.network.tables import ATTRIBUTION_COMMENT, OSM_ATTRIBUTION, Files
+from domethyme.network.tables import OSM_ATTRIBUTION, Files
 from domethyme.program import StrPath
 
 from . import turn_restrictions
@@ -64,7 +64,7 @@ from .map_arrays import Folder, NodeArrays, WayArrays, cut_runs, folder_beside, 
 from .road_network import (
     WEIGHTS, RoadNetwork, RoadTable, RowsOf, Rules, build_network, keep_largest, metres_of_roads, split_junctions, to_arrays
 )
-from .table_files import bytes_of, tables_there, write_tables
+from .table_files import bytes_of, tables_there, write_graph_of, write_tables
 from .turn_restrictions import Bools, Report, Restriction
 from .vehicle_profile import (
     Profile, blocks_way, conditional_keys, judge, read_profile, structure_of, unsupported_tags, way_keys
@@ -194,16 +194,6 @@ def turn_rules(read: Map, folder: Folder, node_at: Callable[[int], int], report:
     return {node: rules for place, rules in zip(places, by_osm.values()) if (node := node_at(place)) >= 0}
 
 
-def write_graph(file: IO[Any], arrays: net_file.Arrays, folder: Folder, attribution: str) -> None:
-    """Writes the graph, as domethyme.dimacs.write_graph does."""
-    for name in ("arc_from", "arc_to", "arc_weight"):
-        folder.write(name, getattr(arrays, name))
-    if attribution:
-        file.write(f"{ATTRIBUTION_COMMENT}{attribution}\n")
-    file.flush()
-    folder.run("graph", len(arrays.node_osm), out=file)
-
-
 def longest_arc(text: str) -> float:
     with contextlib.suppress(ValueError):
         if 1 <= float(text) <= MAX_METRES:
@@ -254,9 +244,9 @@ def main() -> None:
                 kilometres = metres_of_roads(network) / 1000
             del network, rows_of
             with progress("files"):
-                write_graph(graph, arrays, folder, attribution)
+                write_graph_of(bytes_of(graph), arrays, attribution)
                 if tables:
-                    arrays = arrays._replace(sizes=write_tables(tables, arrays))
+                    arrays = arrays._replace(tables=write_tables(tables, arrays))
                 net_file.write(bytes_of(binary), arrays)
     said = [f"{what}: {count}" for what, count in report.items() if count]
     if not options.tables and old_tables:

@@ -25,8 +25,8 @@ from domethyme.atomic_files import atomic_write
 from domethyme.network.isochrones import COLOR, Shape
 from domethyme.network.tables import paths_of
 
-from .cli import ToolError, add_compare_all, argument_parser, refuse_overwriting
-from .nearest import NO_PREFIXES, add_max_distance, distance, read_trips
+from .cli import ToolError, add_compare_all, argument_parser, current_arguments, refuse_overwriting
+from .nearest import NO_PREFIXES, OLD_RADIUS, add_radius, distance, read_trips
 
 SHAPES: tuple[Shape, ...] = ("polygons", "lines", "roads")
 
@@ -49,9 +49,9 @@ def parse_args() -> argparse.Namespace:
     parser.add_argument("--denoise", metavar="SHARE", type=share, default=0.0,
                         help="drop parts smaller than this share, to 1, of the largest")
     parser.add_argument("--colors", metavar="LIST", type=colours, default=[], help="six hexadecimal digits for each number")
-    add_max_distance(parser, "road")
+    add_radius(parser, "road")
     add_compare_all(parser)
-    options = parser.parse_args()
+    options = parser.parse_args(current_arguments(OLD_RADIUS))
     if options.colors and len(options.colors) != len(options.minutes or options.metres or (5, 10, 15)):
         parser.error("--colors has to have a colour for each number")
     refuse_overwriting(parser, [options.output], [options.places, options.hierarchy, *paths_of(options.network)])
@@ -87,7 +87,7 @@ def main() -> None:
         try:
             found = hierarchy.within(
                 places, options.minutes, metres=options.metres, shape=options.shape, generalize=options.generalize,
-                denoise=options.denoise, colors=options.colors, max_metres=options.max_distance
+                denoise=options.denoise, colors=options.colors, radius=options.radius
             )
         except NoSuchNode as error:
             message, row = str(error).partition(" has ")[2], trips.rows[error.key] if isinstance(error.key, int) else None

@@ -246,7 +246,7 @@ def to_arrays(network: RoadNetwork, kind: str, rows_of: RowsOf, attribution: str
     encoded = [text.encode("utf-8", "replace") for text in texts]
     lon, lat = (np.ascontiguousarray(degrees) for degrees in network.node_place.T)
     return net_file.Arrays(
-        np.array([net_file.VERSION]), np.zeros(2, np.int64), network.node_osm, lon, lat, network.node_ends,
+        np.array([net_file.VERSION]), np.array(net_file.NO_TABLES), network.node_osm, lon, lat, network.node_ends,
         network.start + np.int32(1), network.end + np.int32(1), weight, seconds, metres, osm, arc_row,
         edge, along, row_texts, edge_begin, points,
         offsets(np.array([len(text) for text in encoded], np.int64)), np.frombuffer(b"".join(encoded), np.uint8),

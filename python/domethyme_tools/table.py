@@ -33,11 +33,12 @@ from domethyme.csv_tables import escape_formula, need_columns
 from domethyme.limits import MAX_CELLS
 from domethyme.network.groups import Ints
 from domethyme.network.leg_tables import NodeTable, weight_rows
-from domethyme.network.node_index import NodeIndex, load_node_index
+from domethyme.network.network import Network
+from domethyme.network.node_index import NodeIndex
 from domethyme.network.tables import Side, paths_of
 
-from .cli import ToolError, add_compare_all, argument_parser, refuse_overwriting
-from .nearest import Trips, add_max_distance, begins_of, nodes_at, read_places, too_far_error
+from .cli import ToolError, add_compare_all, argument_parser, current_arguments, refuse_overwriting
+from .nearest import OLD_RADIUS, Trips, add_radius, begins_of, nodes_at, read_places, too_far_error
 from .on_roads import open_road_index, snap_places
 
 # Lengths between nodes that are asked for together, 8 bytes each.
@@ -56,10 +57,10 @@ def parse_args() -> argparse.Namespace:
     parser.add_argument("targets", metavar="TARGETS", help="the table of the places where they end")
     parser.add_argument("-o", dest="output", metavar="TABLE", default="-", help="by default standard output, as CSV")
     parser.add_argument("--name", metavar="COLUMN", help="the column with the names of places (default: their numbers)")
-    add_max_distance(parser, "node, or road")
+    add_radius(parser, "node, or road")
     parser.add_argument("--on-roads", action="store_true", help="take places on roads, and not at nodes")
     add_compare_all(parser)
-    options = parser.parse_args()
+    options = parser.parse_args(current_arguments(OLD_RADIUS))
     if options.sources == options.targets == "-":
         parser.error("SOURCES and TARGETS can't both be standard input")
     inputs = [options.sources, options.targets, options.hierarchy, *paths_of(options.network)]
@@ -77,10 +78,10 @@ def read_named_places(path: str, name: str | None) -> tuple[Trips, list[str]]:
     return places, [str(fields[column]) for fields in places.fields]
 
 
-def rows_by_nodes(ask: NodeTable, network: str, sources: Trips, targets: Trips, within: float) -> Iterator[Ints]:
+def rows_by_nodes(ask: NodeTable, network: Network, sources: Trips, targets: Trips, radius: float) -> Iterator[Ints]:
     """The rows of the table between the nodes nearest to places, some at a time."""
-    index = load_node_index(network)
-    starts, ends = nodes_near(index, sources, "from", within), nodes_near(index, targets, "to", within)
+    index = network.node_index
+    starts, ends = nodes_near(index, sources, "from", radius), nodes_near(index, targets, "to", radius)
     begins = begins_of(index, ends)
 
     def rows(some: Ints) -> Ints:
@@ -92,19 +93,19 @@ def rows_by_nodes(ask: NodeTable, network: str, sources: Trips, targets: Trips, 
     return (rows(starts[begin : begin + at_a_time]) for begin in range(0, len(starts), at_a_time))
 
 
-def nodes_near(index: NodeIndex, places: Trips, side: Side, within: float) -> Ints:
+def nodes_near(index: NodeIndex, places: Trips, side: Side, radius: float) -> Ints:
     """The node nearest to each place, from 1. Raises ToolError for one that is too far."""
     nodes, metres = nodes_at(index, places.ends[0], side)
-    if (metres > within).any():
-        raise too_far_error(places, [metres], index, within)
+    if (metres > radius).any():
+        raise too_far_error(places, [metres], index, radius)
     return nodes
 
 
-def rows_on_roads(ask: NodeTable, network: str, sources: Trips, targets: Trips, within: float) -> Iterator[Ints]:
+def rows_on_roads(ask: NodeTable, network: Network, sources: Trips, targets: Trips, radius: float) -> Iterator[Ints]:
     """The rows of the table between the nearest points of roads, some at a time."""
-    roads = open_road_index(network)
+    roads = open_road_index(network.prefix, network.roads.arrays)
     starts, ends = (
-        list(snap_places(roads, ((row, "", place) for row, place in zip(table.rows, table.ends[0])), within, table.path))
+        list(snap_places(roads, ((row, "", place) for row, place in zip(table.rows, table.ends[0])), radius, table.path))
         for table in (sources, targets)
     )
     return weight_rows(ask, roads, starts, ends, CELLS)
@@ -143,8 +144,9 @@ def main() -> None:
     if cells > MAX_CELLS:
         many = f"has {len(source_names)} places, which with {len(target_names)} targets make more than {MAX_CELLS} lengths"
         raise ToolError(many, options.sources)
-    with Hierarchy(options.hierarchy, network=options.network, compare_all=options.compare_all) as hierarchy:
+    network = Network(options.network)
+    with Hierarchy(options.hierarchy, network=network, compare_all=options.compare_all) as hierarchy:
         make_rows = rows_on_roads if options.on_roads else rows_by_nodes
-        rows = make_rows(hierarchy.matrix, options.network, sources, targets, options.max_distance)
+        rows = make_rows(hierarchy.matrix, network, sources, targets, options.radius)
         write = write_npy if options.output.endswith(".npy") else write_csv
         write(options.output, shown(rows, cells), source_names, target_names)

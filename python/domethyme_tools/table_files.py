@@ -1,4 +1,4 @@
-"""The tables of a network in CSV, as the tools write them where --tables is given, and the files for GDAL beside them."""
+"""The graph of a network, and its tables in CSV with the files for GDAL beside them, as the tools write them."""
 import contextlib
 import io
 import itertools
@@ -10,11 +10,12 @@ from typing import IO, Any, cast
 import numpy as np
 from numpy.typing import NDArray
 
+from domethyme.dimacs import write_graph
 from domethyme.errors import NetworkError
 from domethyme.network import net_file
 from domethyme.network.geo import format_linestring
 from domethyme.network.tables import (
-    ALL_ARC_COLUMNS, ALL_NODE_COLUMNS, ENDS, Arc, Files, Nodes, is_written_by_tools, write_arcs, write_nodes
+    ALL_ARC_COLUMNS, ALL_NODE_COLUMNS, ATTRIBUTION_COMMENT, ENDS, Arc, Files, Nodes, is_written_by_tools, write_arcs, write_nodes
 )
 
 from .cli import ToolError
@@ -41,15 +42,21 @@ def tables_there(names: Files, are_written: bool) -> list[str]:
     return [*found, *forms] if found else []
 
 
+def write_graph_of(file: IO[bytes], arrays: net_file.Arrays, attribution: str) -> None:
+    """Writes the graph, with a comment of what the data asks to be said."""
+    comments = [f"{ATTRIBUTION_COMMENT}{attribution}"] if attribution else []
+    write_graph(file, len(arrays.node_osm), [arrays.arc_from, arrays.arc_to, arrays.arc_weight], comments)
+
+
 def write_tables(files: Sequence[IO[str]], arrays: net_file.Arrays) -> NDArray[np.int64]:
-    """Writes both tables, and the files for GDAL, into files in the order of Files; returns the sizes of both tables."""
+    """Writes both tables, and the files for GDAL, into files in the order of Files; returns what both tables are known by."""
     write_nodes(files[0], nodes_in(arrays))
     write_arcs(files[1], arcs_in(arrays))
     for file, text in zip(files[2:], Files("").forms_of(len(arrays.node_texts) > 0).values(), strict=True):
         print(text, file=file)
     for file in files[:2]:
         file.flush()
-    return np.array([os.fstat(file.fileno()).st_size for file in files[:2]], np.int64)
+    return np.array(net_file.marks_of(*(file.name for file in files[:2])), np.int64)
 
 
 def nodes_in(arrays: net_file.Arrays) -> Nodes:

@@ -53,14 +53,15 @@ from domethyme.network.from_tables import load_network_or_dimacs
 from domethyme.network.geo import Point, to_geojson_geometry, to_multilinestring
 from domethyme.network.groups import Ints
 from domethyme.network.net_file import TEXTS, UNITS, MappedNetwork
-from domethyme.network.tables import paths_of, read_attribution
+from domethyme.network.snapping import RoadIndex
+from domethyme.network.tables import paths_of
 from domethyme.protocol import NO_PATH, RouteReply
 
 from .cli import (
     ToolError, add_hierarchy, argument_parser, current_arguments, need_hierarchy, refuse_overwriting, write_rows
 )
 from .draw.geometry import join_lines
-from .on_roads import routes_on_roads
+from .on_roads import open_road_index, routes_on_roads
 
 PAIR, KEYS = ("from_node", "to_node"), ("from_key", "to_key")
 FIGURES = ("length", "arcs", "seconds", "metres")
@@ -184,14 +185,14 @@ def totals(seconds: list[float | None], metres: list[float]) -> tuple[float | No
     return round(sum(known), 3) if len(known) == len(seconds) else None, round(sum(metres), 2)
 
 
-def routes_between_places(options: argparse.Namespace) -> Iterator[Route]:
+def routes_between_places(options: argparse.Namespace, roads: RoadIndex) -> Iterator[Route]:
     """The routes between the places of TRIPS on roads."""
     with open_trips(options.trips) as (_, trips):
         rows = list(trips)
     degrees = [[parse_float(fields.get(name, ""), name, options.trips, row, -most, most)
                 for name, most in (("from_lon", 180), ("from_lat", 90), ("to_lon", 180), ("to_lat", 90))] for row, fields in rows]
     ends = [(row, (lon, lat), (to_lon, to_lat)) for (row, _), (lon, lat, to_lon, to_lat) in zip(rows, degrees)]
-    routes = routes_on_roads(options.network, options.answers, options.trips, ends)
+    routes = routes_on_roads(roads, options.answers, options.trips, ends)
     for (_, fields), route in zip(rows, routes, strict=True):
         yield Route(fields, dict(zip(FIGURES, route)), route.steps, route.line)
 
@@ -203,13 +204,12 @@ def feature_of(route: Route, with_steps: bool) -> str:
     return json.dumps(feature, ensure_ascii=False, separators=(",", ":"))
 
 
-def write_features(file: IO[str], options: argparse.Namespace, routes: Iterable[Route]) -> None:
+def write_features(file: IO[str], options: argparse.Namespace, routes: Iterable[Route], attribution: str) -> None:
     """Writes features, one a line, or as a FeatureCollection, whose `attribution` is what the data's licence requires."""
     features = (feature_of(route, not options.no_steps) for route in routes)
     if options.format != "collection":
         file.writelines(f"{feature}\n" for feature in features)
         return
-    attribution = read_attribution(options.network)
     member = f'"attribution":{json.dumps(attribution, ensure_ascii=False)},' if attribution else ""
     file.write(f'{{"type":"FeatureCollection",{member}"features":[')
     for before, feature in zip(itertools.chain(["\n"], itertools.repeat(",\n")), features):
@@ -227,12 +227,13 @@ def table_rows(routes: Iterable[Route], columns: Iterable[str], has_keys: bool) 
 
 def main() -> None:
     options = parse_args()
-    need_hierarchy(options)
+    opened = need_hierarchy(options)
     if options.on_roads:
+        roads = open_road_index(options.network, opened)
         with atomic_write(options.output) as file:
-            write_features(file, options, routes_between_places(options))
+            write_features(file, options, routes_between_places(options, roads), roads.texts[0])
         return
-    network = load_network_or_dimacs(options.network)
+    network = load_network_or_dimacs(options.network) if opened is None else opened
     answers = enumerate(read_answers(options.answers), 1)
     first = list(itertools.islice(answers, 1))
     if not first:
@@ -242,4 +243,4 @@ def main() -> None:
         if options.format == "csv":
             write_rows(file, table_rows(routes, columns, network.has_keys))
         else:
-            write_features(file, options, routes)
+            write_features(file, options, routes, network.texts[0])

@@ -35,7 +35,6 @@ that are refused.
 """
 import argparse
 import os
-from typing import IO
 
 import numpy
 
@@ -43,10 +42,10 @@ from domethyme.atomic_files import atomic_write_all
 from domethyme.belonging import older_hierarchy
 from domethyme.errors import raised_as
 from domethyme.network import from_tables, net_file
-from domethyme.network.tables import ARC_COLUMNS, ATTRIBUTION_COMMENT, NODE_COLUMNS, Files, has_columns, read_attribution
+from domethyme.network.tables import ARC_COLUMNS, NODE_COLUMNS, Files, has_columns, read_attribution
 
 from .cli import ToolError, argument_parser, refuse_overwriting, warn
-from .table_files import ROWS_AT_ONCE, bytes_of, tables_there, write_tables
+from .table_files import bytes_of, tables_there, write_graph_of, write_tables
 
 
 def parse_args() -> argparse.Namespace:
@@ -70,26 +69,16 @@ def parse_args() -> argparse.Namespace:
     return options
 
 
-def write_graph(file: IO[bytes], arrays: net_file.Arrays, attribution: str) -> None:
-    if attribution:
-        file.write(f"{ATTRIBUTION_COMMENT}{attribution}\n".encode())
-    file.write(b"p sp %d %d\n" % (len(arrays.node_osm), len(arrays.arc_from)))
-    for low in range(0, len(arrays.arc_from), ROWS_AT_ONCE):
-        part = slice(low, low + ROWS_AT_ONCE)
-        rows = numpy.column_stack((arrays.arc_from[part], arrays.arc_to[part], arrays.arc_weight[part]))
-        file.write((b"a %d %d %d\n" * len(rows)) % tuple(rows.ravel().tolist()))
-
-
-def sizes_of(paths: Files, options: argparse.Namespace) -> list[int]:
-    """The sizes of NODES and ARCS where they are beside OUT.net, so that tools see when they are edited; 0 for others.
+def marks_beside(paths: Files, options: argparse.Namespace) -> list[int]:
+    """What NODES and ARCS are known by where they are beside OUT.net, so that tools see when they are edited; 0 for others.
     Tables of another network that the tools have written there are refused: they would be read in place of OUT.net."""
-    sizes = []
+    beside: list[str | None] = []
     for table, given, columns in ((paths.nodes, options.nodes, NODE_COLUMNS), (paths.arcs, options.arcs, ARC_COLUMNS)):
         is_given = os.path.exists(table) and os.path.exists(given) and os.path.samefile(table, given)
         if not is_given and has_columns(table, columns):
             raise ToolError(f"is there, and isn't {given}: remove it, or give --tables to write it again", table)
-        sizes.append(os.stat(table).st_size if is_given else 0)
-    return sizes
+        beside.append(table if is_given else None)
+    return net_file.marks_of(*beside)
 
 
 def main() -> None:
@@ -98,17 +87,17 @@ def main() -> None:
     attribution = read_attribution(options.out) if options.attribution is None else " ".join(options.attribution.split())
     if options.tables:
         tables_there(paths, True)
-    sizes = numpy.array([0, 0] if options.tables else sizes_of(paths, options))
+    marks = numpy.array(net_file.NO_TABLES if options.tables else marks_beside(paths, options))
     nodes = from_tables.read_nodes(options.nodes, warn)
     arcs = from_tables.read_arcs(options.arcs, nodes, options.weight, warn)
     with raised_as(ToolError, options.arcs, ValueError):
         arrays = from_tables.build_arrays(nodes, arcs, attribution)
     with atomic_write_all(*options.outputs) as (graph, *tables, network):
         if tables:
-            sizes = write_tables(tables, arrays)
-        write_graph(bytes_of(graph), arrays, attribution)
+            marks = write_tables(tables, arrays)
+        write_graph_of(bytes_of(graph), arrays, attribution)
         with raised_as(ToolError, options.arcs, ValueError):
-            net_file.write(bytes_of(network), arrays._replace(sizes=sizes))
+            net_file.write(bytes_of(network), arrays._replace(tables=marks))
     kilometres = arrays.arc_metres[numpy.unique(arrays.arc_edge, return_index=True)[1]].sum() / 1000
     warn(f"{options.out}: {len(arrays.node_osm)} nodes, {len(arrays.arc_from)} arcs, {kilometres:.1f} km of road")
     if (older := older_hierarchy(options.out)) is not None:

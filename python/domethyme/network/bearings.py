@@ -19,15 +19,15 @@ class BearingRange(NamedTuple):
 
 
 def nearest_with_bearing(
-    roads: RoadIndex, place: Point, count: int, bearing_range: BearingRange, max_metres: float
+    roads: RoadIndex, place: Point, count: int, bearing_range: BearingRange, radius: float
 ) -> list[SnappedPoint]:
-    """The `count` nearest points, up to `max_metres`, of roads with a direction in the range, which routes keep to."""
+    """The `count` nearest points, up to `radius`, of roads with a direction in the range, which routes keep to."""
     found: list[SnappedPoint] = []
     for limit in CANDIDATES:
         snapped_points = roads.nearest(place, limit)
         restricted = (restrict_to_bearing(roads, snapped, bearing_range) for snapped in snapped_points)
         found = [snapped for snapped in restricted if snapped is not None]
-        if len(found) >= count or len(snapped_points) < limit or snapped_points[-1].metres > max_metres:
+        if len(found) >= count or len(snapped_points) < limit or snapped_points[-1].metres > radius:
             break
     return found[:count]
 
@@ -39,7 +39,7 @@ def restrict_to_bearing(roads: RoadIndex, snapped: SnappedPoint, bearing_range: 
     if not kept:
         return None
     exits, entries = roads.split_arcs(kept, snapped.fraction)
-    return snapped._replace(exits=exits, entries=entries, copies=())
+    return snapped._replace(exits=exits, entries=entries, arcs=frozenset(kept))
 
 
 def bearing_at(roads: RoadIndex, arc: Arc, fraction: float) -> float:

@@ -136,8 +136,8 @@ class MappedFile:
         if found["magic"] != MAGIC:
             raise NetworkError(f"isn't a network's file; {self.remedy}", self.path)
         if (form := self._forms.get(int(found["version"]))) is None:
-            known = " or ".join(map(str, self._forms))
-            raise NetworkError(f"has version {found['version']} and not {known}; {self.remedy}", self.path)
+            known = f"{min(self._forms)} to {max(self._forms)}"
+            raise NetworkError(f"has version {found['version']} and not one from {known}; {self.remedy}", self.path)
         count, tail = len(form), int(found["tail"])
         if found["size"] != size or found["arrays"] != count or not HEAD.itemsize <= tail <= size - 8 * count:
             raise self.damaged_error("its size isn't the one that it was written with")
@@ -203,7 +203,8 @@ class Column:
             low, high = (begin, end) if step > 0 else (end + 1, begin + 1)
             if low < high:
                 first, last = low >> self._shift, (high - 1 >> self._shift) + 1
-                self._verify(np.flatnonzero(~self._verified[first:last]) + first)
+                if not self._verified[first:last].all():
+                    self._verify(np.arange(first, last))
             return
         numbers = np.asarray(rows)
         if numbers.dtype == bool:
@@ -212,15 +213,13 @@ class Column:
             blocks = numbers >> self._shift
             if blocks.min() < 0:
                 raise IndexError(f"{self._name} has no rows below 0")
-            is_good = self._verified[blocks]
-            if not is_good.all():
-                self._verify(np.unique(blocks[~is_good]))
+            if not self._verified[blocks].all():
+                self._verify(np.unique(blocks))
 
-    def _verify(self, blocks: NDArray[Any]) -> None:
-        if not len(blocks):
-            return
+    def _verify(self, blocks: NDArray[np.int64]) -> None:
+        """Verifies those of some blocks that aren't yet, which all of them are where the file's times have changed."""
         self._file.check_unchanged()
-        for block in blocks.tolist():
+        for block in blocks[~self._verified[blocks]].tolist():
             begin, end = block << self._shift, (block + 1) << self._shift
             part, with_next = self._values[begin:end], self._values[begin : end + 1]
             if zlib.crc32(part.data) != self._sums[block]:

@@ -4,7 +4,7 @@ import array
 import dataclasses
 import os
 import warnings
-from collections.abc import Callable, Iterable, Mapping, Sequence
+from collections.abc import Callable, Iterable, Iterator, Mapping, Sequence
 
 import numpy as np
 from numpy.typing import NDArray
@@ -21,8 +21,8 @@ from .net_file import (
     to_units
 )
 from .reading import read_coordinates
-from .sphere import great_circle_metres, unit_vectors
-from .tables import ENDS, graph_of, is_coordinates, read_ends
+from .sphere import Floats, great_circle_metres, unit_vectors
+from .tables import ENDS, graph_of, is_coordinates, read_attribution, read_ends
 
 # By the name of a column the other names that are taken for it.
 OF_NODES: Mapping[str, tuple[str, ...]] = {
@@ -44,6 +44,8 @@ ONE_WAY: dict[str, tuple[int, ...]] = {
 }
 # What is doubted: arcs that are so much shorter than the straight line, to a metre, and faster than so many km/h.
 SHORTER, FASTEST = 0.99, 400.0
+# Straight arcs whose metres are computed at once.
+ARCS_AT_ONCE = 1 << 20
 # Makes numpy refuse what it takes for a blank, or drops, and bytes.split doesn't.
 NO_BLANKS = bytes.maketrans(b"\0\x1c\x1d\x1e\x1f", b"?????")
 
@@ -148,24 +150,42 @@ def read_arcs(path: StrPath, nodes: Nodes, weight: str = "time", say: Say = lamb
     starts, stops, osm_ids, of_texts, of_rows = np.array(numbers, dtype=np.int64).reshape(-1, 5).T.copy()
     if not len(starts) or len(starts) > MAX_LINES:
         raise NetworkError(f"has {len(starts)} arcs, and a network has from 1 to {MAX_LINES}", path)
-    weights, seconds, lengths, speeds = np.array(figures).reshape(-1, 4).T.copy()
     begins, points = np.array(begins_of_lines), np.array(points_of_lines).reshape(-1, 2)
-    given = ~np.isnan(lengths)
-    ends = (unit_vectors(*nodes.places[each[given] - 1].T / UNITS) for each in (starts, stops))
-    is_short = lengths[given] < SHORTER * great_circle_metres(*ends) - 1
-    doubt(is_short, "metres of {} arcs are less than the straight line: are they km?", path, say)
-    lengths = np.where(np.isnan(lengths), np.round(line_metres(begins, points), 2), lengths)
-    seconds = np.where(np.isnan(seconds), np.nan_to_num(np.round(lengths * 3.6 / speeds, 3)), seconds)
-    derived = np.maximum(1, np.round(1000 * seconds if weight == "time" else 100 * lengths))
-    whole = np.where(np.isnan(weights), derived, weights)
+    straight = great_circle_metres(*(unit_vectors(*nodes.places[each - 1].T / UNITS) for each in (starts, stops)))
+    given = np.array(figures).reshape(-1, 4).T.copy()
+    for is_doubted, says in doubts(given, straight, weight):
+        doubt(is_doubted, says, path, say)
+    lengths = np.where(np.isnan(given[2]), np.round(line_metres(begins, points), 2), given[2])
+    whole, seconds = weights_and_seconds(given, lengths, weight)
     if whole.max() > MAX_WEIGHT:
         raise NetworkError(f"would weigh more than {MAX_WEIGHT}", path, int(of_rows[whole.argmax()]))
     is_fast = (seconds > 0) & (lengths * 3.6 > FASTEST * seconds)
     doubt(is_fast, f"{{}} arcs are faster than {FASTEST:g} km/h: are the units those of --help?", path, say)
-    takes_none = (seconds == 0) & np.isnan(weights) & (weight == "time")
+    takes_none = (seconds == 0) & np.isnan(given[0]) & (weight == "time")
     doubt(takes_none, "{} arcs take 0 seconds, and weigh 1", path, say)
-    whole = whole.astype(np.int64)
-    return ArcArrays(starts, stops, whole, seconds, lengths, osm_ids, of_texts, list(known), begins, points)
+    figures_of_arcs = whole.astype(np.int64), seconds, lengths
+    return ArcArrays(starts, stops, *figures_of_arcs, osm_ids, of_texts, list(known), begins, points)
+
+
+def weights_and_seconds(given: Floats, lengths: Floats, weight: str) -> tuple[Floats, Floats]:
+    """The weights and the seconds of arcs, by what is given of each (arc_values), of shape (4, arcs), and their metres."""
+    weights, seconds, _, speeds = given
+    seconds = np.where(np.isnan(seconds), np.nan_to_num(np.round(lengths * 3.6 / speeds, 3)), seconds)
+    derived = np.maximum(1, np.round(1000 * seconds if weight == "time" else 100 * lengths))
+    return np.where(np.isnan(weights), derived, weights), seconds
+
+
+def doubts(given: Floats, straight: Floats, weight: str) -> Iterator[tuple[NDArray[np.bool_], str]]:
+    """What is doubted in what is given of arcs, beside their straight lines: which arcs, and what to say of their number."""
+    weights, seconds, lengths, speeds = given
+    unit = "milliseconds" if weight == "time" else "centimetres"
+    for is_empty, says in (
+        (np.isnan(weights), f"weight of {{}} arcs is empty, so they weigh their {unit}: are all weights {unit}?"),
+        (np.isnan(seconds) & np.isnan(speeds), "{} arcs have neither seconds nor kmh, and take 0 seconds, where others have them"),
+    ):
+        if not is_empty.all():
+            yield is_empty, says
+    yield lengths < SHORTER * straight - 1, "metres of {} arcs are less than the straight line: are they km?"
 
 
 def doubt(arcs: NDArray[np.bool_], says: str, path: StrPath, say: Say) -> None:
@@ -203,20 +223,21 @@ def line_of(ends: NDArray[np.int32], fields: Row) -> NDArray[np.int32]:
 
 
 def line_metres(begins: Ints, points: NDArray[np.int32]) -> NDArray[np.float64]:
+    """The metres of lines, each summed by itself, so that no other one's are in it."""
     sphere = unit_vectors(points[:, 0] / UNITS, points[:, 1] / UNITS)
-    sums = np.append(0.0, np.cumsum(great_circle_metres(sphere[:-1], sphere[1:])))
-    # (what leads from a line's end to the next line's beginning is in none of the differences)
-    return np.asarray(sums[begins[1:] - 1] - sums[begins[:-1]])
+    steps = np.append(great_circle_metres(sphere[:-1], sphere[1:]), 0.0)
+    steps[begins[1:] - 1] = 0.0  # (what leads from a line's end to the next line's beginning)
+    return np.asarray(np.add.reduceat(steps, begins[:-1]))
 
 
 def straight_arcs(starts: Ints, ends: Ints, weights: Ints, nodes: Nodes) -> ArcArrays:
     """Arcs that lead straight from node to node, without a way, a name and seconds."""
     points = np.stack((nodes.places[starts - 1], nodes.places[ends - 1]), axis=1).reshape(-1, 2)
     lengths = np.empty(len(starts))
-    for low in range(0, len(starts), 1 << 20):
-        part = points[2 * low : 2 * (low + (1 << 20))] / UNITS
+    for low in range(0, len(starts), ARCS_AT_ONCE):
+        part = points[2 * low : 2 * (low + ARCS_AT_ONCE)] / UNITS
         sphere = unit_vectors(part[:, 0], part[:, 1])
-        lengths[low : low + (1 << 20)] = np.round(great_circle_metres(sphere[::2], sphere[1::2]), 2)
+        lengths[low : low + ARCS_AT_ONCE] = np.round(great_circle_metres(sphere[::2], sphere[1::2]), 2)
     nothing = np.zeros(len(starts), np.int64)
     begins, texts = np.arange(0, 2 * len(starts) + 1, 2), [("",) * len(TEXTS)]
     return ArcArrays(starts, ends, weights, np.zeros(len(starts)), lengths, nothing, nothing, texts, begins, points)
@@ -232,7 +253,7 @@ def load_network_or_dimacs(word: StrPath) -> MappedNetwork:
     nodes = read_nodes(word)
     arcs = read_arcs(graph_of(word), nodes)
     with raised_as(NetworkError, word, ValueError):
-        return map_tempfile(build_arrays(nodes, arcs), os.fspath(word))
+        return map_tempfile(build_arrays(nodes, arcs, read_attribution(word)), os.fspath(word))
 
 
 def read_co(path: StrPath) -> NDArray[np.int32]:

@@ -4,7 +4,7 @@ import math
 from collections.abc import Iterable, Sequence
 from typing import Any
 
-from ..csv_tables import excerpt
+from ..csv_tables import excerpt, plain_float
 from ..errors import NetworkError
 from ..program import StrPath
 
@@ -17,7 +17,7 @@ def parse_linestring(wkt: str, path: StrPath | None = None, row: int | None = No
     head, _, rest = wkt.partition("(")
     body, closed, tail = rest.partition(")")
     try:
-        points = [(float(lon), float(lat)) for lon, lat in (point.split() for point in body.split(","))]
+        points = [(plain_float(lon), plain_float(lat)) for lon, lat in (point.split() for point in body.split(","))]
     except ValueError:
         points = []
     if head.strip().upper() != "LINESTRING" or not closed or tail.strip() or len(points) < 2:

@@ -8,7 +8,7 @@ from .contours import contours
 from .geo import multi_geometry
 from .grid import Ints
 from .reach import PlaceOnRoad, Reach
-from .snapping import NO_ARC, RoadIndex, SnappedPoint
+from .snapping import RoadIndex, SnappedPoint
 
 # Of the palette of Okabe and Ito (Color Universal Design, 2008), whose colours differ for the colour-blind.
 COLORS = ("0072B2", "E69F00", "009E73", "CC79A7")
@@ -56,14 +56,14 @@ def limits(unit: str, minutes: Sequence[float] = (), metres: Sequence[float] = (
 
 def reach_from(roads: RoadIndex, points: Sequence[SnappedPoint], within: Sequence[int], lengths: Lengths) -> Reach:
     """What is reached from the nearest of several points of roads within limits that rise. Raises what Reach and `lengths` do."""
-    starts = sorted((node - 1, weight) for point in points for node, (weight, _) in point.exits.items())
+    starts = sorted((node, weight) for point in points for node, (weight, _) in point.exits.items())
     return Reach(roads.arrays, lengths(starts, max(within, default=0)), within, [as_place(point) for point in points])
 
 
 def as_place(point: SnappedPoint) -> PlaceOnRoad:
-    """A point as a place on its road. One at a node that is left by some roads alone lies just inside of its road."""
-    arcs = [arc for _, arc in point.exits.values() if arc != NO_ARC]
-    return PlaceOnRoad(point.edge, min(max(point.fraction, 1e-9), 1 - 1e-9) if arcs else point.fraction, arcs)
+    """A point as a place on its road. One at a node that is left by arcs of one edge alone lies just inside of it."""
+    fraction = min(max(point.fraction, 1e-9), 1 - 1e-9) if point.arcs else point.fraction
+    return PlaceOnRoad(point.edge, fraction, point.arcs)
 
 
 def features(reach: Reach, asked: Sequence[float], metric: Metric, style: Style = Style()) -> dict[str, Any]:

@@ -1,17 +1,19 @@
 """The geometry of a leg, in arrays: the points of its arcs, their weights, seconds and metres, and their bearings."""
 import functools
 import itertools
+from collections.abc import Iterator
 from typing import TypedDict
 
 import numpy as np
 
 from .geo import bearing
-from .groups import Ints, expand, offsets
+from .groups import Ints, expand
 from .indexes import wrapped_difference
 from .legs import Leg
 from .net_file import UNITS
 from .network import Floats
-from .snapping import RoadIndex
+from .snapping import RoadIndex, SnappedPoint
+from .sphere import great_circle_metres, unit_vectors
 
 MICRODEGREES = 1_000_000
 # How many units of weights are a second, or a metre, of an answer.
@@ -27,41 +29,62 @@ class Figures(TypedDict):
 
 
 class LegGeometry:
-    """The points of arc k of the leg are points[begins[k]:begins[k + 1]], in 1/UNITS degrees. There is at least one arc."""
+    """The points of arc k of the leg are points[begins[k]:begins[k + 1]], in 1/UNITS degrees. There is at least one arc. The line that
+    is shown has six digits, no repeated points, and the leg's two snapped points as its ends."""
 
-    def __init__(self, roads: RoadIndex, leg: Leg) -> None:
-        self.roads, self.leg, arrays = roads, leg, roads.arrays
-        self.arcs: Ints = np.array(leg.arcs, dtype=np.int64)
-        edges, is_along = arrays.arc_edge[self.arcs], arrays.arc_along[self.arcs]
-        first, behind = arrays.edge_begin[edges], arrays.edge_begin[edges + 1]
-        owner, position = expand(behind - first)
-        rows = np.where(is_along, first, behind - 1)[owner] + position * np.where(is_along, 1, -1)[owner]
-        self.begins: Ints = offsets(behind - first)
-        self.points: Ints = arrays.points[rows].astype(np.int64)
+    def __init__(self, roads: RoadIndex, leg: Leg, start: SnappedPoint, end: SnappedPoint) -> None:
+        self.roads, self.leg, self.arcs = roads, leg, np.array(leg.arcs, dtype=np.int64)
+        self.ends = start, end
+        self.begins, points = roads.arrays.arc_lines(self.arcs)
+        self.points: Ints = points.astype(np.int64)
         # (of the first and the last arc the leg may have only a part)
         last = len(self.arcs) - 1
         parts = [(last, 0.0, leg.end), (0, leg.begin, 1.0)] if last else [(0, leg.begin, leg.end)]
-        for arc_index, begin, end in parts:
-            if (begin, end) != (0.0, 1.0):
-                line = roads.line(leg.arcs[arc_index], begin, end)
+        for arc_index, low_share, high_share in parts:
+            if (low_share, high_share) != (0.0, 1.0):
+                line = roads.line(leg.arcs[arc_index], low_share, high_share)
                 units = np.array([(round(lon * UNITS), round(lat * UNITS)) for lon, lat in line])
                 low, high = self.begins[arc_index : arc_index + 2].tolist()
                 self.points = np.concatenate((self.points[:low], units, self.points[high:]))
                 self.begins[arc_index + 1 :] += len(line) - (high - low)
 
     @functools.cached_property
-    def _rounded_points(self) -> tuple[list[list[float]], list[int], list[int]]:
-        """The points to six digits, without repeated ones, and the indices of the first and the last of each arc."""
+    def _shown(self) -> tuple[list[list[float]], Ints]:
+        """The points of the line that is shown, and the index of each of the leg's points among these."""
         shown = (self.points + UNITS // MICRODEGREES // 2) // (UNITS // MICRODEGREES)
+        shown[[0, -1]] = [[round(each.lon * MICRODEGREES), round(each.lat * MICRODEGREES)] for each in self.ends]
         is_other = np.append(True, (shown[1:] != shown[:-1]).any(axis=1))
-        index, points = is_other.cumsum() - 1, (shown[is_other] / MICRODEGREES).tolist()
-        return points, index[self.begins[:-1]].tolist(), index[self.begins[1:] - 1].tolist()
+        return (shown[is_other] / MICRODEGREES).tolist(), is_other.cumsum() - 1
+
+    @functools.cached_property
+    def shown_arcs(self) -> tuple[list[int], list[int]]:
+        """The indices of the first and of the last point of each arc in the line that is shown."""
+        _, index = self._shown
+        return index[self.begins[:-1]].tolist(), index[self.begins[1:] - 1].tolist()
 
     def line(self, first: int, last: int) -> list[list[float]]:
-        """The points of arcs first:last, to six digits, without repeated ones; at least two."""
-        points, begins, ends = self._rounded_points
+        """The points of arcs first:last in the line that is shown; at least two."""
+        (points, _), (begins, ends) = self._shown, self.shown_arcs
         found = points[begins[first] : ends[last - 1] + 1]
         return found if len(found) > 1 else found * 2
+
+    def segments(self) -> Iterator[tuple[Figures, list[float]]]:
+        """The segments of the line that is shown, in parts, one behind the other: the totals of one or more arcs, and the metres of each
+        segment of these; equal ones above 0 if the part has no length."""
+        (_, index), (begins, ends) = self._shown, self.shown_arcs
+        arc, _ = expand(np.diff(self.begins))
+        steps = np.flatnonzero(arc[1:] == arc[:-1])
+        sphere = unit_vectors(*(self.points / UNITS).T)
+        segment = np.minimum(index[steps], np.array(ends)[arc[steps]] - 1)
+        is_shown = segment >= np.array(begins)[arc[steps]]
+        step_metres = great_circle_metres(sphere[steps], sphere[steps + 1])
+        metres: list[float] = np.bincount(segment[is_shown], step_metres[is_shown], ends[-1]).tolist()
+        # (an arc that is shown as one point adds to the part before it, the first ones to the first)
+        firsts = [number for number in range(len(ends)) if ends[number] > begins[number]]
+        arcs, bounds = [0, *firsts[1:], len(ends)], [0, *(ends[number] for number in firsts[:-1]), ends[-1]]
+        for (low, high), (first, behind) in zip(itertools.pairwise(arcs), itertools.pairwise(bounds)):
+            part = metres[first:behind]
+            yield self.figures(low, high), part if sum(part) else [1.0] * len(part)
 
     @functools.cached_property
     def bearings(self) -> tuple[Ints, Ints]:
@@ -102,9 +125,9 @@ def make_totals(roads: RoadIndex, weight: int, seconds: float, metres: float) ->
     }
 
 
-def leg_geometry(roads: RoadIndex, leg: Leg) -> LegGeometry | None:
-    """The geometry of a leg; None if it stays at a node."""
-    return LegGeometry(roads, leg) if leg.arcs else None
+def leg_geometry(roads: RoadIndex, leg: Leg, start: SnappedPoint, end: SnappedPoint) -> LegGeometry | None:
+    """The geometry of a leg between two points; None if it stays at a node."""
+    return LegGeometry(roads, leg, start, end) if leg.arcs else None
 
 
 def leg_totals(roads: RoadIndex, leg: Leg) -> Figures:

@@ -5,6 +5,7 @@ proved table, from the exits of all first points to the entries of all last ones
 each with the weight of its part of an arc, or the weight of the way that stays on one arc or at one node (legs). That is tested.
 """
 import collections
+import itertools
 from collections.abc import Callable, Iterator, Sequence
 from typing import NamedTuple
 
@@ -32,7 +33,7 @@ class Ends(NamedTuple):
 
     @classmethod
     def of(cls, sides: Sequence[dict[int, tuple[int, int]]]) -> "Ends":
-        rows = [(number, node - 1, side[node][0]) for number, side in enumerate(sides) for node in side]
+        rows = [(number, node, side[node][0]) for number, side in enumerate(sides) for node in side]
         return cls(*np.array(rows, dtype=np.int64).reshape(-1, 3).T)
 
 
@@ -41,15 +42,16 @@ def weight_rows(
 ) -> Iterator[Ints]:
     """The least weights from each start to each end, NO_PATH for no path, some rows at a time. `ask` is called once for
     these, for `cells` lengths or one row; memory is a few times as many numbers, and some for each end."""
-    entries, columns = Ends.of([end.entries for end in ends]), collections.defaultdict(list)
+    entries, columns = Ends.of([end.entries for end in ends]), collections.defaultdict[object, list[int]](list)
     for column, end in enumerate(ends):
-        columns[place_key(end)].append(column)
+        for key in place_keys(end):
+            columns[key].append(column)
     at_a_time = max(1, min(MAX_ROWS, cells // max(1, len(entries.nodes))))
     for begin in range(0, len(starts), at_a_time):
         some = starts[begin : begin + at_a_time]
         rows = least_by_nodes(ask, Ends.of([start.exits for start in some]), entries, (len(some), len(ends)))
         for row, start in zip(rows, some):
-            for column in columns.get(place_key(start), ()):
+            for column in itertools.chain(*(columns.get(key, ()) for key in place_keys(start))):
                 leg = leg_without_nodes(roads, start, ends[column])
                 if leg is not None and not 0 <= row[column] <= leg.weight:
                     row[column] = leg.weight
@@ -73,6 +75,9 @@ def least_by_nodes(ask: NodeTable, exits: Ends, entries: Ends, shape: tuple[int,
     return found
 
 
-def place_key(point: SnappedPoint) -> tuple[int, ...] | int:
-    """The nodes that a point is, or its edge."""
-    return point.copies or point.edge
+def place_keys(point: SnappedPoint) -> Iterator[object]:
+    """The nodes that a point is, and the edge of the arcs on which it lies: what it shares with points to which a leg stays."""
+    if point.copies:
+        yield point.copies
+    if point.arcs:
+        yield point.edge

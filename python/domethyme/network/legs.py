@@ -11,9 +11,9 @@ from ..errors import NetworkError
 from ..protocol import RouteReply
 from .snapping import NO_ARC, RoadIndex, SnappedPoint
 
-# Candidate nodes of a snapped point: node -> (weight, arc) of the part of the arc between.
+# Candidate nodes of a snapped point, from 0: node -> (weight, arc) of the part of the arc between.
 SnapEnds = dict[int, tuple[int, int]]
-# A shortest path from one of several nodes, from 1, to one of several, with the weights of both ends added; or None.
+# A shortest path from one of several nodes to one of several, with the weights of both ends added; or None.
 Between = Callable[[SnapEnds, SnapEnds], RouteReply | None]
 
 
@@ -38,8 +38,8 @@ def find_leg(ask: Between, roads: RoadIndex, start: SnappedPoint, end: SnappedPo
 
 
 def is_same_node(start: SnappedPoint, end: SnappedPoint) -> bool:
-    """Whether both points are the same node, or split nodes of one junction."""
-    return bool(start.copies) and start.copies == end.copies
+    """Whether both points are the same node, or split nodes of one junction, and one of them is that of any road."""
+    return bool(start.copies) and start.copies == end.copies and not (start.arcs and end.arcs)
 
 
 def choose_leg(roads: RoadIndex, start: SnappedPoint, end: SnappedPoint, route: RouteReply | None) -> Leg | None:
@@ -51,11 +51,12 @@ def choose_leg(roads: RoadIndex, start: SnappedPoint, end: SnappedPoint, route: 
 
 
 def leg_without_nodes(roads: RoadIndex, start: SnappedPoint, end: SnappedPoint) -> Leg | None:
-    """The leg that stays at a node, or on one arc, if both points are on it in this order."""
-    if start.copies or end.copies or start.edge != end.edge:
-        return EMPTY_LEG if is_same_node(start, end) else None
+    """The leg that stays at a node, or on an arc of both points, if they are on it in this order."""
+    if is_same_node(start, end):
+        return EMPTY_LEG
     found: list[Leg] = []
-    for number, arc in roads.edge(start.edge).arcs.items():
+    for number in sorted(start.arcs & end.arcs):
+        arc = roads.edge(start.edge).arcs[number]
         begin, stop = roads.arc_fraction(arc, start.fraction), roads.arc_fraction(arc, end.fraction)
         if begin <= stop:
             weight = roads.weight_before(arc, end.fraction) - roads.weight_before(arc, start.fraction)
@@ -65,7 +66,7 @@ def leg_without_nodes(roads: RoadIndex, start: SnappedPoint, end: SnappedPoint) 
 
 def leg_via_route(roads: RoadIndex, start: SnappedPoint, end: SnappedPoint, route: RouteReply) -> Leg:
     """The leg of a route between the points' nodes. Raises NetworkError if the network isn't the hierarchy's."""
-    first, last = start.exits[route.source], end.entries[route.target]
+    first, last = start.exits[route.source - 1], end.entries[route.target - 1]
     arcs = roads.lightest(route.nodes)
     if NO_ARC in arcs:
         raise NetworkError("lacks an arc of the hierarchy's graph", roads.arrays.path)

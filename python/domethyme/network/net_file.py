@@ -1,16 +1,18 @@
 """A network in arrays, and the file NETWORK.net, which has them and what is derived from them. Needs numpy.
 
-Whoever reads the file maps it (column_file.py). It has the sizes of the tables beside it, and is taken where it is no older than
-they are and these are their sizes. Texts are numbers of rows in one list of texts. An edge is a line of a way, in the direction
+Whoever reads the file maps it (column_file.py). It has the sizes and checksums of the tables beside it, and is taken where these are
+theirs; a table's checksum is computed where it was changed later than the file. Texts are numbers of rows in one list of texts. An edge is a line of a way, in the direction
 that sorts first, with arcs along it and against.
 """
 import array
+import bisect
 import dataclasses
 import functools
 import os
 import re
 import stat
 import tempfile
+import zlib
 from collections import Counter
 from collections.abc import Iterator, Sequence
 from typing import IO, TYPE_CHECKING, Any, NamedTuple
@@ -34,8 +36,9 @@ from .tables import (
 )
 from .zoom_levels import ROAD_CLASSES
 
-# Of the file, without and with the keys of nodes.
-VERSION, WITH_KEYS = 2, 3
+# Of the file, without and with the keys of nodes; and of files without checksums of tables.
+VERSION, WITH_KEYS = 4, 5
+OLD_VERSION, OLD_WITH_KEYS = 2, 3
 UNITS = indexes.UNITS
 NO_OSM = -(1 << 63)
 TEXTS = ("highway", "name", "ref", "junction", "destination", "structure")
@@ -45,10 +48,14 @@ NUMBER = r"-?[0-9]+(?:\.[0-9]+)?"
 LINE = re.compile(rf"LINESTRING \(({NUMBER} {NUMBER}(?:, {NUMBER} {NUMBER})+)\)")
 
 
+# The `tables` of a network without any.
+NO_TABLES = (0, 0, 0, 0)
+
+
 class Arrays(NamedTuple):
     """A network; nodes are numbered from 1 in `arc_from` and `arc_to`, all else counts from 0.
 
-    version, sizes           of the form, and the bytes of both tables: of shape (1,) and (2,)
+    version, tables          of the form, of shape (1,); and the bytes of both tables, and their CRC-32, of shape (4,)
     node_osm                 the ids of OpenStreetMap, or NO_OSM
     node_lon, node_lat       in units of a degree
     node_ends                numbers in ENDS
@@ -63,7 +70,7 @@ class Arrays(NamedTuple):
     """
 
     version: NDArray[np.int64]
-    sizes: NDArray[np.int64]
+    tables: NDArray[np.int64]
     node_osm: NDArray[np.int64]
     node_lon: NDArray[np.int32]
     node_lat: NDArray[np.int32]
@@ -110,7 +117,7 @@ class ArcArrays(NamedTuple):
     points: NDArray[np.int32]
 
 
-def build_arrays(nodes: NodeArrays, arcs: ArcArrays, attribution: str = "", sizes: Sequence[int] = (0, 0)) -> Arrays:
+def build_arrays(nodes: NodeArrays, arcs: ArcArrays, attribution: str = "", tables: Sequence[int] = NO_TABLES) -> Arrays:
     """The network of nodes and arcs. Raises ValueError where they don't fit together."""
     edge, is_along, first, backward = edges_from_arcs(arcs)
     counts = np.diff(arcs.begins)[first]
@@ -121,7 +128,7 @@ def build_arrays(nodes: NodeArrays, arcs: ArcArrays, attribution: str = "", size
     row_texts, row = indexes.unique_text_rows(texts.reshape(-1, len(TEXTS)), arcs.row)
     encoded = [text.encode("utf-8", "replace") for text in (attribution, *names, *nodes.keys)]
     found = Arrays(
-        np.array([VERSION]), np.array(sizes), nodes.osm, nodes.places[:, 0].copy(), nodes.places[:, 1].copy(), nodes.ends,
+        np.array([VERSION]), np.array(tables), nodes.osm, nodes.places[:, 0].copy(), nodes.places[:, 1].copy(), nodes.ends,
         arcs.starts.astype(np.int32), arcs.ends.astype(np.int32), arcs.weights, arcs.seconds, arcs.metres, arcs.osm,
         row, edge, is_along, row_texts, offsets(counts), arcs.points[rows],
         np.cumsum([0, *map(len, encoded)], dtype=np.int64), np.frombuffer(b"".join(encoded), dtype=np.uint8),
@@ -183,7 +190,7 @@ class Builder:
         self._numbers.extend((arc.start, arc.end, arc.weight, arc.osm, row_of_texts))
         self._figures.extend((arc.seconds, arc.metres))
 
-    def build(self, sizes: Sequence[int] = (0, 0)) -> Arrays:
+    def build(self, tables: Sequence[int] = NO_TABLES) -> Arrays:
         """The arrays. Raises ValueError where they don't fit together."""
         starts, stops, weights, ways, row = np.array(self._numbers).reshape(-1, 5).T.copy()
         seconds, metres = np.array(self._figures).reshape(-1, 2).T.copy()
@@ -194,7 +201,7 @@ class Builder:
         osm = np.array([NO_OSM if each is None else each for each in self._nodes.osm], np.int64)
         ends = np.array([ENDS.index(each) for each in self._nodes.ends], np.uint8)
         nodes = NodeArrays(osm, to_units(np.column_stack((self._nodes.lon, self._nodes.lat))), ends, self._nodes.keys)
-        return build_arrays(nodes, arcs, self._attribution, sizes)
+        return build_arrays(nodes, arcs, self._attribution, tables)
 
 
 def to_units(places: NDArray[Any]) -> NDArray[np.int32]:
@@ -208,7 +215,7 @@ def to_units(places: NDArray[Any]) -> NDArray[np.int32]:
 def find_inconsistency(arrays: Arrays) -> str | None:
     """What is wrong with arrays that don't fit together; None where they do."""
     size = Counter({name: len(values) for name, values in arrays._asdict().items()})
-    fields = {"version": Field(I8, 1), "sizes": Field(I8, 2), **fields_of(size)}
+    fields = {"version": Field(I8, 1), "tables": Field(I8, 4), **fields_of(size)}
     for name, values in arrays._asdict().items():
         spec, rows, low, high, min_step = fields[name]
         if name == "node_texts" and not len(values):
@@ -227,7 +234,7 @@ def find_inconsistency(arrays: Arrays) -> str | None:
 # The numbers of the array `about`.
 ABOUT = (
     "nodes_size", "arcs_size", "unit", "begins", "ends", "node_height", "edge_height", "west", "south", "east", "north",
-    *(f"shown_{kind}" for kind in range(len(ROAD_CLASSES))),
+    *(f"shown_{kind}" for kind in range(len(ROAD_CLASSES))), "nodes_sum", "arcs_sum",
 )
 I4, I8, U1, F8 = ArraySpec("<i4"), ArraySpec("<i8"), ArraySpec("|u1"), ArraySpec("<f8")
 FAR_EAST, FAR_NORTH = 180 * UNITS, 90 * UNITS
@@ -250,7 +257,7 @@ def fields_of(size: "Counter[str]") -> dict[str, Field]:
     nodes, arcs, edges, texts = size["node_osm"], size["arc_from"], size["edge_begin"] - 1, size["text_begin"] - 1
     points, steps = size["points"], size["step_codes"]
     return {
-        "about": Field(I8, len(ABOUT)),
+        "about": Field(I8),
         "node_osm": Field(I8, nodes),
         "node_lon": Field(I4, nodes, -FAR_EAST, FAR_EAST),
         "node_lat": Field(I4, nodes, -FAR_NORTH, FAR_NORTH),
@@ -274,13 +281,16 @@ def fields_of(size: "Counter[str]") -> dict[str, Field]:
         "edge_things": Field(I4, None, 0, edges - 1),
         "step_begin": Field(I8, len(ROAD_CLASSES) + 1, 0, steps, 0), "step_codes": Field(ArraySpec("<u4")),
         "step_points": Field(I4, steps, 0, points - 2), "step_edges": Field(I4, steps, 0, edges - 1),
-        "node_texts": Field(I4, nodes, 0, texts - 1),
+        "node_texts": Field(I4, nodes, 0, texts - 1), "key_nodes": Field(I4, nodes, 0, nodes - 1),
     }
 
 
 SCHEMA_WITH_KEYS = {name: field.spec for name, field in fields_of(Counter()).items()}
-FILE_SCHEMA = {name: spec for name, spec in SCHEMA_WITH_KEYS.items() if name != "node_texts"}
-FORMS = {VERSION: FILE_SCHEMA, WITH_KEYS: SCHEMA_WITH_KEYS}
+OLD_SCHEMA_WITH_KEYS = {name: spec for name, spec in SCHEMA_WITH_KEYS.items() if name != "key_nodes"}
+FILE_SCHEMA = {name: spec for name, spec in OLD_SCHEMA_WITH_KEYS.items() if name != "node_texts"}
+FORMS = {
+    OLD_VERSION: FILE_SCHEMA, OLD_WITH_KEYS: OLD_SCHEMA_WITH_KEYS, VERSION: FILE_SCHEMA, WITH_KEYS: SCHEMA_WITH_KEYS
+}
 
 
 def write(file: IO[bytes], arrays: Arrays) -> None:
@@ -299,12 +309,12 @@ def iter_file_arrays(arrays: Arrays) -> Iterator[tuple[str, NDArray[Any]]]:
     node_grid = indexes.node_grid(arrays.node_lon, arrays.node_lat)
     side = np.bincount(arrays.node_ends, minlength=len(ENDS)).tolist()
     numbers = [
-        *arrays.sizes.tolist(), UNITS_OF_WEIGHTS.index(weight_unit(arrays)), side[0] + side[1], side[0] + side[2],
+        *arrays.tables[:2].tolist(), UNITS_OF_WEIGHTS.index(weight_unit(arrays)), side[0] + side[1], side[0] + side[2],
         round(node_grid.height * UNITS), round(edge_grid.height * UNITS), *indexes.bounding_box(arrays.points),
-        *shown_from,
+        *shown_from, *arrays.tables[2:].tolist(),
     ]
     yield "about", np.array(numbers, dtype=np.int64)
-    yield from zip(Arrays._fields[2:-1], arrays[2:-1])  # (all but the version, the sizes and node_texts)
+    yield from zip(Arrays._fields[2:-1], arrays[2:-1])  # (all but the version, the tables and node_texts)
     yield from zip(("out_begin", "out_arcs"), indexes.outgoing_arcs(arrays))
     yield "edge_first", offsets(np.bincount(arrays.arc_edge, minlength=len(arrays.edge_begin) - 1))
     yield "edge_arcs", np.argsort(arrays.arc_edge, kind="stable")
@@ -314,6 +324,14 @@ def iter_file_arrays(arrays: Arrays) -> Iterator[tuple[str, NDArray[Any]]]:
     yield from zip(("step_begin", "step_codes", "step_points", "step_edges"), levels)
     if len(arrays.node_texts):
         yield "node_texts", arrays.node_texts
+        yield "key_nodes", nodes_by_key(arrays)
+
+
+def nodes_by_key(arrays: "Arrays | MappedNetwork") -> NDArray[np.int32]:
+    """The nodes, from 0, in the order of the bytes of their keys."""
+    begins, whole = arrays.text_begin[:].tolist(), arrays.text_bytes[:].tobytes()
+    keys = [whole[begins[number] : begins[number + 1]] for number in arrays.node_texts[:].tolist()]
+    return np.array(sorted(range(len(keys)), key=keys.__getitem__), np.int32)
 
 
 def weight_unit(arrays: Arrays) -> str:
@@ -376,10 +394,14 @@ class MappedNetwork:
                 raise self.file.damaged_error(f"{name} has another size")
         if not size["text_begin"] > 1 or not size["edge_begin"]:
             raise self.file.damaged_error("it has no texts or edges")
-        self.about = dict(zip(ABOUT, found["about"][:].tolist()))
+        about = found["about"][:].tolist()
+        if len(about) not in (len(ABOUT), len(ABOUT) - 2):
+            raise self.file.damaged_error("about has another size")
+        self.about = dict(zip(ABOUT, [*about, 0, 0]))
         self.box: list[float] = [self.about[side] / UNITS for side in ("west", "south", "east", "north")]
         self.node_grid, self.edge_grid = self._grid("node"), self._grid("edge")
-        self.version, self.sizes = np.array([VERSION]), np.array([self.about["nodes_size"], self.about["arcs_size"]])
+        names = ("nodes_size", "arcs_size", "nodes_sum", "arcs_sum")
+        self.version, self.tables = np.array([VERSION]), np.array([self.about[name] for name in names])
 
     def _grid(self, name: str) -> Grid:
         found, height = self.file.columns, self.about[f"{name}_height"] / UNITS
@@ -405,6 +427,22 @@ class MappedNetwork:
         """The key of a node, counted from 1; None where nodes have none."""
         return self.texts[int(self.node_texts[node - 1])] if self.has_keys else None
 
+    def node(self, key: str) -> int | None:
+        """The node of a key, counted from 1; None where there is none. It is searched for in the file, in some 0.1 ms."""
+        # (what is no text isn't that of a key, in which such a part is replaced)
+        wanted, nodes = key.encode("utf-8", "surrogatepass"), self._key_nodes
+        row = bisect.bisect_left(range(len(nodes)), wanted, key=lambda row: self._key_bytes(nodes[row]))
+        return int(nodes[row]) + 1 if row < len(nodes) and self._key_bytes(nodes[row]) == wanted else None
+
+    @functools.cached_property
+    def _key_nodes(self) -> Any:
+        return self.file.columns["key_nodes"] if "key_nodes" in self.file.columns else nodes_by_key(self)
+
+    def _key_bytes(self, node: Any) -> bytes:
+        number = int(self.node_texts[int(node)])
+        begin, end = self.text_begin[number : number + 2].tolist()
+        return bytes(self.text_bytes[begin:end].tobytes())
+
     def keys(self) -> list[str]:
         """The keys of all nodes, none where they have none."""
         return [self.texts[number] for number in self.node_texts[:].tolist()]
@@ -424,6 +462,14 @@ class MappedNetwork:
         found = np.full(len(starts), -1, dtype=np.int64)
         found[pair[hits]] = arcs[hits]
         return found
+
+    def arc_lines(self, arcs: Ints) -> tuple[Ints, NDArray[np.int32]]:
+        """The points of arcs in their directions, in units: those of arcs[k] are points[begins[k]:begins[k + 1]]."""
+        edges, is_along = self.arc_edge[arcs], self.arc_along[arcs]
+        first, behind = self.edge_begin[edges], self.edge_begin[edges + 1]
+        owner, position = expand(behind - first)
+        rows = np.where(is_along, first, behind - 1)[owner] + position * np.where(is_along, 1, -1)[owner]
+        return offsets(behind - first), self.points[rows]
 
     def line(self, arc: int) -> list[Point]:
         line = self.edge_line(int(self.arc_edge[arc]))
@@ -455,28 +501,54 @@ def map_tempfile(arrays: Arrays, path: str) -> MappedNetwork:
 
 def is_current(prefix: str) -> bool:
     """Whether NETWORK.net goes before the tables beside it, those of the tools and those of which `to_network` made it:
-    where they are no newer than it, and of the size that it has for them. Raises NetworkError as `read` does; where
+    where they are of the size that it has for them, and not changed later than it or of the same checksum. Raises NetworkError as `read` does; where
     there is an archive of an earlier version alone; and where a user's own table has changed since."""
     files = Files(prefix)
     if not os.path.exists(files.binary):
         if os.path.exists(files.old):
-            made = f"`to_network {files.nodes} {files.arcs} {prefix}` makes {files.binary} of the tables"
-            why = f"is an archive of an earlier version, which isn't read: {made}, or convert the map again"
+            remedy = f"`to_network {files.nodes} {files.arcs} {prefix}` makes {files.binary} of the tables"
+            why = f"is an archive of an earlier version, which isn't read: {remedy}, or convert the map again"
             raise NetworkError(why, files.old)
         return False
     tables = {files.nodes: NODE_COLUMNS, files.arcs: ARC_COLUMNS}
     if not any(map(os.path.exists, tables)):
         return True
-    sizes, made_at = read(files.binary).sizes.tolist(), os.stat(files.binary).st_mtime_ns
+    (*sizes, nodes_sum, arcs_sum), made = read(files.binary).tables.tolist(), os.stat(files.binary)
     are_readable = all(has_columns(table, columns) for table, columns in tables.items())
     changed = [
-        table for table, size in zip(tables, sizes)
+        table for table, size, checksum in zip(tables, sizes, (nodes_sum, arcs_sum))
         if os.path.exists(table) and (size or are_readable)
-        and (os.stat(table).st_mtime_ns > made_at or os.stat(table).st_size != size)
+        and (os.stat(table).st_size != size or is_younger(os.stat(table), made) and checksum_of(table) != checksum)
     ]
     if changed and not are_readable:
         raise NetworkError(f"has changed since {files.binary} was made of it: run `to_network` again", changed[0])
     return not changed
+
+
+def is_same_table(path: str, network: MappedNetwork) -> bool:
+    """Whether a table of nodes is that of a network, as far as the network knows one."""
+    size, _, checksum, _ = network.tables.tolist()
+    return not size or not os.path.exists(path) or os.stat(path).st_size == size and checksum_of(path) == checksum
+
+
+def is_younger(one: os.stat_result, other: os.stat_result) -> bool:
+    """Whether a file was changed after another one, by the time that it bears or by that of its last change."""
+    return one.st_mtime_ns > other.st_mtime_ns or one.st_ctime_ns > other.st_ctime_ns
+
+
+def marks_of(*tables: StrPath | None) -> list[int]:
+    """By what edited tables are told from these: the bytes of each, and the checksum of each; 0 for None. Raises OSError."""
+    sizes = [0 if table is None else os.stat(table).st_size for table in tables]
+    return [*sizes, *(0 if table is None else checksum_of(table) for table in tables)]
+
+
+def checksum_of(path: StrPath) -> int:
+    """The CRC-32 of a file. Raises OSError."""
+    found = 0
+    with open(path, "rb") as file:
+        while part := file.read(1 << 20):
+            found = zlib.crc32(part, found)
+    return found
 
 
 def load_network(prefix: str) -> MappedNetwork:
@@ -495,4 +567,4 @@ def arrays_from_tables(prefix: str) -> Arrays:
     builder = Builder(attribution, nodes)
     for row, arc in iter_arc_rows(files.arcs, len(nodes.osm)):
         builder.add_arc(arc, files.arcs, row)
-    return builder.build([os.stat(table).st_size for table in (files.nodes, files.arcs)])
+    return builder.build(marks_of(files.nodes, files.arcs))

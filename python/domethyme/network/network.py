@@ -9,11 +9,11 @@ import numpy as np
 from numpy.typing import ArrayLike, NDArray
 
 from .. import belonging
-from ..csv_tables import unescape_formula
-from ..deprecated import side_of
+from ..deprecated import radius_of, side_of
 from ..errors import NetworkError, NoSuchNode
 from ..extras import load
 from ..keys import Keys, parse_key
+from ..limits import DEFAULT_RADIUS
 from ..links import Links
 from ..program import StrPath
 from ..route import Route, Rows
@@ -25,11 +25,12 @@ from .node_index import NodeIndex, load_node_index
 from .reading import arcs_from_net
 from .snapping import RoadIndex, SnappedPoint
 from .sphere import Floats as Floats
-from .tables import ALL_ARC_COLUMNS, ARC_COLUMNS, ENDS, KEY, NODE_COLUMNS, Files, Side, arcs_file, has_columns, need_nodes
+from .tables import ALL_ARC_COLUMNS, ENDS, KEY, Files, Side, arcs_file, need_nodes
 
 
 class Network:
-    """The files of a network, each read when it is first needed.
+    """The files of a network. They are opened once, when they are first needed or when a Hierarchy compares them with its own:
+    files that take their names later change nothing.
 
     prefix   the beginning of their names
     """
@@ -37,67 +38,63 @@ class Network:
     def __init__(self, prefix: StrPath) -> None:
         """Raises NetworkError where there are no such files."""
         self.prefix, self._files = os.fspath(prefix), Files(prefix)
+        self._full_prefix = os.path.abspath(self.prefix)
         need_nodes(prefix)
 
     def __repr__(self) -> str:
         return f"<Network {self.prefix}>"
 
     def __reduce__(self) -> tuple[type["Network"], tuple[str]]:
-        return Network, (self.prefix,)
+        return Network, (self._full_prefix,)
 
     @functools.cached_property
-    def _places(self) -> NodeIndex:
-        return load_node_index(self.prefix)
+    def node_index(self) -> NodeIndex:
+        """Its nodes, for look-ups by place."""
+        return NodeIndex(self._arrays) if self._has_arcs else load_node_index(self.prefix)
 
     @functools.cached_property
     def lon(self) -> Floats:
         """The longitudes of the nodes in degrees, of shape (nodes,). Raises NetworkError, as all that reads files."""
-        return np.asarray(self._places.lon[:] / UNITS)
+        return np.asarray(self.node_index.lon[:] / UNITS)
 
     @functools.cached_property
     def lat(self) -> Floats:
         """The latitudes of the nodes in degrees, of shape (nodes,)."""
-        return np.asarray(self._places.lat[:] / UNITS)
+        return np.asarray(self.node_index.lat[:] / UNITS)
 
     def keys(self, column: str | None = None) -> Keys:
         """The Keys of the nodes: those of the table that `to_network` made the network of, and of a map, or with `osm` as the column, the
-        ids of OpenStreetMap, of which points between have none. Else those in another column of NETWORK.nodes.csv. Raises
-        NetworkError, also where nodes have no keys at all."""
+        ids of OpenStreetMap, of which points between have none. Else those in another column of NETWORK.nodes.csv, if that is the
+        table of these nodes. Raises NetworkError, also where nodes have no keys at all."""
         if column is not None and column not in ("osm", KEY):
+            if self._has_arcs and not net_file.is_same_table(self._files.nodes, self._arrays):
+                raise NetworkError(f"isn't the table of the nodes that {self._arrays.path} has", self._files.nodes)
             return Keys.read(self._files.nodes, column)
-        if column != "osm" and (keys := self._places.keys()):
+        if column != "osm" and (keys := self.node_index.keys()):
             return Keys([parse_key(key) for key in keys])
-        osm = [None if each == NO_OSM else each for each in self._places.osm[:].tolist()]
+        osm = [None if each == NO_OSM else each for each in self.node_index.osm[:].tolist()]
         if all(each is None for each in osm):
             why = "its nodes have no keys: they are in the column node, or osm, of the table of nodes"
             raise NetworkError(why, self.prefix)
-        return Keys.of_rows(zip(osm, [ENDS[each] for each in self._places.ends[:].tolist()]))
+        return Keys.of_rows(zip(osm, [ENDS[each] for each in self.node_index.ends[:].tolist()]))
 
     def nodes_frame(self) -> Any:
         """A DataFrame of pandas with the columns osm, lon, lat and ends, and key where nodes have keys, whose index are the nodes from
-        0; with others of NETWORK.nodes.csv where the tools wrote that."""
+        0."""
         pandas = load("pandas")
-        if has_columns(self._files.nodes, NODE_COLUMNS):
-            frame = pandas.read_csv(self._files.nodes, dtype={"osm": "Int64"})
-            return frame.drop(columns="node").rename_axis("node")
-        osm = pandas.array(self._arrays.node_osm[:], dtype="Int64")
-        osm[self._arrays.node_osm[:] == NO_OSM] = pandas.NA
-        ends = np.array(ENDS, dtype=object)[self._arrays.node_ends[:]]
+        osm = pandas.array(self.node_index.osm[:], dtype="Int64")
+        osm[self.node_index.osm[:] == NO_OSM] = pandas.NA
+        ends = np.array(ENDS, dtype=object)[self.node_index.ends[:]]
         columns = {"osm": osm, "lon": self.lon, "lat": self.lat, "ends": ends}
-        if keys := self._arrays.keys():
+        if keys := self.node_index.keys():
             columns[KEY] = np.array([parse_key(key) for key in keys], dtype=object)
         return pandas.DataFrame(columns).rename_axis("node")
 
     def arcs_frame(self) -> Any:
         """A DataFrame of pandas with the columns of NETWORK.arcs.csv, whose `from` and `to` count from 0."""
         pandas = load("pandas")
-        if has_columns(self._files.arcs, ARC_COLUMNS) and has_columns(self._files.nodes, NODE_COLUMNS):
-            frame = pandas.read_csv(self._files.arcs, keep_default_na=False)
-            texts = [name for name in frame.columns if frame[name].dtype == object]
-            frame = frame.assign(**{name: frame[name].map(unescape_formula) for name in texts})
-        else:
-            rows = [(*arc[:8], *arc[9:], arc.wkt) for arc in arcs_from_net(self._arrays)]
-            frame = pandas.DataFrame(rows, columns=list(ALL_ARC_COLUMNS))
+        rows = [(*arc[:8], *arc[9:], arc.wkt) for arc in arcs_from_net(self._arrays)]
+        frame = pandas.DataFrame(rows, columns=list(ALL_ARC_COLUMNS))
         return frame.assign(**{end: frame[end] - 1 for end in ("from", "to")})
 
     @overload
@@ -115,7 +112,7 @@ class Network:
         Raises ValueError for what are no degrees."""
         east, north = np.broadcast_arrays(np.asarray(lon, float), np.asarray(lat, float))
         check_degrees(east, north)
-        nodes, away = self._places.nearest(east.ravel(), north.ravel(), side_of(side, end))
+        nodes, away = self.node_index.nearest(east.ravel(), north.ravel(), side_of(side, end))
         if east.ndim == 0:
             return int(nodes[0]), float(away[0])
         return nodes.reshape(east.shape), away.reshape(east.shape)
@@ -138,15 +135,15 @@ class Network:
         points = [point for point, _ in itertools.groupby(points)]
         return points if len(points) > 1 else points * 2
 
-    def _feature(self, ends: tuple[Any, Any], length: int | None, numbers: list[int], is_exact: bool) -> dict[str, Any]:
+    def _feature(self, ends: tuple[Any, Any], length: int | None, numbers: list[int], added: int) -> dict[str, Any]:
         properties = {"from": ends[0], "to": ends[1], "length": None, "arcs": None, "seconds": None, "metres": None}
         geometry = None
         if length is not None:
             arcs, arrays = self._arcs(numbers), self._arrays
             weight = int(arrays.arc_weight[arcs].sum()) if arcs else 0
-            if weight > length or is_exact and weight != length:
+            if weight != length - added:
                 sums = f"its arcs' weights in {self.prefix} sum to {weight}"
-                raise NetworkError(f"a route has the length {length}, and {sums}")
+                raise NetworkError(f"a route has the length {length - added}, and {sums}")
             ways = [sum(values[arcs].tolist()) if arcs else 0.0 for values in (arrays.arc_seconds, arrays.arc_metres)]
             seconds = round(ways[0], 3) if arrays.has_seconds else None
             properties.update(length=length, arcs=len(arcs), seconds=seconds, metres=round(ways[1], 2))
@@ -167,10 +164,14 @@ class Network:
     def compare(self, file: int, name: str, whole: bool = False) -> None:
         """Raises WrongHierarchy where the open file of a hierarchy is that of another network (belonging.compare). Of nodes without
         arcs, a table alone or a DIMACS .co file, the number is compared."""
-        if os.path.exists(arcs_file(self.prefix)) or os.path.exists(self._files.binary):
+        if self._has_arcs:
             belonging.compare(file, name, self._arrays, whole)
         else:
-            belonging.need_nodes(name, Links.of(file, name).nodes, self.prefix, len(self._places.lon))
+            belonging.need_nodes(name, Links.of(file, name).nodes, self.prefix, len(self.node_index.lon))
+
+    @functools.cached_property
+    def _has_arcs(self) -> bool:
+        return os.path.exists(arcs_file(self.prefix)) or os.path.exists(self._files.binary)
 
     @functools.cached_property
     def _arrays(self) -> net_file.MappedNetwork:
@@ -179,11 +180,14 @@ class Network:
     @functools.cached_property
     def roads(self) -> RoadIndex:
         """Its roads, for points on them. Raises NetworkError where there are no arcs."""
-        return RoadIndex(self.prefix)
+        return RoadIndex(self._arrays)
 
-    def points_on_roads(self, places: Rows, max_metres: float) -> list[SnappedPoint]:
+    def points_on_roads(
+        self, places: Rows, radius: float = DEFAULT_RADIUS, *, max_metres: float | None = None
+    ) -> list[SnappedPoint]:
         """The nearest point of a road to a place (lon, lat) in degrees, or to each of several. Raises NoSuchNode where none is
-        within this many metres, ValueError for what are no degrees, and NetworkError."""
+        within `radius` metres, ValueError for what are no degrees, and NetworkError."""
+        radius = radius_of(radius, max_metres, "points_on_roads(max_metres=)")
         rows = np.asarray(places, float)
         if rows.shape[-1:] != (2,) or rows.ndim > 2 or not rows.size:
             raise ValueError("a place is (lon, lat), and several are rows of these")
@@ -191,9 +195,9 @@ class Network:
         check_degrees(rows[:, 0], rows[:, 1])
         found = list(self.roads.nearest_batch([(lon, lat) for lon, lat in rows.tolist()]))
         for number, point in enumerate(found):
-            if not point.metres <= max_metres:
+            if not point.metres <= radius:
                 away = f"the nearest is {point.metres:,.0f} m away; lon comes before lat"
-                raise NoSuchNode(f"place {number} has no road within {max_metres:g} m: {away}", number)
+                raise NoSuchNode(f"place {number} has no road within {radius:g} m: {away}", number)
         return found
 
 
@@ -205,11 +209,11 @@ def check_degrees(lon: Floats, lat: Floats) -> None:
         raise ValueError("lon has to be from -180 to 180 and lat from -90 to 90: are they swapped?")
 
 
-def iter_routes(routes: "Route | Routes") -> Iterator[tuple[tuple[Any, Any], int | None, list[int], bool]]:
-    """For each route its ends, its length or None, its nodes from 0, and whether the length is that of its arcs alone."""
+def iter_routes(routes: "Route | Routes") -> Iterator[tuple[tuple[Any, Any], int | None, list[int], int]]:
+    """For each route its ends, its length or None, its nodes from 0, and what was added to the weights of its arcs."""
     if isinstance(routes, Route):
-        yield (routes.source, routes.target), routes.length, routes.node_indices, False
+        yield (routes.source, routes.target), routes.length, routes.node_indices, routes.added
         return
     for row, (pair, length) in enumerate(zip(routes.pairs.tolist(), routes.lengths.tolist())):
         ends = pair if routes.keys is None else [routes.keys.key(node) for node in pair]
-        yield (ends[0], ends[1]), None if length < 0 else length, routes.node_indices(row).tolist(), True
+        yield (ends[0], ends[1]), None if length < 0 else length, routes.node_indices(row).tolist(), 0

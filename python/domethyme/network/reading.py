@@ -1,4 +1,5 @@
 """The nodes and arcs of a network, from NETWORK.net where that is current, its tables, or a DIMACS .co file and its graph."""
+import itertools
 import os
 from collections.abc import Iterator
 from typing import TYPE_CHECKING
@@ -45,13 +46,20 @@ def nodes_from_net(arrays: "net_file.MappedNetwork") -> Nodes:
 
 def arcs_from_net(arrays: "net_file.MappedNetwork") -> Iterator[Arc]:
     """The arcs of a mapped file, as those of the table."""
+    import numpy as np
+
+    from .net_file import UNITS
+
     for begin in range(0, len(arrays.arc_from), CHUNK):
-        part = slice(begin, begin + CHUNK)
+        part = np.arange(begin, min(begin + CHUNK, len(arrays.arc_from)))
         columns = (getattr(arrays, f"arc_{name}") for name in ("from", "to", "weight", "seconds", "metres", "osm"))
         figures = zip(*(column[part].tolist() for column in columns))
-        for place, (row, values) in enumerate(zip(arrays.arc_texts(part).tolist(), figures), begin):
+        begins, points = arrays.arc_lines(part)
+        places = (points / UNITS).tolist()
+        lines = (format_linestring(places[low:high]) for low, high in itertools.pairwise(begins.tolist()))
+        for row, values, line in zip(arrays.arc_texts(part).tolist(), figures, lines):
             highway, name, *others = (arrays.texts[text] for text in row)
-            yield Arc._make((*values, highway, name, format_linestring(arrays.line(place)), *others))
+            yield Arc._make((*values, highway, name, line, *others))
 
 
 def read_coordinates(path: StrPath) -> Nodes:

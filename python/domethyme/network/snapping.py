@@ -59,8 +59,9 @@ class Edge(NamedTuple):
 
 
 class SnappedPoint(NamedTuple):
-    """A point on a road. `exits` are the nodes that it leads to, and `entries` those that lead to it, each with the weight and
-    the arc of the part between (NO_ARC if the point is the node). `copies` are the nodes that it is, or ()."""
+    """A point on a road. `exits` are the nodes that it leads to, and `entries` those that lead to it, from 0, each with the weight
+    and the arc of the part between (NO_ARC if the point is the node). `copies` are the nodes that it is, or (). `arcs` are the
+    arcs of the edge on which routes begin and end there, none for a node, of which any road will do."""
 
     lon: float
     lat: float
@@ -70,6 +71,7 @@ class SnappedPoint(NamedTuple):
     exits: dict[int, tuple[int, int]]
     entries: dict[int, tuple[int, int]]
     copies: tuple[int, ...]
+    arcs: frozenset[int]
     name: str
 
 
@@ -84,36 +86,28 @@ class SegmentProjections(NamedTuple):
 
 
 class RoadIndex:
-    """The files of a network, NETWORK.net, or NETWORK.nodes.csv and NETWORK.arcs.csv. Nodes are numbered from 1. All methods
-    raise NetworkError if the file is damaged.
+    """The roads of a network: of its mapped file, or of the files with this beginning of their names. Nodes are numbered from 1.
+    All methods raise NetworkError if the file is damaged.
 
     unit         of weights: `duration` (milliseconds), `distance` (centimetres), or `weight` for anything else
     has_seconds  whether arcs have seconds; if not, durations aren't known
     box          the bounding box in degrees: west, south, east, which may be beyond 180, and north
     """
 
-    def __init__(self, prefix: str) -> None:
-        self.arrays: MappedNetwork = load_network(prefix)
+    def __init__(self, network: MappedNetwork | str) -> None:
+        self.arrays = load_network(network) if isinstance(network, str) else network
         self.nodes, self.edges = len(self.arrays.node_osm), len(self.arrays.edge_begin) - 1
         if not len(self.arrays.arc_from):
             raise NetworkError("has no arcs", self.arrays.path)
         self.texts, self.unit, self.degree = self.arrays.texts, self.arrays.unit, self.arrays.degrees
         self.has_seconds, self.box = self.arrays.has_seconds, self.arrays.box
         self.edge = functools.lru_cache(EDGE_CACHE_SIZE)(self._edge)
-        self._places = NodeIndex(self.arrays)
-
-    def split_nodes(self, node: int) -> tuple[int, ...]:
-        """All nodes into which turn restrictions split the junction of a node."""
-        return tuple(each + 1 for each in self._places.split_nodes(node - 1))
+        self.places = NodeIndex(self.arrays)
 
     def osm_id(self, node: int) -> int:
         """The OpenStreetMap id of a node; 0 if it has none."""
         found = int(self.arrays.node_osm[node - 1])
         return 0 if found == NO_OSM else found
-
-    def ends(self, node: int) -> str:
-        """`from` if routes only begin at a node, `to` if they only end there, `no` for neither, "" for both."""
-        return ENDS[self.arrays.node_ends[node - 1]]
 
     def lightest(self, nodes: tuple[int, ...]) -> list[int]:
         """The lightest arc from each node of a route to the next; NO_ARC if there is none."""
@@ -207,20 +201,21 @@ class RoadIndex:
         place = round(lon, 6), round(lat, 6), float(ways.metres[best]), edge, fraction
         name = next((arc.name for arc in line.arcs.values() if arc.name), "")
         if 0.0 < fraction < 1.0:
-            return SnappedPoint(*place, *self.split_arcs(line.arcs, fraction), (), name)
+            return SnappedPoint(*place, *self.split_arcs(line.arcs, fraction), (), frozenset(line.arcs), name)
         first = next(iter(line.arcs.values()))
-        copies = self.split_nodes(first.start if first.is_along == (fraction == 0.0) else first.end)
-        exits = {each: (0, NO_ARC) for each in copies if self.ends(each) in ("", "from")}
-        entries = {each: (0, NO_ARC) for each in copies if self.ends(each) in ("", "to")}
-        return SnappedPoint(*place, exits, entries, copies, name)
+        copies = self.places.split_nodes((first.start if first.is_along == (fraction == 0.0) else first.end) - 1)
+        exits, entries = (
+            {node: (0, NO_ARC) for node in copies if ENDS[self.arrays.node_ends[node]] in ("", side)} for side in ("from", "to")
+        )
+        return SnappedPoint(*place, exits, entries, copies, frozenset(), name)
 
     def split_arcs(self, arcs: dict[int, Arc], fraction: float) -> tuple[dict[int, tuple[int, int]], dict[int, tuple[int, int]]]:
-        """The exits and the entries of a point that splits these arcs at a fraction of their edge."""
+        """The exits and the entries of a point that splits these arcs at a fraction of their edge; nodes from 0."""
         exits: dict[int, tuple[int, int]] = {}
         entries: dict[int, tuple[int, int]] = {}
         for number, arc in arcs.items():
             before = self.weight_before(arc, fraction)
-            for found, node, weight in ((exits, arc.end, arc.weight - before), (entries, arc.start, before)):
+            for found, node, weight in ((exits, arc.end - 1, arc.weight - before), (entries, arc.start - 1, before)):
                 if node not in found or weight < found[node][0]:
                     found[node] = weight, number
         return exits, entries

@@ -20,7 +20,7 @@ from ..limits import MAX_NODES
 from ..program import StrPath
 
 OSM_ATTRIBUTION = "© OpenStreetMap contributors (ODbL 1.0)"
-ATTRIBUTION_COMMENT = "c attribution: "
+ATTRIBUTION_COMMENT = "attribution: "
 NODE_COLUMNS = ("node", "osm", "lon", "lat")
 ARC_COLUMNS = ("from", "to", "weight", "seconds", "metres", "osm", "highway", "name", "WKT")
 ALL_NODE_COLUMNS = (*NODE_COLUMNS, "ends")
@@ -222,6 +222,7 @@ def read_attribution(network: StrPath) -> str:
         return ""
     with open_input(graph) as file:
         for line in itertools.takewhile(lambda line: line.startswith(b"c"), file):
-            if line.startswith(ATTRIBUTION_COMMENT.encode()):
-                return line.decode("utf-8", "replace").removeprefix(ATTRIBUTION_COMMENT).strip()
+            comment = line.decode("utf-8", "replace").removeprefix("c ")
+            if comment.startswith(ATTRIBUTION_COMMENT):
+                return comment.removeprefix(ATTRIBUTION_COMMENT).strip()
     return ""

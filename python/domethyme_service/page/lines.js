@@ -1,4 +1,14 @@
-// Lines of pixels: how long they are, what lies where along them, and where a text has room.
+// Lines: the box around them, and of pixels how long they are, what lies where along them, and where a text has room.
+
+// The least of numbers, of which there may be more than a call takes as arguments.
+export const least = (values) => values.reduce((one, other) => Math.min(one, other), Infinity);
+
+// West, south, east and north of places.
+export function boxOf(places) {
+  const [lons, lats] = [0, 1].map((axis) => places.map((place) => place[axis]));
+  const most = (values) => -least(values.map((value) => -value));
+  return [least(lons), least(lats), most(lons), most(lats)];
+}
 
 export function lengths(points) {
   const found = [0];

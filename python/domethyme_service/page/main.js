@@ -1,6 +1,6 @@
 // The page: two places or more and the shortest route by them, or a place and what is reached from it.
 
-import { Room } from "./lines.js";
+import { boxOf, least, Room } from "./lines.js";
 import { copy, keep, read } from "./link.js";
 import { Panel } from "./panel.js";
 import { Places } from "./places.js";
@@ -36,9 +36,7 @@ const route = new Route($("route"), view, (event, leg) => {
 const panel = new Panel($("total"), $("steps"), (step) => {
   route.step = step;
   const line = step.geometry.coordinates;
-  const [lons, lats] = [line.map((point) => point[0]), line.map((point) => point[1])];
-  const box = [Math.min(...lons), Math.min(...lats), Math.max(...lons), Math.max(...lats)];
-  if (!line.every((point) => view.has(point))) view.fit(box, 90);
+  if (!line.every((point) => view.has(point))) view.fit(boxOf(line), 90);
   view.soon();
 });
 const places = new Places(view, $("marks"), $("places"), changed);
@@ -65,11 +63,11 @@ function scale() {
 // The leg of the route that is nearest to a place.
 function legNear(place) {
   const [x, y] = view.pixel(place);
-  const apart = route.legs.map((steps) => Math.min(...steps.flatMap((step) => step.geometry.coordinates).map((point) => {
+  const apart = route.legs.map((steps) => least(steps.flatMap((step) => step.geometry.coordinates).map((point) => {
     const [toX, toY] = view.pixel(point);
     return Math.hypot(toX - x, toY - y);
   })));
-  return apart.length ? apart.indexOf(Math.min(...apart)) : places.count - 2;
+  return apart.length ? apart.indexOf(least(apart)) : places.count - 2;
 }
 
 // What follows from a change of the places. While one is held, a route is asked for whenever the last one has come.
@@ -185,8 +183,7 @@ function follow() {
   setMode(kind && link.limits !== null ? limitsOf(link.limits, kind.most) : null);
   places.set(limits === null ? link.places : link.places.slice(0, 1));
   if (places.count) {
-    const [lons, lats] = [places.all.map((place) => place[0]), places.all.map((place) => place[1])];
-    view.fit([Math.min(...lons), Math.min(...lats), Math.max(...lons), Math.max(...lats)], 90);
+    view.fit(boxOf(places.all), 90);
   } else if (network) view.fit(network.box, 24);
 }
 

@@ -1,7 +1,7 @@
 // The route, drawn over the roads: its line, arrows in its direction, the names along it, and the step that is looked at. A drag
 // of the line leads it by another place.
 
-import { lengths, pathOf, pointAlong, roomFor, thinned } from "./lines.js";
+import { boxOf, lengths, pathOf, pointAlong, roomFor, thinned } from "./lines.js";
 import { street } from "./words.js";
 
 const SVG = "http://www.w3.org/2000/svg";
@@ -36,10 +36,7 @@ export class Route {
 
   get box() {
     const points = this.legs.flat().flatMap((step) => step.geometry.coordinates).concat(this.places);
-    if (!points.length) return null;
-    const [lons, lats] = [points.map((point) => point[0]), points.map((point) => point[1])];
-    const least = (values) => values.reduce((a, b) => Math.min(a, b)), most = (values) => values.reduce((a, b) => Math.max(a, b));
-    return [least(lons), least(lats), most(lons), most(lats)];
+    return points.length ? boxOf(points) : null;
   }
 
   // Writes names where the room has place for them, and takes it.

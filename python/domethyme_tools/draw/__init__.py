@@ -1,7 +1,6 @@
 """Draws routes, or what is reached, over their network: a picture, or a page for a browser that needs no connection.
 
-NETWORK is the beginning of the names of the network's files, of which NETWORK.net is read, or without it the tables, and
-NETWORK.gr for the attribution that the licence of its data requires. ROUTES is what `to_geojson` wrote as a collection or as
+NETWORK is the beginning of the names of the network's files, of which NETWORK.net is read, or without it the tables. ROUTES is what `to_geojson` wrote as a collection or as
 lines, or what `reach` wrote as polygons (`-` is standard input). OUT is a picture (SVG) if its name ends in .svg, and a page
 (HTML) if it ends in .html.
 
@@ -25,7 +24,7 @@ feature; 2 for arguments that are refused.
 import argparse
 
 from domethyme.atomic_files import atomic_write
-from domethyme.network.tables import paths_of, read_attribution
+from domethyme.network.tables import paths_of
 
 from ..cli import argument_parser, current_arguments, display_name, refuse_overwriting, warn
 from .geometry import View
@@ -78,8 +77,8 @@ def main() -> None:
     if not routes:
         warn(f"{display_name(options.routes)} has no route: the roads alone are drawn")
     is_picture = options.output.endswith(PICTURE)
-    box, roads = make_scene(options.network, routes, options.full_network, is_picture, options.routes)
-    of_all = [read_attribution(options.network), *said, options.attribution]
+    box, roads, own = make_scene(options.network, routes, options.full_network, is_picture, options.routes)
+    of_all = [own, *said, options.attribution]
     attribution = ", ".join(dict.fromkeys(filter(None, of_all)))
     if is_picture:
         # by default the longer side has 1000 pixels

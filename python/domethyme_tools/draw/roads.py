@@ -105,19 +105,19 @@ def all_places(roads: list[RoadLines]) -> list[Point]:
 
 def make_scene(
     network: str, routes: list[DrawnRoute], is_whole: bool, is_picture: bool, path: str
-) -> tuple[Box, list[RoadLines]]:
-    """The box to show and its roads. Raises a ToolError where the routes of the file at the path are another network's."""
+) -> tuple[Box, list[RoadLines], str]:
+    """The box to show, its roads, and the attribution that the licence of the network's data requires. Raises a ToolError where the routes of the file at the path are another network's."""
     arrays = load_network_or_dimacs(network)
     need_inside(arrays, routes, network, path)
     places = [] if is_whole else list(itertools.chain.from_iterable(route.places for route in routes))
     if places:
         box = box_for(places, is_picture)
-        return box, read_roads(arrays, box)
+        return box, read_roads(arrays, box), arrays.texts[0]
     roads = read_roads(arrays, None)
     places = all_places(roads)
     if not places:
         raise ToolError("has no arcs", arcs_file(network))
-    return box_for(places, is_picture), roads
+    return box_for(places, is_picture), roads, arrays.texts[0]
 
 
 def need_inside(arrays: MappedNetwork, routes: list[DrawnRoute], network: str, path: str) -> None:
