@@ -11,8 +11,8 @@ import subprocess
 import tempfile
 import time
 
-PROGRAM = shutil.which("chromium")
-SECONDS = 60
+from tool_case import SECONDS
+
 WORDS = ["--headless=new", "--no-sandbox", "--disable-gpu", "--disable-dev-shm-usage", "--disable-background-networking",
          "--hide-scrollbars", "--no-first-run", "--remote-debugging-pipe"]
 KEYS = {"Enter": 13, "Tab": 9, "Delete": 46, "Home": 36, "ArrowLeft": 37, "ArrowUp": 38, "ArrowRight": 39, "ArrowDown": 40,
@@ -30,7 +30,7 @@ class Browser:
         self._socket, theirs = socket.socketpair()
         self._socket.settimeout(SECONDS)
         shell = ["/bin/bash", "-c", f'exec "$@" 3<&{theirs.fileno()} 4>&{theirs.fileno()}', "bash"]
-        words = [*shell, PROGRAM, *WORDS, f"--user-data-dir={self._folder}", "about:blank"]
+        words = [*shell, "chromium", *WORDS, f"--user-data-dir={self._folder}", "about:blank"]
         environment = {**os.environ, "HOME": self._folder}
         self._process = subprocess.Popen(
             words, stderr=subprocess.DEVNULL, env=environment, process_group=0, pass_fds=[theirs.fileno()]

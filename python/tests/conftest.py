@@ -1,24 +1,42 @@
-"""What the tests add to pytest: those that wait begin first, and the last line counts all."""
+"""What the tests add to pytest: those that wait begin first, what is optional is left out, and the last line counts all."""
 import pytest
+from kit import optional
 
 # Tests that mostly wait, or take longest: each begins in a worker of its own, before all others.
-FIRST = ["AttackTests", "ReplacedTests", "DaskTests"]
+FIRST = ["AttackTests", "ReplacedTests", "DaskTests", "test_web.py", "test_page.py"]
+
+
+def pytest_configure(config):
+    config.addinivalue_line("markers", "needs(program): without this program of tests/optional.txt the test is left out")
 
 
 def pytest_collection_modifyitems(items):
     items.sort(key=lambda item: next((at for at, name in enumerate(FIRST) if name in item.nodeid), len(FIRST)))
 
 
+@pytest.hookimpl(tryfirst=True)
+def pytest_runtest_setup(item):
+    for marker in item.iter_markers("needs"):
+        package = optional.lacking(*marker.args)
+        if package:
+            item.user_properties.append(("needs", package))
+            pytest.skip(f"needs {package}")
+
+
 @pytest.hookimpl(hookwrapper=True, tryfirst=True)
 def pytest_sessionfinish(session):
-    """The last line, once pytest has printed all of its own. A skipped test hasn't passed, and none at all is a failure."""
+    """The last lines, once pytest has printed all of its own. Another test that is skipped has failed, and none at all is a failure."""
     yield
     if hasattr(session.config, "workerinput") or session.config.option.collectonly:
         return
     reporter = session.config.pluginmanager.get_plugin("terminalreporter")
     ended = {kind: {report.nodeid for report in reporter.stats.get(kind, [])} for kind in ("passed", "failed", "error", "skipped")}
-    failed = ended["failed"] | ended["error"] | ended["skipped"]
-    passed = ended["passed"] - failed
+    skipped = reporter.stats.get("skipped", [])
+    lacking = {report.nodeid: package for report in skipped for key, package in report.user_properties if key == "needs"}
+    failed = ended["failed"] | ended["error"] | ended["skipped"] - lacking.keys()
+    passed = ended["passed"] - failed - lacking.keys()
+    for test, package in sorted(lacking.items()):
+        reporter.write_line(optional.left_out(f"python/{test}", package))
     reporter.write_line(f"python/tests/run: {len(passed)} passed, {len(failed)} failed")
     if failed or not passed or session.exitstatus:
         session.exitstatus = pytest.ExitCode.TESTS_FAILED

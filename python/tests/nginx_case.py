@@ -6,10 +6,9 @@ import pathlib
 import shutil
 import socket
 import subprocess
-import time
 
 from service_case import ServiceCase
-from tool_case import ROOT
+from tool_case import ROOT, SECONDS
 
 SHIPPED = ROOT / "packaging/nginx/domethyme.conf"
 MAIN = """
@@ -31,10 +30,13 @@ def free_port() -> int:
         return int(stream.getsockname()[1])
 
 
-def configuration(folder: pathlib.Path, port: int) -> str:
-    """The shipped configuration, with the sockets, logs and the port of a test."""
+def configuration(folder: pathlib.Path, port: int, instead: dict[str, str]) -> str:
+    """The shipped configuration, with the sockets, logs and the port of a test, and other texts in place of some."""
     text = SHIPPED.read_text(encoding="utf-8").replace("/run/domethyme/", f"{folder}/").replace("/var/log/nginx/", f"{folder}/")
     text = text.replace("listen [::]:80;", "").replace("listen 80;", f"listen 127.0.0.1:{port};")
+    for old, new in instead.items():
+        assert old in text, old
+        text = text.replace(old, new)
     user = f"user {getpass.getuser()};\n" if os.geteuid() == 0 else ""
     return MAIN.format(folder=folder, shipped=text, user=user)
 
@@ -42,11 +44,11 @@ def configuration(folder: pathlib.Path, port: int) -> str:
 class NginxCase(ServiceCase):
     """A test with a service behind nginx, which listens at `self.port`."""
 
-    def serve_behind_nginx(self, *words):
+    def serve_behind_nginx(self, *words, instead={}):
         """Starts both, and returns the process of the service."""
         process = self.serve("--network", self.folder / "v", "--bind", f"unix:{self.folder}/serve.sock", *words)
         self.port = free_port()
-        (self.folder / "nginx.conf").write_text(configuration(self.folder, self.port), encoding="utf-8")
+        (self.folder / "nginx.conf").write_text(configuration(self.folder, self.port, instead), encoding="utf-8")
         program = shutil.which("nginx", path=f"{os.environ['PATH']}:/usr/sbin")
         self.nginx = subprocess.Popen([program, "-c", self.folder / "nginx.conf", "-e", self.folder / "nginx.log"], stdin=subprocess.DEVNULL)
         self.addCleanup(self.nginx.wait)
@@ -57,12 +59,15 @@ class NginxCase(ServiceCase):
     def listens(self):
         self.assertIsNone(self.nginx.poll(), "nginx has ended")
         try:
-            socket.create_connection(("127.0.0.1", self.port), 5).close()
+            socket.create_connection(("127.0.0.1", self.port), SECONDS).close()
             return True
         except OSError:
             return False
 
-    def log(self, name="domethyme.log"):
-        """A log of nginx, once it is written."""
-        time.sleep(1.5)
-        return (self.folder / name).read_text()
+    def log(self, count):
+        """The lines of nginx's log, once there are this many: they are written later than the answers."""
+        def lines():
+            return (self.folder / "domethyme.log").read_text().splitlines()
+
+        self.wait_for(lambda: len(lines()) >= count)
+        return lines()

@@ -1,21 +1,23 @@
 """The village's service for tests: started and ended, and requests to it."""
+import contextlib
 import heapq
 import http.client
 import json
+import os
 import pathlib
 import re
 import socket
 import subprocess
 import threading
 import time
+import unittest.mock
 from typing import BinaryIO, NamedTuple
 
-from tool_case import TOOLS, VILLAGE, ToolCase
+from tool_case import SECONDS, TOOLS, VILLAGE, ToolCase
 
 import domethyme
 from domethyme.dimacs import read_graph
 
-SECONDS = 20
 # KiB that a worker may grow by in a round without a leak, and the number of rounds. Python's allocator and the threads' arenas
 # grow in early rounds, and more on a busy machine: memory has to stay level in one of the rounds.
 MOST_GROWN, ROUNDS = 2048, 6
@@ -61,9 +63,9 @@ class ServiceCase(ToolCase):
                 return process
         self.fail(f"the service didn't start: {self.said}")
 
-    def ask(self, path, method="GET", body=None, headers=None, seconds=SECONDS):
+    def ask(self, path, method="GET", body=None, headers=None):
         """The status and the body of an answer, as JSON where it is JSON."""
-        connection = http.client.HTTPConnection("127.0.0.1", self.port, timeout=seconds)
+        connection = http.client.HTTPConnection("127.0.0.1", self.port, timeout=SECONDS)
         try:
             connection.request(method, path, body, {**(NDJSON if method == "POST" else {}), **(headers or {})})
             answer = connection.getresponse()
@@ -84,9 +86,9 @@ class ServiceCase(ToolCase):
                 parts.append(part)
         return b"".join(parts)
 
-    def wait_for(self, what, seconds=30):
-        """Waits until a condition is true; fails with the service's log after some seconds."""
-        end = time.monotonic() + seconds
+    def wait_for(self, what):
+        """Waits until a condition is true; fails with the service's log after minutes."""
+        end = time.monotonic() + SECONDS
         while not what():
             self.assertLess(time.monotonic(), end, self.said[-20:])
             time.sleep(0.05)
@@ -108,6 +110,13 @@ class ServiceCase(ToolCase):
         self.assertEqual(status, 200)
         found = re.search(rf"(?m)^domethyme_{re.escape(name)} (.*)$", text)
         return float(found[1]) if found else 0.0
+
+
+@contextlib.contextmanager
+def without_end():
+    """A service that starts here has no limit of the time that it takes to end: it waits for what is under way."""
+    with unittest.mock.patch.dict(os.environ, GUNICORN_CMD_ARGS=f"--graceful-timeout={10 * SECONDS}"):
+        yield
 
 
 def read_answer(file: BinaryIO, method: str = "GET") -> Answer:

@@ -1,17 +1,22 @@
 """Tests that what doesn't belong together is refused: a hierarchy of another network, keys of another file, pairs of another
 network, by the package, the tools and the service."""
+import os
 import random
 import shutil
+import subprocess
+import sys
 import unittest.mock
 
 import numpy as np
 import pandas as pd
+import pytest
 from service_case import ServiceCase
-from tool_case import VILLAGE, ToolCase
+from tool_case import TOOLS, VILLAGE, ToolCase
 
 import domethyme
 from domethyme import belonging
 from domethyme.network import net_file
+from domethyme_tools import nearest, reach, table, to_geojson
 
 FOREIGN = "is the hierarchy of another network than"
 # Three nodes in a row, and a detour: 1 to 2 and 2 to 3 of 100, 1 to 3 of 500 or, in another network, of less.
@@ -161,7 +166,7 @@ class ToolTests(ToolCase):
         return self.run_tool("to_network", "nodes.csv", "arcs.csv", "net", *words).stderr
 
     def test_a_hierarchy_that_is_older(self):
-        self.assertIn("to_network: net.rch is older than net.gr: run `routecli prepare --order depth net.gr net.rch` again\n", self.made(ARCS))
+        self.assertIn("to_network: net.rch is older than net.gr: run `routecli prepare --order balanced net.gr net.rch` again\n", self.made(ARCS))
         domethyme.prepare(self.folder / "net.gr", self.folder / "net.rch", workers=1).close()
         self.assertIn("osm_to_gr: net.rch is older than net.gr: run", self.run_tool("osm_to_gr", VILLAGE, "net").stderr)
         (self.folder / "net.rch").unlink()
@@ -210,3 +215,38 @@ class ServiceTests(ServiceCase):
             self.assertIn(says, ended.stderr)
         ended = self.run_tool("domethyme-serve", "v.rch", "--network", "nonet", "--port", "0", status=1)
         self.assertIn("domethyme-serve: nonet.net: No such file or directory", ended.stderr)
+
+
+PLACES = "name,lon,lat\nc,0.002,0\na,0,0\n"
+TRIPS = "from_lon,from_lat,to_lon,to_lat\n0.002,0,0,0\n"
+CALLS = [
+    (nearest, ["net", "trips.csv", "--hierarchy", "net.rch"]), (nearest, ["net", "trips.csv", "--hierarchy", "net.rch", "--on-roads"]),
+    (to_geojson, ["net", "answers", "--hierarchy", "net.rch"]), (table, ["net", "net.rch", "places.csv", "places.csv"]),
+    (table, ["net", "net.rch", "places.csv", "places.csv", "--on-roads"]), (reach, ["net", "net.rch", "places.csv", "--minutes", "0.001"]),
+]
+
+
+@pytest.mark.parametrize("tool, words", CALLS, ids=[" ".join(words) for _, words in CALLS])
+def test_tools_use_what_they_have_compared(tmp_path, monkeypatch, capsys, tool, words):
+    """A network that takes the name of the one that was compared, a moment later, changes nothing."""
+    monkeypatch.chdir(tmp_path)
+    for name, text in (("places.csv", PLACES), ("trips.csv", TRIPS), ("answers", "r 3 1 4000 2 3 2 1\n"), ("n.csv", NODES)):
+        (tmp_path / name).write_text(text)
+    (tmp_path / "a.csv").write_text(ARCS.replace("weight", "seconds").replace("00", "").replace("c,b,1", "c,b,3"))
+    (tmp_path / "swapped.csv").write_text("node,lon,lat\nc,0.002,0\nb,0.001,0\na,0,0\n")
+    for nodes, name in (("n.csv", "net"), ("swapped.csv", "new")):
+        subprocess.run([TOOLS / "to_network", nodes, "a.csv", name], check=True, capture_output=True)
+    domethyme.prepare("net.gr", "net.rch", workers=1).close()
+    monkeypatch.setattr(sys, "argv", [tool.__name__.rpartition(".")[2], *words])
+    compare, printed = belonging.compare, []
+
+    def replacing(*arguments):
+        compare(*arguments)
+        if printed:
+            os.replace("new.net", "net.net")
+
+    monkeypatch.setattr(belonging, "compare", replacing)
+    for _ in range(2):
+        tool.main()
+        printed.append(capsys.readouterr().out)
+    assert printed[0] == printed[1] != "" and not (tmp_path / "new.net").exists()

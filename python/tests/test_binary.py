@@ -5,6 +5,7 @@ import shutil
 import subprocess
 import sys
 import tracemalloc
+import unittest.mock
 import zlib
 
 import numpy as np
@@ -13,9 +14,8 @@ from tool_case import PYTHON, ROOT, VILLAGE, ToolCase, lightest
 
 import domethyme
 from domethyme.network import column_file, net_file
-from domethyme.network.reading import arcs_from_net, read_nodes
 from domethyme.network.snapping import RoadIndex
-from domethyme.network.tables import read_arcs, read_node_table
+from domethyme.network.tables import read_arcs
 from domethyme_service.tiles import Tiles
 
 # Two nodes, a road both ways and one that is straight on.
@@ -59,43 +59,11 @@ def answers(prefix):
 
 
 class SameTests(BinaryCase):
-    def test_it_says_what_the_tables_say(self):
-        for prefix in self.prefix, self.turns():
-            self.assertTrue(net_file.is_current(prefix))
-            self.assert_same(net_file.read(f"{prefix}.net"), net_file.arrays_from_tables(prefix))
-            self.assertEqual(read_nodes(f"{prefix}.nodes.csv"), read_node_table(f"{prefix}.nodes.csv"))
-            self.assertEqual(list(arcs_from_net(net_file.load_network(prefix))), list(read_arcs(f"{prefix}.arcs.csv")))
-        self.assertIn("no", read_nodes(f"{prefix}.nodes.csv").ends)
-
     def turns(self):
         """A network with a junction that a turn restriction splits."""
         self.write("map.osm", crossing((2, 3, {"restriction": "no_left_turn"})))
         self.run_tool("osm_to_gr", "map.osm", "t", "--keep-islands", "--tables")
         return str(self.folder / "t")
-
-    def test_the_lightest_arcs_are_found(self):
-        for prefix in self.prefix, self.turns():
-            wanted = lightest(read_arcs(f"{prefix}.arcs.csv"))
-            arrays = net_file.load_network(prefix)
-            count = len(arrays.node_osm)
-            pairs = np.array([(start, end) for start in range(1, count + 1) for end in range(1, count + 1)]).T
-            found = arrays.lightest(*pairs)
-            self.assertEqual({pair for pair, arc in zip(zip(*pairs.tolist()), found.tolist()) if arc >= 0}, set(wanted))
-            arcs = list(read_arcs(f"{prefix}.arcs.csv"))
-            for pair, arc in zip(zip(*pairs.tolist()), found.tolist()):
-                if arc >= 0:
-                    self.assertEqual(arcs[arc], wanted[pair])
-
-    def test_copies_of_a_junction(self):
-        """The nodes that the turn restriction made of node 1 of the map are those with its id."""
-        roads = RoadIndex(self.turns())
-        osm = np.asarray(roads.arrays.node_osm).tolist()
-        ends = np.asarray(roads.arrays.node_ends).tolist()
-        split = {node + 1 for node, side in enumerate(ends) if side}
-        self.assertGreater(len(split), 2)
-        for node in range(1, roads.nodes + 1):
-            wanted = {each for each in split if osm[each - 1] == osm[node - 1]} if node in split else {node}
-            self.assertEqual(set(roads.split_nodes(node)), wanted)
 
     def test_the_package_reads_it(self):
         for name in ("nodes.csv", "arcs.csv"):
@@ -129,18 +97,20 @@ class SameTests(BinaryCase):
         )
         self.assertEqual(network.arcs_frame().astype(str).values.tolist(), arcs.astype(str).values.tolist())
 
-    def test_it_is_the_same_each_time(self):
-        self.run_tool("osm_to_gr", VILLAGE, "other", "--keep-islands", "--tables")
-        self.assertEqual((self.folder / "other.net").read_bytes(), self.path.read_bytes())
-
 
 class OtherTests(BinaryCase):
     def test_one_that_is_older_or_of_other_tables_is_not_read(self):
         self.assertTrue(net_file.is_current(self.prefix))
         later = os.stat(self.path).st_mtime + 1
-        os.utime(f"{self.prefix}.arcs.csv", (later, later))
-        self.assertFalse(net_file.is_current(self.prefix))
-        os.utime(self.path, (later, later))
+        arcs = self.folder / "v.arcs.csv"
+        for time in (later, 1):
+            os.utime(arcs, (time, time))
+            self.assertTrue(net_file.is_current(self.prefix))
+            whole = arcs.read_bytes()
+            arcs.write_bytes(whole.replace(b"High Street", b"Low  Street"))
+            os.utime(arcs, (time, time))
+            self.assertFalse(net_file.is_current(self.prefix))
+            arcs.write_bytes(whole)
         self.assertTrue(net_file.is_current(self.prefix))
         text = (self.folder / "v.nodes.csv").read_text()
         self.write("v.nodes.csv", text.rstrip("\n"))
@@ -194,6 +164,21 @@ class OtherTests(BinaryCase):
         for attempt in (arrays.file.check_unchanged, lambda: arrays.file.columns[damaged[0]][:]):
             with self.assertRaisesRegex(domethyme.NetworkError, "was written to while it was in use"):
                 attempt()
+
+    def test_a_part_written_in_place(self):
+        """A read of blocks of which one was verified before the file was written verifies that one too."""
+        form, path = {"a": column_file.ArraySpec("<i8")}, self.folder / "array"
+        for rows in (slice(4, 20), np.array([3, 20])):
+            with self.subTest(rows=rows), unittest.mock.patch.object(column_file, "BLOCK", 64):
+                with open(path, "w+b") as file:
+                    column_file.write(file, form, 1, [("a", np.arange(24))])
+                    file.flush()
+                    column = column_file.MappedFile(file, "array", {1: form}, "").columns["a"]
+                self.assertEqual(column[3], 3)
+                path.write_bytes(path.read_bytes().replace(b"\3\0", b"\7\0", 1))
+                os.utime(path, (1, 1))
+                with self.assertRaisesRegex(domethyme.NetworkError, "a has another checksum"):
+                    column[rows]
 
     def test_replaced_by_a_rename(self):
         roads = RoadIndex(self.prefix)
@@ -287,7 +272,15 @@ class SmallTests(BinaryCase):
         with open(self.path, "r+b") as file:
             file.seek(8)
             file.write(bytes([99]))
-        self.refused("has version 99 and not 2 or 3; convert the map again, or make it of its tables, as `to_network")
+        self.refused("has version 99 and not one from 2 to 5; convert the map again, or make it of its tables, as `to_network")
+
+    def test_an_earlier_version(self):
+        """A file of version 2, without checksums of tables, has what this one has."""
+        arrays = net_file.read(str(self.path))
+        columns = {name: column[:] for name, column in arrays.file.columns.items()}
+        with open(self.folder / "old.net", "w+b") as file:
+            column_file.write(file, net_file.FILE_SCHEMA, 2, {**columns, "about": columns["about"][:-2]}.items())
+        self.assert_same(net_file.read(self.folder / "old.net"), arrays)
 
     def test_a_route_that_meets_a_damaged_block(self):
         """The file opens, and what isn't damaged is answered; what is read of the damaged block is refused, each time."""

@@ -4,12 +4,19 @@ import csv
 import gzip
 import io
 import json
+import subprocess
+import tracemalloc
 
-from tool_case import ToolCase
+import numpy as np
+import pytest
+from tool_case import TOOLS, ToolCase
 
 import domethyme
 from domethyme.dimacs import read_graph
-from domethyme.network import net_file
+from domethyme.network import column_file, from_tables, net_file
+from domethyme.network.net_file import NodeArrays
+from domethyme_service.errors import RequestError
+from domethyme_service.queries import NodeKeys
 
 NODES = "node,lon,lat\ndepot,0,0\nshop,0.001,0\nfarm,0.001,0.002\n"
 ARCS = "from,to,kmh\ndepot,shop,50\nshop,depot,50\nshop,farm,30\n"
@@ -27,31 +34,6 @@ class ColumnTests(ToolCase):
         self.write("nodes.csv", nodes)
         self.write("arcs.csv", arcs)
         self.assert_refused("to_network", "nodes.csv", "arcs.csv", "other", says=says)
-
-    def test_roads_of_one_way(self):
-        """A row is a road then: both arcs, one, or the one back, along the same line."""
-        line = '"LINESTRING (0 0, 0.0005 0.0001, 0.001 0)"'
-        arcs = f"from,to,weight,oneway,WKT\ndepot,shop,7,0,{line}\nshop,farm,8,yes,\nfarm,depot,9,-1,\ndepot,farm,5,,\nshop,farm,6,NO,\n"
-        _, graph = self.made(arcs=arcs)
-        self.assertEqual(graph, (3, [1, 2, 2, 1, 1, 3, 2, 3], [2, 1, 3, 3, 3, 1, 3, 2], [7, 7, 8, 9, 5, 5, 6, 6]))
-        network = net_file.read(str(self.folder / "net.net"))
-        self.assertEqual(
-            (network.line(0), network.line(1)),
-            ([(0, 0), (0.0005, 0.0001), (0.001, 0)], [(0.001, 0), (0.0005, 0.0001), (0, 0)]),
-        )
-        self.assertEqual(network.arc_edge[:2].tolist(), [0, 0])
-        self.assertEqual(self.made()[1][1:3], ([1, 2, 2], [2, 1, 3]))
-        self.refused(
-            "arcs.csv, row 2: oneway 'both' is none of 1, yes, -1, 0, no", arcs="from,to,weight,oneway\ndepot,shop,7,both\n"
-        )
-
-    def test_kilometres(self):
-        _, graph = self.made(NODES, "from,to,km,kmh\ndepot,shop,0.8,50\n")
-        self.assertEqual(graph.weights, [57600])
-        self.assertEqual(
-            self.made(NODES, "from,to,km,metres\ndepot,shop,0.8,\nshop,farm,1,300\n", "--weight", "length")[1].weights,
-            [80000, 30000],
-        )
 
     def test_what_is_doubted(self):
         said, _ = self.made(
@@ -165,15 +147,6 @@ class ColumnTests(ToolCase):
         for name in ("tables", "again"):
             self.assertEqual(domethyme.Network(self.folder / name).keys().node("farm"), 2)
 
-    def test_numbers_as_keys(self):
-        self.made("node,lon,lat\n1,0,0\n2,0.001,0\n", "from,to,kmh\n1,2,50\n")
-        self.assertFalse(net_file.read(str(self.folder / "net.net")).has_keys)
-        with self.assertRaisesRegex(domethyme.NetworkError, "net: its nodes have no keys"):
-            domethyme.Network(self.folder / "net").keys()
-        self.made("node,lon,lat\n007,0,0\n8,0.001,0\n", "from,to,kmh\n007,8,50\n")
-        keys = domethyme.Network(self.folder / "net").keys()
-        self.assertEqual([keys.key(0), keys.key(1)], ["007", 8])
-
     def test_files_of_gzip(self):
         """Tables, DIMACS files and answers; one that is cut off is refused."""
         wanted = self.made()[1]
@@ -197,16 +170,58 @@ class ColumnTests(ToolCase):
             "to_network", "nodes.csv.gz", "arcs.csv", "cut", says="nodes.csv.gz: isn't a whole file of gzip"
         )
 
-    def test_no_seconds(self):
-        """Weights of one's own: the time isn't known, and is no zero."""
-        self.made(arcs="from,to,weight\ndepot,shop,1\nshop,farm,1\n")
-        network = net_file.read(str(self.folder / "net.net"))
-        self.assertEqual((network.has_seconds, network.unit), (False, "weight"))
-        self.write("answers", "r 1 3 2 2 1 2 3\n")
-        feature = json.loads(self.run_tool("to_geojson", "net", "answers", "--format", "lines").stdout)
-        self.assertEqual((feature["properties"]["seconds"], feature["properties"]["metres"]), (None, 333.59))
-        self.assertEqual(feature["properties"]["steps"], [{"name": "", "metres": 333.59, "seconds": None}])
-        self.run_tool("draw", "net", self.write("routes", json.dumps(feature)), "out.svg")
-        self.assertIn(">0.33 km<", (self.folder / "out.svg").read_text())
-        route = domethyme.Route(0, 2, 2, [], [0, 1, 2]).geojson(domethyme.Network(self.folder / "net"))
-        self.assertIsNone(route["properties"]["seconds"])
+
+def test_a_line_of_many_points(tmp_path):
+    """A field has more than the 131,072 characters that Python's csv takes by itself."""
+    line = ", ".join(f"{0.001 * step / 9000:.7f} {0.0001 * (step % 2):.7f}" for step in range(9001))
+    (tmp_path / "n.csv").write_text("lon,lat\n0,0\n0.001,0\n")
+    (tmp_path / "a.csv").write_text(f'from,to,kmh,WKT\n1,2,50,"LINESTRING ({line})"\n')
+    subprocess.run([TOOLS / "to_network", "n.csv", "a.csv", "net"], cwd=tmp_path, check=True, capture_output=True)
+    assert len(net_file.read(tmp_path / "net.net").points) == 9001
+
+
+def test_metres_of_many_lines():
+    """A line has its own metres, to the last digit, behind many that lead round the earth."""
+    points = np.array([(0, 0), (1_700_000_000, 0)] * 100_000 + [(0, 0), (10_000, 0)] * 100_000, np.int32)
+    metres = from_tables.line_metres(np.arange(0, len(points) + 1, 2), points)
+    assert metres[-1] == pytest.approx(111.19508, abs=1e-5) and np.ptp(metres[100_000:]) == 0
+
+
+@pytest.mark.parametrize("is_old", [False, True])
+def test_keys_take_no_memory_of_a_process(tmp_path, is_old):
+    """Each key is found in the file, whatever its order, and none that isn't there. A file of version 3 has no order of keys."""
+    names = [f"{chr(0x2460 + number % 20)}{number * 7919 % 20_011}" for number in range(20_000)]
+    nodes = NodeArrays(np.full(20_000, net_file.NO_OSM), np.zeros((20_000, 2), np.int32), np.zeros(20_000, np.uint8), names)
+    arcs = from_tables.straight_arcs(*(np.array([each]) for each in (1, 2, 3)), nodes)
+    path = tmp_path / "net.net"
+    with open(path, "w+b") as file:
+        net_file.write(file, net_file.build_arrays(nodes, arcs))
+    if is_old:
+        columns = {name: column[:] for name, column in net_file.read(path).file.columns.items() if name != "key_nodes"}
+        path = tmp_path / "old.net"
+        with open(path, "w+b") as file:
+            column_file.write(file, net_file.OLD_SCHEMA_WITH_KEYS, 3, {**columns, "about": columns["about"][:-2]}.items())
+    tracemalloc.start()
+    keys = NodeKeys(net_file.read(path))
+    assert [keys.node(names[number], "from_key") for number in (0, 77, 19_999)] == [1, 78, 20_000]
+    assert json.loads(keys.add_keys(b'{"a":1}', (3, 5))) == {"a": 1, "from_key": names[2], "to_key": names[4]}
+    _, peak = tracemalloc.get_traced_memory()
+    tracemalloc.stop()
+    assert is_old or peak < 20 * len(names)
+    for key in ("", "no", names[0] + "x", "\ud800", "\uffff", 7, None):
+        with pytest.raises(RequestError, match="from_key is the key of no node"):
+            keys.node(key, "from_key")
+
+
+def test_keys_of_a_table_that_was_replaced(tmp_path):
+    """Another column of the table beside the network is read later, and has to be of the same table."""
+    table = tmp_path / "firm.nodes.csv"
+    table.write_text("node,lon,lat,shop\na,0,0,north\nb,0.001,0,south\n")
+    (tmp_path / "firm.arcs.csv").write_text("from,to,kmh\na,b,50\n")
+    subprocess.run([TOOLS / "to_network", table, "firm.arcs.csv", "firm"], cwd=tmp_path, check=True, capture_output=True)
+    network = domethyme.Network(tmp_path / "firm")
+    assert (network.keys("shop").node("south"), network.keys().node("b")) == (1, 1)
+    table.write_text("node,lon,lat,shop\nb,0.001,0,south\na,0,0,north\n")
+    assert network.keys().node("b") == 1
+    with pytest.raises(domethyme.NetworkError, match="firm.nodes.csv: isn't the table of the nodes that .*firm.net has"):
+        network.keys("shop")

@@ -7,7 +7,7 @@ import sys
 
 import numpy as np
 import pytest
-from reach_case import APART, ISLAND, MILLI, Road, lengths, network, starts_at, town
+from reach_case import APART, ISLAND, MILLI, Road, lengths, network, town
 from shapely import vectorized
 from shapely.affinity import scale, translate
 from shapely.geometry import LineString, MultiPolygon, Point, Polygon, box as rectangle, shape
@@ -16,7 +16,7 @@ from domethyme.network import contour_shapes, isochrones, net_file
 from domethyme.network.contours import contours, meshes_of
 from domethyme.network.indexes import UNITS
 from domethyme.network.isochrones import Style, features
-from domethyme.network.reach import DECIMALS, METRES_OF_DEGREE, PlaceOnRoad, Reach
+from domethyme.network.reach import DECIMALS, METRES_OF_DEGREE, Reach
 
 BENCH = pathlib.Path(__file__).resolve().parents[2] / "bench"
 
@@ -68,22 +68,6 @@ def check_grids(reach, found):
     assert all(mesh.points <= 4_000_000 for mesh in meshes_of(reach))
 
 
-@pytest.mark.parametrize("start, seconds, towards", [
-    (300, [60, 120, 180], False), (300, [60, 120, 180], True), (20, [45, 200], True), (ISLAND, [30, 150], False),
-    (ISLAND, [150], True), (430, [10, 80], False),
-])
-def test_no_node_of_the_town_is_on_the_wrong_side(made_town, start, seconds, towards):
-    net, names = made_town
-    found = lengths(net, {names[start][0] if start == ISLAND else start: 0}, towards)
-    reach = Reach(net, found, [1000 * each for each in seconds], towards=towards)
-    drawn = contours(reach)
-    for limit, contour in enumerate(drawn):
-        outside, inside, reached, others = misplaced(net, found, reach, limit, contour)
-        assert (outside, inside) == (0, 0) and reached > 0 and others > 0
-    assert are_nested(drawn)
-    check_grids(reach, drawn)
-
-
 @pytest.mark.parametrize("start, minutes, towards", [
     (9000, [4, 8], False), (9000, [6], True), (100, [2, 9], True), (15000, [0.5, 5], False),
 ])
@@ -96,21 +80,6 @@ def test_no_node_of_a_network_is_on_the_wrong_side(made_roads, start, minutes, t
         assert (outside, inside) == (0, 0) and reached > 0 and others > 0
     assert are_nested(drawn)
     check_grids(reach, drawn)
-
-
-def test_the_test_sees_a_node_on_the_wrong_side(made_town):
-    """With a disc around a node taken away, or added, the count isn't 0."""
-    net, _ = made_town
-    found = lengths(net, {300: 0})
-    reach = Reach(net, found, [120_000])
-    (contour,) = contours(reach)
-    lon, lat = net.node_lon[300] / UNITS, net.node_lat[300] / UNITS
-    disc = scale(Point(lon, lat).buffer(1), 40 / reach.plane.east, 40 / METRES_OF_DEGREE, origin=(lon, lat))
-    less = contour._replace(polygons=contour_shapes.parts_of(MultiPolygon(contour.polygons).difference(disc)))
-    assert misplaced(net, found, reach, 0, less)[0] > 0
-    far = int(np.argmax(found))
-    disc = translate(disc, net.node_lon[far] / UNITS - lon, net.node_lat[far] / UNITS - lat)
-    assert misplaced(net, found, reach, 0, contour._replace(polygons=[*contour.polygons, disc]))[1] > 0
 
 
 def test_island_lake_and_bridge(made_town):
@@ -141,29 +110,6 @@ def test_nodes_in_one_place_that_differ(made_town):
     assert sum(len(levels) > 1 for levels in of_square.values()) > 3
 
 
-def test_a_bridge_with_a_node_above_one_of_the_road():
-    """Both nodes lie in one place. The limit 0 reaches one of them alone, and no road."""
-    nodes = [(-0.01, 0), (0, 0), (0.01, 0), (0, -0.01), (0, 0), (0, 0.01)]
-    net = network(nodes, [Road(start, start + 1, 10_000, 10_000) for start in (0, 1, 3, 4)])
-    for start in (1, 4):
-        found = lengths(net, {start: 0})
-        reach = Reach(net, found, [0, 5000])
-        drawn = contours(reach)
-        assert all(contour.polygons for contour in drawn) and are_nested(drawn)
-        assert [misplaced(net, found, reach, limit, contour) for limit, contour in enumerate(drawn)] == [(0, 0, 1, 5)] * 2
-
-
-def test_places_on_roads(made_town):
-    """A place on a road whose ends aren't reached is in its contour."""
-    net, _ = made_town
-    place = PlaceOnRoad(250, 0.4)
-    reach = Reach(net, lengths(net, starts_at(net, place)), [2000, 100_000], [place])
-    small, large = contours(reach)
-    x, y = reach.vertices(np.array([250])).at(np.array([0]), np.array([0.4]))[0]
-    assert in_plane(reach, small.polygons).contains(Point(x, y)) and are_nested([small, large])
-    assert reach.boxes[0].sides[0] < 34  # 2 seconds at 30 km/h, both ways
-
-
 def test_limits_that_differ_much(made_roads):
     """Some grids, one within the other: contours are nested, of one piece where their boxes meet, and drawn on the grid of
     the smallest box that they pass."""
@@ -184,19 +130,6 @@ def test_limits_that_differ_much(made_roads):
         counts.append(np.count_nonzero(within))
         ends = ends[~around]
     assert np.count_nonzero(counts) > 2
-
-
-def test_two_places_almost_half_a_world_apart():
-    """A grid of a few rows, which is as long as the way between. Nothing there is inside."""
-    net = network(
-        [(lon + x, 0) for lon in (0, 150) for x in (0, 0.01, -0.01)],
-        [Road(start, start + number, 10_000, 10_000) for start in (0, 3) for number in (1, 2)],
-    )
-    found = lengths(net, {0: 0, 3: 0})
-    reach = Reach(net, found, [10_000])
-    (contour,) = contours(reach)
-    assert len(contour.polygons) == 2 and misplaced(net, found, reach, 0, contour) == (0, 0, 6, 0)
-    assert MultiPolygon(contour.polygons).bounds[2] < 150.1 and max(p.area for p in contour.polygons) < 0.001
 
 
 @pytest.mark.parametrize("form", ["polygons", "roads"])
@@ -316,30 +249,12 @@ def test_features(made_town):
                 assert all(value == round(value, DECIMALS) for point in ring for value in point)
 
 
-def test_colors_and_attribution(made_town):
-    reach = Reach(made_town[0], lengths(made_town[0], {300: 0}), [1000, 2000, 3000])
-    found = features(reach, [1, 2, 3], "time", Style("roads", colors=["ff0000", "00ff00", "0000ff"]))
-    assert [each["properties"]["color"] for each in found["features"]] == ["#0000ff", "#00ff00", "#ff0000"]
-    assert "attribution" not in found
-
-
 def polygons_of(geometry):
     return [geometry["coordinates"]] if geometry["type"] == "Polygon" else geometry["coordinates"]
 
 
 def is_counterclockwise(ring):
     return sum(x * other_y - other_x * y for (x, y), (other_x, other_y) in zip(ring, ring[1:])) > 0
-
-
-def test_lines_and_roads(made_town):
-    """Lines are the rings of the polygons. Roads are inside the polygons, but for a step at the line."""
-    net, _ = made_town
-    reach = Reach(net, lengths(net, {300: 0}), [60_000])
-    forms = [features(reach, [1], "time", Style(form))["features"] for form in ("polygons", "lines", "roads")]
-    polygons, lines, roads = (feature["geometry"] for (feature,) in forms)
-    assert shape(lines).equals(shape(polygons).boundary) and lines["type"] in ("LineString", "MultiLineString")
-    near = shape(polygons).buffer(10 / reach.plane.east)
-    assert roads["type"] == "MultiLineString" and near.covers(shape(roads)) and shape(roads).is_valid
 
 
 def test_nothing_is_reached(made_town):
@@ -366,13 +281,6 @@ def test_across_the_180th_meridian():
         assert translate(plain, 170).symmetric_difference(whole).area < 1e-3 * plain.area
 
 
-@pytest.mark.parametrize("words, expected", [
-    (("duration", [5, 7.5]), [300_000, 450_000]), (("distance", [], [1500, 2]), [150_000, 200]),
-])
-def test_limits(words, expected):
-    assert isochrones.limits(*words) == expected
-
-
 @pytest.mark.parametrize("words, says", [
     (("duration", [], [5]), "aren't a distance: they are durations"),
     (("distance", [5]), "aren't a time: they are distances"), (("weight", [5]), "aren't a time: they are weights"),
@@ -381,13 +289,6 @@ def test_limits(words, expected):
 def test_limits_that_are_not_known(words, says):
     with pytest.raises(ValueError, match=says):
         isochrones.limits(*words)
-
-
-def test_numbers_that_do_not_fit(made_town):
-    reach = Reach(made_town[0], lengths(made_town[0], {0: 0}), [1000, 2000])
-    for asked, style in (([1], Style()), ([1, 2], Style(colors=["ffffff"]))):
-        with pytest.raises(ValueError, match="there are 2 limits"):
-            features(reach, asked, "time", style)
 
 
 CROSS = """\

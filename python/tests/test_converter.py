@@ -9,7 +9,7 @@ import unittest
 from unittest import mock
 
 import numpy as np
-from tool_case import PYTHON, TAKES_SIGNALS, VILLAGE, ToolCase
+from tool_case import PYTHON, SECONDS, TAKES_SIGNALS, VILLAGE, ToolCase
 
 from domethyme.dimacs import read_graph
 from domethyme.network import net_file, parallel
@@ -117,13 +117,13 @@ class FailureTests(ProgramCase):
         for number, status in ((signal.SIGINT, 130), (signal.SIGTERM, 143)):
             words = [*TAKES_SIGNALS, *map(str, self.command), "osm_to_gr", str(VILLAGE), "out"]
             process = subprocess.Popen(words, cwd=self.folder, env=self.environment, stderr=subprocess.PIPE, text=True)
-            until = time.monotonic() + 60
+            until = time.monotonic() + SECONDS
             while not (self.folder / "pid").exists() and time.monotonic() < until:
                 time.sleep(0.05)
             time.sleep(0.1)
             program = int((self.folder / "pid").read_text())
             process.send_signal(number)
-            said = process.communicate(timeout=60)[1]
+            said = process.communicate(timeout=SECONDS)[1]
             self.assertEqual((process.returncode, said), (status, ""))
             self.assertEqual(self.outputs(), before)
             with self.assertRaises(ProcessLookupError):

@@ -38,7 +38,8 @@ def test_names(hierarchy, old, new, holds):
 
 
 def test_frames():
-    pandas = pytest.importorskip("pandas")
+    import pandas
+
     frame = pandas.DataFrame({"from": ["a", "b"], "to": ["b", "a"], "weight": [1, 2]})
     with pytest.warns(DeprecationWarning, match="from_frame"):
         assert domethyme.Graph.of_frame(frame).weights.tolist() == [1, 2]
@@ -88,12 +89,30 @@ def test_sides(village):
         network.nearest(0, 0, "both")
 
 
+def test_radius(village):
+    folder, _ = village
+    domethyme.prepare(folder / "v.gr", folder / "v.rch", workers=1).close()
+    with domethyme.Hierarchy(folder / "v.rch", network=folder / "v") as hierarchy:
+        for name, old, new in [
+            ("nearest", lambda: hierarchy.nearest(0, 0, within=9), lambda: hierarchy.nearest(0, 0, radius=9)),
+            ("within", lambda: hierarchy.within((0, 0), max_metres=9), lambda: hierarchy.within((0, 0), radius=9)),
+            ("points_on_roads", lambda: hierarchy.network.points_on_roads((0, 0), max_metres=9),
+             lambda: hierarchy.network.points_on_roads((0, 0), 9)),
+        ]:
+            with pytest.warns(DeprecationWarning, match=rf"{name}\(.*=\) is now {name}\(radius=\)") as caught:
+                assert old() == new()
+            assert [each.filename for each in caught] == [__file__]
+
+
 PAIRS = "p aux sp p2p 1\nq 1 2\n"
 TRIPS = "trip,from_lon,from_lat,to_lon,to_lat\none,0,0,0.002,0\n"
 # A tool's arguments with an old word, and the line that it prints.
 OLD_OPTIONS = [
-    (["nearest", "v", "trips.csv", "--within", "500", "-o", "-"], "nearest: --within is now --max-distance"),
-    (["nearest", "v", "trips.csv", "--within=500"], "nearest: --within is now --max-distance"),
+    (["nearest", "v", "trips.csv", "--within", "500", "-o", "-"], "nearest: --within is now --radius"),
+    (["nearest", "v", "trips.csv", "--within=500"], "nearest: --within is now --radius"),
+    (["nearest", "v", "trips.csv", "--max-distance", "500"], "nearest: --max-distance is now --radius"),
+    (["table", "v", "v.rch", "places.csv", "places.csv", "--max-distance", "500"], "table: --max-distance is now --radius"),
+    (["reach", "v", "v.rch", "places.csv", "--max-distance", "500"], "reach: --max-distance is now --radius"),
     (["to_geojson", "v", "answers", "--as", "lines"], "to_geojson: --as is now --format"),
     (["draw", "v", "routes.geojson", "out.svg", "--whole"], "draw: --whole is now --full-network"),
     (
@@ -124,6 +143,7 @@ def test_options(village, tmp_path, words, line):
         (tmp_path / path.name).symlink_to(path)
     domethyme.prepare(tmp_path / "v.gr", tmp_path / "v.rch", workers=1).close()
     (tmp_path / "trips.csv").write_text(TRIPS)
+    (tmp_path / "places.csv").write_text("lon,lat\n0,0\n")
     (tmp_path / "pairs").write_text(PAIRS)
     route = subprocess.run(
         [os.environ["ROUTECLI"], "route", "v.rch", "pairs"], cwd=tmp_path, capture_output=True, check=True

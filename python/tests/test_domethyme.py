@@ -1,18 +1,16 @@
 """Tests of the package domethyme: what goes through arrays, files and the program, beside scipy's plain search."""
-import pickle
 import re
+import subprocess
 import sys
+import typing
 import unittest.mock
 
 import numpy as np
 import pandas as pd
-from scipy.sparse import coo_array
-from scipy.sparse.csgraph import dijkstra
 from tool_case import PYTHON, ROOT, ToolCase
 
 import domethyme
 from domethyme import batch, find_program
-from domethyme.network.leg_tables import Ends, least_by_nodes
 
 # Four nodes: two ways from 0 to 2, of 3 + 4 = 7 and of 9; back from 2 to 0 by 5; node 3 leads to 0 by 6, and nothing to it.
 SQUARE = ([0, 1, 0, 2, 3], [1, 2, 2, 0, 0], [3, 4, 9, 5, 6])
@@ -39,26 +37,6 @@ class DomethymeTests(ToolCase):
         domethyme.write_graph(self.folder / "square.gr", [], [], [])
         self.assertEqual((self.folder / "square.gr").read_text(), "p sp 0 0\n")
 
-    def test_routes_of_the_square(self):
-        routes = self.square().routes([[0, 2], [0, 3], [3, 2], [1, 1]])
-        self.assertEqual(len(routes), 4)
-        self.assertEqual(routes.lengths.tolist(), [7, -1, 13, 0])
-        self.assertEqual([routes[row].tolist() for row in range(4)], [[0, 1, 2], [], [3, 0, 1, 2], [1]])
-        self.assertEqual([route.tolist() for route in routes], [[0, 1, 2], [], [3, 0, 1, 2], [1]])
-        self.assertEqual(routes[-1].tolist(), [1])
-        self.assertEqual(routes.offsets.tolist(), [0, 3, 3, 7, 8])
-        for row in [4, -5]:
-            with self.assertRaises(IndexError):
-                routes[row]
-
-    def test_no_pairs_and_no_way_at_all(self):
-        hierarchy = self.square()
-        for none in [[], np.empty((0, 2), dtype=int)]:
-            routes = hierarchy.routes(none)
-            self.assertEqual((routes.lengths.tolist(), routes.nodes.tolist(), routes.offsets.tolist()), ([], [], [0]))
-        routes = hierarchy.routes([[0, 3], [1, 3]])
-        self.assertEqual((routes.lengths.tolist(), routes.offsets.tolist()), ([-1, -1], [0, 0, 0]))
-
     def test_lengths_beyond_32_bits(self):
         hierarchy = self.prepared("line", [0, 1, 2], [1, 2, 3], [4294967295] * 3)
         routes = hierarchy.routes([[0, 3]])
@@ -66,52 +44,6 @@ class DomethymeTests(ToolCase):
         self.assertEqual(routes[0].tolist(), [0, 1, 2, 3])
         self.assertEqual(hierarchy.matrix([0, 3]).tolist(), [[0, 12884901885], [-1, 0]])
         self.assertEqual(hierarchy.between({0: 4294967295}, {3: 4294967295}).length, 5 * 4294967295)
-
-    def test_random_networks_beside_a_plain_search(self):
-        draw = np.random.default_rng(1)
-        for nodes, arcs, heaviest in [(1, 0, 1), (40, 60, 1000), (300, 1000, 1000), (300, 400, 1000), (300, 600, 2)]:
-            with self.subTest(nodes=nodes, arcs=arcs):
-                ends, weights = draw.integers(0, nodes, (2, arcs)), draw.integers(0, heaviest + 1, arcs)
-                hierarchy = self.prepared("network", *ends, weights, nodes=nodes, seed=3, workers=2)
-                pairs = np.stack(np.meshgrid(np.arange(nodes), np.arange(nodes), indexing="ij"), axis=-1).reshape(-1, 2)
-                least = least_weights(nodes, *ends, weights)
-                self.check(hierarchy.routes(pairs[: 4 * nodes]), pairs[: 4 * nodes], least)
-                lengths = hierarchy.routes(pairs[:nodes]).lengths
-                self.assertEqual(hierarchy.lengths(pairs[:nodes]).tolist(), lengths.tolist())
-                wanted = dijkstra(least)
-                wanted = np.where(np.isinf(wanted), -1, wanted).astype(np.int64)
-                np.testing.assert_array_equal(hierarchy.matrix(np.arange(nodes)), wanted)
-                some = draw.integers(0, nodes, 7)
-                np.testing.assert_array_equal(hierarchy.matrix(some, some[:3]), wanted[some][:, some[:3]])
-                self.check_between(hierarchy, draw)
-
-    def check_between(self, hierarchy, draw):
-        """A table from and to points of several nodes with added lengths, beside `between` for each; a point may have no node."""
-        sides = []
-        for size in (6, 4):
-            points, nodes = np.sort(draw.integers(0, size - 1, 8)), draw.integers(0, hierarchy.nodes, 8)
-            sides.append(Ends(points, nodes, draw.integers(0, 100, 8)))
-        table = least_by_nodes(hierarchy.matrix, *sides, (6, 4))
-        self.assertEqual(table.shape, (6, 4))
-        for (start, end), length in np.ndenumerate(table):
-            some, others = ([*zip(nodes[at].tolist(), added[at].tolist())]
-                            for (points, nodes, added), point in zip(sides, (start, end)) for at in [points == point])
-            route = hierarchy.between(some, others) if some and others else None
-            self.assertEqual(length, -1 if route is None else route.length)
-
-    def check(self, routes, pairs, least):
-        """The lengths are those of scipy, and each route is a walk of that length between its nodes."""
-        wanted = dijkstra(least, indices=np.unique(pairs[:, 0]))[pairs[:, 0], pairs[:, 1]]
-        self.assertEqual(routes.lengths.tolist(), np.where(np.isinf(wanted), -1, wanted).tolist())
-        arcs = least.tocoo()
-        weights = {(start, end): weight for start, end, weight in zip(arcs.row, arcs.col, arcs.data)}
-        for (start, end), length, nodes in zip(pairs.tolist(), routes.lengths.tolist(), routes):
-            if length == -1:
-                self.assertEqual(len(nodes), 0)
-                continue
-            nodes = nodes.tolist()
-            self.assertEqual((nodes[0], nodes[-1]), (start, end))
-            self.assertEqual(sum(weights[step] for step in zip(nodes, nodes[1:])), length)
 
     def test_answers_in_many_blocks(self):
         lengths = [[0, 3, 7, -1], [9, 0, 4, -1], [5, 8, 0, -1], [6, 9, 13, 0]]
@@ -126,8 +58,18 @@ class DomethymeTests(ToolCase):
     def test_all_options_of_prepare(self):
         options = {"order": "edges", "workers": 1, "seed": 7, "switch_order_after": 2}
         self.assertEqual(self.prepared("options", *SQUARE, **options).length(3, 2), 13)
+        self.assertEqual(self.prepared("options", *SQUARE, switch_order_after=2).length(3, 2), 13)
         with self.assertRaisesRegex(domethyme.ProgramError, "--stint"):
             self.prepared("options", *SQUARE, switch_order_after=0)
+        with self.assertRaisesRegex(domethyme.ProgramError, "--stint takes"):
+            self.prepared("options", *SQUARE, order="balanced", switch_order_after=2)
+
+    def test_the_orders_are_those_of_the_program(self):
+        said = subprocess.run([find_program(), "prepare", "--help"], check=True, stdout=subprocess.PIPE, text=True).stdout
+        offered = re.findall(r"possible values: ([^]]*)\]", said)[0].split(", ")
+        self.assertEqual(list(typing.get_args(domethyme.graphs.Order)), offered)
+        for order in offered:
+            self.assertEqual(self.prepared(order, *SQUARE, order=order).length(3, 2), 13)
 
     def test_names_that_begin_with_a_hyphen(self):
         """They are names of files, and no options."""
@@ -269,21 +211,6 @@ print(domethyme.Hierarchy("--help").length(0, 2))
         self.assertNotEqual(routes, routes[1:])
         self.assertEqual(routes.arcs.tolist(), [2, -1, 3, 0])
 
-    def test_keys_of_any_kind(self):
-        graph = domethyme.Graph.from_keys(["a", "b", "a", ("c", 3)], ["b", ("c", 3), ("c", 3), "a"], [3, 4, 9, 5])
-        with graph.prepare(self.folder / "keys.rch", program=find_program()) as hierarchy:
-            self.assertEqual(hierarchy.route("a", ("c", 3)).nodes, ["a", "b", ("c", 3)])
-            self.assertEqual(hierarchy.routes([("a", ("c", 3)), ("b", "a")])[1].tolist(), ["b", ("c", 3), "a"])
-            self.assertEqual(hierarchy.matrix(np.array(["b"]), np.array(["a", "b"])).tolist(), [[9, 0]])
-            table = hierarchy.matrix(["b"], ["a", ("c", 3)])
-            self.assertEqual(
-                (list(table.index), list(table.columns), table.values.tolist()), (["b"], ["a", ("c", 3)], [[9, 4]])
-            )
-            self.assertEqual(hierarchy.between({"a": 1}, ["b"]).length, 4)
-            for attempt in (lambda: hierarchy.length("a", "z"), lambda: hierarchy.lengths([("a", "z")])):
-                with self.assertRaisesRegex(domethyme.NoSuchNode, "key 'z' names no node"):
-                    attempt()
-
     def test_keys_given_as_numbers_arrays_or_mappings(self):
         self.square()
         large = [1 << 40, -5, 7, 9]
@@ -389,6 +316,8 @@ print(domethyme.Hierarchy("--help").length(0, 2))
         for scale in (0, -1, float("inf"), float("nan")):
             with self.assertRaisesRegex(ValueError, "the scale has to be above 0"):
                 domethyme.Graph.from_keys(["a"], ["b"], [0.5], scale=scale)
+            with self.assertRaisesRegex(ValueError, "scale has to be above 0"):
+                domethyme.unscaled(7, scale)
         with self.assertWarnsRegex(UserWarning, "2 of 4 weights are above 0, and 0 once they are scaled by 1") as told:
             domethyme.Graph.from_keys("abcd", "bcda", [0.3, 0, 0.4, 2], scale=1)
         self.assertEqual(told.filename, __file__)
@@ -472,20 +401,15 @@ print(domethyme.Hierarchy("--help").length(0, 2))
         with self.assertRaisesRegex(domethyme.ReadWriteError, "nowhere.gr: No such file"):
             domethyme.check(self.folder / "nowhere.gr", path, program)
 
-    def test_a_hierarchy_that_was_pickled_or_replaced(self):
-        hierarchy = self.square()
-        with pickle.loads(pickle.dumps(hierarchy)) as other:
-            self.assertEqual(other.length(0, 2), 7)
-        self.prepared("other", [0, 1], [1, 0], [8, 8])
-        (self.folder / "other.rch").replace(self.folder / "square.rch")
-        self.assertEqual((hierarchy.length(0, 2), hierarchy.matrix([0], [2]).tolist()), (7, [[7]]))
-
-
-def least_weights(nodes, starts, ends, weights):
-    """The matrix of the least weights from node to node; loops count for nothing."""
-    least = {}
-    for start, end, weight in zip(starts.tolist(), ends.tolist(), weights.tolist()):
-        if start != end:
-            least[start, end] = min(weight, least.get((start, end), weight))
-    rows, columns = ([ends[side] for ends in least] for side in (0, 1))
-    return coo_array((list(least.values()), (rows, columns)), shape=(nodes, nodes), dtype=float).tocsr()
+    def test_keys_of_another_graph(self):
+        """Keys of a graph that was prepared are refused for a hierarchy of as many nodes of another one, whether they can be saved
+        or not, and taken for a second hierarchy of that graph."""
+        for names in ("abcd", [("a",), ("b",), ("c",), ("d",)]):
+            graph = domethyme.Graph.from_keys(*([names[node] for node in side] for side in SQUARE[:2]), SQUARE[2])
+            for name, seed in (("one", 1), ("two", 2)):
+                graph.prepare(self.folder / f"{name}.rch", program=find_program(), seed=seed).close()
+            for name in ("one", "two"):
+                domethyme.Hierarchy(self.folder / f"{name}.rch", keys=graph.keys).close()
+            self.prepared("another", *SQUARE[:2], [1, 1, 1, 1, 1])
+            with self.assertRaisesRegex(ValueError, "keys were saved for another file than .*another.rch"):
+                domethyme.Hierarchy(self.folder / "another.rch", keys=graph.keys)

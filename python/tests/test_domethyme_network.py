@@ -1,11 +1,8 @@
 """Tests of networks in the package domethyme: nodes near places, routes as GeoJSON, and keys of OpenStreetMap."""
-import math
 
-import numpy as np
 from tool_case import VILLAGE, ToolCase
 
 import domethyme
-from domethyme.dimacs import read_graph
 
 STEP = 0.001
 
@@ -21,49 +18,6 @@ class NetworkTests(ToolCase):
         hierarchy = domethyme.Hierarchy(self.folder / "v.rch", network=self.network, **more)
         self.addCleanup(hierarchy.close)
         return hierarchy
-
-    def test_nearest(self):
-        hierarchy = self.hierarchy(keys=self.network.keys())
-        self.assertEqual(hierarchy.nearest(0, 0), (1, 0.0))
-        key, metres = hierarchy.nearest(3.9 * STEP, 0.1 * STEP)
-        self.assertEqual(key, 3)
-        self.assertAlmostEqual(metres, 111.195 * math.hypot(0.1, 0.1), places=2)
-        nodes, metres = self.network.nearest([[0, 2 * STEP]], 0)
-        self.assertEqual((hierarchy.keys.of(nodes[0]).tolist(), metres.tolist()), ([1, 2], [[0, 0]]))
-        for wrong in [(181, 0), (0, 91), (float("nan"), 0)]:
-            with self.assertRaises(ValueError):
-                hierarchy.nearest(*wrong)
-        for lon, lat in [(1, 0), ([0, 1], [0, 0])]:
-            with self.assertRaisesRegex(domethyme.NoSuchNode, "no node within 1000 m: the nearest is 108,861 m away; lon comes before lat"):
-                hierarchy.nearest(lon, lat)
-        self.assertAlmostEqual(hierarchy.nearest(1, 0, within=2e5)[1], 108861, delta=1)
-        with self.assertRaisesRegex(ValueError, "has no network"):
-            domethyme.Hierarchy(self.folder / "v.rch").nearest(0, 0)
-
-    def test_routes_on_the_road(self):
-        hierarchy = self.hierarchy()
-        ends = [hierarchy.nearest(x * STEP, 0)[0] for x in (0, 8)]
-        island = hierarchy.nearest(20 * STEP, 5 * STEP)[0]
-        route = hierarchy.route(*ends)
-        feature = route.geojson(self.network)
-        self.assertEqual(feature["geometry"]["coordinates"][0], [0.0, 0.0])
-        self.assertEqual(feature["properties"]["metres"], 889.56)
-        self.assertEqual(feature["properties"]["length"], route.length)
-        routes = hierarchy.routes([ends, [ends[0], island], [island, island]])
-        features = routes.geojson(self.network)["features"]
-        self.assertEqual([each["properties"]["metres"] for each in features], [889.56, None, 0])
-        self.assertIsNone(features[1]["geometry"])
-        self.assertEqual(len(features[2]["geometry"]["coordinates"]), 2)
-        with self.assertRaisesRegex(domethyme.NetworkError, "weights in .* sum to"):
-            routes.lengths[0] += 1
-            routes.geojson(self.network)
-
-    def test_frames_count_from_zero(self):
-        nodes, arcs = self.network.nodes_frame(), self.network.arcs_frame()
-        graph = read_graph(self.folder / "v.gr")
-        self.assertEqual((len(nodes), arcs["from"].tolist()), (graph.nodes, [start - 1 for start in graph.starts]))
-        self.assertEqual((nodes.index[0], nodes["osm"][0]), (0, 1))
-        np.testing.assert_array_equal(nodes["lon"], self.network.lon)
 
     def test_keys_of_the_map(self):
         keys = self.network.keys()

@@ -47,10 +47,3 @@ def test_no_points(village):
     assert none.shape == (len(points), 0)
 
 
-def test_what_a_table_has(village):
-    """Points on one road, in order; at one node; and without a path."""
-    hierarchy, roads, points = village
-    (table,) = leg_tables.weight_rows(hierarchy.matrix, roads, points, points, 1 << 20)
-    assert (table.diagonal() == 0).all() and (table[-1, :-1] == -1).all() and (table[:-1, -1] == -1).all()
-    # (a thousandth of a degree of High Street is 111.195 m, at 50 km/h)
-    assert abs(int(table[1, 5]) - 4 * 0.0003 * 111_195 / 50 * 3.6 * 1000) < 2

@@ -45,9 +45,6 @@ class NearestCase(ToolCase):
 
 
 class Pairs(NearestCase):
-    def test_trips(self):
-        self.assertEqual(self.pairs_of(TRIPS), PAIRS)
-
     def test_no_trips(self):
         self.assertEqual(self.pairs_of("from_lon,from_lat,to_lon,to_lat\n"), OF_STREET + "p aux sp p2p 0\n")
 
@@ -63,20 +60,10 @@ class Pairs(NearestCase):
         self.write("street.co", STREET_CO)
         self.assertEqual(self.pairs_of(TRIPS, network="street.co"), PAIRS.replace("street", "street.co"))
 
-    def test_distance_is_on_the_sphere(self):
-        # At 60 degrees north 0.0015 degrees of longitude are half as long as at the equator, 83.4 m.
-        self.write("north.nodes.csv", "node,osm,lon,lat\n1,,0,60.001\n2,,0.0015,60\n3,,179.9995,0\n4,,179,0\n")
-        trips = "from_lon,from_lat,to_lon,to_lat\n0,60,-179.9995,0\n"
-        self.assertEqual(self.pairs_of(trips, "--snapped", "s", network="north"), "c network north: 4 nodes\np aux sp p2p 1\nq 2 3\n")
-        self.assertEqual((self.folder / "s").read_text().splitlines()[1], "0,60,-179.9995,0,2,83.4,3,111.2")
-
 
 class Matrix(NearestCase):
     PLACES = "name,lat,lon\nbaker,0,0.0004\nmill,0.0006,0.002\n"
     ALL = OF_STREET + "p aux sp p2p 4\nq 1 1\nq 1 4\nq 4 1\nq 4 4\n"
-
-    def test_each_to_each(self):
-        self.assertEqual(self.pairs_of(self.PLACES, "--matrix"), self.ALL)
 
     def test_snapped(self):
         self.pairs_of(self.PLACES, "--matrix", "--snapped", "snapped.csv")
@@ -138,12 +125,7 @@ class TooFar(NearestCase):
     def test_is_refused_with_its_row(self):
         # A hundredth of a degree south of node 1: 1111.95 m.
         self.assert_far("0,-0.01", "trips.csv, row 4: from_lon 0.0, from_lat -0.01 is 1,112 m from the nearest node")
-        self.assert_far("0,-0.01", "--max-distance is 1000 m")
-
-    def test_within(self):
-        trips = "from_lon,from_lat,to_lon,to_lat\n0.002,0.0015,0,0\n"
-        self.assertEqual(self.pairs_of(trips, "--max-distance", "55.6"), OF_STREET + "p aux sp p2p 1\nq 4 1\n")
-        self.assert_far("0.002,0.0015", "row 4: from_lon 0.002, from_lat 0.0015 is 56 m", "--max-distance", "55.59")
+        self.assert_far("0,-0.01", "--radius is 1000 m")
 
     def test_first_row_counts(self):
         trips = self.write("trips.csv", TRIPS + "0,0,1,0\n1,0,0,0\n")
@@ -205,9 +187,9 @@ class Words(NearestCase):
         for words in [
             [],
             ["street"],
-            ["street", "trips.csv", "--max-distance", "-1"],
-            ["street", "trips.csv", "--max-distance", "nan"],
-            ["street", "trips.csv", "--max-distance", "near"],
+            ["street", "trips.csv", "--radius", "-1"],
+            ["street", "trips.csv", "--radius", "nan"],
+            ["street", "trips.csv", "--radius", "near"],
             ["street", "places.co"],
             ["street", "trips.csv", "-o", "x", "--snapped", "x"],
         ]:

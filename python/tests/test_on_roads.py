@@ -1,7 +1,7 @@
 """Tests of places on roads in nearest and to_geojson: the same weights, lines and refusals as the service's rule has."""
 import json
 
-from service_case import ServiceCase, end
+from service_case import ServiceCase
 
 from domethyme import find_program
 
@@ -25,28 +25,6 @@ class OnRoadsTests(ServiceCase):
         self.write("replies", replies)
         return json.loads(self.run_tool("to_geojson", "v", "replies", "--trips", "trips.csv", "--on-roads", *words).stdout)
 
-    def test_the_same_as_the_service(self):
-        features = self.routes(TRIPS)["features"]
-        process = self.serve("--network", self.folder / "v")
-        for feature, row in zip(features, TRIPS.splitlines()[1:]):
-            name, *ends = row.split(",")
-            path = "{},{};{},{}".format(*ends)
-            status, found = self.ask(f"/route/v1/car/{path}?overview=full&geometries=geojson")
-            told = feature["properties"]
-            with self.subTest(name=name):
-                self.assertEqual(told["trip"], name)
-                if status == 400:
-                    self.assertEqual((found["code"], told["length"], feature["geometry"]), ("NoRoute", None, None))
-                    continue
-                route = found["routes"][0]
-                self.assertEqual(told["length"], round(1000 * route["weight"]))
-                self.assertEqual((told["seconds"], told["metres"]), (route["duration"], route["distance"]))
-                self.assertEqual(feature["geometry"]["coordinates"], route["geometry"]["coordinates"])
-                self.assertAlmostEqual(sum(step["metres"] for step in told["steps"]), told["metres"], delta=0.02)
-        self.assertEqual(features[0]["properties"]["steps"][0]["name"], "High Street")
-        end(process)
-        self.run_tool("draw", "v", "-", "routes.svg", given=json.dumps({"type": "FeatureCollection", "features": features}))
-
     def test_refusals(self):
         self.write("trips.csv", TRIPS)
         self.assert_refused(
@@ -54,9 +32,9 @@ class OnRoadsTests(ServiceCase):
             "v",
             "trips.csv",
             "--on-roads",
-            "--max-distance",
+            "--radius",
             "0.5",
-            says="trips.csv, row 2: from_lon 0.0003, from_lat 1e-05 is 1 m from the nearest road, and --max-distance is 0.5 m",
+            says="trips.csv, row 2: from_lon 0.0003, from_lat 1e-05 is 1 m from the nearest road, and --radius is 0.5 m",
         )
         for word in ("--matrix", "--skip-far"):
             self.run_tool("nearest", "v", "trips.csv", "--on-roads", word, status=2)

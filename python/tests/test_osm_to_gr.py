@@ -1,12 +1,13 @@
 """Tests of osm_to_gr: each rule in the village of village.osm, whose figures are reckoned from the drawing in README.md."""
 import bz2
 import collections
+import contextlib
 import itertools
 import json
 import xml.etree.ElementTree as xml
 
 import osmium
-from tool_case import PYTHON, VILLAGE, ToolCase, lightest
+from tool_case import PYTHON, VILLAGE, ToolCase
 
 from domethyme import find_program
 from domethyme.dimacs import read_answers, read_graph, write_pairs
@@ -217,6 +218,16 @@ class Village(NetworkCase):
         self.convert("--attribution", "")
         self.assertEqual(read_attribution(self.folder / "village"), "")
         self.assertEqual(self.graph().nodes, 35)
+
+    def test_histories_and_changes_are_no_maps(self):
+        """In which roads that are gone, or are to come, lie beside those of the map."""
+        text = VILLAGE.read_text(encoding="utf-8").replace("<osm ", "<osmChange ").replace("'hand'>", "'hand'><create>")
+        self.write("change.osc", text.replace("</osm>", "</create></osmChange>"))
+        with contextlib.closing(osmium.SimpleWriter(str(self.folder / "map.osh.pbf"))) as file:
+            for number, version in ((1, 1), (1, 2), (2, 1)):
+                file.add_node(osmium.osm.mutable.Node(id=number, version=version, visible=True, location=(number / 1000, 0)))
+        for name in ("change.osc", "map.osh.pbf"):
+            self.assert_refused("osm_to_gr", name, "new", says=f"{name}: has several versions of an object, as a history or a change")
 
     def test_old_files_are_replaced(self):
         for ending, text in (("gr", "old"), ("nodes.csv", "node,osm,lon,lat,ends,key\n"), ("arcs.csv", f"{','.join(ALL_ARC_COLUMNS)}\n")):
@@ -477,34 +488,6 @@ class Routes(NetworkCase):
         self.assertEqual(length[1, RING_CUT], 3 * 6672 + 13343)
         # by the raised weight
         self.assertEqual(length[32, 33], 1)
-
-    def test_lengths_by_length(self):
-        length = self.lengths(self.answers("--weight", "length"))
-        self.assertEqual(length[7, 8], 11120)
-        self.assertEqual(length[5, 54], 3 * 22239)
-        self.assertEqual(length[83, 85], 22239)
-
-    def test_weights_along_each_route_sum_to_its_length_which_is_the_least(self):
-        answers = self.answers()
-        rows = self.rows()
-        least = least_lengths(len(self.nodes().osm), rows)
-        weight = {pair: arc.weight for pair, arc in lightest(rows).items()}
-        self.assertEqual(len(answers), 35 * 35)
-        for answer in answers:
-            steps = itertools.pairwise(answer.nodes)
-            self.assertEqual(sum(weight[step] for step in steps), answer.length)
-            self.assertEqual(answer.length, least[answer.source, answer.target])
-
-
-def least_lengths(count, arcs):
-    """The least length from each node to each, by Floyd's algorithm."""
-    nodes = range(1, count + 1)
-    least = {pair: 0 if pair[0] == pair[1] else float("inf") for pair in itertools.product(nodes, repeat=2)}
-    for arc in arcs:
-        least[arc.start, arc.end] = min(least[arc.start, arc.end], arc.weight)
-    for middle, start, end in itertools.product(nodes, repeat=3):
-        least[start, end] = min(least[start, end], least[start, middle] + least[middle, end])
-    return least
 
 
 class BadInput(NetworkCase):

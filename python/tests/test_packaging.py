@@ -1,9 +1,10 @@
 """Tests of what goes into the Debian packages: the command routecli, which may put an allocator under the program, and the lists
 of libraries in packaging/copyright and packaging/library/copyright."""
-import pathlib
 import re
 import shutil
 
+import pytest
+from kit import toolchain
 from tool_case import ROOT, ToolCase
 
 from domethyme_launcher import COMMANDS
@@ -121,25 +122,32 @@ class CompletionTests(ToolCase):
         return self.run_program(["/bin/bash", "-c", script, "bash", file, *words]).stdout.split()
 
     def test_options_and_values(self):
-        self.assertEqual(self.completed("domethyme-nearest", "--max"), ["--max-distance"])
+        self.assertEqual(self.completed("domethyme-nearest", "--ra"), ["--radius"])
         self.assertEqual(self.completed("domethyme-serve", "net.rch", "--log"), ["--log-places"])
         self.assertEqual(self.completed("domethyme-to-geojson", "--format", "l"), ["lines"])
         self.assertEqual(self.completed("domethyme-osm-to-gr", "--weight", ""), ["length", "time"])
         self.assertEqual(self.completed("domethyme-route-many", "net"), [])
         self.assertIn("-h", self.completed("domethyme-fetch-extract", "-"))
 
-    def test_shells_take_the_files(self):
-        files = [("zsh", self.folder / "zsh/vendor-completions/_domethyme_tools"),
-                 *(("fish", file) for file in sorted((self.folder / "fish/vendor_completions.d").iterdir()))]
-        self.assertEqual(len(files), 1 + len(COMMANDS) - 1)
-        for shell, file in files:
-            self.assertIn("domethyme-osm-to-gr" if shell == "zsh" else file.stem, file.read_text(encoding="utf-8"))
-            if shutil.which(shell):
-                self.run_program([shutil.which(shell), "-n", file])
+    def test_names_in_the_files(self):
+        self.assertIn("domethyme-osm-to-gr", (self.folder / "zsh/vendor-completions/_domethyme_tools").read_text(encoding="utf-8"))
+        files = sorted((self.folder / "fish/vendor_completions.d").iterdir())
+        self.assertEqual(len(files), len(COMMANDS) - 1)
+        for file in files:
+            self.assertIn(file.stem, file.read_text(encoding="utf-8"))
+
+    @pytest.mark.needs("zsh")
+    def test_zsh_takes_the_file(self):
+        self.run_program(["zsh", "-n", self.folder / "zsh/vendor-completions/_domethyme_tools"])
+
+    @pytest.mark.needs("fish")
+    def test_fish_takes_the_files(self):
+        for file in (self.folder / "fish/vendor_completions.d").iterdir():
+            self.run_program(["fish", "-n", file])
 
 
 class CopyrightTests(ToolCase):
-    """The libraries that a crate's copyright names beside crates.txt, and beside the toolchain's kit where it is on this machine."""
+    """The libraries that a crate's copyright names beside crates.txt, and beside the toolchain's kit."""
 
     FILE, CRATE, LEAST = "copyright", "routecli", 6
 
@@ -164,9 +172,7 @@ class CopyrightTests(ToolCase):
         self.assertGreaterEqual(len(self.direct), self.LEAST)
 
     def test_libraries_are_those_of_the_kit(self):
-        kit = kit_folder()
-        if kit is None:
-            return
+        kit = toolchain.kit()
         todo = [*self.used]
         for name in todo:
             uses = re.findall(r"^dep (\w+)$", (kit / f"rlibs/{name}.rlib/format").read_text(encoding="utf-8"), re.M)
@@ -174,9 +180,7 @@ class CopyrightTests(ToolCase):
         self.assertEqual(self.direct | self.indirect | self.own, set(todo))
 
     def test_notices_are_those_of_the_kit(self):
-        kit = kit_folder()
-        if kit is None:
-            return
+        kit = toolchain.kit()
         flat = " ".join(self.text.split())
         for name in self.direct | self.indirect:
             licences = list((kit / "rattle" / name).glob("LICENSE*"))
@@ -194,10 +198,3 @@ class LibraryCopyrightTests(CopyrightTests):
     """The same of the library."""
 
     FILE, CRATE, LEAST = "library/copyright", "domethyme_c", 0
-
-
-def kit_folder() -> pathlib.Path | None:
-    """The folder of the toolchain's kit, where rt is on PATH."""
-    found = shutil.which("rt")
-    folder = None if found is None else pathlib.Path(found).resolve().parent.parent
-    return folder if folder is not None and (folder / "rlibs").is_dir() else None

@@ -1,9 +1,9 @@
 """Tests of the tool reach, and of what draw and GDAL make of its files."""
 import json
 import re
-import shutil
 import xml.etree.ElementTree as xml
 
+import pytest
 from reach_case import Road, prepared, town_map
 from shapely.geometry import shape
 from tool_case import ToolCase
@@ -31,7 +31,7 @@ class ReachToolTests(ReachCase):
         """Of a file and of standard input, in each shape, with all options."""
         place = (9.004, 47.004)
         self.assertEqual(self.reach("places.csv", "--minutes", "1,1.5"), self.hierarchy.within(place, [1, 1.5]))
-        words = ("--minutes", "1", "--shape", "roads", "--max-distance", "500")
+        words = ("--minutes", "1", "--shape", "roads", "--radius", "500")
         self.assertEqual(self.reach("-", *words, given=PLACES), self.hierarchy.within(place, [1], shape="roads"))
         words = ("--minutes", "1,2", "--generalize", "20", "--denoise", "0.1", "--colors", "ff0000,00ff00", "--shape", "lines")
         style = {"generalize": 20, "denoise": 0.1, "colors": ["ff0000", "00ff00"], "shape": "lines"}
@@ -40,13 +40,6 @@ class ReachToolTests(ReachCase):
         text = (self.folder / "out").read_text()
         self.assertEqual(json.loads(text), self.hierarchy.within(place))
         self.assertEqual(len(text.splitlines()), 5)  # (a feature on each line)
-
-    def test_several_places(self):
-        """From the nearest of two, and from one alone."""
-        self.write("both.csv", f"{PLACES}there,9.02,47.015\n")
-        (one,), (both,) = (self.reach(name, "--minutes", "0.5")["features"] for name in ("places.csv", "both.csv"))
-        self.assertEqual(one["geometry"]["type"], "Polygon")
-        self.assertEqual(both["geometry"]["type"], "MultiPolygon")
 
     def test_metres(self):
         prepared([(0, 0), (0.01, 0)], [Road(0, 1, 111_195, 111_195)], self.folder / "road").close()
@@ -95,6 +88,7 @@ class ReachToolTests(ReachCase):
         self.assert_refused("draw", "town", "odd", "odd.svg", says="of another network")
 
 
+@pytest.mark.needs("ogrinfo")
 class GdalTests(ReachCase):
     def test_gdal_opens_it(self):
         """As QGIS does: a layer of polygons in degrees, with the numbers as a column."""
@@ -102,7 +96,3 @@ class GdalTests(ReachCase):
         told = self.run_program(["ogrinfo", "-ro", "-al", "out.geojson"]).stdout
         for text in ("Feature Count: 2", "WGS 84", "contour (Integer)", "fill-opacity (Real)"):
             self.assertIn(text, told)
-
-
-if not shutil.which("ogrinfo"):
-    del GdalTests  # (python/tests/run says that it is left out)

@@ -13,7 +13,7 @@ import signal
 import subprocess
 import time
 
-from tool_case import TAKES_SIGNALS, TOOLS, ToolCase
+from tool_case import SECONDS, TAKES_SIGNALS, TOOLS, ToolCase
 
 from domethyme import find_program
 from domethyme.dimacs import write_graph
@@ -22,7 +22,6 @@ from domethyme_tools import parts
 
 from kit import plain
 
-PATIENCE = 100
 WAITS = re.compile(r"^route_many: waits for the scheduler .*\n", re.M)
 PART = 50
 CONNECT = "DASK_DISTRIBUTED__COMM__TIMEOUTS__CONNECT"
@@ -49,8 +48,8 @@ class RouteManyCase(ToolCase):
         super().setUp()
         draw = random.Random(1)
         arcs = [(draw.randint(1, 280), draw.randint(1, 300), draw.randint(1, 1000)) for _ in range(900)]
-        with open(self.folder / "network.gr", "w", encoding="utf-8") as file:
-            write_graph(file, 300, arcs)
+        with open(self.folder / "network.gr", "wb") as file:
+            write_graph(file, 300, list(zip(*arcs)))
         self.program = find_program()
         self.run_program([self.program, "prepare", "--workers", "1", "network.gr", "network.rch"])
         pairs = [(draw.randint(1, 300), draw.randint(1, 300)) for _ in range(1000)]
@@ -113,7 +112,7 @@ class RouteManyCase(ToolCase):
 
     def until(self, is_so):
         """Waits until a condition is true; fails with the service's log after some seconds."""
-        end = time.monotonic() + PATIENCE
+        end = time.monotonic() + SECONDS
         while not is_so():
             self.assertLess(time.monotonic(), end, f"waited for too long; begun: {self.begun()}")
             time.sleep(0.02)
@@ -143,7 +142,7 @@ class RouteManyCase(ToolCase):
 
     def assert_ends(self, process, status=0):
         """The process ends, with the status."""
-        self.assertEqual(process.wait(PATIENCE), status, (self.folder / "said").read_text())
+        self.assertEqual(process.wait(SECONDS), status, (self.folder / "said").read_text())
 
 
 def text_of(pairs):
@@ -170,7 +169,7 @@ def end(process):
 
 
 class PartsTests(ToolCase):
-    """How texts are cut, beside the plain reader of pairs that tests/long/fuzz.py compares the program with."""
+    """How texts are cut, beside the plain reader of pairs that tests/manual/fuzz compares the program with."""
 
     def cut(self, text, size):
         """What the survey counts, and the texts of the parts."""

@@ -6,12 +6,11 @@ import signal
 import subprocess
 import sys
 import threading
-import time
 import unittest.mock
 
 import numpy as np
 from kit.hierarchy_file import NONE, spelled
-from tool_case import PYTHON, ToolCase
+from tool_case import PYTHON, SECONDS, ToolCase
 
 import domethyme
 from domethyme import library
@@ -81,7 +80,7 @@ class RouterTests(ToolCase):
     def test_a_seat_is_made_where_all_are_taken(self):
         router = self.ring()._router
         with concurrent.futures.ThreadPoolExecutor(1) as pool, router.searcher() as first:
-            self.assertEqual(pool.submit(router.length, 0, 7).result(20), 7)
+            self.assertEqual(pool.submit(router.length, 0, 7).result(SECONDS), 7)
             self.assertEqual(first.length(0, 8), 8)
         with router.searcher() as first, router.searcher() as second:
             self.assertEqual((first.length(1, 3), second.length(1, 4)), (2, 3))
@@ -94,13 +93,12 @@ class RouterTests(ToolCase):
                 router.length(0, 7)
 
         with concurrent.futures.ThreadPoolExecutor(1) as pool:
-            asking, begun = pool.submit(ask), time.monotonic()
+            asking = pool.submit(ask)
             try:
                 found = [router.length(0, 8) for _ in range(200)]
             finally:
                 ends.set()
-            self.assertLess(time.monotonic() - begun, 2)
-            asking.result(20)
+            asking.result(SECONDS)
         self.assertEqual(found, [8] * 200)
 
     def test_both_sides_of_a_fork(self):
@@ -236,9 +234,10 @@ class RouterTests(ToolCase):
         code = """
 import sys
 import threading
-import time
 sys.modules.update(dict.fromkeys(["numpy", "scipy", "pandas"]))
 import domethyme
+from domethyme import *
+assert Hierarchy is domethyme.Hierarchy and {"Network", "Routes"} <= set(dir(domethyme))
 with domethyme.Hierarchy(*sys.argv[1:], keys="abcdefgh") as hierarchy:
     print(hierarchy.length("a", "c"), hierarchy.route("a", "c").nodes, hierarchy.between(["a"], {"b": 7}).length)
     for attempt in (lambda: hierarchy.lengths([]), lambda: domethyme.Routes, lambda: domethyme.Graph([], [], [])):

@@ -1,23 +1,24 @@
 """Attacks on the service: each is one that an earlier version didn't withstand. Those with many clients at once are in
 test_service_load."""
+import concurrent.futures
 import contextlib
 import http.client
 import os
 import pathlib
 import re
-import shutil
 import signal
 import socket
 import subprocess
 import sys
 import threading
 import time
-import unittest
+import unittest.mock
 import zlib
 
 import numpy as np
-from service_case import NDJSON, ServiceCase, read_answer, workers_of
-from tool_case import PYTHON, ROOT
+import pytest
+from service_case import NDJSON, ServiceCase, read_answer, without_end, workers_of
+from tool_case import PYTHON, ROOT, SECONDS
 
 import domethyme
 from domethyme.network.column_file import HEAD
@@ -29,8 +30,6 @@ from domethyme_service.osrm_geometry import Budget, simplified
 PATH = "/nodes/length?from=1&to=2"
 HIGH = "0.0003,0.00001;0.0077,-0.00002"
 IMPORT = f"import sys\nsys.path.insert(0, {str(PYTHON)!r})\nfrom domethyme_service import command, gunicorn_app\n"
-# How long a request may be delayed by others, in seconds; on a busy machine a test allows more.
-HELD_UP, BUSY = 0.25, 20
 
 
 class RestartTests(ServiceCase):
@@ -40,33 +39,33 @@ class RestartTests(ServiceCase):
         return any(text in line for line in self.said)
 
     def test_a_worker_that_is_silent_is_replaced(self):
-        """A worker that hangs, as in a loop that blocks signals, is killed after the timeout and replaced."""
-        self.command = (sys.executable, "-c", f"{IMPORT}gunicorn_app.FIXED_SETTINGS['timeout'] = 3\ncommand.main()")
+        """A worker that hangs, as in a loop that blocks signals, is killed after half a minute and replaced."""
         process = self.serve()
         hung = workers_of(process)[0]
         os.kill(hung, signal.SIGSTOP)
-        self.wait_for(lambda: self.says(f"WORKER TIMEOUT (pid:{hung})"), 60)
+        self.wait_for(lambda: self.says(f"WORKER TIMEOUT (pid:{hung})"))
         self.wait_for(lambda: len(workers_of(process)) == 4 and hung not in workers_of(process))
         self.wait_for(lambda: self.value("workers") == 4)
         self.assertEqual((self.value("worker_timeouts_total"), self.value("worker_restarts_total")), (1, 1))
         self.assertEqual(self.ask(PATH)[0], 200)
 
     def test_an_answer_that_takes_too_long(self):
-        """It ends with 504, and its worker is replaced, while others are answered. Each block of a batch has the whole
-        time."""
-        slow = "node_queries.length_answer = lambda *words: time.sleep(60)\nblocks = node_queries.split_blocks\n"
-        slow += "node_queries.split_blocks = lambda body: (time.sleep(0.7) or block for block in blocks(body))\n"
-        slow += "worker.ANSWER_SECONDS, worker.LONG_SECONDS = 2.0, 2.0\n"
-        self.command = (sys.executable, "-c", f"{IMPORT}import time\nfrom domethyme_service import node_queries, worker\n{slow}command.main()")
+        """It ends with 504 at the alarm, which is early here, and its worker is replaced, while others are answered. Each block of
+        a batch has the whole time."""
+        alarms = self.folder / "alarms"
+        slow = f"def set_alarm(self, seconds):\n open({str(alarms)!r}, 'a').write(f'{{seconds:g}} ')\n own(self, seconds)\n"
+        slow += "own, worker.Worker.set_alarm = worker.Worker.set_alarm, set_alarm\n"
+        slow += "node_queries.length_answer = lambda *words: signal.setitimer(signal.ITIMER_REAL, 0.01) and time.sleep(600)\n"
+        imports = "import signal, time\nfrom domethyme_service import node_queries, worker\n"
+        self.command = (sys.executable, "-c", f"{IMPORT}{imports}{slow}command.main()")
         process = self.serve()
         before = set(workers_of(process))
-        begun = time.monotonic()
-        self.assertEqual(self.ask(PATH), (504, {"code": "Timeout", "message": "the answer took more than 2 s"}))
-        self.assertGreater(time.monotonic() - begun, 1.9)
+        self.assertEqual(self.ask(PATH), (504, {"code": "Timeout", "message": "the answer took more than 10 s"}))
         self.wait_for(lambda: len(workers_of(process)) == 4 and len(before & set(workers_of(process))) == 3)
         self.assertEqual((self.value("requests_cancelled_total"), self.value("work_stopped_total")), (1, 1))
         status, text = self.ask("/nodes/lengths", "POST", '{"from": 1, "to": 1}\n' * 256 * 5)
         self.assertEqual((status, text.count("length")), (200, 256 * 5))
+        self.assertEqual(alarms.read_text().split().count("25"), 1 + 5)
 
     def test_no_connection_is_lost_as_workers_are_replaced(self):
         """Each request has its own connection while the files are reloaded: the socket stays open, so none is refused or
@@ -89,13 +88,13 @@ class RestartTests(ServiceCase):
             each.start()
         for reload in range(1, 4):
             process.send_signal(signal.SIGHUP)
-            self.wait_for(lambda: sum("reloaded" in line for line in self.said) == reload)
+            self.wait_for(lambda: sum("reloaded" in line for line in self.said) == reload and count[0] > 10 * reload)
         is_over.set()
         for each in clients:
             each.join()
         self.assertEqual(lost, [])
-        self.assertGreater(count[0], 20)
-        # (a connection that arrives while there is no worker is answered by the next one)
+        # (a connection that arrives while there is no worker is answered by the next one; the old workers end first)
+        self.wait_for(lambda: len(workers_of(process)) == 4)
         for number in workers_of(process):
             os.kill(number, signal.SIGKILL)
         self.assertEqual(self.ask(PATH), wanted)
@@ -111,6 +110,15 @@ class RestartTests(ServiceCase):
         process = self.serve("--network", self.folder / "v")
         for number in (process.pid, *workers_of(process)):
             self.assertEqual(os.listdir(f"/proc/{number}/task"), [str(number)])
+
+    def test_workers_collect_nothing_that_they_share(self):
+        """Most objects are of before the fork, and frozen: a collection in a worker would write to them, and so copy their pages."""
+        counts = "import gc\nfrom domethyme_service import node_queries\n"
+        counts += "node_queries.length_answer = lambda *words: b'[%d, %d]' % (gc.get_freeze_count(), len(gc.get_objects()))\n"
+        self.command = (sys.executable, "-c", f"{IMPORT}{counts}command.main()")
+        self.serve()
+        frozen, others = self.ask(PATH)[1]
+        self.assertGreater(frozen, others)
 
     def test_reloads_that_fail_say_why(self):
         """A reload fails whatever is wrong with the files, and however the process that opens them ends."""
@@ -194,26 +202,27 @@ class RestartTests(ServiceCase):
         self.assertEqual(self.port, listening.getsockname()[1])
         wanted = self.ask(PATH)
         first.send_signal(signal.SIGTERM)
-        self.assertEqual(first.wait(30), 0)
-        with socket.create_connection(("127.0.0.1", self.port), 30) as stream:
+        self.assertEqual(first.wait(SECONDS), 0)
+        with socket.create_connection(("127.0.0.1", self.port), SECONDS) as stream:
             stream.sendall(f"GET {PATH} HTTP/1.1\r\nHost: x\r\nConnection: close\r\n\r\n".encode())
             self.serve(descriptors=[99])
             self.assertIn(f'"length":{wanted[1]["length"]}'.encode(), b"".join(iter(lambda: stream.recv(4096), b"")))
 
     def test_what_is_under_way_as_the_service_ends(self):
         """A batch is answered completely, and a signal after many others isn't lost."""
-        process = self.serve()
+        with without_end():
+            process = self.serve()
         body = b'{"from": 1, "to": 7}\n' * 100_000
         head = f"POST /nodes/routes HTTP/1.1\r\nHost: x\r\nContent-Type: application/json\r\nContent-Length: {len(body)}\r\n\r\n"
-        with socket.create_connection(("127.0.0.1", self.port), 60) as held, held.makefile("rb") as file:
+        with socket.create_connection(("127.0.0.1", self.port), SECONDS) as held, held.makefile("rb") as file:
             held.sendall(head.encode() + body)
-            time.sleep(0.5)
+            held.recv(1, socket.MSG_PEEK)  # (the answer has begun)
             for _ in range(20):
                 process.send_signal(signal.SIGHUP)
             process.send_signal(signal.SIGTERM)
             answer = read_answer(file)
             self.assertEqual((answer.status, answer.body.count(b"nodes")), (200, 100_000))
-        self.assertEqual(process.wait(60), 0)
+        self.assertEqual(process.wait(SECONDS), 0)
 
     def test_a_module_in_the_working_folder(self):
         """Modules of the working directory with the names of its imports aren't imported."""
@@ -295,14 +304,12 @@ class FramingTests(ServiceCase):
         self.assertFalse([line for line in self.said if "Traceback" in line], self.said)
 
     def test_a_head_of_many_fields(self):
-        """Sixty fields of one form are parsed at once: no pattern takes exponential time. More than a hundred are
-        rejected."""
+        """Sixty fields of one form are parsed: no pattern takes exponential time, which no limit would see the end of. More than
+        a hundred are rejected."""
         self.serve()
         for count, status in ((60, 200), (500, 400)):
-            begun = time.monotonic()
             answer = self.raw(f"GET {PATH} HTTP/1.1\r\nHost: x\r\n".encode() + b"x-a: b\r\n" * count + b"\r\n")
             self.assertRegex(answer, rb"^HTTP/1\.1 %d " % status)
-            self.assertLess(time.monotonic() - begun, BUSY)
 
     def test_parts_that_are_out_of_the_ordinary(self):
         """None is an internal error, and nothing is logged."""
@@ -331,46 +338,35 @@ class FramingTests(ServiceCase):
 
 
 class WorkTests(ServiceCase):
-    """Long requests, and how long others are delayed by them."""
+    """Long requests, and others beside them. They may take longer than the service's limit on a busy machine, so there is none."""
 
-    def longest_health(self, work):
-        """The longest time of `/health` during the work."""
-        found, is_over = [0.0], threading.Event()
+    command = (sys.executable, "-c", f"{IMPORT}from domethyme_service import worker\nworker.LONG_SECONDS = 1e6\ncommand.main()")
 
-        def look():
-            while not is_over.is_set():
-                begun = time.monotonic()
+    def ask_beside(self, path):
+        """The status and the text of an answer, and how many requests of `/health` were answered before it."""
+        with concurrent.futures.ThreadPoolExecutor(1) as pool:
+            asked, count = pool.submit(self.ask_long, path), 0
+            while not asked.done():
                 self.assertEqual(self.ask("/health")[0], 200)
-                found.append(time.monotonic() - begun)
-
-        looking = threading.Thread(target=look)
-        looking.start()
-        try:
-            work()
-        finally:
-            is_over.set()
-            looking.join()
-        return max(found)
+                count += 1
+            return *asked.result(), count
 
     def test_five_hundred_places(self):
-        """Routes that alternate between two corners of a random network, with all options: others are answered meanwhile.
-        Their delay is compared with the whole time, which a busy machine makes longer too."""
+        """Routes that alternate between two corners of a random network, with all options: others are answered meanwhile."""
         self.run_program([ROOT / "bench/make_roads.py", 1000, 3, self.folder / "drawn"])
         domethyme.prepare(self.folder / "drawn.gr", self.folder / "v.rch", workers=1).close()
         arrays = load_network(str(self.folder / "drawn"))
         lon, lat = arrays.node_lon[:].astype(np.int64), arrays.node_lat[:]
         corners = [f"{lon[node] / UNITS:.6f},{lat[node] / UNITS:.6f}" for node in ((lon + lat).argmin(), (lon + lat).argmax())]
-        self.serve("--network", self.folder / "drawn", "--within", "5000")
+        self.serve("--network", self.folder / "drawn", "--radius", "5000")
         for query in ("", "?steps=true&annotations=true&geometries=geojson"):
             with self.subTest(query=query):
-                found, begun = [], time.monotonic()
-                held_up = self.longest_health(lambda: found.append(self.ask_long(f"/route/v1/car/{';'.join(corners * 250)}{query}")))
-                whole = time.monotonic() - begun
-                self.assertEqual(found[0][0], 200, found[0][1][:200])
-                self.assertLess(held_up, max(4 * HELD_UP, whole / 3), whole)
+                status, text, answered = self.ask_beside(f"/route/v1/car/{';'.join(corners * 250)}{query}")
+                self.assertEqual(status, 200, text[:200])
+                self.assertGreater(answered, 3)
 
     def ask_long(self, path):
-        connection = http.client.HTTPConnection("127.0.0.1", self.port, timeout=120)
+        connection = http.client.HTTPConnection("127.0.0.1", self.port, timeout=SECONDS)
         try:
             connection.request("GET", path)
             answer = connection.getresponse()
@@ -383,7 +379,7 @@ class WorkTests(ServiceCase):
         self.serve()
         with contextlib.ExitStack() as stack:
             for _ in range(100):
-                stream = stack.enter_context(socket.create_connection(("127.0.0.1", self.port), 20))
+                stream = stack.enter_context(socket.create_connection(("127.0.0.1", self.port), SECONDS))
                 stream.sendall(b"POST /nodes/lengths HTTP/1.1\r\nHost: x\r\nContent-Type: application/json\r\nContent-Length: 99\r\n\r\n{")
             time.sleep(0.3)
             self.assertEqual(self.ask("/nodes/lengths", "POST", '{"from": 1, "to": 1}', NDJSON), (200, '{"from":1,"to":1,"length":0}\n'))
@@ -392,26 +388,11 @@ class WorkTests(ServiceCase):
         """Five hundred places at the antipodes, with unlimited radiuses."""
         self.serve("--network", self.folder / "v")
         words = ";".join(["-179.99,0.01"] * 500)
-        held_up = self.longest_health(lambda: self.ask(f"/route/v1/car/{words}?radiuses={';'.join(['unlimited'] * 500)}&overview=false", seconds=60))
-        self.assertLess(held_up, HELD_UP * BUSY)
+        status, text, _ = self.ask_beside(f"/route/v1/car/{words}?radiuses={';'.join(['unlimited'] * 500)}&overview=false")
+        self.assertEqual(status, 200, text[:200])
 
 
 class BudgetTests(unittest.TestCase):
-    def test_simplified(self):
-        """By the definition, point by point: no point is farther than the tolerance, and the ends stay."""
-        rng = np.random.default_rng(5)
-        for count in (2, 3, 50, 400):
-            line = np.cumsum(rng.normal(0, 0.001, (count, 2)), axis=0)
-            found = simplified(line, 0.002, Budget())
-            self.assertEqual((found[0].tolist(), found[-1].tolist()), (line[0].tolist(), line[-1].tolist()))
-            kept = [line.tolist().index(point) for point in found.tolist()]
-            self.assertEqual(kept, sorted(kept))
-            for low, high in zip(kept, kept[1:]):
-                for point in line[low + 1 : high]:
-                    self.assertLessEqual(off(point, line[low], line[high], np.cos(np.radians(line[0, 1]))), 0.002 + 1e-12)
-        self.assertEqual(len(simplified(np.array([[0, 0], [0.5, 0.0001], [1.0, 0]]), 0.001, Budget())), 2)
-        self.assertEqual(len(simplified(np.zeros((9, 2)), 0.0, Budget())), 2)
-
     def test_budgets(self):
         budget = Budget()
         with self.assertRaises(RequestError):
@@ -431,7 +412,7 @@ class PatternTests(unittest.TestCase):
     }
 
     def test_each_is_linear(self):
-        """Each pattern that is applied to requests takes time in proportion to the text."""
+        """Each pattern that is applied to requests ends soon: if it took time by the square of the text, it would take an hour."""
         found = {}
         for module in (access, endpoints, osrm_request, parameters, worker, wsgi):
             found |= {name: value for name, value in vars(module).items() if isinstance(value, re.Pattern)}
@@ -439,19 +420,12 @@ class PatternTests(unittest.TestCase):
         for name, pattern in found.items():
             for part in self.WORST[name]:
                 for begin, end in (("", ""), ("", "\0"), ("polyline(", "\n"), ("\r\ncontent-length:", "\0")):
-                    times = [self.least(pattern, begin + part * (size // len(part)) + end) for size in (20_000, 80_000)]
-                    self.assertLess(times[1], 0.05 + 20 * times[0], (name, part, times))
-
-    def least(self, pattern, text):
-        given = text.encode() if isinstance(pattern.pattern, bytes) else text
-        times = []
-        for _ in range(3):
-            begun = time.thread_time()
-            (pattern.search if pattern is worker.BODY_LENGTH else pattern.fullmatch)(given)
-            times.append(time.thread_time() - begun)
-        return min(times)
+                    text = begin + part * (1_000_000 // len(part)) + end
+                    given = text.encode() if isinstance(pattern.pattern, bytes) else text
+                    (pattern.search if pattern is worker.BODY_LENGTH else pattern.fullmatch)(given)
 
 
+@pytest.mark.needs("systemd-analyze")
 class UnitTests(unittest.TestCase):
     def test_exposure(self):
         """systemd-analyze rates the unit's exposure at most 2.0 of 10."""
@@ -461,9 +435,19 @@ class UnitTests(unittest.TestCase):
         self.assertIn("Overall exposure level", ended.stdout)
 
 
-# (a skipped test counts as failed)
-if shutil.which("systemd-analyze") is None:
-    del UnitTests
+def test_each_block_of_a_batch_is_reported():
+    """gunicorn kills a worker that reports nothing for half a minute, whatever it has sent."""
+    calls, blocks = unittest.mock.Mock(seconds=25.0), [b"1", b"2"]
+    for block in worker.Worker.restart_alarm_per_block(calls, blocks):
+        calls.sent(block)
+    call = unittest.mock.call
+    assert calls.mock_calls == [each for block in blocks for each in (call.notify(), call.set_alarm(25.0), call.sent(block))]
+
+
+def test_the_unit_starts_again():
+    """After a fault; and one process that is killed for want of memory ends no other."""
+    lines = (ROOT / "packaging/domethyme-serve.service").read_text().splitlines()
+    assert {"Restart=on-failure", "RestartSec=2", "OOMPolicy=continue"} <= set(lines)
 
 
 def hostile(whole, rows):
@@ -479,15 +463,6 @@ def small():
     budget = Budget()
     budget.examined = 100
     return budget
-
-
-def off(point, begin, end, shrink):
-    """The distance of a point from the segment between two others."""
-    point, begin, end = (np.array(each) * (shrink, 1.0) for each in (point, begin, end))
-    way = end - begin
-    square = way @ way
-    part = min(1.0, max(0.0, (point - begin) @ way / square)) if square else 0.0
-    return float(np.hypot(*(point - begin - part * way)))
 
 
 if __name__ == "__main__":

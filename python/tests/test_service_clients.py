@@ -7,11 +7,12 @@ import math
 import urllib.parse
 from typing import Any
 
-from test_service_osrm import METRES, OsrmCase
+from test_service_osrm import OsrmCase
 
 # By High Street and north by Mill Road to a roundabout, which Hill Road leaves.
 START, END = (0.0003, 0.00001), (0.007, 0.00203)
 STREETS = ["High Street", "Mill Road"]
+METRES = math.pi / 180 * 6_371_008.8
 # What osrm-text-instructions, and clients with texts of their own, support.
 TYPES = {"depart", "turn", "new name", "continue", "roundabout", "arrive"}
 MODIFIERS = {"uturn", "sharp right", "right", "slight right", "straight", "slight left", "left", "sharp left"}

@@ -38,6 +38,14 @@ class TableTests(unittest.TestCase):
 
 
 class EndpointTests(ServiceCase):
+    def test_how_long_a_tile_is_kept(self):
+        """A day under the network's number; not at all under another one, since a new network's roads may come for the old one's."""
+        self.serve("--network", self.folder / "v")
+        version = self.ask("/map/about")[1]["version"]
+        for query, kept in (("", "public, max-age=86400"), (f"?v={version}", "public, max-age=86400"), ("?v=0123abcd", "no-store")):
+            self.assertEqual(self.ask(f"/map/roads/14/8192/8191{query}")[0], 200)
+            self.assertEqual(self.headers["Cache-Control"], kept)
+
     def test_parameters_that_are_not_there(self):
         """Each endpoint with parameters rejects others by name, and the others accept any."""
         self.serve("--network", self.folder / "v")

@@ -1,5 +1,4 @@
 """The service's isochrones: a Mapbox client's request, invalid requests, and contours around the village's nodes."""
-import itertools
 import json
 import unittest.mock
 import urllib.parse
@@ -7,11 +6,10 @@ import urllib.parse
 import pytest
 from reach_case import Road, lengths, prepared
 from service_case import ServiceCase
-from shapely.geometry import Point, shape
+from shapely.geometry import shape
 
-import domethyme
 from domethyme.network import net_file
-from domethyme.network.isochrones import COLORS, Style, features, limits
+from domethyme.network.isochrones import Style, features, limits
 from domethyme.network.reach import Reach
 from domethyme_service import isochrone, osrm_request
 from domethyme_service.errors import RequestError
@@ -31,7 +29,7 @@ class IsochroneTests(ServiceCase):
         self.net = net_file.read(self.folder / "v.net")
 
     def found(self, query, path=PATH):
-        status, told = self.ask(f"{path}?{query}", seconds=60)
+        status, told = self.ask(f"{path}?{query}")
         self.assertEqual(status, 200, told)
         return told
 
@@ -60,40 +58,6 @@ class IsochroneTests(ServiceCase):
             self.assertEqual(set(feature["properties"]), PROPERTIES)
             self.assertEqual((feature["properties"]["color"], feature["properties"]["contour"]), (color, contour))
             self.assertEqual(feature["properties"]["metric"], "time")
-
-    def test_contours_are_valid_and_nested(self):
-        told = self.found("contours_minutes=1,2,3&polygons=true")
-        shapes = [shape(each["geometry"]) for each in told["features"]]
-        self.assertTrue(all(each.is_valid for each in shapes))
-        for outer, inner in itertools.pairwise(shapes):
-            self.assertTrue(outer.covers(inner))
-        self.assertEqual([each["properties"]["color"] for each in told["features"]], [f"#{color}" for color in COLORS[2::-1]])
-        found, net = lengths(self.net, {self.node_at(2, 0): 0}), self.net
-        for outer, seconds in zip(shapes, (180, 120, 60)):
-            for node in range(len(found)):
-                point = Point(net.node_lon[node] / net_file.UNITS, net.node_lat[node] / net_file.UNITS)
-                if outer.boundary.distance(point) > 0.00003:
-                    is_reached = any(0 <= found[other] <= 1000 * seconds for other in range(len(found)) if self.same(node, other))
-                    self.assertEqual(outer.contains(point), is_reached, (node, seconds))
-
-    def same(self, node, other):
-        """Whether two nodes have the same coordinates."""
-        return all(column[node] == column[other] for column in (self.net.node_lon, self.net.node_lat))
-
-    def test_lines_without_the_word_polygons(self):
-        for words in ("", "&polygons=false"):
-            (line,) = self.found(f"contours_minutes=0.5{words}")["features"]
-            self.assertIn(line["geometry"]["type"], ("LineString", "MultiLineString"))
-
-    def test_bearings_and_radiuses(self):
-        """From a place on a road both directions are reached, and with a bearing one: to the east nothing in the west."""
-        query, path = "contours_minutes=0.1&polygons=true", "/isochrone/v1/car/0.0035,0.00001"
-        answers = [self.found(f"{query}{words}", path) for words in ("", "&bearings=90,20")]
-        both, east = (shape(each["features"][0]["geometry"]).bounds for each in answers)
-        self.assertLess(both[0], east[0] - 0.0002)
-        self.assertEqual(round(both[2], 6), round(east[2], 6))
-        self.refused("contours_minutes=5&radiuses=1", "NoSegment", "within 1 m of place 0", "/isochrone/v1/car/0.0035,0.0003")
-        self.refused("contours_minutes=5", "NoSegment", "place 0", "/isochrone/v1/car/9,9")
 
     def test_what_is_refused(self):
         for query, code, says in [
@@ -142,19 +106,6 @@ class IsochroneTests(ServiceCase):
         self.assertTrue(shape(whole["geometry"]).is_valid)
         told = self.raw(f"HEAD {PATH}?contours_minutes=0.1 HTTP/1.1\r\nHost: x\r\n\r\n".encode())
         self.assertTrue(told.startswith(b"HTTP/1.1 200 OK\r\n") and told.endswith(b"\r\n\r\n"), told[:200])
-
-
-class LengthTests(ServiceCase):
-    def test_metres_where_weights_are_lengths(self):
-        """A contour of 300 m is 300 m long to each side on a straight road; minutes aren't there."""
-        self.run_tool("osm_to_gr", self.map_file(), "l", "--weight", "length")
-        domethyme.prepare(self.folder / "l.gr", self.folder / "v.rch", workers=1).close()
-        self.serve("--network", self.folder / "l")
-        told = self.ask("/isochrone/v1/car/0.0035,0?contours_meters=50,300&polygons=true&generalize=0&denoise=0")[1]
-        self.assertEqual([(each["properties"]["contour"], each["properties"]["metric"]) for each in told["features"]],
-                         [(300, "distance"), (50, "distance")])
-        status, told = self.ask("/isochrone/v1/car/0.0035,0?contours_minutes=5")
-        self.assertEqual((status, told["code"]), (400, "NotImplemented"))
 
 
 @pytest.mark.parametrize("most, is_refused", [(2, False), (1, True)])

@@ -16,10 +16,10 @@ import time
 from nginx_case import NginxCase
 from service_case import NDJSON, ServiceCase, read_answer, workers_of
 from test_service_attack import IMPORT
-from tool_case import PYTHON
+from tool_case import PYTHON, SECONDS
 
-# Seconds that `/health` may take under an attack; on a busy machine this many times what it took before.
-HEALTH, BUSY = 1.0, 30
+# How many requests of others have to be answered while an attack goes on.
+BESIDE = 20
 PATH = "/nodes/length?from=1&to=7"
 LINE = b'{"from": 1, "to": 7}\n'
 
@@ -31,23 +31,20 @@ def post(size, path="/nodes/routes", more=""):
 
 
 class Probe(threading.Thread):
-    """Requests `/health` and a pair, and compares the answers, until it is stopped; stores the longest time of
-    `/health`."""
+    """Requests `/health` and a pair, and compares and counts the answers, until it is stopped."""
 
     def __init__(self, case, wanted):
         super().__init__(daemon=True)
-        self.case, self.wanted, self.longest, self.faults, self.is_over = case, wanted, 0.0, [], threading.Event()
+        self.case, self.wanted, self.answered, self.faults, self.is_over = case, wanted, 0, [], threading.Event()
 
     def run(self):
         while not self.is_over.is_set():
             for path in ("/health", PATH):
-                begun = time.monotonic()
                 try:
                     found = self.case.ask_by(path)
                 except (OSError, http.client.HTTPException) as error:
                     found = repr(error)
-                if path == "/health":
-                    self.longest = max(self.longest, time.monotonic() - begun)
+                self.answered += found == self.wanted[path]
                 if found != self.wanted[path]:
                     self.faults.append((path, found))
             time.sleep(0.02)
@@ -61,34 +58,28 @@ class LoadCase(ServiceCase):
 
     def ask_by(self, path, method="GET", body=None):
         """The status and the body of an answer."""
-        connection = http.client.HTTPConnection("127.0.0.1", self.port, timeout=120)
+        connection = http.client.HTTPConnection("127.0.0.1", self.port, timeout=SECONDS)
         with contextlib.closing(connection):
             connection.request(method, path, body, {"Host": "x", **(NDJSON if body else {})})
             answer = connection.getresponse()
             return answer.status, answer.read()
 
     @contextlib.contextmanager
-    def under_attack(self, lost=0):
-        """Asserts that others are answered during the block, and `/health` in time."""
-        wanted = {path: self.ask_by(path) for path in ("/health", PATH)}
-        times = []
-        for _ in range(60):
-            begun = time.monotonic()
-            self.ask_by("/health")
-            times.append(time.monotonic() - begun)
-        probe = Probe(self, wanted)
+    def under_attack(self):
+        """Asserts that others are answered during the block, and while the connections that it has made are open."""
+        probe = Probe(self, {path: self.ask_by(path) for path in ("/health", PATH)})
         probe.start()
         try:
             yield
+            self.wait_for(lambda: probe.answered + len(probe.faults) > BESIDE)
         finally:
             probe.is_over.set()
             probe.join()
-        self.assertLessEqual(len(probe.faults), lost, probe.faults[:5])
-        self.assertLess(probe.longest, max(HEALTH, BUSY * max(times)))
+        self.assertEqual(probe.faults, [])
         self.assertFalse([line for line in self.said if "Traceback" in line], self.said)
 
     def connect(self, stack):
-        return stack.enter_context(socket.create_connection(("127.0.0.1", self.port), 120))
+        return stack.enter_context(socket.create_connection(("127.0.0.1", self.port), SECONDS))
 
     def run_all(self, works):
         """Runs functions at once, each in a thread; raises the exception of one of them."""
@@ -162,8 +153,8 @@ class AttackTests(LoadCase):
         head = post(0, "/nodes/lengths").replace(b"Content-Length: 0", b"Transfer-Encoding: chunked")
 
         def client():
-            for _ in range(20):
-                with socket.create_connection(("127.0.0.1", self.port), 120) as stream, stream.makefile("rb") as file:
+            while True:
+                with socket.create_connection(("127.0.0.1", self.port), SECONDS) as stream, stream.makefile("rb") as file:
                     with contextlib.suppress(ConnectionError):
                         stream.sendall(head + parts)
                     answer = read_answer(file)
@@ -171,7 +162,6 @@ class AttackTests(LoadCase):
                     return self.assertEqual(answer.body.count(b"length"), 3000)
                 self.assertEqual(answer.status, 503)
                 time.sleep(1)
-            self.fail("no answer in 20 attempts")
 
         with self.under_attack():
             self.run_all([client] * 12)
@@ -185,7 +175,7 @@ class AttackTests(LoadCase):
             for _ in range(6):
                 stream = stack.enter_context(socket.socket())
                 stream.setsockopt(socket.SOL_SOCKET, socket.SO_RCVBUF, 4096)
-                stream.settimeout(120)
+                stream.settimeout(SECONDS)
                 stream.connect(("127.0.0.1", self.port))
                 streams.append(stream)
             writing = [threading.Thread(target=self.write, args=[stream, post(len(body)) + body], daemon=True) for stream in streams]
@@ -235,7 +225,7 @@ class ReplacedTests(LoadCase):
 
     def setUp(self):
         super().setUp()
-        self.process = self.begin("--default-radius", "5000")
+        self.process = self.begin("--radius", "5000")
         self.good = {name: (self.folder / name).read_bytes() for name in ("v.rch", "v.net")}
         self.lost, self.wrong, self.right, self.is_over = [], [], [0] * 4, threading.Event()
 
@@ -275,12 +265,12 @@ class ReplacedTests(LoadCase):
             for each in clients:
                 each.join()
         self.assertEqual(self.wrong, [])
-        self.assertGreater(min(self.right), 20)
 
     def test_twenty_reloads(self):
         """Alternately valid and damaged files: no request is lost, and no answer is wrong."""
         def act():
             for number in range(20):
+                self.wait_for_answers()
                 name, text = [*self.good.items()][number % 2], None
                 if number % 3 == 2:
                     text = [name[1][: len(name[1]) // 2], bytes(len(name[1]))][number % 2]
@@ -288,12 +278,17 @@ class ReplacedTests(LoadCase):
                 self.said.clear()
                 self.process.send_signal(signal.SIGHUP)
                 says = "reloaded, " if text is None else "reload refused: "
-                self.wait_for(lambda says=says: any(says in line for line in self.said), 120)
+                self.wait_for(lambda says=says: any(says in line for line in self.said))
                 self.replace(*name)
 
         self.asking(act)
         self.assertEqual(self.lost, [])
         self.assertEqual((self.value("reloads_total"), self.value("reload_failures_total")), (14, 6))
+
+    def wait_for_answers(self):
+        """Waits until each client has got right answers."""
+        before = [*self.right]
+        self.wait_for(lambda: all(now > old + 2 for now, old in zip(self.right, before)) or self.wrong)
 
     def replace(self, name, text):
         (self.folder / "new").write_bytes(text)
@@ -303,9 +298,9 @@ class ReplacedTests(LoadCase):
         """Through nginx each request is repeated, so none is lost; without it those of the killed workers are."""
         def act():
             for _ in range(8):
-                time.sleep(0.4)
+                self.wait_for_answers()
                 workers = workers_of(self.process)
-                if workers:
+                with contextlib.suppress(IndexError, ProcessLookupError):
                     os.kill(random.Random(len(workers)).choice(workers), signal.SIGKILL)
 
         self.asking(act)
@@ -321,13 +316,13 @@ class NginxReplacedTests(NginxCase, ReplacedTests):
         return self.serve_behind_nginx(*words)
 
 
-class NginxTests(NginxCase):
+class NginxTests(NginxCase, LoadCase):
     """Other parts of the configuration."""
 
     def test_the_way_through(self):
         self.serve_behind_nginx("--access-log")
         self.assertEqual(self.ask("/health")[0], 200)
-        with socket.create_connection(("127.0.0.1", self.port), 20) as stream, stream.makefile("rb") as file:
+        with socket.create_connection(("127.0.0.1", self.port), SECONDS) as stream, stream.makefile("rb") as file:
             stream.sendall(b"GET /map/main.js HTTP/1.1\r\nHost: x\r\nAccept-Encoding: gzip\r\n\r\n")
             answer = read_answer(file)
         self.assertEqual((answer.status, answer.fields["content-encoding"]), (200, "gzip"))
@@ -348,7 +343,7 @@ class NginxTests(NginxCase):
             found = self.ask(path, method, body)
             self.assertEqual((found[0], found[1]["code"]), (status, code))
         process.send_signal(signal.SIGTERM)
-        self.assertEqual(process.wait(60), 0)
+        self.assertEqual(process.wait(SECONDS), 0)
         for path in ("/health", PATH):
             found = self.ask(path)
             self.assertEqual((found[0], found[1]["code"], self.headers["Retry-After"]), (503, "Overloaded", "1"))
@@ -361,57 +356,57 @@ class NginxTests(NginxCase):
             self.assertEqual(self.ask(path, headers={"X-Test-Address": address})[0], status, path)
 
     def test_rates(self):
-        """A public address has 100 requests a second and a burst of 200; a private one isn't limited."""
-        self.serve_behind_nginx()
-        for address, refused in (("203.0.113.9", True), ("10.1.2.3", False)):
-            connection = http.client.HTTPConnection("127.0.0.1", self.port, timeout=60)
+        """A public address has a burst of 200 requests, here with one more in a minute in place of 100 a second; a private one
+        isn't limited."""
+        self.serve_behind_nginx(instead={"rate=100r/s": "rate=1r/m"})
+        public, private = ("203.0.113.9", "172.15.255.254", "172.32.0.1"), ("10.1.2.3", "172.16.0.1", "172.31.255.254")
+        for address, refused in [*((each, True) for each in public), *((each, False) for each in private)]:
+            connection = http.client.HTTPConnection("127.0.0.1", self.port, timeout=SECONDS)
             statuses = []
             with contextlib.closing(connection):
-                for _ in range(1500):
+                for _ in range(300):
                     connection.request("GET", "/nothing", headers={"X-Test-Address": address})
                     answer = connection.getresponse()
                     answer.read()
                     statuses.append(answer.status)
-                    if refused and answer.status == 429:
-                        break
             self.assertEqual(429 in statuses, refused, address)
+            self.assertEqual(statuses[:201], [404] * 201, address)
+
+    def test_connections(self):
+        """A public address has 100 connections, and others aren't kept from theirs."""
+        self.serve_behind_nginx()
+        ask = "POST /nodes/lengths HTTP/1.1\r\nHost: x\r\nX-Test-Address: 203.0.113.9\r\nContent-Length: 9\r\n\r\n"
+        with contextlib.ExitStack() as opened:
+            for _ in range(100):
+                stream = opened.enter_context(socket.create_connection(("127.0.0.1", self.port), SECONDS))
+                stream.sendall(ask.encode())
+            self.wait_for(lambda: self.ask("/nothing", headers={"X-Test-Address": "203.0.113.9"})[0] == 429)
+            self.assertEqual(self.ask("/nothing", headers={"X-Test-Address": "203.0.113.10"})[0], 404)
+        self.wait_for(lambda: self.ask("/nothing", headers={"X-Test-Address": "203.0.113.9"})[0] == 404)
 
     def test_no_place_is_logged(self):
         """A rejected request is logged neither by nginx nor by the service."""
         self.serve_behind_nginx("--access-log")
         self.ask("/route/v1/car/0.0003,0.00001;0.0077,-0.00002")
         self.ask("/nearest/v1/car/0.0003,500")
-        lines = self.log().splitlines()
+        lines = self.log(2)
         self.assertEqual([line.split()[1:4] for line in lines], [["GET", "/route", "200"], ["GET", "/nearest", "400"]])
         os.remove(self.folder / "serve.sock")
         self.assertEqual(self.ask("/route/v1/car/0.0003,0.00001;0.0077,-0.00002")[0], 503)
         said = "".join(self.said) + "".join((self.folder / name).read_text() for name in ("domethyme.log", "domethyme-error.log", "nginx.log"))
         self.assertNotIn("0.0003", said)
-        self.assertNotIn("127.0.0.1", self.log())
+        self.assertNotIn("127.0.0.1", "".join(self.log(3)))
 
     def test_health_while_all_are_busy(self):
-        """All four workers are busy with long requests: nginx gets the service's health from a worker for probes."""
-        script = "import time\nfrom domethyme_service import node_queries\nnode_queries.length_answer = lambda *words: time.sleep(60)\n"
-        self.command = slow_command(script)
+        """All four workers are busy until the test ends: nginx gets the service's health from a worker for probes."""
+        script = "import os, time\nfrom domethyme_service import node_queries, worker\nworker.ANSWER_SECONDS, arbiter = 1e6, os.getpid()\n"
+        script += f"def busy(*words):\n os.mkfifo(f'{self.folder}/busy-{{os.getpid()}}')\n while os.getppid() == arbiter:\n  time.sleep(0.1)\n"
+        script += "node_queries.length_answer = busy\n"
+        self.command = sys.executable, "-c", f"{IMPORT}{script}command.main()"
         self.serve_behind_nginx()
-        threads = [threading.Thread(target=self.give_up, daemon=True) for _ in range(6)]
-        for thread in threads:
-            thread.start()
-        time.sleep(1)
-        times = []
-        for _ in range(20):
-            begun = time.monotonic()
-            self.assertEqual(self.ask("/health")[0], 200)
-            times.append(time.monotonic() - begun)
-        self.assertLess(max(times), HEALTH * 2)
-        for thread in threads:
-            thread.join()
-
-    def give_up(self):
-        status, found = self.ask(PATH, seconds=60)
-        assert (status, found["code"]) == (504, "Timeout"), (status, found)
-
-
-def slow_command(script):
-    """The command of the service after a script."""
-    return sys.executable, "-c", f"{IMPORT}{script}command.main()"
+        with contextlib.ExitStack() as stack:
+            for _ in range(6):
+                self.connect(stack).sendall(f"GET {PATH} HTTP/1.1\r\nHost: x\r\n\r\n".encode())
+            self.wait_for(lambda: len([*self.folder.glob("busy-*")]) == 4)
+            for _ in range(BESIDE):
+                self.assertEqual(self.ask("/health")[0], 200)

@@ -12,7 +12,8 @@ from gunicorn.config import Config
 from gunicorn.http import RequestParser
 from gunicorn.http.errors import ParseException
 from gunicorn.http.wsgi import create
-from service_case import SECONDS, Answer, ServiceCase, read_answer
+from service_case import Answer, ServiceCase, read_answer
+from tool_case import SECONDS
 
 from domethyme.network.polyline import encode_polylines
 from domethyme_service import endpoints

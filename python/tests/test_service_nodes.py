@@ -7,48 +7,13 @@ import socket
 import subprocess
 import time
 
-from service_case import ServiceCase, lengths_from, workers_of
-from tool_case import ROOT, TOOLS
+from service_case import ServiceCase, workers_of
+from tool_case import ROOT, SECONDS, TOOLS
 
 from domethyme_service import command
 
 
 class NodesTests(ServiceCase):
-    def lengths(self):
-        """The lengths of shortest paths between all nodes, {(from, to): length}."""
-        arcs = list(zip(self.graph.starts, self.graph.ends, self.graph.weights))
-        numbers = range(1, self.graph.nodes + 1)
-        return {(start, stop): length for start in numbers for stop, length in lengths_from(arcs, start).items()}
-
-    def test_all_pairs(self):
-        self.serve()
-        lengths, numbers = self.lengths(), range(1, self.graph.nodes + 1)
-        pairs = [(start, stop) for start in numbers for stop in numbers]
-        body = "".join(f'{{"from": {start}, "to": {stop}}}\n' for start, stop in pairs)
-        status, text = self.ask("/nodes/lengths", "POST", body)
-        self.assertEqual((status, self.headers["Content-Type"].split(";")[0]), (200, "application/x-ndjson"))
-        wanted = [{"from": start, "to": stop, "length": lengths.get((start, stop))} for start, stop in pairs]
-        self.assertEqual([json.loads(line) for line in text.splitlines()], wanted)
-        weights = {}
-        for start, stop, weight in zip(self.graph.starts, self.graph.ends, self.graph.weights):
-            weights[start, stop] = min(weight, weights.get((start, stop), weight))
-        _, text = self.ask("/nodes/routes", "POST", body)
-        for pair, line in zip(pairs, text.splitlines(), strict=True):
-            route = json.loads(line)
-            if route["length"] is not None:
-                line = route["nodes"]
-                self.assertEqual((line[0], line[-1], len(line) - 1), (*pair, route["arcs"]))
-                self.assertEqual(sum(weights[step] for step in zip(line, line[1:])), lengths[pair])
-
-    def test_one_pair(self):
-        self.serve()
-        lengths = self.lengths()
-        self.assertEqual(self.ask("/nodes/length?from=1&to=7"), (200, {"from": 1, "to": 7, "length": lengths[1, 7]}))
-        status, route = self.ask("/nodes/route?to=1&from=1")
-        self.assertEqual((status, route), (200, {"from": 1, "to": 1, "length": 0, "arcs": 0, "nodes": [1]}))
-        apart = next(pair for pair in ((1, stop) for stop in range(1, self.graph.nodes + 1)) if pair not in lengths)
-        self.assertEqual(self.ask("/nodes/route?from=%d&to=%d" % apart)[1]["nodes"], None)
-
     def test_requests_that_are_refused(self):
         self.serve()
         for path, status, code in [
@@ -121,6 +86,9 @@ class NodesTests(ServiceCase):
         names = set(re.findall(r"(?m)^# TYPE (\S+) ", text))
         self.assertEqual(set(re.findall(r"(?m)^# HELP (\S+) \S", text)), names)
         self.assertGreater(len(names), 10)
+        told = re.findall(r'(?m)^domethyme_request_seconds_(?:bucket|count){endpoint="/nodes/length".*} (\d+)$', text)
+        # (each bucket has those of the ones before it, and the last has all)
+        self.assertEqual((len(told), told, told[-2:]), (16, sorted(told, key=int), told[-1:] * 2))
         for name, least in (("resident_memory_bytes", 1 << 20), ("last_reload_timestamp_seconds", time.time() - 1000), ("workers", 4), ("fronts", 4)):
             self.assertGreaterEqual(self.value(name), least)
         version = re.search(r'(?m)^version = "(.*)"', (ROOT / "python/pyproject.toml").read_text())[1]
@@ -156,7 +124,7 @@ class CommandTests(ServiceCase):
             os.dup2(listening.fileno(), 98)
             self.addCleanup(os.close, 98)
             words = ["bash", "-c", 'exec 3<&98 98<&-; LISTEN_FDS=1 LISTEN_PID=$$ exec "$@"', "", TOOLS / "domethyme-serve", self.folder / "v.rch"]
-            ended = subprocess.run(list(map(str, words)), capture_output=True, text=True, pass_fds=[98], timeout=120)
+            ended = subprocess.run(list(map(str, words)), capture_output=True, text=True, pass_fds=[98], timeout=SECONDS)
         self.assertEqual(ended.returncode, 1)
         self.assertIn("won't listen at 0.0.0.0: other machines ask through nginx", ended.stderr)
 
@@ -165,9 +133,9 @@ class CommandTests(ServiceCase):
         for words, name in ((["--connections", "9"], "worker_connections"), (["--client-connections", "9"], "limit_conn"),
                             (["--head-seconds", "9"], "client_header_timeout")):
             self.assertIn(f"{words[0]} is no longer an option: use {name}", self.refused(*words, status=2))
-        parser = command.argument_parser()
-        old = parser.parse_args(["x", "--fronts", "5", "--within", "7", "--table-cells", "8", "--checked", "g"])
-        self.assertEqual(old, parser.parse_args(["x", "--workers", "5", "--default-radius", "7", "--max-table-cells", "8", "--verify", "g"]))
+        for old, new in command.RENAMED_OPTIONS.items():
+            said = self.refused("--host", "0.0.0.0", old, "9", status=1)
+            self.assertIn(f"domethyme-serve: {old} is now {new}; the old word goes with the next version\n", said)
         self.assertIn("an origin is SCHEME://HOST", self.refused("--cors", "example.org", status=2))
 
     def test_at_least_four_workers(self):

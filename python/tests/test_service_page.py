@@ -1,4 +1,4 @@
-"""The service's page: its files and tiles over HTTP, its colours, and, if chromium is installed, in a browser."""
+"""The service's page: its files and tiles over HTTP, its colours, and in a browser."""
 import itertools
 import json
 import math
@@ -7,7 +7,8 @@ import pathlib
 import re
 import unittest
 
-from browser import PROGRAM, Browser
+import pytest
+from browser import Browser
 from service_case import ServiceCase
 from tool_case import PYTHON
 
@@ -29,7 +30,10 @@ class FileTests(ServiceCase):
         self.serve("--network", self.folder / "v")
         status, text = self.ask("/")
         self.assertEqual((status, self.headers["Content-Type"]), (200, "text/html; charset=utf-8"))
-        self.assertIn("default-src 'none'; script-src 'self'", self.headers["Content-Security-Policy"])
+        policy = dict(directive.split(" ", 1) for directive in self.headers["Content-Security-Policy"].split("; "))
+        self.assertEqual({name for name, value in policy.items() if value == "'self'"}, {"script-src", "style-src", "img-src", "connect-src"})
+        self.assertEqual({name for name, value in policy.items() if value == "'none'"},
+                         {"default-src", "base-uri", "form-action", "frame-ancestors"})
         self.assertNotRegex(text, r"<script>| style=| on[a-z]+=|//")
         for name in re.findall(r'(?:src|href)="(map/[^"]+)"', text):
             self.assertEqual(self.ask(f"/{name}")[0], 200, name)
@@ -108,6 +112,7 @@ def contrast(*colours):
     return (max(lights) + 0.05) / (min(lights) + 0.05)
 
 
+@pytest.mark.needs("chromium")
 class BrowserCase(ServiceCase):
     def setUp(self):
         super().setUp()
@@ -236,6 +241,16 @@ class PointerTests(BrowserCase):
         self.assertEqual(self.browser.value("location.hash"), "#0.00030,0.00001;0.00770,-0.00002")
         self.keep("typed")
         self.quiet()
+
+    def test_words_and_lines(self):
+        """Hours; and the box and the nearest leg of a line of more points than a call takes as arguments."""
+        self.open("")
+        words = "import('/map/words.js').then(({long}) => [59, 60, 125, 6000].map((minutes) => long(60 * minutes)))"
+        self.assertEqual(self.browser.value(words), ["59 min", "1 h 0 min", "2 h 5 min", "100 h 0 min"])
+        script = """import('/map/lines.js').then(({boxOf, least}) => {
+            const line = Array.from({length: 300000}, (_, number) => [number % 7 - 3, number % 5]);
+            return [...boxOf(line), least(line.map(([x]) => x))]; })"""
+        self.assertEqual(self.browser.value(script), [-3, 0, 3, 4, -3])
 
     def test_the_route_is_shown_whole(self):
         """Though it leads far beyond its places."""
@@ -391,7 +406,4 @@ class KeyboardTests(BrowserCase):
         self.assertEqual(self.browser.value(style), ["solid", 3])
 
 
-# (a skipped test counts as failed: python/tests/run reports that these are left out)
-if PROGRAM is None:
-    del PointerTests, KeyboardTests, ReachTests
 del BrowserCase

@@ -6,11 +6,14 @@ import os
 import pathlib
 import signal
 import socket
+import sys
 import threading
 import time
 import unittest.mock
 
-from service_case import ServiceCase, workers_of
+from service_case import ServiceCase, without_end, workers_of
+from test_service_attack import IMPORT
+from tool_case import SECONDS
 
 import domethyme
 
@@ -33,7 +36,7 @@ class Client(threading.Thread):
         self.port, self.lengths, self.lost, self.stop = port, [], [], threading.Event()
 
     def run(self):
-        connection = http.client.HTTPConnection("127.0.0.1", self.port, timeout=20)
+        connection = http.client.HTTPConnection("127.0.0.1", self.port, timeout=SECONDS)
         with contextlib.closing(connection):
             self.ask_by(connection)
 
@@ -100,6 +103,33 @@ class SignalTests(ServiceCase):
             self.wait_for(lambda: any("reload refused: " in line and says in line for line in self.said))
         self.assertEqual(self.ask(PATH), old)
 
+    def test_a_file_that_changes_behind_its_trial(self):
+        """A file that takes the hierarchy's name between the child's trial and the arbiter's opening is refused, though it is right;
+        the next reload tries it, and the failed one is over."""
+        script = """
+import os
+load = gunicorn_app.Application.load
+def late(app, paths=None):
+    if paths is not None and os.path.exists(app.paths.hierarchy + ".new"):
+        os.replace(app.paths.hierarchy + ".new", app.paths.hierarchy)
+    return load(app, paths)
+gunicorn_app.Application.load = late
+command.main()
+"""
+        self.command = sys.executable, "-c", IMPORT + script
+        process = self.serve()
+        old = self.ask(PATH)[1]["length"]
+        (self.folder / "kept").write_bytes((self.folder / "v.rch").read_bytes())
+        self.prepare(2)
+        os.replace(self.folder / "v.rch", self.folder / "v.rch.new")
+        os.replace(self.folder / "kept", self.folder / "v.rch")
+        for factor, says, failed in ((1, "v.rch: has changed since it was tried", 1), (2, "reloaded, ", 0)):
+            process.send_signal(signal.SIGHUP)
+            self.wait_for(lambda says=says: any(says in line for line in self.said))
+            self.assertEqual(self.ask(PATH)[1]["length"], factor * old)
+            self.wait_for(lambda failed=failed: self.value("last_reload_failed") == failed)
+        self.assertEqual(self.value("reload_failures_total"), 1)
+
     def test_a_hierarchy_that_is_checked(self):
         """A hierarchy that is right for its graph is served; one of other weights is rejected, at a reload and at a
         start."""
@@ -134,6 +164,7 @@ class SignalTests(ServiceCase):
             self.wait_for(lambda: any("are read again once the reload under way has ended" in line for line in self.said))
             check = int(checking.read_text())
             self.assertTrue(is_running(check))
+            self.assertEqual(pathlib.Path(f"/proc/{check}/oom_score_adj").read_text(), "1000\n")
             process.send_signal(number)
             self.wait_for(lambda: not is_running(check))
 
@@ -150,29 +181,39 @@ class SignalTests(ServiceCase):
                 process = self.serve()
             self.assertEqual(self.ask("/health")[0], 200)
             process.send_signal(signal.SIGTERM)
-            self.assertEqual(process.wait(20), 0)
+            self.assertEqual(process.wait(SECONDS), 0)
 
     def test_the_end(self):
         """Accepted requests are answered; a connection in the backlog is reset or refused."""
         process = self.serve()
         right = self.ask(PATH)[1]["length"]
         clients = self.clients()
-        time.sleep(0.5)
+        self.wait_for(lambda: all(len(client.lengths) > 1 for client in clients))
         process.send_signal(signal.SIGTERM)
-        self.assertEqual(process.wait(20), 0)
+        self.assertEqual(process.wait(SECONDS), 0)
         for client in clients:
             client.join()
-            self.assertGreater(len(client.lengths), 1)
             self.assertEqual((set(client.lengths), len(client.lost)), ({right}, 1))
             self.assertRegex(client.lost[0], "Connection(Reset|Refused)Error")
 
+    def test_workers_that_begin_at_the_end(self):
+        """A worker that doesn't handle signals yet when the service ends, ends with it."""
+        slow = "own, worker.Worker.init_signals = worker.Worker.init_signals, lambda self: time.sleep(1) or own(self)\n"
+        imports = "import time\nfrom domethyme_service import worker\n"
+        self.command = (sys.executable, "-c", f"{IMPORT}{imports}{slow}command.main()")
+        with without_end():
+            process = self.serve()
+        process.send_signal(signal.SIGTERM)
+        self.assertEqual(process.wait(SECONDS), 0)
+
     def test_an_idle_connection_does_not_hold_up_the_end(self):
-        process = self.serve()
-        with socket.create_connection(("127.0.0.1", self.port), 20) as idle:
+        with without_end():
+            process = self.serve()
+        with socket.create_connection(("127.0.0.1", self.port), SECONDS) as idle:
             idle.sendall(b"GET")
             time.sleep(0.2)
             process.send_signal(signal.SIGTERM)
-            self.assertEqual(process.wait(20), 0)
+            self.assertEqual(process.wait(SECONDS), 0)
 
     def test_workers(self):
         """A worker that is killed is replaced; SIGHUP and SIGTERM reach all; SIGTTIN and SIGTTOU change their number."""
@@ -194,5 +235,42 @@ class SignalTests(ServiceCase):
         self.wait_for(lambda: len(workers_of(process)) == 4)
         workers = workers_of(process)
         process.send_signal(signal.SIGTERM)
-        self.assertEqual(process.wait(20), 0)
+        self.assertEqual(process.wait(SECONDS), 0)
         self.assertFalse(any(pathlib.Path(f"/proc/{number}").exists() for number in workers))
+
+    def test_the_worker_for_probes_stays(self):
+        """SIGTTOU ends other workers, but the last one: before workers are replaced, after it, and after a reload."""
+        process = self.serve("--bind", f"unix:{self.folder}/serve.sock")
+        self.wait_for(lambda: len(workers_of(process)) == 5)
+        for round_ in range(3):
+            for _ in range(4):
+                count = len(workers_of(process))
+                process.send_signal(signal.SIGTTOU)
+                self.wait_for(lambda: len(workers_of(process)) == max(2, count - 1))
+                self.assertEqual([self.health(name) for name in ("serve.sock", "serve.sock.probe")], [b"200", b"200"])
+            for count in range(3, 6):
+                process.send_signal(signal.SIGTTIN)
+                self.wait_for(lambda: len(workers_of(process)) == count)
+            process.send_signal(signal.SIGHUP)
+            self.wait_for(lambda: sum("reloaded" in line for line in self.said) == round_ + 1)
+            self.wait_for(lambda: len(workers_of(process)) == 5)
+
+    def test_a_socket_that_is_in_use(self):
+        """Another service refuses it; it takes one that is left behind, and drops fields whose names gunicorn would take for others."""
+        process = self.serve("--bind", f"unix:{self.folder}/serve.sock")
+        words = ["domethyme-serve", self.folder / "v.rch", "--bind", f"unix:{self.folder}/serve.sock"]
+        said = self.run_tool(*words, status=1).stderr
+        self.assertIn(f"can't listen at unix:{self.folder}/serve.sock: another service does", said)
+        self.assertEqual(self.health("serve.sock", "SCRIPT_NAME: /x\r\nX_Y: 1\r\n"), b"200")
+        process.kill()
+        process.wait()
+        self.assertTrue((self.folder / "serve.sock").is_socket())
+        self.serve("--bind", f"unix:{self.folder}/serve.sock")
+
+    def health(self, name, fields=""):
+        """The status of /health at a unix socket."""
+        with socket.socket(socket.AF_UNIX) as stream:
+            stream.settimeout(5)
+            stream.connect(str(self.folder / name))
+            stream.sendall(f"GET /health HTTP/1.1\r\nHost: x\r\n{fields}\r\n".encode())
+            return stream.makefile("rb").readline().split()[1]

@@ -1,14 +1,9 @@
 """Tests of to_geojson: a network of four nodes by hand, and all pairs of the village by routecli."""
 import csv
-import itertools
 import json
 
-from tool_case import TOOLS, VILLAGE, ToolCase
+from tool_case import ToolCase
 
-from domethyme import find_program
-from domethyme.dimacs import read_graph
-from domethyme.network.geo import metres_between
-from domethyme.network.reading import read_nodes
 
 # From 2 to 3 the second arc is the lightest, and the first of two as light; 4 can't be reached.
 NODES = "node,osm,lon,lat\n1,11,0,0\n2,12,0.001,0\n3,13,0.002,0\n4,14,0.003,0\n"
@@ -111,10 +106,6 @@ class Features(RoutesCase):
         found = json.loads(self.routes_of("r 1 3 300 2 1 2 3\n", "--no-steps", "--format", "lines"))
         self.assertEqual(found["properties"], {name: FORTH[name] for name in FORTH if name != "steps"})
 
-    def test_attribution(self):
-        self.write("net.gr", "c attribution: \u00a9 \"Somebody\"\np sp 4 0\n")
-        self.assertEqual(json.loads(self.routes_of("n 1 4\n"))["attribution"], '\u00a9 "Somebody"')
-
     def test_csv(self):
         self.assertEqual(
             self.routes_of("r 1 3 300 2 1 2 3\nn 1 4\n", "--format", "csv"),
@@ -123,11 +114,6 @@ class Features(RoutesCase):
             '0.0015000 0.0010000, 0.0020000 0.0000000)"\n'
             "1,4,,,,,\n",
         )
-
-    def test_file(self):
-        self.write("answers", "n 1 4\n")
-        self.run_tool("to_geojson", "net", "answers", "-o", "routes", "--format", "lines")
-        self.assertEqual(json.loads((self.folder / "routes").read_text()), feature(NO_WAY, None))
 
 
 class Trips(RoutesCase):
@@ -205,57 +191,3 @@ class BadInput(RoutesCase):
         for words in [[], ["net"], ["net", "-", "--format", "picture"]]:
             self.assertEqual(self.run_tool("to_geojson", *words, status=2).stdout, "")
         self.assertIn("--no-steps", self.run_tool("to_geojson", "--help").stdout)
-
-
-class Village(ToolCase):
-    """All pairs of the village, its islands included, by the pipe that a user would write."""
-
-    PIPE = """
-        "$TOOLS/nearest" village places.csv --matrix --snapped snapped.csv |
-        "$ROUTECLI" route village.rch /dev/stdin |
-        "$TOOLS/to_geojson" village - --trips snapped.csv --format lines -o routes"""
-
-    def setUp(self):
-        super().setUp()
-        self.program = find_program()
-        self.run_tool("osm_to_gr", VILLAGE, "village", "--keep-islands", "--tables")
-        self.run_program([self.program, "prepare", "village.gr", "village.rch"])
-        nodes = read_nodes(self.folder / "village.nodes.csv")
-        self.places = [list(place) for place in zip(nodes.lon, nodes.lat)]
-        self.write("places.csv", "lon,lat\n" + "".join(f"{lon},{lat}\n" for lon, lat in self.places))
-
-    def test_all_pairs(self):
-        environment = {"TOOLS": str(TOOLS), "ROUTECLI": self.program}
-        self.run_program(["bash", "-c", f"set -o pipefail; {self.PIPE}"], environment=environment)
-        features = [json.loads(line) for line in (self.folder / "routes").read_text().splitlines()]
-        self.assertEqual(len(features), len(self.places) ** 2)
-        least = least_lengths(read_graph(self.folder / "village.gr"))
-        for found in features:
-            told = found["properties"]
-            self.assertEqual(told["length"], least.get((told["from_node"], told["to_node"])))
-            if told["length"] is not None:
-                self.assert_on_the_road(told, found["geometry"]["coordinates"])
-
-    def assert_on_the_road(self, told, line):
-        """Wants a route of the right ends, whose streets sum to its figures, which are those of its length."""
-        self.assertEqual([line[0], line[-1]], [self.places[told["from_node"] - 1], self.places[told["to_node"] - 1]])
-        for figure in ("metres", "seconds"):
-            self.assertAlmostEqual(sum(step[figure] for step in told["steps"]), told[figure], 6)
-        way = sum(metres_between(*start, *end) for start, end in itertools.pairwise(line))
-        # Metres are rounded to the hundredth, and each end of an arc to the ten-millionth of a degree, 11 mm.
-        self.assertAlmostEqual(way, told["metres"], delta=0.02 * told["arcs"])
-        # The link between the twins takes no time, and weighs a millisecond.
-        self.assertAlmostEqual(told["length"] / 1000, told["seconds"], delta=0.0011)
-
-
-def least_lengths(graph):
-    """The least length between each two nodes that a walk leads between, by Floyd's search."""
-    nodes = range(1, graph.nodes + 1)
-    least = {(node, node): 0 for node in nodes}
-    for start, end, weight in zip(graph.starts, graph.ends, graph.weights):
-        least[start, end] = min(weight, least.get((start, end), weight))
-    for middle, start, end in itertools.product(nodes, repeat=3):
-        if (start, middle) in least and (middle, end) in least:
-            through = least[start, middle] + least[middle, end]
-            least[start, end] = min(through, least.get((start, end), through))
-    return least

@@ -9,7 +9,6 @@ from tool_case import VILLAGE, ToolCase
 
 import domethyme
 from domethyme.csv_tables import escape_formula, unescape_formula
-from domethyme.dimacs import read_graph
 from domethyme.network import net_file
 from domethyme.network.reading import read_nodes
 from domethyme.network.tables import read_arcs
@@ -33,30 +32,6 @@ class TableTests(ToolCase):
     def made(self, *words):
         self.run_tool("to_network", "nodes.csv", "arcs.csv", "net", *words)
         return net_file.read(str(self.folder / "net.net"))
-
-    def test_figures_by_hand(self):
-        """111.195 m at 50 km/h are 8.006 s, and 222.39 m at 30 km/h 26.687 s."""
-        network = self.made()
-        self.assertEqual(network.arc_metres[:].tolist(), [111.2, 111.2, 222.39, 222.39])
-        self.assertEqual(network.arc_seconds[:].tolist(), [8.006, 8.006, 26.687, 26.687])
-        graph = read_graph(self.folder / "net.gr")
-        self.assertEqual(graph, (3, [1, 2, 2, 3], [2, 1, 3, 2], [8006, 8006, 26687, 26687]))
-        self.assertEqual((network.unit, len(network.edge_begin) - 1), ("duration", 2))
-        self.assertEqual(sorted(path.name for path in self.folder.iterdir()), ["arcs.csv", "net.gr", "net.net", "nodes.csv"])
-        lengths = self.made("--weight", "length")
-        self.assertEqual((lengths.unit, lengths.arc_weight[:].tolist()), ("distance", [11120, 11120, 22239, 22239]))
-
-    def test_own_weights_metres_and_lines(self):
-        self.write("arcs.csv", 'from,to,weight,metres,seconds,WKT,osm\ndepot,shop,7,150,,"LINESTRING (0 0, 0.0005 0.0001, 0.001 0)",12\n'
-                               'shop,depot,8,,2.5,"LINESTRING (0.001 0, 0.0005 0.0001, 0 0)",12\nshop,farm,0,,,,\n')
-        network = self.made("--weight", "length")
-        self.assertEqual(network.arc_weight[:].tolist(), [7, 8, 0])
-        self.assertEqual(network.arc_metres[:].tolist(), [150, 113.4, 222.39])
-        self.assertEqual(network.arc_seconds[:].tolist(), [0, 2.5, 0])
-        self.assertEqual(network.arc_osm[:].tolist(), [12, 12, 0])
-        # both directions of a line are one edge
-        self.assertEqual((network.arc_edge[:].tolist(), network.arc_along[:].tolist()), ([0, 0, 1], [True, False, True]))
-        self.assertEqual(network.line(1), [(0.001, 0), (0.0005, 0.0001), (0, 0)])
 
     def test_nodes_without_names(self):
         self.write("nodes.csv", "lat,lon,osm\n0,0,17\n0,0.001,\n0.002,0.001,-5\n")
@@ -126,14 +101,6 @@ class DimacsTests(ToolCase):
         self.write("x.gr", gr)
         self.run_tool("to_network", "x.co", "x.gr", name)
         return (self.folder / f"{name}.net").read_bytes()
-
-    def test_as_tables(self):
-        found = self.made(self.CO, self.GR)
-        self.write("n.csv", "lon,lat\n0,0\n0.001,0\n0.001,0.002\n")
-        self.write("a.csv", "from,to,weight\n1,2,7\n2,1,7\n2,3,9\n")
-        self.run_tool("to_network", "n.csv", "a.csv", "other")
-        self.assertEqual(found, (self.folder / "other.net").read_bytes())
-        self.assertEqual((self.folder / "net.gr").read_text(), self.GR.replace("c roads\n", ""))
 
     def test_files_in_another_form_are_the_same(self):
         """Comments between, blanks, and places in another order: what the quick reader leaves to the other one."""
@@ -235,43 +202,3 @@ class WholeTests(ServiceCase):
         os.utime(self.folder / "v.net")
         self.assertEqual([self.ask(path) for path in paths], before)
         self.assertEqual(before[0][0], 200)
-
-    def test_a_network_without_seconds(self):
-        """Durations are null in routes, and aren't in tables, which have weights; keys of nodes come back."""
-        self.write("nodes.csv", NODES)
-        self.write("arcs.csv", "from,to,weight\ndepot,shop,250\nshop,depot,250\nshop,farm,300\n")
-        self.run_tool("to_network", "nodes.csv", "arcs.csv", "net")
-        domethyme.prepare(self.folder / "net.gr", self.folder / "v.rch", workers=1).close()
-        self.serve("--network", self.folder / "net")
-        places = "0,0;0.001,0.002"
-        status, found = self.ask(f"/route/v1/car/{places}?steps=true&annotations=true")
-        route = found["routes"][0]
-        self.assertEqual((status, route["weight_name"], route["weight"], route["duration"], route["distance"]), (200, "weight", 550, None, 333.59))
-        self.assertEqual([step["duration"] for step in route["legs"][0]["steps"]], [None] * len(route["legs"][0]["steps"]))
-        noted = route["legs"][0]["annotation"]
-        self.assertEqual((noted["duration"], noted["speed"], noted["weight"]), ([None, None], [None, None], [250, 300]))
-        for query in ("", "?annotations=duration,distance"):
-            status, found = self.ask(f"/table/v1/car/{places}{query}")
-            self.assertEqual((status, found["code"]), (400, "NotImplemented"))
-            self.assertIn("this network has no seconds, so no durations: ask annotations=weight or distance", found["message"])
-        status, found = self.ask(f"/table/v1/car/{places}?annotations=weight,distance&skip_waypoints=true")
-        self.assertEqual((status, found["weights"], found["distances"][0]), (200, [[0, 550], [None, 0]], [0, 333.59]))
-        many = ";".join([places] * 10)
-        self.assertEqual(self.ask(f"/table/v1/car/{many}?annotations=weight")[1]["weights"][0][:2], [0, 550])
-        self.assertEqual(self.ask(f"/table/v1/car/{places}?annotations=weight&fallback_speed=10")[1]["weights"], [[0, 550], [None, 0]])
-
-        wanted = {"from": 1, "to": 3, "length": 550, "from_key": "depot", "to_key": "farm"}
-        for query in ("from=1&to=3", "from_key=depot&to_key=farm", "from=1&to_key=farm"):
-            self.assertEqual(self.ask(f"/nodes/length?{query}"), (200, wanted))
-        self.assertEqual(self.ask("/nodes/route?from_key=shop&to_key=depot")[1]["nodes"], [2, 1])
-        for query, says in (("from_key=x&to=3", "from_key is the key of no node"), ("from=1&from_key=depot&to=3", "are both given"), ("to=3", "from is missing")):
-            self.assertIn(says, self.ask(f"/nodes/length?{query}")[1]["message"])
-        status, text = self.ask("/nodes/lengths", "POST", '{"from_key": "depot", "to_key": "farm"}\n{"from": 1, "to": 3}\n')
-        self.assertEqual([json.loads(line) for line in text.splitlines()], [wanted, wanted])
-
-    def test_weights_and_seconds(self):
-        """A table of weights beside durations, of a map by time."""
-        self.serve("--network", self.folder / "v")
-        found = self.ask("/table/v1/car/0,0;0.008,0?annotations=duration,weight")[1]
-        self.assertEqual(found["weights"], found["durations"])
-        self.assertIsNotNone(found["durations"][0][1])

@@ -4,9 +4,10 @@ import signal
 import stat
 import subprocess
 import textwrap
+import unittest.mock
 from unittest import mock
 
-from tool_case import PYTHON, TAKES_SIGNALS, ToolCase
+from tool_case import PYTHON, SECONDS, TAKES_SIGNALS, ToolCase
 
 from domethyme import DomethymeError, atomic_files, csv_tables, dimacs, find_program
 from domethyme.network import geo, reading, tables
@@ -77,7 +78,9 @@ class WholeFiles(SharedCase):
     def test_new_files_go_by_the_mask(self):
         old = os.umask(0o027)
         self.addCleanup(os.umask, old)
-        self.write_all("new")
+        # (a change of the mask would be seen by other threads)
+        with unittest.mock.patch.object(os, "umask", side_effect=AssertionError):
+            self.write_all("new")
         self.assertEqual(stat.S_IMODE(self.paths[0].stat().st_mode), 0o640)
 
     def test_a_device_is_written_straight(self):
@@ -98,7 +101,7 @@ class Ends(SharedCase):
         )
 
     def assert_ends(self, child, status, says):
-        stdout, stderr = child.communicate(timeout=60)
+        stdout, stderr = child.communicate(timeout=SECONDS)
         self.assertEqual((child.returncode, stderr), (status, says))
         return stdout
 
@@ -181,7 +184,8 @@ class Tables(SharedCase):
             "f, row 1: lon '181' isn't from -180 to 180", csv_tables.parse_float, "181", "lon", "f", 1, -180, 180
         )
         self.assert_fault("f, row 1: n 'nan' is no finite number", csv_tables.parse_float, "nan", "n", "f", 1)
-        self.assert_fault("f, row 1: n 'x' is no number", csv_tables.parse_float, "x", "n", "f", 1)
+        for text in ("x", "1_0", "\N{FULLWIDTH DIGIT FIVE}0"):
+            self.assert_fault(f"f, row 1: n {text!r} is no number", csv_tables.parse_float, text, "n", "f", 1)
 
 
 class Networks(SharedCase):
@@ -254,13 +258,13 @@ class Networks(SharedCase):
         points = [(-0.0016667, 0.0), (9.5, 47.1878542)]
         self.assertEqual(geo.format_linestring(points), "LINESTRING (-0.0016667 0.0000000, 9.5000000 47.1878542)")
         self.assertEqual(geo.parse_linestring(geo.format_linestring(points)), points)
-        bodies = ("(1 2)", "(1 2, 3)", "(1 2, 3 4", "EMPTY", "(1 2, 3 4) 5", "(1 2, 3 x)")
+        bodies = ("(1 2)", "(1_0 2, 3 4)", "(1 2, 3)", "(1 2, 3 4", "EMPTY", "(1 2, 3 4) 5", "(1 2, 3 x)")
         for text in ("", "POINT (1 2, 3 4)", *(f"LINESTRING {body}" for body in bodies)):
             self.assert_fault(f"f, row 7: WKT {text!r} is no line", geo.parse_linestring, text, "f", 7)
 
     def test_graph_there_and_back(self):
-        with atomic_files.atomic_write(self.folder / "n.gr") as file:
-            dimacs.write_graph(file, 3, [(1, 2, 7), (1, 2, 8), (3, 3, 1)], ["a comment"])
+        with atomic_files.atomic_write(self.folder / "n.gr", "wb") as file:
+            dimacs.write_graph(file, 3, [[1, 1, 3], [2, 2, 3], [7, 8, 1]], ["a comment"])
         text = (self.folder / "n.gr").read_text(encoding="ascii")
         self.assertEqual(text, "c a comment\np sp 3 3\na 1 2 7\na 1 2 8\na 3 3 1\n")
         self.assertEqual(dimacs.read_graph(self.folder / "n.gr"), dimacs.GraphLists(3, [1, 1, 3], [2, 2, 3], [7, 8, 1]))
@@ -272,6 +276,7 @@ class Networks(SharedCase):
             ("p sp 2 1\n\na 1 3 3\n", ", row 3: node 3 isn't from 1 to 2"),
             ("p sp 2 1\na 1 2 4294967296\n", ", row 2: weight 4294967296 isn't from 0 to 4294967295"),
             ("p sp 2 2\na 1 2 3\n", ": has 1 arcs and announces 2"),
+            ("p sp 2 1\na 1 2 3\na 2 1 3\n", ": has 2 arcs and announces 1"),
             ("p sp 2 1\np sp 2 1\n", ", row 2: is no line of a graph"),
         ]
         for text, says in cases:

@@ -37,7 +37,7 @@ class CrossingCase(ToolCase):
         self.said = self.run_tool("osm_to_gr", "map.osm", "map", "--tables", *options).stderr
         rows = [f"{x / 1000},{y / 1000}" for x, y in PLACES.values()]
         self.write("places.csv", "\n".join(["lon,lat", *rows]) + "\n")
-        self.run_tool("nearest", "map", "places.csv", "--matrix", "--max-distance", "1", "-o", "pairs")
+        self.run_tool("nearest", "map", "places.csv", "--matrix", "--radius", "1", "-o", "pairs")
         self.write("answers", self.run_program([find_program(), "answer", "map.gr", "pairs"]).stdout)
         answers = iter(read_answers(self.folder / "answers"))
         found = {(start, end): next(answers).length for start in PLACES for end in PLACES}

@@ -3,7 +3,7 @@ import subprocess
 import sys
 
 import pytest
-from tool_case import LONG, PYTHON, ROOT
+from tool_case import MANUAL, PYTHON, ROOT
 
 
 def scripts(folder):
@@ -19,16 +19,16 @@ def is_python(path):
 STRICT = ("mypy", "--strict", "--cache-dir=/dev/null", "--scripts-are-modules")
 # What pyproject.toml has mypy look at, and the checks by hand that are made of the same packages.
 PACKAGES = ("domethyme", "domethyme_service", "domethyme_tools", "domethyme_launcher.py", "domethyme_part.py")
-CHECKS = [LONG / name for name in ("check_page", "compare_converters", "compare_turns")]
+CHECKS = [MANUAL / name for name in ("check_page", "compare_converters", "compare_turns")]
 # (the slow readers, plain.py, are as plain as can be)
 KIT = [path for path in sorted((ROOT / "tests/kit").glob("*.py")) if path.name != "plain.py"]
-FOLDERS = [ROOT / name for name in ("python/tests", "packaging", "bench", "tests", "tests/long")]
+FOLDERS = [PYTHON / "tests", ROOT / "packaging", ROOT / "packaging/web", ROOT / "bench", *sorted((ROOT / "tests").glob("[a-z]*/"))]
 
 
 @pytest.mark.parametrize("folder, words", [
     (PYTHON, ["mypy", "--scripts-are-modules", *PACKAGES, *CHECKS]),
     (ROOT / "tests", [*STRICT, *KIT]),
-    (ROOT / "packaging", [*STRICT, "readme_session.py", "tool_completions"]),
+    (ROOT / "packaging", [*STRICT, "readme_session.py", "tool_completions", "web/for_wasm64", "web/stack_depth", "web/without_table"]),
     (ROOT, ["pyflakes", PYTHON, *(path for folder in FOLDERS for path in scripts(folder))]),
 ], ids=["packages", "kit", "packaging", "names"])
 def test_types_and_names(folder, words):

@@ -9,9 +9,11 @@ import unittest
 HERE = pathlib.Path(__file__).resolve().parent
 ROOT = HERE.parents[1]
 PYTHON, TOOLS = ROOT / "python", ROOT / "tools"
-LONG = ROOT / "tests/long"
+MANUAL = ROOT / "tests/manual"
 VILLAGE = HERE / "village.osm"
 
+# What only a hang exceeds, in seconds: no test expects anything sooner.
+SECONDS = 300
 # Before the words of a program that is sent signals. What a test inherits may ignore them, as a shell's background job
 # does, and Python makes no KeyboardInterrupt of an interrupt that it was started to ignore.
 TAKES_SIGNALS = ["/usr/bin/env", "--default-signal=HUP,INT,QUIT,TERM"]
@@ -34,9 +36,9 @@ class ToolCase(unittest.TestCase):
         self.addCleanup(shutil.rmtree, self.folder)
 
     def run_tool(self, tool, *words, status=0, given=None, environment=None):
-        """Runs a tool, or a script of tests/long, with the words, and `given` as its standard input, and wants the status. Texts
+        """Runs a tool, or a script of tests/manual, with the words, and `given` as its standard input, and wants the status. Texts
         are returned."""
-        folder = TOOLS if (TOOLS / tool).exists() else LONG
+        folder = TOOLS if (TOOLS / tool).exists() else MANUAL
         return self.run_program([folder / tool, *words], status, given, environment)
 
     def run_program(self, words, status=0, given=None, environment=None):
@@ -48,7 +50,7 @@ class ToolCase(unittest.TestCase):
             capture_output=True,
             encoding="utf-8",
             env={**os.environ, **(environment or {})},
-            timeout=120,
+            timeout=SECONDS,
         )
         self.assertEqual(ended.returncode, status, ended.stderr)
         return ended

@@ -1,0 +1,230 @@
+"""How an answer is compared with what is expected: all exactly, but for what is rounded."""
+import itertools
+import math
+from collections.abc import Callable, Iterable, Sequence
+from typing import Any, NamedTuple
+
+from model.network import Network, SnappedPoint
+from model.reach import is_within, reached
+from model.sphere import EARTH_RADIUS, Point, nearest_on_segment
+
+Points = Sequence[Point]
+
+
+class Near(NamedTuple):
+    """A number within a tolerance."""
+
+    value: float
+    tolerance: float
+
+    def differs(self, found: Any) -> bool:
+        return isinstance(found, bool) or not isinstance(found, (int, float)) or not abs(found - self.value) <= self.tolerance
+
+
+class Direction(NamedTuple):
+    """Whole degrees from 0 to 359, to a degree."""
+
+    degrees: float
+
+    def differs(self, found: Any) -> bool:
+        is_whole = isinstance(found, int) and 0 <= found < 360
+        return not is_whole or abs((found - self.degrees + 180) % 360 - 180) > 1.01
+
+
+class AnyOf(NamedTuple):
+    """One of several."""
+
+    options: Sequence[Any]
+
+    def differs(self, found: Any) -> bool:
+        return all(difference(found, option) for option in self.options)
+
+
+class Holds(NamedTuple):
+    """Whatever a rule holds of; `what` is the rule in words."""
+
+    what: str
+    rule: Callable[[Any], bool]
+
+    def differs(self, found: Any) -> bool:
+        return not self.rule(found)
+
+
+class Line(NamedTuple):
+    """A line by its points, as polyline, polyline6 or geojson."""
+
+    points: Points
+    form: str
+
+    def differs(self, found: Any) -> bool:
+        line = decoded(found, self.form)
+        return line is None or not is_same_line(line, self.points, tolerance_of(self.form))
+
+
+class Simplified(NamedTuple):
+    """Lines that follow one another, each without points within a thousandth of the extent of all."""
+
+    lines: Sequence[Points]
+    form: str
+
+    def differs(self, found: Any) -> bool:
+        line, every = decoded(found, self.form), unwrapped([point for part in self.lines for point in part])
+        if line is None or len(line) < 2:
+            return True
+        shrink = math.cos(math.radians(every[0][1]))
+        sides = [max(axis) - min(axis) for axis in zip(*every)]
+        most = max(sides[0] * shrink, sides[1]) / 1000
+        flat, parts = unwrapped(line), [unwrapped(part) for part in self.lines]
+        turn = round((flat[0][0] - every[0][0]) / 360) * 360
+        kept = [((lon - turn) * shrink, lat) for lon, lat in flat]
+        whole = [(lon * shrink, lat) for lon, lat in every]
+        slack = 2 * tolerance_of(self.form)
+        is_near = all(min(away_from(point, *step) for step in zip(kept, kept[1:])) <= most + slack for point in whole)
+        is_of_line = all(min(math.dist(point, other) for other in whole) <= slack for point in kept)
+        is_from_end_to_end = max(math.dist(kept[0], whole[0]), math.dist(kept[-1], whole[-1])) <= slack
+        needed = sum(len(thinned(part, most * 0.999, shrink)) for part in parts)
+        return not (is_near and is_of_line and is_from_end_to_end and len(kept) <= max(needed, 2))
+
+
+def thinned(line: Points, most: float, shrink: float) -> list[Point]:
+    """A line by the rule of Douglas and Peucker."""
+    flat = [(lon * shrink, lat) for lon, lat in line]
+    away, far = max(((away_from(point, flat[0], flat[-1]), step) for step, point in enumerate(flat[1:-1], 1)), default=(0.0, 0))
+    if away <= most:
+        return [line[0], line[-1]]
+    return [*thinned(line[: far + 1], most, shrink)[:-1], *thinned(line[far:], most, shrink)]
+
+
+def away_from(point: Point, begin: Point, end: Point) -> float:
+    """How far a point of the plane is from a line."""
+    step = end[0] - begin[0], end[1] - begin[1]
+    square = step[0] ** 2 + step[1] ** 2
+    share = ((point[0] - begin[0]) * step[0] + (point[1] - begin[1]) * step[1]) / square if square else 0.0
+    share = min(1.0, max(0.0, share))
+    return math.dist(point, (begin[0] + share * step[0], begin[1] + share * step[1]))
+
+
+def unwrapped(line: Iterable[Point]) -> list[Point]:
+    """A line whose longitudes go beyond 180 where it crosses that meridian."""
+    found: list[Point] = []
+    for lon, lat in line:
+        before = found[-1][0] if found else lon
+        found.append((before + math.remainder(lon - before, 360), lat))
+    return found
+
+
+def tolerance_of(form: str) -> float:
+    return 1.1e-5 if form == "polyline" else 1.6e-6
+
+
+def decoded(found: Any, form: str) -> list[Point] | None:
+    """The points of a line in JSON; None for what is no such line."""
+    if form == "geojson":
+        is_line = isinstance(found, dict) and set(found) == {"type", "coordinates"} and found["type"] == "LineString"
+        return [(lon, lat) for lon, lat in found["coordinates"]] if is_line and len(found["coordinates"]) > 1 else None
+    if not isinstance(found, str):
+        return None
+    numbers, value, shift = [], 0, 0
+    for sign in found:
+        value |= (ord(sign) - 63 & 31) << shift
+        shift += 5
+        if ord(sign) - 63 < 32:
+            numbers.append(~(value >> 1) if value & 1 else value >> 1)
+            value = shift = 0
+    scale = 10 ** (6 if form == "polyline6" else 5)
+    lats, lons = itertools.accumulate(numbers[::2]), itertools.accumulate(numbers[1::2])
+    return [(lon / scale, lat / scale) for lat, lon in zip(lats, lons, strict=True)]
+
+
+def is_same_line(one: Points, other: Points, tolerance: float) -> bool:
+    """Whether two lines have the same points, but for such that are the one before, within the tolerance."""
+    def is_near(a: Point, b: Point) -> bool:
+        return max(abs(math.remainder(a[0] - b[0], 360)), abs(a[1] - b[1])) <= tolerance
+
+    if not one or not other or not is_near(one[0], other[0]):
+        return False
+    i = j = 0
+    while i + 1 < len(one) or j + 1 < len(other):
+        if i + 1 < len(one) and j + 1 < len(other) and is_near(one[i + 1], other[j + 1]):
+            i, j = i + 1, j + 1
+        elif i + 1 < len(one) and is_near(one[i + 1], other[j]):
+            i += 1
+        elif j + 1 < len(other) and is_near(other[j + 1], one[i]):
+            j += 1
+        else:
+            return False
+    return True
+
+
+def difference(found: Any, expected: Any, where: str = "answer") -> str:
+    """The first difference between an answer and what is expected, "" for none."""
+    if isinstance(expected, AnyOf) and expected.options:
+        every = [difference(found, option, where) for option in expected.options]
+        return "" if "" in every else max(every, key=lambda text: text.index(" "))
+    if hasattr(expected, "differs"):
+        return f"{where} is {found!r}, not {expected!r}" if expected.differs(found) else ""
+    if isinstance(expected, dict) and isinstance(found, dict) and list(found) != list(expected) and set(found) != set(expected):
+        return f"{where} has {sorted(found)}, not {sorted(expected)}"
+    if isinstance(expected, dict) and isinstance(found, dict):
+        return next(filter(None, (difference(found[name], expected[name], f"{where}.{name}") for name in expected)), "")
+    if isinstance(expected, list) and isinstance(found, list) and len(found) == len(expected):
+        rows = enumerate(zip(found, expected))
+        return next(filter(None, (difference(*pair, f"{where}[{row}]") for row, pair in rows)), "")
+    return "" if type(found) is type(expected) and found == expected else f"{where} is {found!r}, not {expected!r}"
+
+
+def rings_of(geometry: Any) -> list[list[Point]]:
+    """The rings of a polygon, of several, or of their outlines as lines."""
+    depth = {"LineString": 0, "MultiLineString": 1, "Polygon": 1, "MultiPolygon": 2}[geometry["type"]]
+    rings = [geometry["coordinates"]]
+    for _ in range(depth):
+        rings = [ring for part in rings for ring in part]
+    return [[(lon, lat) for lon, lat in ring] for ring in rings]
+
+
+def is_inside(rings: Sequence[Points], place: Point) -> bool:
+    """Whether a place is in an odd number of rings."""
+    crossings = 0
+    for ring in rings:
+        above = [point[1] > place[1] for point in ring]
+        for step in range(len(ring) - 1):
+            if above[step] != above[step + 1]:
+                (x, y), (other_x, other_y) = ring[step : step + 2]
+                crossings += place[0] < x + (place[1] - y) / (other_y - y) * (other_x - x)
+    return crossings % 2 == 1
+
+
+def metres_to_line(rings: Sequence[Points], place: Point) -> float:
+    """The metres from a place to the nearest ring."""
+    return min((nearest_on_segment(place, *ends)[0] for ring in rings for ends in itertools.pairwise(ring)), default=1e9)
+
+
+class Contour(NamedTuple):
+    """The contour of what is reached within a limit, of these kinds. Unless it was simplified it has the nodes that are within the
+    limit, and of other places those whose nearest road is reached, all but for those near its line."""
+
+    network: Network
+    points: Sequence[SnappedPoint]
+    limit: int
+    kinds: Sequence[str]
+    is_whole: bool
+
+    def differs(self, found: Any) -> bool:
+        shares = reached(self.network, self.points, self.limit)
+        if found is None or found["type"] not in self.kinds or not self.is_whole:
+            return any(shares.values()) if found is None else found["type"] not in self.kinds
+        rings = rings_of(found)
+        sides = [max(axis) - min(axis) for axis in zip(*(point for ring in rings for point in ring))]
+        step = max(sides) * math.radians(EARTH_RADIUS) / 100 + 1
+        for place in [*self.probes(), *(node.place for node in self.network.nodes)]:
+            expected = is_within(self.network, shares, place, step)
+            if expected not in (None, is_inside(rings, place)) and metres_to_line(rings, place) > step:
+                return True
+        return False
+
+    def probes(self) -> list[Point]:
+        """Places over the box of a network and some way around it."""
+        lons, lats = zip(*(point for edge in self.network.edges for point in edge.line))
+        wide, high = max(lons) - min(lons) + 0.008, max(lats) - min(lats) + 0.008
+        steps = range(1, 30, 3)
+        return [(min(lons) - 0.004 + wide * (5 * step % 13) / 13, min(lats) - 0.004 + high * step / 30) for step in steps]

@@ -1,0 +1,278 @@
+"""Networks and requests that are drawn for the generated tests, with Hypothesis; and the files of a network that was drawn.
+
+In the gate the draws are the same each time. By hand `DRAWS=5000 python/tests/run generated` takes new ones, so many for each
+test, and makes a draw that fails smaller before it is printed.
+"""
+import contextlib
+import csv
+import io
+import math
+import os
+import pathlib
+import sys
+from collections.abc import Callable, Sequence
+from typing import Any, NamedTuple
+from unittest import mock
+
+import numpy as np
+from hypothesis import HealthCheck, Phase, settings
+from hypothesis import strategies as st
+from model.network import Arc, Network, Node
+from model.request import ANNOTATIONS
+from model.sphere import Point, along, bearing, point_at
+
+import domethyme
+from domethyme_tools import turn_restrictions
+
+UNITS = 10**7
+# Where networks lie: a town, both sides of the 180th meridian, near a pole, and where both degrees change their signs.
+ORIGINS = [(9.5, 47.1), (179.9995, -17.0), (30.0, 89.95), (0.0, 0.0)]
+# What weights are, and whether arcs have seconds.
+KINDS = ("duration", "distance", "weight", "weight alone")
+NAMES = ("", "", "High Street", "Mill Lane", "Rue de l'Été; \"Nord\"")
+REFS, JUNCTIONS = ("", "", "B12;E60"), ("", "", "", "roundabout", "circular")
+
+
+def drawn(count: int) -> Callable[[Any], Any]:
+    """Settings of a test of so many draws in the gate."""
+    asked = os.environ.get("DRAWS")
+    checks = [HealthCheck.too_slow, HealthCheck.filter_too_much, HealthCheck.data_too_large, HealthCheck.function_scoped_fixture]
+    phases = [Phase.generate, *([Phase.shrink] if asked else [])]
+    return settings(
+        max_examples=int(asked or count), derandomize=not asked, deadline=None, database=None, suppress_health_check=checks,
+        print_blob=True, phases=phases
+    )
+
+
+class Drawn(NamedTuple):
+    """A network: `roads` as it was drawn, where turns may be forbidden, and `tables` as its tables have it, where junctions
+    are split instead; and whether nodes have keys."""
+
+    roads: Network
+    tables: Network
+    has_keys: bool
+
+
+@st.composite
+def networks(draw: Any, kinds: Sequence[str] = KINDS, most: int = 8, origins: Sequence[Point] = ORIGINS) -> Drawn:
+    origin, kind, has_keys = draw(st.sampled_from(origins)), draw(st.sampled_from(kinds)), draw(st.booleans())
+    count, scale = draw(st.integers(2, most)), draw(st.sampled_from([1, 1, 1, 1, 100])) if origin[1] < 80 else 1
+    points = [draw(points_near(origin, scale)) for _ in range(count)]
+    nodes = []
+    for number, point in enumerate(points):
+        point = points[draw(st.integers(0, number))] if draw(st.integers(0, 9)) == 0 else point
+        key = f"node {number}" if has_keys else str(number + 1)
+        nodes.append(Node(point[0], point[1], key, draw(st.sampled_from([None, 40 + number]))))
+    arcs: list[Arc] = []
+    for way in range(draw(st.integers(1, 2 * most))):
+        start, end = (draw(st.integers(0, count - 1)) for _ in range(2))
+        inner = [draw(points_near(origin, scale)) for _ in range(draw(st.sampled_from([0, 0, 1, 2, 4])))]
+        line = (nodes[start].place, *inner, nodes[end].place)
+        texts = way + 1, *(draw(st.sampled_from(some)) for some in (NAMES, REFS, REFS, JUNCTIONS))
+        arcs.append(draw_arc(draw, kind, start, end, line, texts))
+        if draw(st.booleans()):
+            arcs.append(draw_arc(draw, kind, end, start, line[::-1], texts))
+        if draw(st.integers(0, 5)) == 0:
+            arcs.append(draw_arc(draw, kind, start, end, line, texts))
+    turns = [(a, b) for a, one in enumerate(arcs) for b, other in enumerate(arcs) if one.end == other.start]
+    forbidden = draw(st.sets(st.sampled_from(turns), max_size=4)) if turns and draw(st.integers(0, 2)) == 0 else set()
+    roads = Network(nodes, arcs, forbidden)
+    return Drawn(roads, split(roads) if forbidden else roads, has_keys)
+
+
+def draw_arc(draw: Any, kind: str, start: int, end: int, line: tuple[Point, ...], texts: tuple[Any, ...]) -> Arc:
+    number = draw(st.one_of(st.integers(0, 20), st.integers(0, 100_000)))
+    metres = round(along(line)[-1], 2)
+    if kind == "duration":
+        return Arc(start, end, number, number / 1000, metres, line, *texts)
+    if kind == "distance":
+        return Arc(start, end, round(100 * metres), number / 1000, metres, line, *texts)
+    return Arc(start, end, number, 0.0 if kind == "weight alone" else number % 977 / 4, metres, line, *texts)
+
+
+def points_near(origin: Point, scale: int = 1) -> Any:
+    """Places within some 700 m of one, or `scale` times as far, at whole steps of 11 m or a little beside these."""
+    def place(steps: tuple[int, int], beside: int) -> Point:
+        east, north = (step * scale * 1e-4 for step in steps)
+        lon, lat = (round(each * UNITS) for each in (origin[0] + east / math.cos(math.radians(origin[1])), origin[1] + north))
+        return ((lon + beside + 180 * UNITS) % (360 * UNITS) - 180 * UNITS) / UNITS, lat / UNITS
+
+    return st.builds(place, st.tuples(st.integers(-60, 60), st.integers(-60, 60)), st.sampled_from([0, 0, 137, -2511]))
+
+
+def split(roads: Network) -> Network:
+    """The network whose junctions are split where turns are forbidden, as the tools split them."""
+    start, end = (np.array([arc[side] for arc in roads.arcs], np.int32) for side in (0, 1))
+    nodes = np.unique([roads.arcs[arc].end for arc, _ in roads.forbidden])
+    turns = turn_restrictions.turns_at(nodes, start, end, len(roads.nodes))
+    pairs = zip(turns.into[turns.turn].tolist(), turns.out.tolist())
+    cost = np.array([turn_restrictions.FORBIDDEN * (pair in roads.forbidden) for pair in pairs], np.int32)
+    copies = turn_restrictions.make_copies(nodes, turns, cost, len(roads.nodes))
+    arc, starts, ends, _ = turn_restrictions.copied_arcs(copies, turns, cost, start, end)
+    words = ("", "from", "to", "no")
+    is_split = set(nodes[copies.is_split].tolist())
+    before = [node._replace(ends="from") if number in is_split else node for number, node in enumerate(roads.nodes)]
+    more = [
+        roads.nodes[beside]._replace(ends=turn_restrictions.ENDS[side], key=f"copy {number}")
+        for number, (beside, side) in enumerate(zip(copies.beside.tolist(), copies.ends.tolist()))
+    ]
+    assert set(words) == set(turn_restrictions.ENDS)
+    rows = zip(arc.tolist(), starts.tolist(), ends.tolist())
+    return Network([*before, *more], [roads.arcs[row]._replace(start=one, end=other) for row, one, other in rows])
+
+
+# Files
+
+
+def write_network(drawn: Drawn, prefix: pathlib.Path, *words: str) -> str:
+    """Makes PREFIX.gr, PREFIX.net and PREFIX.rch of tables of a network. Returns what to_network reported."""
+    folder = prefix.parent / f"{prefix.name}-tables"
+    folder.mkdir(exist_ok=True)
+    write_tables(drawn, folder)
+    said = run_tool("to_network", folder / "nodes.csv", folder / "arcs.csv", prefix, *words)[1]
+    domethyme.prepare(f"{prefix}.gr", f"{prefix}.rch", order="depth", workers=0).close()
+    return said
+
+
+def write_tables(drawn: Drawn, folder: pathlib.Path) -> None:
+    """The user's tables of a network, nodes.csv and arcs.csv."""
+    nodes, arcs = drawn.tables.nodes, drawn.tables.arcs
+    names = [node.key if drawn.has_keys else number for number, node in enumerate(nodes, 1)]
+    with open(folder / "nodes.csv", "w", newline="") as file:
+        rows = csv.writer(file)
+        rows.writerow(("node", "lon", "lat", "osm", "ends"))
+        rows.writerows(
+            (name, f"{node.lon:.7f}", f"{node.lat:.7f}", "" if node.osm is None else node.osm, node.ends)
+            for name, node in zip(names, nodes)
+        )
+    with open(folder / "arcs.csv", "w", newline="") as file:
+        rows = csv.writer(file)
+        rows.writerow(("from", "to", "weight", "seconds", "metres", "WKT", "osm", "name", "ref", "destination", "junction"))
+        for arc in arcs:
+            line = ", ".join(f"{lon:.7f} {lat:.7f}" for lon, lat in arc.line)
+            rows.writerow((names[arc.start], names[arc.end], *arc[2:5], f"LINESTRING ({line})", *arc[6:]))
+
+
+def run_tool(name: str, *words: object, given: str = "") -> tuple[str, str]:
+    """Runs a tool in this process. Returns what it wrote to standard output and to standard error; raises its errors."""
+    module = __import__(f"domethyme_tools.{name}", fromlist=["main"])
+    out, said = io.StringIO(), io.StringIO()
+    stdin, argv = io.TextIOWrapper(io.BytesIO(given.encode())), [name, *map(str, words)]
+    with contextlib.redirect_stdout(out), contextlib.redirect_stderr(said):
+        with mock.patch.object(sys, "argv", argv), mock.patch.object(sys, "stdin", stdin):
+            module.main()
+    return out.getvalue(), said.getvalue()
+
+
+# Places and requests
+
+
+@st.composite
+def places(draw: Any, roads: Network, count: int) -> list[Point]:
+    """Places at nodes, in arcs and beside them, several or all on one road, between roads, and far away."""
+    found: list[Point] = []
+    arc, is_one_road = draw(st.sampled_from(roads.arcs)), draw(st.integers(0, 2)) == 0
+    for _ in range(count):
+        if not is_one_road and draw(st.booleans()):
+            arc = draw(st.sampled_from(roads.arcs))
+        kinds = ["in", "beside"] if is_one_road else ["node", "in", "in", "in", "beside", "beside", "near", "far"]
+        kind = draw(st.sampled_from(kinds))
+        base = draw(st.sampled_from(roads.nodes)).place
+        if kind in ("in", "beside"):
+            base = point_at(arc.line, draw(st.integers(0, 31)) / 31)
+        east, north = draw(st.tuples(st.integers(-30, 30), st.integers(-30, 30))) if kind in ("beside", "near") else (0, 0)
+        scale = 3e-6 if kind == "beside" else draw(st.sampled_from([2e-5, 2e-4]))
+        north += 10_000 if kind == "far" and draw(st.integers(0, 5)) == 0 else 0
+        lat = min(90.0, base[1] + north * scale)
+        lon = base[0] + east * scale / max(math.cos(math.radians(base[1])), 1e-6)
+        found.append((round((lon + 180) % 360 - 180, 7), round(lat, 7)))
+    return found
+
+
+def directions(roads: Network) -> list[int]:
+    """The directions of all steps of roads, and those against them, to a few degrees."""
+    steps = [step for arc in roads.arcs for step in zip(arc.line, arc.line[1:]) if step[0] != step[1]]
+    return sorted({(round(bearing(*step) / 8) * 8 + turn) % 360 for step in steps for turn in (0, 180)}) or [0]
+
+
+# A parameter's text, and the code of the error that it gets, "" for none.
+Coded = tuple[str, str]
+
+
+def coded(*good: str, **wrong: Sequence[str]) -> dict[str, Sequence[str]]:
+    """Texts by their codes."""
+    return {"": good, **wrong}
+
+
+def invalid(good: Sequence[str], *wrong: str) -> dict[str, Sequence[str]]:
+    return coded(*good, InvalidValue=wrong)
+
+
+def of_words(words: Sequence[str], known: Sequence[str]) -> Coded:
+    """A list of words, of which each has to be known, and to come once."""
+    return ",".join(words), "" if set(words) <= set(known) and len(set(words)) == len(words) else "InvalidValue"
+
+
+def for_places(rows: Sequence[Coded], count: int) -> Coded:
+    """A word for each place."""
+    code = next((code for _, code in rows if code), "InvalidQuery" if len(rows) != count else "")
+    return ";".join(text for text, _ in rows), code if any(text for text, _ in rows) or len(rows) != count else ""
+
+
+YES_NO = invalid(["true", "false"], "yes", "")
+KNOWN: dict[str, dict[str, dict[str, Sequence[str]]]] = {
+    "osrm": {
+        "hints": coded("", "a;b"), "generate_hints": YES_NO, "skip_waypoints": YES_NO,
+        "exclude": coded("", NotImplemented=["toll"]),
+        "approaches": coded("", "unrestricted", NotImplemented=["unrestricted;curb"]), "unknown": {"InvalidQuery": ["1"]},
+        "snapping": coded("default", NotImplemented=["any"], InvalidValue=["x"]),
+        "format": coded("json", NotImplemented=["flatbuffers"], InvalidValue=["x"]),
+    },
+    "route": {
+        "alternatives": invalid(["true", "false", "3"], "x"), "waypoints": coded("", NotImplemented=["0;1"]), "steps": YES_NO,
+        "overview": invalid(["simplified", "full", "false"], "by_legs"),
+        "geometries": invalid(["polyline", "polyline6", "geojson"], "wkt"),
+    },
+    "nearest": {"number": invalid(["1", "2", "5", "100"], "0", "101", "x")},
+    "table": {
+        "fallback_speed": invalid(["10", "0.5"], "0", "x"), "fallback_coordinate": invalid(["input", "snapped"], "x"),
+        "scale_factor": invalid(["2", "0.5"], "0"), "destinations": invalid(["all"], "x", "0;99"),
+    },
+    "isochrone": {
+        "polygons": YES_NO, "contours_colors": invalid(["ff0000", "00ff00,0000ff"], "red"),
+        "generalize": invalid(["0", "10"], "-1"),
+        "denoise": invalid(["0", "0.2", "1"], "2"), "reverse": coded("false", NotImplemented=["true"]),
+        "access_token": coded("x", ""), "exclude": coded("", NotImplemented=["toll"]), "unknown": {"InvalidQuery": ["1"]},
+    },
+}
+
+
+def texts_of(service: str, count: int, directions: Sequence[int], is_wrong: bool) -> dict[str, Any]:
+    """For each parameter of a service what its text may be with so many places, valid, or wrong too, and its code."""
+    def any_of(texts: dict[str, Sequence[str]]) -> Any:
+        rows = [(text, code) for code, some in texts.items() for text in some if is_wrong or not code]
+        return st.sampled_from(rows) if rows else None
+
+    def of_places(word: Any) -> Any:
+        sizes = (count, count + 1) if is_wrong else (count, count)
+        words = st.lists(st.one_of(st.just(("", "")), word), min_size=sizes[0], max_size=sizes[1])
+        return words.map(lambda rows: for_places(rows, count))
+
+    pairs = st.tuples(st.sampled_from(directions), st.sampled_from([0, 20, 20, 60, 180]))
+    bearings = pairs.map(lambda pair: ("%d,%d" % pair, ""))
+    known = {**(KNOWN["osrm"] if service != "isochrone" else {}), **KNOWN[service]}
+    found = {name: any_of(texts) for name, texts in known.items()}
+    found["radiuses"] = of_places(any_of(invalid(["unlimited", "10", "50.5", "1000", "0"], "-1", "1e3")))
+    found["bearings"] = of_places(st.one_of(bearings, bearings, any_of(invalid(["360,90"], "361,5", "10,181", "10", "a,b"))))
+    annotations = ["duration", "distance", "weight", *(ANNOTATIONS[3:] if is_wrong or service == "route" else ())]
+    some = st.lists(st.sampled_from(annotations), min_size=1, max_size=4, unique=not is_wrong)
+    if service == "route":
+        found["annotations"] = st.one_of(some.map(lambda words: of_words(words, ANNOTATIONS)), any_of(YES_NO))
+        straight = coded("default", "false", *(() if count > 2 else ("true",)), NotImplemented=["true"] if count > 2 else [])
+        found["continue_straight"] = any_of(straight)
+    if service == "table":
+        indices = st.lists(st.integers(0, count - 1).map(str), min_size=1, max_size=count)
+        found["annotations"] = some.map(lambda words: of_words(words, annotations[:3]))
+        places = indices.map(lambda words: (";".join(words), ""))
+        found["sources"] = st.one_of(places, any_of(invalid(["all"], "1,2", "a", "1;;2")))
+    return {name: texts for name, texts in found.items() if texts is not None}

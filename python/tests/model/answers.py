@@ -1,0 +1,208 @@
+"""The answers of the service to requests: what docs/SERVICE.md has of route, nearest, table and isochrone."""
+import functools
+import itertools
+import math
+from collections.abc import Sequence
+from typing import Any
+
+from comparing import AnyOf, Contour, Holds, Line, Near, Simplified
+
+from .network import Ambiguous, Network, Part, SnappedPoint
+from .request import Request
+from .sphere import Point, clip, metres_between
+from .steps import steps
+
+# The roundings of degrees, metres and seconds; and alternatives up to which an answer is compared with each.
+DEGREES, METRES, SECONDS, MOST = 1.1e-6, 0.011, 0.0015, 256
+UNITS = {"duration": 1000, "distance": 100}
+SHAPES = {"true": ("Polygon", "MultiPolygon"), "false": ("LineString", "MultiLineString")}
+
+
+class Refused(Exception):
+    """An error, by its code."""
+
+
+def figures(network: Network, leg: Sequence[Part]) -> dict[str, Any]:
+    """The weight, duration and distance of a leg: a weight in seconds or metres where weights are these."""
+    total = sum(part[3] for part in leg)
+    weight = total / UNITS[network.unit] if network.unit in UNITS else total
+    seconds, metres = (
+        sum(getattr(network.arcs[arc], name) * (stop - begin) for arc, begin, stop, _ in leg) for name in ("seconds", "metres")
+    )
+    duration = Near(weight if network.unit == "duration" else seconds, SECONDS) if network.has_seconds else None
+    distance = Near(weight if network.unit == "distance" else metres, METRES)
+    return {"weight": Near(weight, 0), "duration": duration, "distance": distance}
+
+
+def sums(legs: Sequence[dict[str, Any]]) -> dict[str, Any]:
+    """The figures of several legs together."""
+    tolerances = {"weight": 0.001, "duration": SECONDS * len(legs), "distance": METRES * len(legs)}
+    columns = {name: [leg[name] for leg in legs] for name in tolerances}
+    return {
+        name: None if None in column else Near(sum(each.value for each in column), tolerances[name])
+        for name, column in columns.items()
+    }
+
+
+def arc_line(network: Network, part: Part) -> list[Point]:
+    """The points of the part of an arc that is driven."""
+    arc, begin, stop, _ = part
+    return list(network.arcs[arc].line) if (begin, stop) == (0, 1) else clip(network.arcs[arc].line, begin, stop)
+
+
+def leg_line(network: Network, start: SnappedPoint, leg: Sequence[Part], end: SnappedPoint) -> list[Point]:
+    """The points of a leg, from one snapped point to the next."""
+    return [start.place, *(point for part in leg for point in arc_line(network, part)), end.place]
+
+
+def waypoint(network: Network, point: SnappedPoint, request: Request) -> dict[str, Any]:
+    """A snapped point in an answer."""
+    names = [network.arcs[arc].name for arc in network.edges[point.edge].arcs if network.arcs[arc].name]
+    place = [Near(degrees, DEGREES) for degrees in point.place]
+    hint = {"hint": Holds("a text", lambda value: isinstance(value, str))} if request.value("generate_hints") != "false" else {}
+    return {"name": names[0] if names else "", "location": place, "distance": Near(point.metres, 2e-5), **hint}
+
+
+def waypoints(network: Network, request: Request, **members: Sequence[SnappedPoint]) -> dict[str, Any]:
+    shown = {} if request.value("skip_waypoints") == "true" else members
+    return {name: [waypoint(network, point, request) for point in points] for name, points in shown.items()}
+
+
+def places_on_roads(network: Network, request: Request) -> list[SnappedPoint]:
+    """The points of roads that are nearest to the places. Raises Refused where one has none."""
+    found = [network.snap(*each) for each in zip(request.places, request.radiuses(), request.bearings())]
+    if None in found:
+        raise Refused("NoSegment")
+    return [point for point in found if point is not None]
+
+
+def route(network: Network, request: Request) -> Any:
+    """The route by all places in order: any of those whose legs are shortest."""
+    points = places_on_roads(network, request)
+    options = [network.legs(start, end) for start, end in itertools.pairwise(points)]
+    if not all(options):
+        raise Refused("NoRoute")
+    if math.prod(map(len, options)) > MOST:
+        raise Ambiguous
+    return AnyOf([route_along(network, request, points, legs) for legs in itertools.product(*options)])
+
+
+def route_along(
+    network: Network, request: Request, points: Sequence[SnappedPoint], legs: Sequence[Sequence[Part]]
+) -> dict[str, Any]:
+    """The answer with these points and legs."""
+    form, overview = request.value("geometries", "polyline"), request.value("overview", "simplified")
+    lines = [leg_line(network, start, leg, end) for start, leg, end in zip(points, legs, points[1:])]
+    totals, ends = [figures(network, leg) for leg in legs], itertools.pairwise(points)
+    answers = [leg_answer(network, request, *each) for each in zip(ends, legs, totals, strict=True)]
+    whole: dict[str, Any] = {"legs": answers, "weight_name": network.unit, **sums(totals)}
+    if overview != "false":
+        every = [point for line in lines for point in line]
+        whole["geometry"] = Line(every, form) if overview == "full" else Simplified(lines, form)
+    return {"code": "Ok", "routes": [whole], **waypoints(network, request, waypoints=points)}
+
+
+def leg_answer(
+    network: Network, request: Request, ends: tuple[SnappedPoint, SnappedPoint], leg: Sequence[Part], total: dict[str, Any]
+) -> dict[str, Any]:
+    """A leg: its figures, and its steps and annotations if they are asked for."""
+    found: dict[str, Any] = {"summary": "", "steps": [], **total}
+    if request.value("steps") == "true":
+        lines = [arc_line(network, part) for part in leg]
+        found["steps"] = steps(network, *ends, leg, lines, request.value("geometries", "polyline"), figures)
+        found["summary"] = Holds("a text", lambda value: isinstance(value, str))
+    if names := request.annotations():
+        found["annotation"] = annotation(network, leg, names, total)
+    return found
+
+
+def annotation(network: Network, leg: Sequence[Part], names: Sequence[str], total: dict[str, Any]) -> dict[str, Any]:
+    """The annotations of a leg, for each step of its line: figures sum to the leg's, speeds and nodes are those of its arcs."""
+    known = {network.nodes[node].osm or 0 for arc, *_ in leg for node in network.arcs[arc][:2]} | {0}
+    parts = [[each and each.value for each in figures(network, [part]).values()] for part in leg]
+    speeds = [metres / seconds if seconds else 0.0 for _, seconds, metres in parts]
+    is_long = all(metres > 30 and (seconds or 0) > 0.5 for _, seconds, metres in parts)
+
+    def rule(name: str, found: list[Any]) -> bool:
+        if name in ("nodes", "datasources"):
+            return set(found) <= (known if name == "nodes" else {0}) and all(type(value) is int for value in found)
+        if name in ("duration", "speed") and not network.has_seconds:
+            return all(value is None for value in found)
+        if name == "speed":
+            near = [min(abs(value - speed) - 0.01 * speed for speed in speeds) for value in found]
+            return not is_long or max(near, default=0) <= 0.002
+        return not found or bool(abs(sum(found) - total[name].value) <= 0.001 * len(found) + total[name].tolerance)
+
+    return {name: Holds(f"{name} of {total}, {speeds}, {known}", functools.partial(rule, name)) for name in names}
+
+
+def nearest(network: Network, request: Request) -> Any:
+    """The nearest points of roads, one of each edge, the nearest first, with the ids of the ends of its edge's first arc."""
+    (place,), (radius,), (bearings,) = request.places, request.radiuses(), request.bearings()
+    near = itertools.takewhile(lambda row: row[0] <= radius, network.by_distance(place, bearings))
+    points = [point for _, point in near if point is not None][: int(request.value("number", "1"))]
+    if not points:
+        raise Refused("NoSegment")
+    firsts = [network.arcs[next(iter(network.edges[point.edge].arcs))] for point in points]
+    ids = [[network.nodes[node].osm or 0 for node in arc[:2]] for arc in firsts]
+    return {"code": "Ok", "waypoints": [{**waypoint(network, point, request), "nodes": each} for point, each in zip(points, ids)]}
+
+
+def table(network: Network, request: Request) -> Any:
+    """Tables of durations, distances and weights."""
+    names = request.value("annotations", "duration").split(",")
+    if "duration" in names and not network.has_seconds:
+        raise Refused("NotImplemented")
+    points = places_on_roads(network, request)
+    rows, columns = (request.indices(name) for name in ("sources", "destinations"))
+    legs = [[network.legs(points[row], points[column]) for column in columns] for row in rows]
+    cells = [
+        [cell(network, request, points, (row, column), each) for column, each in zip(columns, some)]
+        for row, some in zip(rows, legs)
+    ]
+    shown = [name for name in ("duration", "distance", "weight") if name in names]
+    found: dict[str, Any] = {f"{name}s": [[each[name] for each in row] for row in cells] for name in shown}
+    if request.value("fallback_speed"):
+        empty = [(row, column) for row, some in enumerate(legs) for column, each in enumerate(some) if not each]
+        found["fallback_speed_cells"] = [list(pair) for pair in empty]
+    starts, ends = ([points[number] for number in side] for side in (rows, columns))
+    return {"code": "Ok", **found, **waypoints(network, request, sources=starts, destinations=ends)}
+
+
+def cell(
+    network: Network, request: Request, points: Sequence[SnappedPoint], pair: tuple[int, int], legs: Sequence[Sequence[Part]]
+) -> dict[str, Any]:
+    """A cell of a table: any of the shortest legs has its figures; without one a guess by `fallback_speed`, or None."""
+    scale, speed = float(request.value("scale_factor", "1")), float(request.value("fallback_speed", "0"))
+    totals = [figures(network, leg) for leg in legs]
+    if not legs and speed:
+        is_snapped = request.value("fallback_coordinate") == "snapped"
+        metres = metres_between(*(points[number].place if is_snapped else request.places[number] for number in pair))
+        guess: dict[str, Any] = {"duration": Near(metres / speed, METRES), "distance": Near(metres, METRES)}
+        totals = [{**guess, "weight": guess.get(network.unit)}]
+    for total in totals:
+        if total["duration"] is not None:
+            total["duration"] = Near(total["duration"].value * scale, METRES * (1 + scale) if not legs else SECONDS * (1 + scale))
+    return {name: AnyOf([total[name] for total in totals]) if totals else None for name in ("duration", "distance", "weight")}
+
+
+def isochrone(network: Network, request: Request) -> Any:
+    """What is reached from a place within minutes or metres, the greatest contour first."""
+    minutes, colors = request.value("contours_minutes"), request.value("contours_colors").split(",")
+    metric, unit, factor = ("time", "duration", 60_000) if minutes else ("distance", "distance", 100)
+    asked = [float(text) for text in (minutes or request.value("contours_meters")).split(",")]
+    if network.unit != unit:
+        raise Refused("NotImplemented")
+    if colors != [""] and len(colors) != len(asked):
+        raise Refused("InvalidValue")
+    points = places_on_roads(network, request)
+    is_whole = {request.value(name, "0") for name in ("generalize", "denoise")} == {"0"}
+    features = []
+    for number, value in reversed(list(enumerate(asked))):
+        color = Holds("a colour", lambda text: str(text).startswith("#")) if colors == [""] else f"#{colors[number]}"
+        style: dict[str, Any] = dict.fromkeys(("color", "fill", "fillColor"), color)
+        style |= dict.fromkeys(("opacity", "fill-opacity", "fillOpacity"), 0.33)
+        properties = {"contour": int(value) if value.is_integer() else value, "metric": metric, **style}
+        shape = Contour(network, points, round(value * factor), SHAPES[request.value("polygons", "false")], is_whole)
+        features.append({"type": "Feature", "properties": properties, "geometry": shape})
+    return {"type": "FeatureCollection", "features": features}

@@ -1,0 +1,284 @@
+"""A network as its tables have it, shortest paths between nodes, and places on roads with the graph that is split there."""
+import functools
+import heapq
+from collections.abc import Collection, Iterable, Iterator, Mapping, Sequence
+from typing import NamedTuple
+
+from .sphere import EARTH_RADIUS, Point, along, bearing, interpolate, metres_between, nearest_on_segment
+
+# A point is a line's end within so many metres of it. Rounding may decide about so many metres, and degrees of bearings.
+END_TOLERANCE, METRES_TOLERANCE, EQUAL, BEARING_TOLERANCE = 0.005, 2e-6, 1e-8, 1.0
+# So many shortest paths are compared.
+MOST_PATHS = 100
+
+
+class Ambiguous(Exception):
+    """More may be right than is worth comparing."""
+
+
+class Node(NamedTuple):
+    """A row of the table of nodes. `ends`: which ends of routes it may be, `from`, `to`, `no`, or "" for both."""
+
+    lon: float
+    lat: float
+    key: object = ""
+    osm: int | None = None
+    ends: str = ""
+
+    @property
+    def place(self) -> Point:
+        return self.lon, self.lat
+
+
+class Arc(NamedTuple):
+    """A row of the table of arcs, with nodes from 0."""
+
+    start: int
+    end: int
+    weight: int
+    seconds: float
+    metres: float
+    line: tuple[Point, ...]
+    way: int = 0
+    name: str = ""
+    ref: str = ""
+    destination: str = ""
+    junction: str = ""
+
+
+class Edge(NamedTuple):
+    """A line of a way, and the numbers of its arcs, with whether each leads along it."""
+
+    line: tuple[Point, ...]
+    arcs: dict[int, bool]
+
+
+class SnappedPoint(NamedTuple):
+    """The nearest point of a road to a place: its edge, the share of the edge before it, the node that it is, if it is one, and
+    the arcs that may be left or come to there, None for all."""
+
+    place: Point
+    metres: float
+    edge: int
+    fraction: float
+    node: int | None
+    arcs: frozenset[int] | None = None
+
+
+# A part of an arc that is driven: the arc, the shares between which it is, and the weight.
+Part = tuple[int, float, float, int]
+
+
+class Network:
+    """nodes, arcs: the rows of the tables; forbidden: pairs of arcs of which the second may not follow on the first."""
+
+    def __init__(self, nodes: Iterable[Node], arcs: Iterable[Arc], forbidden: Collection[tuple[int, int]] = ()) -> None:
+        self.nodes, self.arcs, self.forbidden = list(nodes), list(arcs), frozenset(forbidden)
+        known: dict[tuple[int, tuple[Point, ...]], Edge] = {}
+        for number, arc in enumerate(self.arcs):
+            line = min(arc.line, arc.line[::-1])
+            known.setdefault((arc.way, line), Edge(line, {})).arcs[number] = line == arc.line
+        self.edges = list(known.values())
+        self.edge_of = {arc: edge for edge, each in enumerate(self.edges) for arc in each.arcs}
+
+    def __repr__(self) -> str:
+        return f"Network({self.nodes}, {self.arcs}, {set(self.forbidden)})"
+
+    @functools.cached_property
+    def has_seconds(self) -> bool:
+        return any(arc.seconds for arc in self.arcs)
+
+    @functools.cached_property
+    def unit(self) -> str:
+        """What weights are: `duration` (milliseconds), `distance` (centimetres), or `weight` for anything else."""
+        figures = {"duration": [1000 * arc.seconds for arc in self.arcs], "distance": [100 * arc.metres for arc in self.arcs]}
+        for name, column in figures.items():
+            if any(column) and all(abs(arc.weight - figure) <= 1.01 for arc, figure in zip(self.arcs, column)):
+                return name
+        return "weight"
+
+    @functools.cached_property
+    def along(self) -> list[list[float]]:
+        """The metres along each edge before each of its points."""
+        return [along(edge.line) for edge in self.edges]
+
+    @functools.cached_property
+    def followers(self) -> list[list[int]]:
+        """The arcs that may follow on each."""
+        pairs = ((one, other) for one in range(len(self.arcs)) for other in range(len(self.arcs)))
+        free = [pair for pair in pairs if self.arcs[pair[0]].end == self.arcs[pair[1]].start and pair not in self.forbidden]
+        return [[other for one, other in free if one == arc] for arc in range(len(self.arcs))]
+
+    # Between nodes
+
+    def search(self, starts: Mapping[int, int]) -> dict[int, tuple[int, int]]:
+        """The length of a shortest path to each node from the nearest of several, each with what is added there, and the least
+        number of its arcs."""
+        found: dict[int, tuple[int, int]] = {}
+        heap = [(added, 0, node) for node, added in starts.items()]
+        heapq.heapify(heap)
+        while heap:
+            length, arcs, node = heapq.heappop(heap)
+            if node not in found:
+                found[node] = length, arcs
+                for arc in self.arcs:
+                    if arc.start == node:
+                        heapq.heappush(heap, (length + arc.weight, arcs + 1, arc.end))
+        return found
+
+    def lengths(self, starts: Mapping[int, int]) -> dict[int, int]:
+        return {node: length for node, (length, _) in self.search(starts).items()}
+
+    def fewest_arcs(self, source: int, target: int) -> int | None:
+        found = self.search({source: 0}).get(target)
+        return None if found is None else found[1]
+
+    def is_path(self, nodes: Sequence[int], source: int, target: int, length: int) -> bool:
+        """Whether nodes lead from one to another, by lightest arcs that weigh so much together."""
+        steps = [self.lightest(*step) for step in zip(nodes, nodes[1:])]
+        ends = nodes[0], nodes[-1]
+        return ends == (source, target) and all(steps) and sum(self.arcs[arcs[0]].weight for arcs in steps) == length
+
+    def lightest(self, start: int, end: int) -> list[int]:
+        """The lightest arcs from a node to another, the first of the table first."""
+        there = [(arc.weight, number) for number, arc in enumerate(self.arcs) if (arc.start, arc.end) == (start, end)]
+        return [number for weight, number in sorted(there) if weight == min(there)[0]]
+
+    def nearest(self, place: Point, side: str) -> tuple[set[int], float]:
+        """The nearest nodes where routes begin (`from`) or end (`to`), all that are as near, and the metres."""
+        nodes = enumerate(self.nodes)
+        away = {number: metres_between(place, node.place) for number, node in nodes if node.ends in ("", side)}
+        least = min(away.values())
+        return {number for number, metres in away.items() if metres <= least + METRES_TOLERANCE}, least
+
+    # Places on roads
+
+    def snap(self, place: Point, radius: float, bearings: tuple[int, int] | None = None) -> SnappedPoint | None:
+        """The nearest point of a road within so many metres, of a road of that direction, and of equally near roads of the first
+        in the file; None for none. Raises Ambiguous where rounding decides which."""
+        found: SnappedPoint | None = None
+        for metres, point in self.by_distance(place, bearings):
+            if metres > (radius if found is None else found.metres) + METRES_TOLERANCE:
+                break
+            if metres > radius - METRES_TOLERANCE or found is not None and is_other_by_rounding(metres, found.metres):
+                raise Ambiguous
+            found = found or point
+        return found
+
+    def by_distance(
+        self, place: Point, bearings: tuple[int, int] | None
+    ) -> Iterator[tuple[float, SnappedPoint | None]]:
+        """For each edge, the nearest first and equally near ones as in the file, the metres and the nearest point, None where it
+        has not that direction."""
+        rows = []
+        for number, edge in enumerate(self.edges):
+            ways = [nearest_on_segment(place, *step) for step in zip(edge.line, edge.line[1:])]
+            least = min(ways)[0]
+            near = [step for step, (away, _) in enumerate(ways) if away <= least + METRES_TOLERANCE]
+            rows.append((round(least, 8), number, near, ways))
+        for metres, number, near, ways in sorted(rows):
+            if len(near) > 1 and is_other_by_rounding(max(ways[step][0] for step in near), min(ways)[0]):
+                raise Ambiguous
+            yield metres, self.point_on(number, near[0], ways[near[0]][1], metres, bearings)
+
+    def point_on(
+        self, number: int, step: int, share: float, metres: float, bearings: tuple[int, int] | None
+    ) -> SnappedPoint | None:
+        """The point of an edge at a share of a step of it, None where it has not that direction."""
+        edge, before = self.edges[number], self.along[number]
+        long, whole = before[step + 1] - before[step], before[-1]
+        at = before[step] + share * long
+        arcs = None if bearings is None else arcs_of_bearing(edge, at, *bearings)
+        if arcs is not None and not arcs:
+            return None
+        if any(0 < abs(each - END_TOLERANCE) < 1e-6 for each in (at, whole - at, whole / 2)):
+            raise Ambiguous
+        is_start, is_end = at <= END_TOLERANCE or whole <= 2 * END_TOLERANCE, at >= whole - END_TOLERANCE
+        if is_start or is_end:
+            arc, is_along = next(iter(edge.arcs.items()))
+            node = self.arcs[arc].start if is_along == is_start else self.arcs[arc].end
+            return SnappedPoint(edge.line[0 if is_start else -1], metres, number, float(not is_start), node, arcs)
+        wide = (metres + long) / EARTH_RADIUS  # (ways near a place may be taken as straight lines of a plane)
+        near = 1e-9 + (wide**2 if wide < 0.004 else 0.0)
+        for arc in edge.arcs:
+            if self.weight_before(arc, at / whole - near) != self.weight_before(arc, at / whole + near):
+                raise Ambiguous
+        point = interpolate(edge.line[step], edge.line[step + 1], share)
+        return SnappedPoint(point, metres, number, at / whole, None, arcs)
+
+    def weight_before(self, arc: int, fraction: float) -> int:
+        """The weight of the part of an arc before a fraction of its edge."""
+        is_along = self.edges[self.edge_of[arc]].arcs[arc]
+        return round((fraction if is_along else 1 - fraction) * self.arcs[arc].weight)
+
+    def parts_at(self, point: SnappedPoint, is_start: bool) -> dict[int, Part]:
+        """The arcs by which a point is left, or come to, each with the part that is driven."""
+        if point.node is not None and point.arcs is None:
+            arcs = enumerate(self.arcs)
+            return {arc: (arc, 0.0, 1.0, row.weight) for arc, row in arcs if row[0 if is_start else 1] == point.node}
+        found = {}
+        for arc, is_along in self.edges[point.edge].arcs.items():
+            if point.arcs is None or arc in point.arcs:
+                share, before = point.fraction if is_along else 1 - point.fraction, self.weight_before(arc, point.fraction)
+                rest = self.arcs[arc].weight - before
+                found[arc] = (arc, share, 1.0, rest) if is_start else (arc, 0.0, share, before)
+        return found
+
+    def ended(self, first: Iterable[Part]) -> dict[int, int]:
+        """The least weight at the end of each arc, from the parts of arcs that are driven first: a search from arc to arc."""
+        found: dict[int, int] = {}
+        heap = [(part[3], part[0]) for part in first]
+        heapq.heapify(heap)
+        while heap:
+            weight, arc = heapq.heappop(heap)
+            if arc not in found:
+                found[arc] = weight
+                for other in self.followers[arc]:
+                    heapq.heappush(heap, (weight + self.arcs[other].weight, other))
+        return found
+
+    def legs(self, start: SnappedPoint, end: SnappedPoint) -> list[list[Part]]:
+        """The shortest paths between two points, in the graph whose arcs are split there."""
+        if start.node is not None and start.node == end.node and None in (start.arcs, end.arcs):
+            return [[]]
+        first, last = self.parts_at(start, True), self.parts_at(end, False)
+        ended = self.ended(first.values())
+        direct = [
+            (arc, first[arc][1], last[arc][2], last[arc][3] - self.arcs[arc].weight + first[arc][3])
+            for arc in first.keys() & last.keys() if first[arc][1] <= last[arc][2]
+        ]
+        come_to = [(ended[arc] + last[other][3], other) for arc in ended for other in self.followers[arc] if other in last]
+        least = min((cost for cost, _ in [*come_to, *((part[3], 0) for part in direct)]), default=0)
+        found = [[part] for part in direct if part[3] == least]
+        tails = [([last[arc]], least - last[arc][3]) for arc in sorted({arc for cost, arc in come_to if cost == least})]
+        while tails:
+            tail, rest = tails.pop()
+            for arc in ended:
+                if ended[arc] == rest and tail[0][0] in self.followers[arc]:
+                    if arc in first and first[arc][3] == rest:
+                        found.append([first[arc], *tail])
+                    driven = {part[0] for part in tail[:-1]}
+                    starts = set[int]() if self.forbidden else {self.arcs[part[0]].start for part in tail}
+                    if arc not in driven and self.arcs[arc].start not in starts:  # (no route repeats a node)
+                        tails.append(([(arc, 0.0, 1.0, self.arcs[arc].weight), *tail], rest - self.arcs[arc].weight))
+            if len(found) + len(tails) > MOST_PATHS:
+                raise Ambiguous
+        return found
+
+
+def is_other_by_rounding(one: float, other: float) -> bool:
+    """Whether metres differ, but so little that rounding to the micrometre may make them equal, or different."""
+    return abs(one - other) <= METRES_TOLERANCE and (abs(one - other) > EQUAL or abs(one * 1e6 % 1 - 0.5) < 0.01)
+
+
+def arcs_of_bearing(edge: Edge, at: float, degrees: int, deviation: int) -> frozenset[int]:
+    """The arcs of an edge whose direction at so many metres is within a deviation."""
+    before = along(edge.line)
+    here = [step for step in range(1, len(before)) if before[step - 1] - 1e-6 <= at <= before[step] + 1e-6]
+    if len(here) != 1 or edge.line[here[0] - 1] == edge.line[here[0]]:
+        raise Ambiguous  # (at a bend, or on a step of no length)
+    turn = bearing(edge.line[here[0] - 1], edge.line[here[0]]) - degrees
+    off = {arc: abs((turn + 180 * is_along) % 360 - 180) - deviation for arc, is_along in edge.arcs.items()}
+    if deviation < 180 and any(abs(each) < BEARING_TOLERANCE for each in off.values()):
+        raise Ambiguous
+    return frozenset(arc for arc, each in off.items() if each <= 0)

@@ -1,0 +1,90 @@
+"""Places on a sphere, and lines of great circles between them, each the shorter way round."""
+import math
+from collections.abc import Sequence
+
+EARTH_RADIUS = 6_371_008.8
+Point = tuple[float, float]
+Vector = tuple[float, float, float]
+
+
+def vector(point: Point) -> Vector:
+    lon, lat = math.radians(point[0]), math.radians(point[1])
+    return math.cos(lat) * math.cos(lon), math.cos(lat) * math.sin(lon), math.sin(lat)
+
+
+def angle(one: Vector, other: Vector) -> float:
+    return 2 * math.asin(min(1.0, math.dist(one, other) / 2))
+
+
+def metres_between(one: Point, other: Point) -> float:
+    """The metres along the great circle."""
+    return EARTH_RADIUS * angle(vector(one), vector(other))
+
+
+def unit(x: float, y: float, z: float) -> Vector:
+    size = math.hypot(x, y, z)
+    return x / size, y / size, z / size
+
+
+def cross(one: Vector, other: Vector) -> Vector:
+    (a, b, c), (x, y, z) = one, other
+    return b * z - c * y, c * x - a * z, a * y - b * x
+
+
+def dot(one: Vector, other: Vector) -> float:
+    return sum(a * b for a, b in zip(one, other))
+
+
+def interpolate(begin: Point, end: Point, share: float) -> Point:
+    """The point at a share of the way from one to another."""
+    one, other = vector(begin), vector(end)
+    whole = angle(one, other)
+    if whole == 0:
+        return begin
+    before, behind = math.sin((1 - share) * whole), math.sin(share * whole)
+    x, y, z = (a * before + b * behind for a, b in zip(one, other))
+    return math.degrees(math.atan2(y, x)), math.degrees(math.atan2(z, math.hypot(x, y)))
+
+
+def nearest_on_segment(place: Point, begin: Point, end: Point) -> tuple[float, float]:
+    """The metres from a place to the nearest point of a line, and the share of the line before that."""
+    here, one, other = vector(place), vector(begin), vector(end)
+    ends = min((EARTH_RADIUS * angle(here, one), 0.0), (EARTH_RADIUS * angle(here, other), 1.0))
+    if one == other:
+        return ends[0], 0.0
+    across = unit(*cross(one, other))
+    aside = dot(here, across)
+    foot = unit(here[0] - aside * across[0], here[1] - aside * across[1], here[2] - aside * across[2])
+    whole, gone = angle(one, other), math.copysign(angle(one, foot), dot(cross(one, foot), across))
+    return min(ends, (EARTH_RADIUS * angle(here, foot), gone / whole)) if 0 < gone < whole else ends
+
+
+def bearing(begin: Point, end: Point) -> float:
+    """The direction from a point to a near one, in degrees from north, clockwise."""
+    east = math.remainder(end[0] - begin[0], 360) * math.cos(math.radians(begin[1]))
+    return math.degrees(math.atan2(east, end[1] - begin[1])) % 360
+
+
+def along(line: Sequence[Point]) -> list[float]:
+    """The metres along a line before each of its points."""
+    found = [0.0]
+    for begin, end in zip(line, line[1:]):
+        found.append(found[-1] + metres_between(begin, end))
+    return found
+
+
+def clip(line: Sequence[Point], low: float, high: float) -> list[Point]:
+    """The points of a line between two shares of its metres."""
+    metres = along(line)
+    inner = [point for point, at in zip(line, metres) if low * metres[-1] < at < high * metres[-1]]
+    return [point_at(line, low), *inner, point_at(line, high)]
+
+
+def point_at(line: Sequence[Point], share: float) -> Point:
+    """The point of a line at a share of its metres."""
+    if share <= 0 or share >= 1:
+        return line[0] if share <= 0 else line[-1]
+    metres = along(line)
+    step = next(number for number in range(1, len(line)) if metres[number] >= share * metres[-1])
+    long = metres[step] - metres[step - 1]
+    return interpolate(line[step - 1], line[step], (share * metres[-1] - metres[step - 1]) / long if long else 0.0)

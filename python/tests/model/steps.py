@@ -1,0 +1,105 @@
+"""The steps of a leg: one begins where the name changes, at a turn above 45 degrees at a junction, and at a roundabout."""
+import itertools
+from collections.abc import Callable, Sequence
+from typing import Any
+
+from comparing import Direction, Holds, Line, Near
+
+from .network import Arc, Network, Part, SnappedPoint
+from .sphere import Point, bearing, metres_between
+
+# The least degrees of each modifier but the first. Rounding decides so near to them, and about the direction of so short a line.
+LIMITS, NEAR_LIMIT, SHORT = (20, 45, 120, 170), 2.1, 2.0
+MODIFIERS = ("straight", "slight {}", "{}", "sharp {}", "uturn")
+Figures = Callable[[Network, Sequence[Part]], dict[str, Any]]
+NOWHERE = Arc(0, 0, 0, 0.0, 0.0, ())
+
+
+def is_round(arc: Arc) -> bool:
+    return arc.junction in ("roundabout", "circular")
+
+
+def directions(lines: Sequence[list[Point]], step: int) -> list[float]:
+    """The direction of each line at its beginning, or for -1 at its end, but of those about which rounding decides."""
+    found = []
+    for here, *others in (line[::step] for line in lines):
+        other = next((point for point in others if point != here), here)
+        if other == here or metres_between(here, other) > SHORT:
+            found.append(bearing(*(here, other)[::step]))
+    return found
+
+
+def edges_at(network: Network, node: int, is_exit: bool) -> int:
+    """How many edges meet at a node, or how many leave a roundabout there."""
+    arcs = enumerate(network.arcs)
+    if is_exit:
+        return len({network.edge_of[number] for number, arc in arcs if arc.start == node and not is_round(arc)})
+    return len({network.edge_of[number] for number, arc in arcs if node in arc[:2]})
+
+
+def begins_of(network: Network, arcs: Sequence[Arc], turns: Sequence[float]) -> list[int]:
+    """Where steps begin, by the arcs of a leg and the turn before each but the first."""
+    found, free_from = [0], next((number for number, arc in enumerate(arcs) if not is_round(arc)), len(arcs))
+    for number in range(1, len(arcs)):
+        before, arc = arcs[number - 1 : number + 1]
+        is_new = before.name != arc.name or abs(turns[number - 1]) > 45 and edges_at(network, arc.start, False) >= 3
+        is_free = not is_round(before) or number - 1 < free_from  # (a step on a roundabout goes on behind it)
+        if not is_round(before) if is_round(arc) else is_new and is_free:
+            found.append(number)
+    return found
+
+
+def steps(
+    network: Network, start: SnappedPoint, end: SnappedPoint, leg: Sequence[Part], lines: Sequence[list[Point]], form: str,
+    figures: Figures
+) -> Any:
+    """The steps of a leg whose parts have these lines; of what rounding decides about only that there are some."""
+    arcs = [network.arcs[part[0]] for part in leg]
+    first, last = directions(lines, 1), directions(lines, -1)
+    turns = [(begin - end + 180) % 360 - 180 for end, begin in zip(last, first[1:])]
+    is_sure = all(min(abs(abs(turn) - limit) for limit in (*LIMITS, 180)) > NEAR_LIMIT for turn in turns)
+    if not is_sure or not len(first) == len(last) == len(leg) or network.forbidden:
+        return Holds("two steps or more", lambda found: len(found) >= 2)
+    found, begins = [], begins_of(network, arcs, turns) if leg else []
+    for begin, stop in itertools.pairwise([*begins, len(leg)]):
+        named = begin  # (a step that enters a roundabout is named after the first arc behind it)
+        if begin and is_round(arcs[begin]):
+            named = next((number for number in range(begin, stop) if not is_round(arcs[number])), begin)
+        turn: dict[str, Any] = {"type": "depart"}
+        if begin:
+            turn = turn_at(network, arcs[begin - 1 : stop], named - begin, first[named] - last[begin - 1])
+        line = [point for part in lines[begin:stop] for point in part]
+        ways: tuple[Any, Any] = (Direction(last[begin - 1]) if begin else 0, Direction(first[begin]))
+        found.append(step(turn, ways, arcs[named], figures(network, leg[begin:stop]), line, form))
+    nothing = figures(network, [])
+    if not leg:
+        found = [step({"type": "depart"}, (0, 0), NOWHERE, nothing, [start.place] * 2, form)]
+    ways, name = (Direction(last[-1]) if leg else 0, 0), NOWHERE._replace(name=found[-1]["name"])
+    return [*found, step({"type": "arrive"}, ways, name, nothing, [end.place] * 2, form)]
+
+
+def turn_at(network: Network, arcs: Sequence[Arc], named: int, angle: float) -> dict[str, Any]:
+    """The type of the maneuver of a step, with its modifier, and the exit of a roundabout. The first arc is that before."""
+    angle = (angle + 180) % 360 - 180
+    modifier = MODIFIERS[sum(abs(angle) >= limit for limit in LIMITS)].format("right" if angle > 0 else "left")
+    before, *behind = arcs
+    if is_round(behind[0]):
+        exits = [edges_at(network, arc.end, True) for arc in behind[: max(0, named - 1)]]
+        is_left = named > 0 or not is_round(behind[-1])
+        return {"type": "roundabout", "modifier": modifier, **({"exit": 1 + sum(exits)} if is_left else {})}
+    kind = "continue" if before.name == behind[0].name else "turn" if abs(angle) > 45 else "new name"
+    return {"type": kind, "modifier": modifier}
+
+
+def step(
+    turn: dict[str, Any], ways: tuple[Any, Any], named: Arc, figures: dict[str, Any], line: Sequence[Point], form: str
+) -> dict[str, Any]:
+    """A step, which has the name, the refs and the destinations of an arc."""
+    place = [Near(line[0][0], 1.1e-6), Near(line[0][1], 1.1e-6)]
+    texts = {"ref": "; ".join(map(str.strip, named.ref.split(";")))} if named.ref else {}
+    texts |= {"destinations": ", ".join(map(str.strip, named.destination.split(";")))} if named.destination else {}
+    return {
+        "maneuver": {**turn, "location": place, "bearing_before": ways[0], "bearing_after": ways[1]}, "name": named.name,
+        "mode": "driving", "driving_side": "right", **figures, "geometry": Line(line, form), **texts,
+        "intersections": [{"location": place, "bearings": [ways[1]], "entry": [True], "out": 0}],
+    }

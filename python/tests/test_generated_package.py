@@ -1,0 +1,250 @@
+"""The package on drawn networks, with and without keys: lengths, routes, tables, what is reached, nodes and frames."""
+import math
+import pathlib
+import shutil
+import tempfile
+from typing import Any
+
+import numpy as np
+import pytest
+from draws import Drawn, drawn, networks, places, run_tool, write_network
+from hypothesis import given
+from hypothesis import strategies as st
+from comparing import Near, difference, is_same_line, unwrapped
+from model.network import Ambiguous, Network
+from model.reach import reached_lines
+from model.sphere import Point, along
+
+import domethyme
+
+# Kinds of keys: none, texts that programs take for something else, pairs, and numbers that are others' numbers of nodes.
+ODD = ("NA", "007", "7", "=x", "-1", "a,b", "nan", "", "None")
+KEYS: dict[str, Any] = {
+    "none": None,
+    "texts": lambda node: ODD[node] if node < len(ODD) else f"key {node}",
+    "pairs": lambda node: (node // 3, node % 3),
+    "numbers": lambda node: node * 7 % 1009,
+    "mixed": lambda node: [node, f"{node}", (node, 0)][node % 3],
+}
+
+
+class Asked:
+    """A hierarchy of a drawn network, and the model's nodes for the package's keys."""
+
+    def __init__(self, made: Drawn, folder: pathlib.Path, kind: str) -> None:
+        write_network(made, folder / "net")
+        self.net, count = made.tables, len(made.tables.nodes)
+        self.keys = [KEYS[kind](node) for node in range(count)] if KEYS[kind] else list(range(count))
+        keys = self.keys if KEYS[kind] else None
+        self.hierarchy = domethyme.Hierarchy(folder / "net.rch", keys=keys, network=folder / "net")
+        self.lengths = [self.net.lengths({node: 0}) for node in range(count)]
+
+    def node(self, key: Any) -> int:
+        return self.keys.index(key)
+
+
+@drawn(110)
+@given(st.data())
+def test_lengths_routes_and_tables(data: Any) -> None:
+    made, kind = data.draw(networks()), data.draw(st.sampled_from(sorted(KEYS)))
+    with tempfile.TemporaryDirectory() as folder:
+        asked = Asked(made, pathlib.Path(folder), kind)
+        nodes = st.sampled_from(range(len(asked.keys)))
+        with asked.hierarchy:
+            pairs = data.draw(st.lists(st.tuples(nodes, nodes), min_size=1, max_size=5))
+            check_pairs(asked, pairs)
+            check_table(asked, *(data.draw(st.lists(nodes, min_size=1, max_size=6)) for _ in range(2)))
+            added = st.one_of(st.just(0), st.integers(0, 50_000), st.just((1 << 32) - 1))
+            starts, ends = (data.draw(st.dictionaries(nodes, added, min_size=1, max_size=4)) for _ in range(2))
+            check_between(asked, starts, ends, data.draw(st.sampled_from(["mapping", "rows", "alone"])))
+            check_reach(asked, starts, data.draw(st.one_of(st.none(), st.integers(0, 100_000))))
+
+
+def check_pairs(asked: Asked, pairs: list[tuple[int, int]]) -> None:
+    by_key = [(asked.keys[source], asked.keys[target]) for source, target in pairs]
+    wanted = [asked.lengths[source].get(target) for source, target in pairs]
+    assert [asked.hierarchy.length(*each) for each in by_key] == wanted
+    for pair, length in zip(by_key, wanted):
+        check_route(asked, asked.hierarchy.route(*pair), pair, length)
+    if any(isinstance(key, tuple) for key in asked.keys):
+        return  # (an array of pairs of pairs is no array of keys)
+    assert asked.hierarchy.lengths(by_key).tolist() == [-1 if length is None else length for length in wanted]
+    routes = asked.hierarchy.routes(by_key)
+    assert routes.lengths.tolist() == [-1 if length is None else length for length in wanted]
+    for route, (source, target), length in zip(routes, by_key, wanted):
+        assert len(route) == 0 if length is None else is_route(asked, list(route), source, target, length)
+
+
+def check_route(asked: Asked, route: Any, pair: tuple[Any, Any], length: int | None) -> None:
+    if length is None:
+        assert route is None
+        return
+    assert (route.source, route.target, route.length) == (*pair, length)
+    assert route.arcs == len(route.nodes) - 1 == asked.net.fewest_arcs(*map(asked.node, pair))
+    assert is_route(asked, route.nodes, *pair, length)
+    check_line(asked, route)
+
+
+def is_route(asked: Asked, keys: list[Any], source: Any, target: Any, length: int) -> bool:
+    """Whether nodes lead from one to another by arcs that weigh as much together."""
+    return asked.net.is_path([asked.node(key) for key in keys], asked.node(source), asked.node(target), length)
+
+
+def check_line(asked: Asked, route: Any) -> None:
+    """The route as GeoJSON: its figures are sums over arcs, and its line is theirs."""
+    network: Network = asked.net
+    (feature,) = asked.hierarchy.network.geojson(route)["features"]
+    line = [asked.node(key) for key in route.nodes]
+    steps = [network.lightest(*step) for step in zip(line, line[1:])]
+    if any(len(arcs) > 1 for arcs in steps):
+        return  # (of equally light arcs any may be taken)
+    arcs = [network.arcs[each] for each, *_ in steps]
+    expected = {
+        "from": route.source, "to": route.target, "length": route.length, "arcs": len(arcs),
+        "seconds": Near(sum(arc.seconds for arc in arcs), 0.001) if network.has_seconds else None,
+        "metres": Near(sum(arc.metres for arc in arcs), 0.011),
+    }
+    assert not difference(feature["properties"], expected)
+    points = [network.nodes[line[0]].place, *(point for arc in arcs for point in arc.line)]
+    geometry = feature["geometry"]
+    parts = geometry["coordinates"] if geometry["type"] == "MultiLineString" else [geometry["coordinates"]]
+    assert all(abs(b[0] - a[0]) <= 180 for part in parts for a, b in zip(part, part[1:]))
+    found = [(lon, lat) for part in parts for lon, lat in part if len(parts) == 1 or abs(lon) != 180]
+    assert is_same_line(found, points, 1e-6), (found, points)
+
+
+def check_table(asked: Asked, sources: list[int], targets: list[int]) -> None:
+    rows, columns = ([asked.keys[node] for node in side] for side in (sources, targets))
+    found = asked.hierarchy.matrix(rows, columns)
+    wanted = [[asked.lengths[source].get(target) for target in targets] for source in sources]
+    table = np.asarray(domethyme.unscaled(found), float)
+    assert table.tolist() == [[math.inf if length is None else length for length in row] for row in wanted]
+
+
+def check_between(asked: Asked, starts: dict[int, int], ends: dict[int, int], form: str) -> None:
+    """The least of all sums, from one of several nodes to one of several."""
+    if form == "alone":
+        starts, ends = dict.fromkeys(starts, 0), dict.fromkeys(ends, 0)
+    sides: list[Any] = [{asked.keys[node]: added for node, added in side.items()} for side in (starts, ends)]
+    if form != "mapping":
+        sides = [list(side) if form == "alone" else list(side.items()) for side in sides]
+    found = asked.hierarchy.between(*sides)
+    reached = asked.net.lengths(starts)
+    sums = [reached[node] + added for node, added in ends.items() if node in reached]
+    if not sums:
+        assert found is None
+        return
+    first, last = asked.node(found.source), asked.node(found.target)
+    assert found.length == min(sums) == starts[first] + asked.lengths[first][last] + ends[last]
+    assert is_route(asked, found.nodes, found.source, found.target, asked.lengths[first][last])
+
+
+def check_reach(asked: Asked, starts: dict[int, int], limit: int | None) -> None:
+    found = asked.hierarchy.reach({asked.keys[node]: added for node, added in starts.items()}, limit)
+    wanted = asked.net.lengths(starts)
+    most = 1 << 62 if limit is None else limit
+    expected = [wanted[node] if wanted.get(node, math.inf) <= most else -1 for node in range(len(asked.keys))]
+    values = found.tolist() if isinstance(found, np.ndarray) else found.fillna(-1).tolist()
+    assert values == expected
+    assert isinstance(found, np.ndarray) or found.index.tolist() == asked.keys
+
+
+@drawn(110)
+@given(st.data())
+def test_places(data: Any) -> None:
+    """The nearest node to a place, on either side, and the roads that are reached from one."""
+    made = data.draw(networks(["duration", "distance"]))
+    with tempfile.TemporaryDirectory() as folder:
+        write_network(made, pathlib.Path(folder) / "net")
+        hierarchy = domethyme.Hierarchy(f"{folder}/net.rch", network=f"{folder}/net")
+        for place in data.draw(places(made.roads, 4)):
+            for side in ("from", "to"):
+                check_nearest(hierarchy, made.tables, place, side)
+            with_limits = {"duration": ("minutes", 60_000), "distance": ("metres", 100)}.get(made.roads.unit)
+            is_flat = abs(place[1]) < 80 and all(arc.metres < 10_000 for arc in made.roads.arcs)
+            if with_limits is not None and is_flat:  # (else the plane of what is reached isn't the earth)
+                check_roads(hierarchy, made.roads, place, *with_limits)
+
+
+def check_nearest(hierarchy: domethyme.Hierarchy, network: Network, place: Point, side: Any) -> None:
+    nodes, metres = network.nearest(place, side)
+    if metres > 1000:
+        with pytest.raises(domethyme.NoSuchNode):
+            hierarchy.nearest(*place, side)
+        return
+    node, away = hierarchy.nearest(*place, side)
+    assert node in nodes and abs(away - metres) < 1e-4
+    many, all_away = hierarchy.nearest([place[0]] * 2, [place[1]] * 2, side)
+    assert many.tolist() == [node] * 2 and all_away.tolist() == [away] * 2
+
+
+def check_roads(hierarchy: domethyme.Hierarchy, roads: Network, place: Point, unit: str, factor: int) -> None:
+    """The lines that are reached, by their points, and where they cross the 180th meridian by their metres."""
+    try:
+        point = roads.snap(place, 1000.0)
+    except Ambiguous:
+        return
+    value = {"minutes": 0.3, "metres": 250}[unit]
+    if point is None:
+        with pytest.raises(domethyme.NoSuchNode):
+            hierarchy.within(place, shape="roads", **{unit: [value]})
+        return
+    (feature,) = hierarchy.within(place, shape="roads", **{unit: [value]})["features"]
+    geometry = feature["geometry"]
+    parts = [] if geometry is None else geometry["coordinates"]
+    lines = [[(lon, lat) for lon, lat in part] for part in ([parts] if geometry and geometry["type"] == "LineString" else parts)]
+    expected = reached_lines(roads, [point], round(value * factor))
+    if any(max(lon for lon, _ in line) - min(lon for lon, _ in line) > 180 for line in expected):
+        metres = [sum(along(line)[-1] for line in some) for some in (lines, expected)]
+        assert abs(metres[0] - metres[1]) <= 0.3 * (1 + len(expected))
+        return
+    assert are_same_lines(lines, expected), (lines, expected)
+
+
+def are_same_lines(found: list[list[Point]], expected: list[list[Point]]) -> bool:
+    """Whether lines have the same points, but for such that are shown as one point."""
+    left = [unwrapped(line) for line in found]
+    for line in expected:
+        same = next((each for each in left if is_same_line(each, line, 2.1e-6)), None)
+        if same is not None:
+            left.remove(same)
+        elif along(line)[-1] > 1:
+            return False
+    return not left
+
+
+@drawn(25)
+@given(st.data())
+def test_frames_keys_and_attribution(data: Any) -> None:
+    """Frames are the tables, whether these lie beside the network's file or not; and the file alone has the attribution."""
+    made = data.draw(networks())
+    names = [KEYS["texts"](node) for node in range(len(made.tables.nodes)) if KEYS["texts"](node)]
+    made.tables.nodes[:] = [node._replace(key=name) for node, name in zip(made.tables.nodes, [*names, "last"])]
+    made = made._replace(has_keys=True)
+    with tempfile.TemporaryDirectory() as folder:
+        path = pathlib.Path(folder)
+        write_network(made, path / "net", "--attribution", "© the town", *data.draw(st.sampled_from([(), ("--tables",)])))
+        network = domethyme.Network(path / "net")
+        check_frames(made, network)
+        (path / "alone").mkdir()
+        for suffix in ("net", "rch"):
+            shutil.copy(path / f"net.{suffix}", path / f"alone/net.{suffix}")
+        (path / "alone/net.gr").write_text("c attribution: © another town\np sp 1 0\n")
+        (path / "alone/answers").write_text("r 1 1 0 0 1\n")
+        run_tool("to_geojson", path / "alone/net", path / "alone/answers", "-o", path / "alone/routes")
+        assert '"attribution":"© the town"' in (path / "alone/routes").read_text()
+        check_frames(made, domethyme.Network(path / "alone/net"))
+
+
+def check_frames(made: Drawn, network: Any) -> None:
+    nodes, arcs = network.nodes_frame(), network.arcs_frame()
+    keys = [int(node.key) if node.key in ("7", "-1") else node.key for node in made.tables.nodes]
+    assert list(network.keys()) == keys if hasattr(network.keys(), "__iter__") else network.keys().key(0) == keys[0]
+    assert nodes["key"].tolist() == keys and nodes["ends"].tolist() == [node.ends for node in made.tables.nodes]
+    osm = [None if str(value) in ("nan", "<NA>") else int(value) for value in nodes["osm"].tolist()]
+    assert osm == [node.osm for node in made.tables.nodes]
+    assert list(zip(nodes["lon"], nodes["lat"])) == [node.place for node in made.tables.nodes]
+    rows = arcs[["from", "to", "weight", "osm", "name", "junction"]].itertuples(index=False)
+    assert [tuple(row) for row in rows] == [(*arc[:3], arc.way, arc.name, arc.junction) for arc in made.tables.arcs]
+    lines = [[tuple(map(float, point.split())) for point in text[12:-1].split(", ")] for text in arcs["WKT"]]
+    assert lines == [list(arc.line) for arc in made.tables.arcs]

@@ -1,0 +1,145 @@
+"""Requests to the service on drawn networks: the whole answer is the model's, or the error has its code."""
+import io
+import json
+import pathlib
+import tempfile
+import urllib.parse
+from typing import Any
+
+from draws import ORIGINS, Drawn, directions, drawn, networks, places, texts_of, write_network
+from hypothesis import given
+from hypothesis import strategies as st
+from model import answers
+from model.answers import Refused
+from comparing import decoded, difference
+from model.network import Ambiguous
+from model.request import Request
+
+from domethyme_service.access import AccessPolicy
+from domethyme_service.dataset import DatasetPaths, open_dataset
+from domethyme_service.metrics import SharedMetrics
+from domethyme_service.wsgi import Options, Service
+
+REQUESTS = 6
+WRONG_LIMITS = [("5,3", "InvalidValue"), ("0", "InvalidValue"), ("1,2,3,4,5", "InvalidValue"), ("x", "InvalidValue")]
+# How many places a request of each service has, at most: the small numbers are likelier.
+COUNTS = {"route": [2, 2, 2, 3, 4, 12], "nearest": [1], "table": [1, 2, 3, 6], "isochrone": [1]}
+
+
+def serve(drawn: Drawn, folder: pathlib.Path) -> Service:
+    """The service of a network, in this process."""
+    write_network(drawn, folder / "net")
+    return open_service(folder / "net")
+
+
+def open_service(prefix: pathlib.Path) -> Service:
+    dataset = open_dataset(DatasetPaths(f"{prefix}.rch", str(prefix)))
+    return Service(dataset, Options(AccessPolicy.from_options(["x"], "none")), SharedMetrics())
+
+
+def ask(service: Service, target: str, lines: str = "") -> tuple[int, Any]:
+    """The status and the JSON of an answer, or of each of its lines for a batch of lines."""
+    begun: list[Any] = []
+    environ = {
+        "RAW_URI": target, "REQUEST_METHOD": "GET", "HTTP_HOST": "x", "SERVER_PROTOCOL": "HTTP/1.1", "REMOTE_ADDR": "127.0.0.1",
+        "SERVER_NAME": "127.0.0.1",
+    }
+    if lines:
+        environ |= {"REQUEST_METHOD": "POST", "CONTENT_TYPE": "application/json", "CONTENT_LENGTH": str(len(lines))}
+    body = b"".join(service({**environ, "wsgi.input": io.BytesIO(lines.encode())}, lambda *head: begun.append(head)))
+    return int(begun[0][0][:3]), [*map(json.loads, body.splitlines())] if lines else json.loads(body)
+
+
+@st.composite
+def requests(draw: Any, drawn: Drawn, service: str) -> tuple[Request, set[str]]:
+    """A request, and the codes of the errors that its parameters may get: mostly none."""
+    count, is_wrong = draw(st.sampled_from(COUNTS[service])), draw(st.integers(0, 5)) == 0
+    where = draw(places(drawn.roads, count))
+    texts = texts_of(service, count, directions(drawn.roads), is_wrong)
+    often = [name for name in ("bearings", "steps", "overview", "annotations") for _ in range(4) if name in texts]
+    chosen = draw(st.lists(st.sampled_from([*sorted(texts), *often]), max_size=6))
+    rows = {name: draw(texts[name]) for name in dict.fromkeys(chosen)}
+    return Request(service, where, {name: text for name, (text, _) in rows.items()}), {code for _, code in rows.values()} - {""}
+
+
+def target(request: Request) -> str:
+    where = ";".join(f"{lon:.7f},{lat:.7f}" for lon, lat in request.places)
+    query = urllib.parse.urlencode(request.query)
+    return f"/{request.service}/v1/car/{where}?{query}"
+
+
+@drawn(300)
+@given(st.data())
+def test_routes_nearest_and_tables(data: Any) -> None:
+    made = data.draw(networks())
+    with tempfile.TemporaryDirectory() as folder:
+        service = serve(made, pathlib.Path(folder))
+        for _ in range(REQUESTS):
+            drawn_request = data.draw(requests(made, data.draw(st.sampled_from(["route", "route", "nearest", "table"]))))
+            check(made, service, *drawn_request)
+        nodes = st.integers(0, len(made.tables.nodes) - 1)
+        check_nodes(made, service, data.draw(st.lists(st.tuples(nodes, nodes), min_size=1, max_size=3)))
+
+
+@drawn(40)
+@given(st.data())
+def test_isochrones(data: Any) -> None:
+    """Not beside a pole, where the plane that contours are drawn in isn't the earth."""
+    made = data.draw(networks(["duration", "distance"], most=5, origins=[ORIGINS[0], ORIGINS[3]]))
+    with tempfile.TemporaryDirectory() as folder:
+        service = serve(made, pathlib.Path(folder))
+        for _ in range(2):
+            request, codes = data.draw(requests(made, "isochrone"))
+            limits = {"contours_minutes": ["0.02,0.5", "1,2", "0.1", "1,2,3,4"], "contours_meters": ["50,300", "700"]}
+            own = "contours_minutes" if made.roads.unit == "duration" else "contours_meters"
+            text, code = data.draw(st.sampled_from([*((text, "") for text in 3 * limits[own]), *WRONG_LIMITS]))
+            check(made, service, request._replace(query={own: text, **request.query}), codes | ({code} - {""}))
+
+
+def check_nodes(made: Drawn, service: Service, pairs: list[tuple[int, int]]) -> None:
+    """Routes and lengths between nodes by number, of one pair and of a batch."""
+    net, lines = made.tables, "".join(f'{{"from": {one + 1}, "to": {other + 1}}}\n' for one, other in pairs)
+    batches = [ask(service, f"/nodes/{what}", lines) for what in ("routes", "lengths")]
+    for row, (one, other) in enumerate(pairs):
+        length, keys = net.lengths({one: 0}).get(other), {}
+        if made.has_keys:
+            keys = {"from_key": net.nodes[one].key, "to_key": net.nodes[other].key}
+            assert ask(service, "/nodes/length?" + urllib.parse.urlencode(keys))[1]["length"] == length
+        expected = {"from": one + 1, "to": other + 1, "length": length, **keys}
+        for found in (batches[1][1][row], ask(service, f"/nodes/length?from={one + 1}&to={other + 1}")[1]):
+            assert found == expected
+        for found in (batches[0][1][row], ask(service, f"/nodes/route?from={one + 1}&to={other + 1}")[1]):
+            nodes = found["nodes"] and [node - 1 for node in found["nodes"]]
+            assert found == {**expected, "arcs": net.fewest_arcs(one, other), "nodes": found["nodes"]}
+            assert nodes is None if length is None else net.is_path(nodes, one, other, length)
+
+
+def check(made: Drawn, service: Service, request: Request, codes: set[str]) -> None:
+    status, found = ask(service, target(request))
+    try:
+        expected = None if codes else getattr(answers, request.service)(made.roads, request)
+    except Refused as refused:
+        codes = set(refused.args)
+    except Ambiguous:
+        return
+    if codes:
+        assert (status, found["code"] in codes, set(found)) == (400, True, {"code", "message"}), (target(request), found, codes)
+    else:
+        assert status == 200, (target(request), found)
+        problem = difference(found, expected)
+        assert not problem, (target(request), problem)
+        assert request.service != "route" or fit_the_line(found, request), (target(request), found)
+
+
+def fit_the_line(found: Any, request: Request) -> bool:
+    """Whether a route's annotations have a value for each step of its full line, and `nodes` one for each point."""
+    route, steps = found["routes"][0], 0
+    for leg in route["legs"]:
+        counts = {len(values) - (name == "nodes" and len(values) > 0) for name, values in leg.get("annotation", {}).items()}
+        if len(counts) > 1:
+            return False
+        steps += sum(counts)
+    if not request.annotations() or request.value("overview") != "full":
+        return True
+    line = decoded(route["geometry"], request.value("geometries", "polyline"))
+    return line is not None and (len(line) == steps + 1 or steps == 0 and line[0] == line[-1] and len(line) == 2)

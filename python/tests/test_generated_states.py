@@ -1,0 +1,252 @@
+"""What open hierarchies, pickled ones and services answer by while files are replaced, in drawn orders."""
+import functools
+import os
+import pathlib
+import pickle
+import shutil
+import tempfile
+import threading
+from typing import Any
+
+import pytest
+from draws import Drawn, drawn, write_network
+from hypothesis import strategies as st
+from hypothesis.stateful import Bundle, RuleBasedStateMachine, initialize, multiple, rule
+from model.network import Arc, Network, Node
+from model.reach import reached_lines
+from model.sphere import Point, along
+from test_generated_service import ask, open_service
+
+import domethyme
+
+NODES, VERSIONS = 6, 3
+FILES = ("gr", "net", "rch")
+# The question, and a node or two, or a place near a node.
+Question = tuple[str, int, int]
+QUESTIONS = st.tuples(
+    st.sampled_from(["length", "metres", "nearest", "reached", "lon"]), st.integers(0, NODES - 1), st.integers(0, NODES - 1)
+)
+
+
+@functools.cache
+def version(number: int) -> Network:
+    """A ring of roads, whose nodes and weights differ from version to version, and whose numbers of them don't."""
+    places = [(9.5 + 0.004 * (node * (number + 1) % 7) / 7, 47.1 + 0.003 * (node * node % 5) / 5) for node in range(NODES)]
+    nodes = [Node(round(lon, 7), round(lat, 7), str(node + 1)) for node, (lon, lat) in enumerate(places)]
+    arcs = []
+    for node in range(NODES):
+        ends = (node, (node + 1) % NODES)
+        line = nodes[ends[0]].place, nodes[ends[1]].place
+        weight = 3000 + 1000 * (node * (number + 2) % 5) + number
+        for step in (1, -1):
+            arcs.append(Arc(*ends[::step], weight, weight / 1000, round(along(line)[-1], 2), line[::step], node + 1))
+    return Network(nodes, arcs)
+
+
+@functools.cache
+def prepared() -> pathlib.Path:
+    """The files of all versions."""
+    folder = pathlib.Path(tempfile.mkdtemp(prefix="versions-"))
+    for number in range(VERSIONS):
+        write_network(Drawn(version(number), version(number), False), folder / f"v{number}")
+    return folder
+
+
+@pytest.fixture(scope="module", autouse=True)
+def without_files_behind() -> Any:
+    yield
+    shutil.rmtree(prepared())
+
+
+def expected(number: int, question: Question) -> Any:
+    """The answer by a version of the network."""
+    network, (what, one, other) = version(number), question
+    if what == "length":
+        return network.lengths({one: 0})[other]
+    if what == "nearest":
+        return min(network.nearest(beside(one), "from")[0])
+    if what == "lon":
+        return network.nodes[one].lon
+    if what == "reached":
+        _, point = next(network.by_distance(beside(one), None))
+        assert point is not None
+        return round(sum(along(line)[-1] for line in reached_lines(network, [point], 4000)))
+    length, = {network.lengths({one: 0})[other]}
+    legs = walks(network, one, other, length)
+    return {round(sum(arc.metres for arc in walk), 2) for walk in legs}
+
+
+def walks(network: Network, one: int, other: int, length: int) -> list[list[Arc]]:
+    """The ways of a length from one node to another."""
+    if one == other and not length:
+        return [[]]
+    steps = [arc for arc in network.arcs if arc.start == one and arc.weight <= length]
+    return [[arc, *rest] for arc in steps for rest in walks(network, arc.end, other, length - arc.weight)]
+
+
+def beside(node: int) -> Point:
+    lon, lat = version(0).nodes[node].place
+    return lon + 0.00003, lat + 0.00002
+
+
+def answer(hierarchy: domethyme.Hierarchy, question: Question) -> Any:
+    """The answer of an open hierarchy."""
+    what, one, other = question
+    if what == "length":
+        return hierarchy.length(one, other)
+    if what == "nearest":
+        return hierarchy.nearest(*beside(one))[0]
+    if what == "lon":
+        return float(hierarchy.network.lon[one])
+    if what == "reached":
+        (feature,) = hierarchy.within(beside(one), [4000 / 60_000], shape="roads")["features"]
+        geometry = feature["geometry"]
+        lines = [geometry["coordinates"]] if geometry["type"] == "LineString" else geometry["coordinates"]
+        return sum(along([tuple(point) for point in line])[-1] for line in lines)
+    route = hierarchy.route(one, other)
+    return hierarchy.network.geojson(route)["features"][0]["properties"]["metres"]
+
+
+def is_right(found: Any, number: int, question: Question) -> bool:
+    wanted = expected(number, question)
+    if question[0] == "metres":
+        return any(abs(found - each) < 0.011 for each in wanted)
+    return abs(found - wanted) <= (3 if question[0] == "reached" else 0)
+
+
+class Handle:
+    """An open hierarchy, and the version that it has to answer by."""
+
+    def __init__(self, hierarchy: domethyme.Hierarchy, number: int, generation: int) -> None:
+        self.hierarchy, self.number, self.generation = hierarchy, number, generation
+        self.is_closed = self.was_pickled = False
+
+
+class Files(RuleBasedStateMachine):
+    """`there`: the version of each file, and how often it was replaced."""
+
+    handles, pickles, services = Bundle("handles"), Bundle("pickles"), Bundle("services")
+
+    def __init__(self) -> None:
+        super().__init__()
+        self.folder = pathlib.Path(tempfile.mkdtemp(prefix="states-"))
+        self.there: dict[str, int] = {}
+        self.generation = 0
+
+    def teardown(self) -> None:
+        shutil.rmtree(self.folder)
+
+    @initialize(number=st.integers(0, VERSIONS - 1))
+    def begin(self, number: int) -> None:
+        self.rename(number, list(FILES))
+
+    @rule(number=st.integers(0, VERSIONS - 1), files=st.sampled_from([[*FILES], [*FILES], ["net"], ["rch"]]))
+    def rename(self, number: int, files: list[str]) -> None:
+        """New files get the names of the old ones, as each night; or one of them alone."""
+        for suffix in files:
+            shutil.copy(prepared() / f"v{number}.{suffix}", self.folder / f"new.{suffix}")
+            os.replace(self.folder / f"new.{suffix}", self.folder / f"net.{suffix}")
+            self.there[suffix] = number
+        self.generation += "rch" in files
+
+    def belong_together(self) -> bool:
+        return self.there["net"] == self.there["rch"]
+
+    @rule(target=handles, is_word=st.booleans())
+    def open(self, is_word: bool) -> Any:
+        path = self.folder / "net"
+        if not self.belong_together():
+            with pytest.raises(domethyme.WrongHierarchy):
+                domethyme.Hierarchy(f"{path}.rch", network=path)
+            return multiple()
+        hierarchy = domethyme.Hierarchy(f"{path}.rch", network=path if is_word else domethyme.Network(path))
+        return Handle(hierarchy, self.there["rch"], self.generation)
+
+    @rule(handle=handles, question=QUESTIONS)
+    def ask(self, handle: Handle, question: Question) -> None:
+        if handle.is_closed and question[0] != "nearest" and question[0] != "lon":
+            with pytest.raises(ValueError):
+                answer(handle.hierarchy, question)
+        else:
+            assert is_right(answer(handle.hierarchy, question), handle.number, question)
+
+    @rule(handle=handles, question=QUESTIONS)
+    def fork(self, handle: Handle, question: Question) -> None:
+        """A child has the hierarchy too."""
+        if handle.is_closed:
+            return
+        child = os.fork()
+        if not child:
+            status = 2
+            try:
+                status = 0 if is_right(answer(handle.hierarchy, question), handle.number, question) else 1
+            finally:
+                os._exit(status)
+        assert os.waitstatus_to_exitcode(os.waitpid(child, 0)[1]) == 0
+
+    @rule(handle=handles, questions=st.lists(QUESTIONS, min_size=2, max_size=2))
+    def ask_in_two_threads(self, handle: Handle, questions: list[Question]) -> None:
+        if handle.is_closed:
+            return
+        found: dict[int, Any] = {}
+
+        def run(row: int) -> None:
+            found[row] = [answer(handle.hierarchy, questions[row]) for _ in range(3)]
+
+        threads = [threading.Thread(target=run, args=(row,)) for row in range(len(questions))]
+        for thread in threads:
+            thread.start()
+        for thread in threads:
+            thread.join()
+        assert all(is_right(each, handle.number, questions[row]) for row in found for each in found[row]) and len(found) == 2
+
+    @rule(handle=handles)
+    def close(self, handle: Handle) -> None:
+        handle.hierarchy.close()
+        handle.is_closed = True
+
+    @rule(target=pickles, handle=handles)
+    def dump(self, handle: Handle) -> Any:
+        """Refused where the file is there no more: no other process could read it."""
+        if handle.generation != self.generation and not handle.was_pickled:
+            with pytest.raises(domethyme.WrongHierarchy):
+                pickle.dumps(handle.hierarchy)
+            return multiple()
+        handle.was_pickled = True
+        return pickle.dumps(handle.hierarchy), handle.number
+
+    @rule(target=handles, pickled=pickles)
+    def load(self, pickled: tuple[bytes, int]) -> Any:
+        """The file that it was pickled of, or none."""
+        data, number = pickled
+        if self.there["rch"] != number or not self.belong_together():
+            with pytest.raises(domethyme.WrongHierarchy):
+                pickle.loads(data)
+            return multiple()
+        handle = Handle(pickle.loads(data), number, self.generation)
+        handle.was_pickled = True
+        return handle
+
+    @rule(target=services)
+    def reload(self) -> Any:
+        """A service of the files that are there."""
+        if not self.belong_together():
+            with pytest.raises(domethyme.WrongHierarchy):
+                open_service(self.folder / "net")
+            return multiple()
+        return open_service(self.folder / "net"), self.there["rch"]
+
+    @rule(service=services, one=st.integers(0, NODES - 1), other=st.integers(0, NODES - 1))
+    def ask_a_service(self, service: tuple[Any, int], one: int, other: int) -> None:
+        """One that was begun before files were replaced answers as it did."""
+        begun, number = service
+        status, found = ask(begun, f"/nodes/length?from={one + 1}&to={other + 1}")
+        assert (status, found["length"]) == (200, expected(number, ("length", one, other)))
+        lon, lat = beside(one)
+        status, found = ask(begun, f"/nearest/v1/car/{lon:.7f},{lat:.7f}")
+        metres, _ = next(version(number).by_distance((round(lon, 7), round(lat, 7)), None))
+        assert status == 200 and abs(found["waypoints"][0]["distance"] - metres) < 2e-5
+
+
+TestFiles = Files.TestCase
+TestFiles.settings = drawn(120)

@@ -1,0 +1,266 @@
+"""The tools on drawn networks: nodes and roads near places, tables, routes as GeoJSON, and networks of a user's own tables."""
+import contextlib
+import csv
+import itertools
+import json
+import os
+import pathlib
+import subprocess
+import tempfile
+from collections.abc import Mapping
+from typing import Any, NamedTuple
+
+import numpy as np
+import pytest
+from draws import ORIGINS, drawn, networks, places, points_near, run_tool, write_network
+from hypothesis import assume, given
+from hypothesis import strategies as st
+from model.answers import figures, leg_line
+from comparing import Line, difference
+from model.network import Ambiguous, Network, Part, SnappedPoint
+from model.sphere import Point, along, nearest_on_segment
+from tool_case import SECONDS
+
+import domethyme
+from domethyme_tools.cli import ToolError
+
+# What the words of the column oneway mean: arcs along a row, and back.
+DIRECTIONS = {"": (1, -1), "0": (1, -1), "no": (1, -1), "1": (1,), "yes": (1,), "true": (1,), "-1": (-1,), "reverse": (-1,)}
+SOURCES = ["from_lon", "from_lat", "to_lon", "to_lat"]
+
+
+class Figures(NamedTuple):
+    """An arc's weight, seconds and metres, and which of these its row doesn't say."""
+
+    weight: int
+    seconds: float
+    metres: float
+    has_weight: bool
+    has_seconds: bool
+
+
+def figures_of(row: Mapping[str, str], line: list[Point], unit: str) -> Figures | None:
+    """Those of an arc along a line; None for a row that says too little. `unit` is `time` or `length`."""
+    said = {name: text for name, text in row.items() if text}
+    has_weight, has_seconds = "weight" in said, bool({"seconds", "kmh"} & set(said))
+    if unit == "time" and not has_weight and not has_seconds:
+        return None
+    metres = round(along(line)[-1], 2)
+    if "metres" in said or "km" in said:
+        metres = float(said["metres"]) if "metres" in said else 1000 * float(said["km"])
+    seconds = round(metres * 3.6 / float(said["kmh"]), 3) if "kmh" in said else 0.0
+    seconds = float(said.get("seconds", seconds))
+    weight = round(1000 * seconds if unit == "time" else 100 * metres)
+    return Figures(int(said.get("weight", max(1, weight))), seconds, metres, has_weight, has_seconds)
+
+
+def write_rows(path: pathlib.Path, columns: list[str], rows: Any) -> None:
+    with open(path, "w", newline="") as file:
+        csv.writer(file).writerows([columns, *rows])
+
+
+def read_rows(path: pathlib.Path) -> list[list[str]]:
+    with open(path, newline="") as file:
+        return list(csv.reader(file))
+
+
+def routecli(*words: object, given: str = "") -> str:
+    run = subprocess.run([os.environ["ROUTECLI"], *map(str, words)], input=given, capture_output=True, text=True, timeout=SECONDS)
+    assert run.returncode == 0, run.stderr
+    return run.stdout
+
+
+@drawn(60)
+@given(st.data())
+def test_trips_and_tables(data: Any) -> None:
+    made = data.draw(networks())
+    trips = [tuple(data.draw(places(made.roads, 2))) for _ in range(data.draw(st.integers(1, 4)))]
+    split = sorted({made.roads.arcs[arc].end for arc, _ in made.roads.forbidden})
+    trips += [(made.roads.nodes[node].place,) * 2 for node in split[:2]]
+    with tempfile.TemporaryDirectory() as folder:
+        path = pathlib.Path(folder)
+        write_network(made, path / "net")
+        write_rows(path / "trips.csv", ["trip", *SOURCES], ([number, *a, *b] for number, (a, b) in enumerate(trips)))
+        for name, end in (("sources", 0), ("targets", 1)):
+            write_rows(path / f"{name}.csv", ["lon", "lat"], (trip[end] for trip in trips))
+        check_between_nodes(made.tables, path, trips)
+        with contextlib.suppress(Ambiguous):
+            check_on_roads(made.roads, path, trips)
+
+
+def one_junction(network: Network, one: int, other: int) -> bool:
+    first, last = network.nodes[one], network.nodes[other]
+    return one == other or bool(first.ends and last.ends) and (first.place, first.osm) == (last.place, last.osm)
+
+
+def check_between_nodes(network: Network, path: pathlib.Path, trips: list[tuple[Point, Point]]) -> None:
+    """`nearest` and its `--snapped`, `table`, and `to_geojson` of what routecli answers."""
+    near = [[network.nearest(place, side) for place, side in zip(trip, ("from", "to"))] for trip in trips]
+    if any(metres > 1000 for ends in near for _, metres in ends):
+        with pytest.raises(ToolError, match="nearest node"):
+            run_tool("nearest", path / "net", path / "trips.csv", "-o", path / "pairs")
+        with pytest.raises(ToolError, match="nearest node"):
+            run_tool("table", path / "net", path / "net.rch", path / "sources.csv", path / "targets.csv", "-o", path / "t.csv")
+        return
+    run_tool("nearest", path / "net", path / "trips.csv", "-o", path / "pairs", "--snapped", path / "snapped.csv")
+    lines = [line.split() for line in (path / "pairs").read_text().splitlines() if line[0] == "q"]
+    pairs = [(int(line[1]) - 1, int(line[2]) - 1) for line in lines]
+    columns, *rows = read_rows(path / "snapped.csv")
+    for (start, end), ((starts, away), (ends, end_away)), row in zip(pairs, near, rows, strict=True):
+        stays = {one_junction(network, start, each) for each in ends}  # (at the junction where it begins)
+        assert start in starts and (end == start if stays == {True} else end in ends or True in stays and end == start)
+        found = dict(zip(columns, row))
+        assert (found["from_node"], found["to_node"]) == (str(start + 1), str(end + 1))
+        assert abs(float(found["from_metres"]) - away) < 0.051 and abs(float(found["to_metres"]) - end_away) < 0.051
+    (path / "answers").write_text(routecli("route", path / "net.rch", path / "pairs"))
+    run_tool("to_geojson", path / "net", path / "answers", "--trips", path / "snapped.csv", "-o", path / "routes")
+    features = json.loads((path / "routes").read_text())["features"]
+    for pair, feature in zip(pairs, features, strict=True):
+        length = network.lengths({pair[0]: 0}).get(pair[1])
+        assert feature["properties"]["length"] == length and (feature["geometry"] is None) == (length is None)
+        assert length is None or feature["properties"]["arcs"] == network.fewest_arcs(*pair)
+    run_tool("table", path / "net", path / "net.rch", path / "sources.csv", path / "targets.csv", "-o", path / "t.npy")
+    table = np.load(path / "t.npy")
+    for (row, ((starts, _), _)), (column, (_, (ends, _))) in itertools.product(enumerate(near), enumerate(near)):
+        cells = {
+            0 if one_junction(network, start, end) else network.lengths({start: 0}).get(end, -1)
+            for start in starts for end in ends
+        }
+        assert table[row, column] in cells
+
+
+def check_on_roads(roads: Network, path: pathlib.Path, trips: list[tuple[Point, Point]]) -> None:
+    """`nearest --on-roads`, `to_geojson --on-roads` of what routecli replies, and `table --on-roads`."""
+    points = [[roads.snap(place, 1000.0) for place in trip] for trip in trips]
+    words = path / "net", path / "trips.csv", "--on-roads", "-o", path / "lines"
+    if None in itertools.chain(*points):
+        with pytest.raises(ToolError, match="nearest road"):
+            run_tool("nearest", *words)
+        return
+    run_tool("nearest", *words)
+    (path / "replies").write_text(routecli("serve", path / "net.rch", given=(path / "lines").read_text()))
+    run_tool(
+        "to_geojson", path / "net", path / "replies", "--trips", path / "trips.csv", "--on-roads", "-o", path / "on_roads"
+    )
+    features = json.loads((path / "on_roads").read_text())["features"]
+    for (start, end), feature in zip(points, features, strict=True):
+        assert start and end and is_feature(roads, feature, start, end), (feature, start, end)
+    run_tool(
+        "table", path / "net", path / "net.rch", path / "sources.csv", path / "targets.csv", "--on-roads", "-o", path / "on.csv"
+    )
+    cells = [row[1:] for row in read_rows(path / "on.csv")[1:]]
+    for (row, (start, _)), (column, (_, end)) in itertools.product(enumerate(points), enumerate(points)):
+        assert start and end and cells[row][column] == str(weight_of(roads, start, end)), cells
+
+
+def weight_of(roads: Network, start: SnappedPoint, end: SnappedPoint) -> int | str:
+    legs = roads.legs(start, end)
+    return sum(part[3] for part in legs[0]) if legs else ""
+
+
+def is_feature(roads: Network, feature: Any, start: SnappedPoint, end: SnappedPoint) -> bool:
+    """Whether a route between places on roads is one of the shortest legs."""
+    legs = roads.legs(start, end)
+    if not legs:
+        return feature["geometry"] is None and feature["properties"]["length"] is None
+    return any(is_leg(roads, feature, start, leg, end) for leg in legs)
+
+
+def is_leg(roads: Network, feature: Any, start: SnappedPoint, leg: list[Part], end: SnappedPoint) -> bool:
+    total, found, geometry = figures(roads, leg), feature["properties"], feature["geometry"]
+    expected = {
+        "length": sum(part[3] for part in leg), "arcs": len(leg), "seconds": total["duration"], "metres": total["distance"]
+    }
+    if difference({name: found[name] for name in expected}, expected) or geometry is None:
+        return False
+    names = [name for name, _ in itertools.groupby(roads.arcs[arc].name for arc, *_ in leg)]
+    if [step["name"] for step in found["steps"]] != names:
+        return False
+    parts = [geometry["coordinates"]] if geometry["type"] == "LineString" else geometry["coordinates"]
+    line = [[lon, lat] for part in parts for lon, lat in part if len(parts) == 1 or abs(lon) != 180]
+    form = {"type": "LineString", "coordinates": line}
+    return not difference(form, Line(leg_line(roads, start, leg, end), "geojson"))
+
+
+@drawn(15)
+@given(st.data())
+def test_reach(data: Any) -> None:
+    """What the tool writes is what the package returns of the same places."""
+    made = data.draw(networks(["duration", "distance"], most=5, origins=[ORIGINS[0]]))
+    assume(made.roads.unit != "weight")
+    steps = [step for edge in made.roads.edges for step in itertools.pairwise(edge.line)]
+    where = data.draw(places(made.roads, 2))
+    where = [place for place in where if min(nearest_on_segment(place, *step) for step in steps)[0] < 900]
+    assume(where)
+    shape = data.draw(st.sampled_from(["polygons", "lines", "roads"]))
+    option, limits = ("minutes", [0.05, 0.5]) if made.roads.unit == "duration" else ("metres", [50, 200])
+    with tempfile.TemporaryDirectory() as folder:
+        path = pathlib.Path(folder)
+        write_network(made, path / "net", "--attribution", "© the town")
+        write_rows(path / "places.csv", ["lon", "lat"], where)
+        words = f"--{option}", ",".join(map(str, limits)), "--shape", shape, "-o", path / "out"
+        run_tool("reach", path / "net", path / "net.rch", path / "places.csv", *words)
+        hierarchy = domethyme.Hierarchy(path / "net.rch", network=path / "net")
+        expected = hierarchy.within(where, shape=shape, **{option: limits})
+        assert json.loads((path / "out").read_text()) == json.loads(json.dumps(expected))
+        assert expected["attribution"] == "© the town"
+
+
+@st.composite
+def own_rows(draw: Any, nodes: int) -> list[dict[str, str]]:
+    """Rows of a user's table of arcs: columns may be missing, by other names, and empty in some rows."""
+    texts = {
+        "weight": st.integers(0, 9999).map(str), "seconds": st.integers(0, 5000).map(lambda value: str(value / 8)),
+        "kmh": st.integers(1, 130).map(str), "metres": st.integers(0, 3000).map(str), "km": st.sampled_from(["0.5", "1.25"]),
+        "oneway": st.sampled_from(sorted(DIRECTIONS)),
+    }
+    columns = draw(st.sets(st.sampled_from(sorted(texts))))
+    gaps = draw(st.sets(st.sampled_from(sorted(texts))))
+    rows = []
+    for _ in range(draw(st.integers(1, 6))):
+        row = {name: draw(st.one_of(st.just(""), texts[name]) if name in gaps else texts[name]) for name in sorted(columns)}
+        rows.append({"from": str(draw(st.integers(1, nodes))), "to": str(draw(st.integers(1, nodes))), **row})
+    return rows
+
+
+@drawn(200)
+@given(st.data())
+def test_own_tables(data: Any) -> None:
+    """Each row's weight, seconds and metres, by the page of own data; and a doubt about what some rows alone say."""
+    points = data.draw(st.lists(points_near(ORIGINS[0]), min_size=1, max_size=4))
+    rows, unit = data.draw(own_rows(len(points))), data.draw(st.sampled_from(["time", "length"]))
+    other = data.draw(st.sampled_from([{}, {"from": "Source", "to": "target", "kmh": "km/h", "metres": "Meters"}]))
+    expected, is_refused = [], False
+    for row in rows:
+        for step in DIRECTIONS[row.get("oneway", "1")]:
+            start, end = [int(row["from"]) - 1, int(row["to"]) - 1][::step]
+            figures = figures_of(row, [points[start], points[end]], unit)
+            is_refused = is_refused or figures is None
+            expected.append((start, end, figures))
+    with tempfile.TemporaryDirectory() as folder:
+        path = pathlib.Path(folder)
+        write_rows(path / "nodes.csv", ["lon", "lat"], [(f"{lon:.7f}", f"{lat:.7f}") for lon, lat in points])
+        columns = list(rows[0])
+        write_rows(path / "arcs.csv", [other.get(name, name) for name in columns], (list(row.values()) for row in rows))
+        words = path / "nodes.csv", path / "arcs.csv", path / "net", "--weight", unit
+        if is_refused:
+            with pytest.raises(domethyme.NetworkError, match="none of weight, seconds and kmh"):
+                run_tool("to_network", *words)
+            return
+        said = run_tool("to_network", *words)[1]
+        arcs = domethyme.Network(path / "net").arcs_frame()
+        graph = [tuple(map(int, line.split()[1:])) for line in (path / "net.gr").read_text().splitlines() if line[0] == "a"]
+    found = [tuple(row) for row in arcs[["from", "to", "weight", "seconds", "metres"]].itertuples(index=False)]
+    assert graph == [(start + 1, end + 1, weight) for start, end, weight, *_ in found]
+    for (start, end, weight, seconds, metres), (first, last, wanted) in zip(found, expected, strict=True):
+        assert (start, end, seconds) == (first, last, pytest.approx(wanted.seconds, abs=1e-9))
+        assert metres == pytest.approx(wanted.metres, abs=0.0101) and abs(weight - wanted.weight) <= 1
+        assert weight == wanted.weight or not wanted.has_weight
+    check_doubts(said, [figures for _, _, figures in expected], unit)
+
+
+def check_doubts(said: str, arcs: list[Any], unit: str) -> None:
+    """A column that some rows alone have is doubted: their weights, or seconds, are of another kind."""
+    without = [sum(not arc.has_weight for arc in arcs), sum(not arc.has_seconds for arc in arcs)]
+    for count, text in zip(without, ("weight of {} arcs is empty", "{} arcs have neither seconds nor kmh")):
+        assert (text.format(count) in said) == (0 < count < len(arcs)), (said, arcs)
