@@ -94,7 +94,7 @@ def arrays_of(places, starts, stops, single, kind, name):
     rows, of_arc = indexes.unique_text_rows(rows, of_pair[both])
     encoded = [text.encode() for text in texts]
     return net_file.Arrays(
-        np.array([net_file.VERSION]), np.zeros(2, np.int64), np.arange(1, len(places) + 1), units[:, 0].copy(),
+        np.array([net_file.VERSION]), np.array(net_file.NO_TABLES), np.arange(1, len(places) + 1), units[:, 0].copy(),
         units[:, 1].copy(),
         np.zeros(len(places), np.uint8), np.where(is_back, stops[both], starts[both]).astype(np.int32),
         np.where(is_back, starts[both], stops[both]).astype(np.int32),
