@@ -18,6 +18,8 @@ WORDS = ["--headless=new", "--no-sandbox", "--disable-gpu", "--disable-dev-shm-u
 KEYS = {"Enter": 13, "Tab": 9, "Delete": 46, "Home": 36, "ArrowLeft": 37, "ArrowUp": 38, "ArrowRight": 39, "ArrowDown": 40,
         "+": 187, "-": 189}
 TEXTS = {"Enter": "\r", "+": "+", "-": "-"}
+# The main module of the service's page, or of the page in one file.
+MAIN = "(typeof main_js === 'undefined' ? import('/map/main.js') : main_js)"
 
 
 class Browser:
@@ -89,7 +91,7 @@ class Browser:
         self.call("Emulation.setTouchEmulationEnabled", enabled=width < 600)
         self.call("Page.navigate", url="about:blank")
         self.call("Page.navigate", url=address)
-        self.until("document.readyState === 'complete'")
+        self.until("location.href !== 'about:blank' && document.readyState === 'complete'")
 
     def value(self, script):
         """The value of an expression of JavaScript; a promise is waited for."""
@@ -106,6 +108,15 @@ class Browser:
                 raise AssertionError(f"never true: {script}")
             time.sleep(0.05)
         return found
+
+    def drawn(self, body):
+        """The value of a function's body over the map's `view`, once the page has drawn all that it has."""
+        return self.value(f"{MAIN}.then(async ({{view}}) => {{ while (view.frame) await new Promise(requestAnimationFrame); {body} }})")
+
+    def pixel(self, lon, lat):
+        """The pixel of the window at which a place is shown."""
+        return self.drawn(f"""const {{left, top}} = view.element.getBoundingClientRect(), [x, y] = view.pixel([{lon}, {lat}]);
+            return [x + left, y + top];""")
 
     def mouse(self, kind, place, buttons=1):
         pressed = "none" if kind == "mouseMoved" and not buttons else "left"

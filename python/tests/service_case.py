@@ -172,6 +172,14 @@ def children_of(number: int) -> list[int]:
     return sorted(found)
 
 
+def is_running(number: int) -> bool:
+    """Whether a process runs; one that has ended, and that its parent hasn't waited for, doesn't."""
+    try:
+        return pathlib.Path(f"/proc/{number}/stat").read_text().rpartition(")")[2].split()[0] != "Z"
+    except OSError:
+        return False
+
+
 def workers_of(process: "subprocess.Popen[str]") -> list[int]:
     """The workers of a service, which its arbiter has forked."""
     return children_of(process.pid)

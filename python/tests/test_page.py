@@ -224,12 +224,6 @@ def text_of(browser, name):
     return browser.value(f"document.getElementById('{name}').textContent")
 
 
-def pixel(browser, lon, lat):
-    return browser.value(f"""main_js.then(({{view}}) => {{
-        const {{left, top}} = view.element.getBoundingClientRect(), [x, y] = view.pixel([{lon}, {lat}]);
-        return [x + left, y + top]; }})""")
-
-
 def asked_routes(browser, pairs):
     """The routes of the page's worker between places."""
     script = f"Promise.all({json.dumps(pairs)}.map((places) => service_js.service.route(places).catch((error) => error.code)))"
@@ -263,7 +257,7 @@ class TestInABrowser:
         opened(browser, village / "page.html", width=width, height=height, is_dark=width < 600)
         assert text_of(browser, "credit") == load_network(str(village / "n")).texts[0]
         for lon in (0.0005, 0.0035):
-            browser.click(pixel(browser, lon, 0.00002))
+            browser.click(browser.pixel(lon, 0.00002))
         browser.until("document.getElementById('total').textContent !== ''")
         roads, router = RoadIndex(str(village / "n")), Router((village / "n.rch").read_bytes(), "n")
         spots = browser.value("main_js.then(({places}) => places.all)")
@@ -298,8 +292,8 @@ class TestInABrowser:
         before = browser.value("location.hash")
         browser.press("ArrowRight")
         browser.until(f"location.hash !== {json.dumps(before)}")
-        begin = pixel(browser, 0.002, 0)
-        browser.drag(begin, pixel(browser, 0.002, 0.001))
+        begin = browser.pixel(0.002, 0)
+        browser.drag(begin, browser.pixel(0.002, 0.001))
         browser.until("document.querySelectorAll('#places li').length === 3")
         browser.value("document.querySelector('#marks button').focus()")
         browser.press("Delete")

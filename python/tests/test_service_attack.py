@@ -4,7 +4,6 @@ import concurrent.futures
 import contextlib
 import http.client
 import os
-import pathlib
 import re
 import signal
 import socket
@@ -17,7 +16,7 @@ import zlib
 
 import numpy as np
 import pytest
-from service_case import NDJSON, ServiceCase, read_answer, without_end, workers_of
+from service_case import NDJSON, ServiceCase, is_running, read_answer, without_end, workers_of
 from tool_case import PYTHON, ROOT, SECONDS
 
 import domethyme
@@ -104,7 +103,7 @@ class RestartTests(ServiceCase):
         left = workers_of(process)
         self.assertEqual(len(left), 4)
         process.kill()
-        self.wait_for(lambda: not any(pathlib.Path(f"/proc/{number}").exists() for number in left))
+        self.wait_for(lambda: not any(map(is_running, left)))
 
     def test_workers_are_forked_without_threads(self):
         process = self.serve("--network", self.folder / "v")

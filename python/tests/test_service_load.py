@@ -299,14 +299,15 @@ class ReplacedTests(LoadCase):
         def act():
             for _ in range(8):
                 self.wait_for_answers()
-                workers = workers_of(self.process)
-                with contextlib.suppress(IndexError, ProcessLookupError):
-                    os.kill(random.Random(len(workers)).choice(workers), signal.SIGKILL)
+                killed = random.Random(4).choice(workers_of(self.process))
+                os.kill(killed, signal.SIGKILL)
+                self.wait_for(lambda killed=killed: killed not in workers_of(self.process))
 
         self.asking(act)
-        self.assertLessEqual(len(self.lost), 30 if self.may_lose else 0, self.lost[:5])
+        # (each client may lose one by each worker)
+        self.assertLessEqual(len(self.lost), 8 * len(self.right) if self.may_lose else 0, self.lost[:5])
         self.wait_for(lambda: len(workers_of(self.process)) == (4 if self.may_lose else 5))
-        self.assertGreaterEqual(self.value("worker_restarts_total"), 5)
+        self.wait_for(lambda: self.value("worker_restarts_total") == 8)
 
 
 class NginxReplacedTests(NginxCase, ReplacedTests):

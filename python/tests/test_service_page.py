@@ -131,13 +131,6 @@ class BrowserCase(ServiceCase):
         self.assertEqual(faults, [])
         self.assertEqual([each for each in self.browser.asked if not each.startswith((own, "about:"))], [])
 
-    def pixel(self, lon, lat):
-        """The pixel of the window at which a place is shown."""
-        script = f"""import('/map/main.js').then(({{view}}) => {{
-            const {{left, top}} = view.element.getBoundingClientRect(), [x, y] = view.pixel([{lon}, {lat}]);
-            return [x + left, y + top]; }})"""
-        return self.browser.value(script)
-
     def steps(self, *wanted):
         """Waits for steps whose texts have these beginnings."""
         texts = "[...document.querySelectorAll('#steps .text')].map(each => each.textContent)"
@@ -178,23 +171,22 @@ class PointerTests(BrowserCase):
     def test_two_clicks_a_drag_and_a_via(self):
         self.open()
         self.assertEqual(self.text_of("hint"), "Click the map to set the start.")
-        self.browser.click(self.pixel(0.0003, 0))
+        self.browser.click(self.browser.pixel(0.0003, 0))
         self.browser.until("document.getElementById('hint').textContent.includes('destination')")
-        self.browser.click(self.pixel(0.0077, 0))
+        self.browser.click(self.browser.pixel(0.0077, 0))
         self.steps(*STRAIGHT)
         self.assertEqual(self.text_of("total"), "1 min820 m")
         self.assertRegex(self.browser.value("location.hash"), r"^#0\.000[23]\d+,-?0\.0000\d;0\.0077\d,")
         self.keep("two_places")
         # (the start by nine tenths of a step, and the line to Mill Road and back)
-        self.browser.drag(self.mark(0), self.mark(0, east=self.pixel(0.0012, 0)[0] - self.pixel(0.0003, 0)[0]))
+        self.browser.drag(self.mark(0), self.mark(0, east=self.browser.pixel(0.0012, 0)[0] - self.browser.pixel(0.0003, 0)[0]))
         self.browser.until("document.getElementById('total').textContent === '1 min720 m'")
-        self.browser.drag(self.pixel(0.0045, 0), self.pixel(0.006, 0.0006))
+        self.browser.drag(self.browser.pixel(0.0045, 0), self.browser.pixel(0.006, 0.0006))
         self.browser.until("document.querySelectorAll('#steps .text').length === 6")
         self.steps("Start on High Street", "Turn left onto Mill Road", "Arrive at the place between", "Continue on Mill Road",
                    "Turn left onto High Street", "Arrive at the destination")
         self.assertEqual(self.browser.value("[...document.querySelectorAll('.mark')].map(each => each.textContent).join()"), "A,1,B")
         self.assertEqual(self.browser.value("location.hash.split(';').length"), 3)
-        # (drawn once the view has stopped)
         self.browser.until("document.querySelectorAll('#route .arrow').length > 2")
         self.browser.until("[...document.querySelectorAll('#route text')].some(each => each.textContent === 'High Street')")
         self.keep("via")
@@ -209,8 +201,8 @@ class PointerTests(BrowserCase):
 
     def mark(self, number, east=0):
         """The middle of a mark, or a point this many pixels east of it."""
-        script = f"(({{x, y, width, height}}) => [x + width / 2, y + height / 2])(document.querySelectorAll('.mark')[{number}].getBoundingClientRect())"
-        x, y = self.browser.value(script)
+        box = f"document.querySelectorAll('.mark')[{number}].getBoundingClientRect()"
+        x, y = self.browser.drawn(f"const {{x, y, width, height}} = {box}; return [x + width / 2, y + height / 2];")
         return x + east, y
 
     def test_roads_are_drawn_and_refusals_are_said(self):
@@ -270,11 +262,10 @@ class PointerTests(BrowserCase):
             view.pan(x - (scale.right - map.left) - 82, y - view.height + 3);
         })"""
         self.browser.value(onto)
-        self.browser.value("new Promise((done) => requestAnimationFrame(() => requestAnimationFrame(done)))")
-        overlaps = """[...document.querySelectorAll('#route text')].filter((each) => {
+        overlaps = """return [...document.querySelectorAll('#route text')].filter((each) => {
             const one = each.getBoundingClientRect(), other = document.getElementById('scale').getBoundingClientRect();
             return one.left < other.right && one.right > other.left && one.top < other.bottom && one.bottom > other.top; }).length"""
-        self.assertEqual(self.browser.value(overlaps), 0)
+        self.assertEqual(self.browser.drawn(overlaps), 0)
         self.keep("scale")
 
     def test_a_phone(self):
@@ -288,14 +279,13 @@ class PointerTests(BrowserCase):
         self.assertLess(*tops)
         self.assertLessEqual(self.browser.value("document.documentElement.scrollWidth"), 390)
         self.keep("narrow")
-        grounds = []
-        for is_dark in (False, True):
+        colour = "[...document.getElementById('roads').getContext('2d').getImageData(2, 2, 1, 1).data].join()"
+        for is_dark, ground in ((False, "247,246,243,255"), (True, "21,24,28,255")):
             self.open(HIGH, is_dark=is_dark)
             self.steps(*STRAIGHT)
             self.browser.value("document.querySelectorAll('#steps button')[0].click()")
+            self.browser.until(f"{colour} === '{ground}'")
             self.keep("dark" if is_dark else "light")
-            grounds.append(self.browser.value("[...document.getElementById('roads').getContext('2d').getImageData(2, 2, 1, 1).data].join()"))
-        self.assertEqual(grounds, ["247,246,243,255", "21,24,28,255"])
         self.quiet()
 
 
@@ -312,7 +302,7 @@ class ReachTests(BrowserCase):
         self.open()
         self.browser.value("document.querySelector('#modes [value=reach]').click()")
         self.assertEqual(self.text_of("hint"), "Click the map to set the place.")
-        self.browser.click(self.pixel(0.002, 0))
+        self.browser.click(self.browser.pixel(0.002, 0))
         self.reached("5 min,10 min,15 min")
         self.assertRegex(self.browser.value("location.hash"), r"^#reach=5,10,15;0\.00(2|19)")
         for text, is_wrong in (("nothing", True), ("5, 4", True), ("1 2 3 4 5", True), ("700", True), ("0.2; 0.5", False)):
@@ -327,8 +317,8 @@ class ReachTests(BrowserCase):
         self.browser.value("document.getElementById('save').click()")
         saved = json.loads(self.browser.value("window.saved.text()"))
         self.assertEqual([each["properties"]["contour"] for each in saved["features"]], [0.5, 0.2])
-        self.browser.click(self.pixel(0.004, 0))  # (another place, and never a second one)
-        self.browser.until("location.hash.startsWith('#reach=0.2,0.5;0.00')")
+        self.browser.click(self.browser.pixel(0.004, 0))  # (another place, and never a second one)
+        self.browser.until("/^#reach=0.2,0.5;0.00(4|39)/.test(location.hash)")
         self.assertEqual(self.browser.value("document.querySelectorAll('.mark').length"), 1)
         self.browser.value("document.querySelector('#modes [value=route]').click()")
         self.browser.until("document.querySelectorAll('#reach path').length === 0 && !location.hash.includes('reach')")

@@ -11,21 +11,13 @@ import threading
 import time
 import unittest.mock
 
-from service_case import ServiceCase, without_end, workers_of
+from service_case import ServiceCase, is_running, without_end, workers_of
 from test_service_attack import IMPORT
 from tool_case import SECONDS
 
 import domethyme
 
 PATH = "/nodes/length?from=1&to=2"
-
-
-def is_running(number):
-    """Whether a process runs."""
-    try:
-        return pathlib.Path(f"/proc/{number}/stat").read_text().rpartition(")")[2].split()[0] != "Z"
-    except OSError:
-        return False
 
 
 class Client(threading.Thread):
@@ -270,7 +262,7 @@ command.main()
     def health(self, name, fields=""):
         """The status of /health at a unix socket."""
         with socket.socket(socket.AF_UNIX) as stream:
-            stream.settimeout(5)
+            stream.settimeout(SECONDS)
             stream.connect(str(self.folder / name))
             stream.sendall(f"GET /health HTTP/1.1\r\nHost: x\r\n{fields}\r\n".encode())
             return stream.makefile("rb").readline().split()[1]
