@@ -1,10 +1,7 @@
-/* Prints the routes of pairs as `routecli route` does, and sees on the way that all calls agree, and that a second handle takes
- * little memory.
+/* Prints the routes of pairs as `routecli route` does, and sees on the way that all calls agree.
  *
  *     answers HIER PAIRS */
 #include "support.h"
-
-#include <malloc.h>
 
 /* The length alone, the route by two calls, and the same between one start and one end. */
 static void answer(domethyme *handle, domethyme_pair pair)
@@ -77,54 +74,6 @@ static void compare(domethyme *handle, const domethyme_pair *pairs, size_t count
         }
 }
 
-static size_t allocated(void)
-{
-    struct mallinfo2 info = mallinfo2();
-    return info.uordblks + info.hblkhd;
-}
-
-/* A second handle takes 8 bytes a node and no hierarchy of its own, beside what the C library adds to large blocks. */
-static void take_little(domethyme *handle)
-{
-    domethyme other = DOMETHYME_CLOSED;
-    uint32_t nodes = 0;
-    WANT(domethyme_nodes(handle, &nodes) == DOMETHYME_OK);
-    size_t before = allocated();
-    WANT(domethyme_beside(handle, &other) == DOMETHYME_OK);
-    WANT(allocated() - before <= 8 * (size_t)nodes + (1 << 16));
-    domethyme_close(&other);
-}
-
-/* A handle takes the selection that another made after both were opened: memory for one of its own isn't taken. */
-static void share(domethyme *handle)
-{
-    domethyme other = DOMETHYME_CLOSED;
-    uint32_t nodes = 0, sources[65] = {0};
-    WANT(domethyme_nodes(handle, &nodes) == DOMETHYME_OK);
-    WANT(domethyme_beside(handle, &other) == DOMETHYME_OK);
-    size_t count = nodes > 64 ? 1 : 65, cells = count * nodes;
-    uint32_t *targets = (uint32_t *)malloc(nodes * sizeof *targets);
-    uint64_t *first = (uint64_t *)malloc(cells * sizeof *first), *second = (uint64_t *)malloc(cells * sizeof *second);
-    WANT(targets != NULL && first != NULL && second != NULL);
-    for (uint32_t node = 0; node < nodes; ++node)
-        targets[node] = nodes - 1 - node;
-    WANT(domethyme_table(handle, sources, count, targets, nodes, first, cells) == DOMETHYME_OK);
-    size_t before = allocated();
-    WANT(domethyme_table(&other, sources, count, targets, nodes, second, cells) == DOMETHYME_OK);
-    WANT(memcmp(first, second, cells * sizeof *first) == 0);
-    WANT(allocated() <= before + 4 * (size_t)nodes + (1 << 16));
-    /* The one has it still when the other is closed, and a call with no targets lets it go. */
-    domethyme_close(&other);
-    WANT(domethyme_table(handle, sources, count, targets, nodes, second, cells) == DOMETHYME_OK);
-    WANT(memcmp(first, second, cells * sizeof *first) == 0);
-    before = allocated();
-    WANT(domethyme_table(handle, sources, count, targets, 0, second, 0) == DOMETHYME_OK);
-    WANT(nodes <= 64 || allocated() + 16 * (size_t)nodes <= before);
-    free(targets);
-    free(first);
-    free(second);
-}
-
 int main(int count, char **words)
 {
     WANT(count == 3);
@@ -137,8 +86,6 @@ int main(int count, char **words)
     for (size_t place = 0; place < asked; ++place)
         answer(&handle, pairs[place]);
     compare(&handle, pairs, asked);
-    take_little(&handle);
-    share(&handle);
     free(pairs);
     domethyme_close(&handle);
     return 0;

@@ -13,18 +13,6 @@
 #define SMALL 4096
 #define FEW 1000
 
-#ifdef __cplusplus
-extern "C" {
-#endif
-void *__real_malloc(size_t size);
-void __real_free(void *block);
-void *__wrap_malloc(size_t size);
-void *__wrap_realloc(void *block, size_t size);
-void __wrap_free(void *block);
-#ifdef __cplusplus
-}
-#endif
-
 /* The bytes that are held, and the most that were held since it was set. */
 static size_t held, most;
 

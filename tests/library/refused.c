@@ -5,19 +5,6 @@
  *     refused HIER */
 #include "support.h"
 
-#ifdef __cplusplus
-extern "C" {
-#endif
-void *__real_malloc(size_t size);
-void *__real_realloc(void *block, size_t size);
-void __real_free(void *block);
-void *__wrap_malloc(size_t size);
-void *__wrap_realloc(void *block, size_t size);
-void __wrap_free(void *block);
-#ifdef __cplusplus
-}
-#endif
-
 /* The calls until the refused one, if any, and the blocks that are held. */
 static long until = -1, held;
 

@@ -18,6 +18,14 @@
         }                                                                                                                      \
     } while (0)
 
+/* What programs are linked with that count or refuse (--wrap=malloc --wrap=realloc --wrap=free). They are C. */
+void *__real_malloc(size_t size);
+void *__real_realloc(void *block, size_t size);
+void __real_free(void *block);
+void *__wrap_malloc(size_t size);
+void *__wrap_realloc(void *block, size_t size);
+void __wrap_free(void *block);
+
 typedef struct file {
     uint8_t *bytes;
     size_t count;
