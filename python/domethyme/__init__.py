@@ -11,6 +11,8 @@ proved.
         hierarchy.routes(pairs)[7]                                       # the nodes of the eighth route
         hierarchy.matrix(sources, targets)                               # a table of lengths
     domethyme.check("town.gr", "town.rch")                               # the file is right for the graph, or an error
+    domethyme.from_osm("li.osm.pbf", "out/li")                           # a map, its network and its hierarchy, in one call
+    domethyme.open("out/li")                                             # out/li.rch with its network and keys, made before
 
 Nodes are numbered from 0, as rows are; node n is node n + 1 of a file. Pass your own keys as `keys`, and all methods take and
 return them. Weights are whole numbers from 0 to 4,294,967,295 in a unit of the user's own, such as
@@ -24,15 +26,17 @@ Errors are DomethymeErrors, listed in `domethyme.errors`; arguments that can't b
 import importlib.util
 from typing import TYPE_CHECKING, Any
 
+from . import opening
 from .deprecated import warn_renamed
 from .errors import (
-    DomethymeError, FileError, GraphError, HierarchyError, HierarchyNotFound, LibraryError, LibraryNotFound, NetworkError,
+    DomethymeError, FileError, GraphError, HierarchyError, HierarchyNotFound, LibraryError, LibraryNotFound, MapError, NetworkError,
     NoSuchNode, NotProved, OutOfMemory, ProgramError, ProgramNotFound, ProgramStopped, ReadWriteError, WrongHierarchy
 )
 from .extras import need
 from .graphs import Graph, check, prepare, unscaled, write_graph
 from .hierarchy import Hierarchy
 from .keys import Keys
+from .opening import from_osm
 from .program import find_program
 from .protocol import NO_PATH
 from .route import Route
@@ -43,11 +47,13 @@ if TYPE_CHECKING:
 
 __all__ = [
     "DomethymeError", "Fault", "FileError", "Graph", "GraphError", "Hierarchy", "HierarchyError", "HierarchyNotFound",
-    "Keys", "LibraryError", "LibraryNotFound", "Network", "NetworkError", "NoSuchNode", "NO_PATH", "NotProved",
+    "Keys", "LibraryError", "LibraryNotFound", "MapError", "Network", "NetworkError", "NoSuchNode", "NO_PATH", "NotProved",
     "OutOfMemory", "ProgramError", "ProgramNotFound", "ProgramStopped", "ReadWriteError", "Route", "Routes",
-    "WrongHierarchy", "check", "find_program", "prepare", "unscaled", "write_graph"
+    "WrongHierarchy", "check", "find_program", "from_osm", "prepare", "unscaled", "write_graph"
 ]
 
+# (not in __all__, so that `from domethyme import *` leaves Python's own alone)
+open = opening.open
 # The name of DomethymeError in scripts that are older than this package.
 Fault = DomethymeError
 # Old words that work until the next version.

@@ -1,6 +1,6 @@
 """Lengths and routes of many pairs, tables, by as many threads as there are processors, and what is reached. Needs numpy."""
 import concurrent.futures
-from collections.abc import Callable, Sequence
+from collections.abc import Callable, Iterable, Iterator, Sequence
 from typing import TypeVar
 
 import numpy as np
@@ -9,6 +9,7 @@ from numpy.typing import NDArray
 from .errors import OutOfMemory
 from .limits import MAX_CELLS
 from .network.parallel import cpu_count
+from .progress import Progress, reporting
 from .protocol import NO_PATH
 from .router import Router, Searcher, seed_array
 
@@ -27,7 +28,9 @@ def lengths(router: Router, pairs: NDArray[np.int64]) -> NDArray[np.int64]:
     return found
 
 
-def table(router: Router, sources: NDArray[np.int64], targets: NDArray[np.int64]) -> NDArray[np.int64]:
+def table(
+    router: Router, sources: NDArray[np.int64], targets: NDArray[np.int64], progress: Progress = False
+) -> NDArray[np.int64]:
     """The least lengths from each source to each target, NO_PATH where there is no path. A thread asks for whole rows, since its
     seat keeps what the library has selected for the targets. Raises OutOfMemory for more than MAX_CELLS, before memory is taken."""
     if len(sources) * len(targets) > MAX_CELLS:
@@ -36,8 +39,11 @@ def table(router: Router, sources: NDArray[np.int64], targets: NDArray[np.int64]
     rows, columns = (np.ascontiguousarray(nodes, dtype=np.uint32) for nodes in (sources, targets))
     found = np.empty((len(rows), len(columns)), np.int64)
     if found.size:
-        at_a_time = rows_at_a_time(*found.shape)
-        map_chunks(router, lambda part, seat: seat.table(rows[part], columns, found[part]), len(rows), at_a_time)
+        with reporting(progress) as on_progress:
+            map_chunks(
+                router, lambda part, seat: seat.table(rows[part], columns, found[part]), len(rows), rows_at_a_time(*found.shape),
+                lambda done: on_progress("matrix", done, len(rows))
+            )
     return found
 
 
@@ -75,20 +81,27 @@ def route_arrays(seat: Searcher, source: int, target: int) -> tuple[int, NDArray
 
 
 def map_chunks(
-    router: Router, query_chunk: Callable[[slice, Searcher], T], count: int, at_a_time: int = CHUNK_SIZE
+    router: Router, query_chunk: Callable[[slice, Searcher], T], count: int, at_a_time: int = CHUNK_SIZE,
+    on_done: Callable[[int], object] = lambda done: None
 ) -> list[T]:
-    """What `query_chunk` returns for each part of so many questions, in order. Each part has a seat of its own while it is asked."""
+    """What `query_chunk` returns for each part of so many questions, in order. Each part has a seat of its own while it is asked.
+    `on_done` receives how many questions are answered, in this thread."""
     parts = [slice(begin, begin + at_a_time) for begin in range(0, count, at_a_time)]
 
     def run_chunk(part: slice) -> T:
         with router.searcher() as seat:
             return query_chunk(part, seat)
 
+    def each_of(answers: Iterable[T]) -> Iterator[T]:
+        for part, answer in zip(parts, answers):
+            on_done(min(part.stop, count))
+            yield answer
+
     if len(parts) < 2:
-        return [*map(run_chunk, parts)]
+        return [*each_of(map(run_chunk, parts))]
     with concurrent.futures.ThreadPoolExecutor(min(len(parts), cpu_count())) as threads:
         try:
-            return [*threads.map(run_chunk, parts)]
+            return [*each_of(threads.map(run_chunk, parts))]
         except BaseException:
             threads.shutdown(wait=True, cancel_futures=True)
             raise

@@ -87,6 +87,10 @@ class NetworkError(FileError):
     """A file of a network is refused, or a table or text of places, pairs or answers in one."""
 
 
+class MapError(FileError):
+    """A map of OpenStreetMap, or the profile of a vehicle, is refused; or the program that reads maps can't be built."""
+
+
 class NoSuchNode(DomethymeError, ValueError, LookupError):
     """A node that the hierarchy doesn't have, or a key that names none.
 

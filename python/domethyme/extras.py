@@ -5,7 +5,10 @@ import sys
 from typing import Any
 
 # By the name of a package the extra of this one that installs it.
-EXTRAS = {"numpy": "arrays", "pandas": "frames", "scipy": "reach", "contourpy": "reach", "shapely": "reach"}
+EXTRAS = {
+    "numpy": "arrays", "pandas": "frames", "scipy": "reach", "contourpy": "reach", "shapely": "reach", "tqdm": "maps",
+    "geopandas": "geo",
+}
 
 
 def need(name: str) -> None:

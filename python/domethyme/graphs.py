@@ -16,7 +16,8 @@ from .extras import need
 from .hierarchy import Hierarchy
 from .keys import Keys, as_list, is_missing, to_python_scalar
 from .limits import MAX_LINES, MAX_NODES, MAX_WEIGHT
-from .program import StrPath, find_program, run_explaining
+from .program import StrPath, find_program, run_explaining, run_watched
+from .progress import Progress, reporting
 
 if TYPE_CHECKING:
     import numpy as np
@@ -159,7 +160,7 @@ def write_graph(
 def prepare(
     graph: "Graph | StrPath", hierarchy: StrPath, order: Order | None = None, workers: int | None = None,
     seed: int | None = None, program: StrPath | None = None, switch_order_after: int | None = None, *,
-    stint: int | None = None
+    stint: int | None = None, progress: Progress = False
 ) -> Hierarchy:
     """Makes the file of the hierarchy of a Graph, or of a graph's file, by `routecli prepare`. Returns the Hierarchy. At an
     exception its file is as it was before.
@@ -170,6 +171,7 @@ def prepare(
     seed                of the draws of nodes, 0 to 18446744073709551615; without it 1
     switch_order_after  after how many nodes a worker takes the next order, from 1; without it none does. `stint` is its old word
     program             the path of `routecli`, else it is looked for (find_program)
+    progress            True shows a bar of tqdm; a callable receives ("prepare", nodes done, nodes) five times a second
 
     Time and memory: some 11 s and 1 GB for a million nodes, by four workers. Raises GraphError, OutOfMemory,
     ReadWriteError, ProgramNotFound, ProgramError, LibraryNotFound.
@@ -183,8 +185,12 @@ def prepare(
     library.load_library()  # (the result is a Hierarchy: what it needs is looked for before the work)
     options = {"--order": order, "--workers": workers, "--seed": seed, "--stint": switch_order_after}
     arguments = [str(word) for name, value in options.items() if value is not None for word in (name, value)]
-    with graph_file(graph) as text:
-        ended = run_explaining(found, ["prepare", *arguments], [text, os.fspath(hierarchy)], stdout=subprocess.DEVNULL)
+    with graph_file(graph) as text, reporting(progress) as on_progress:
+        files = [text, os.fspath(hierarchy)]
+        if progress:
+            ended = run_watched(found, ["prepare", *arguments], files, on_progress)
+        else:
+            ended = run_explaining(found, ["prepare", *arguments], files, stdout=subprocess.DEVNULL)
     if ended.returncode != 0:
         raise error_from_exit(ended.returncode, ended.stderr)
     keys = graph.keys if isinstance(graph, Graph) else None

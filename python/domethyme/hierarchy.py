@@ -14,6 +14,7 @@ from .keys import Keys, as_list
 from .limits import DEFAULT_RADIUS
 from .network.tables import Side
 from .program import StrPath
+from .progress import Progress
 from .route import Route, Rows
 from .router import Router, RouterResult
 
@@ -172,8 +173,12 @@ class Hierarchy:
     @overload
     def matrix(self, sources: "NDArray[Any]", targets: "NDArray[Any] | None" = None, by: By | None = None) -> "NDArray[np.int64]": ...
     @overload
-    def matrix(self, sources: Any, targets: Any = None, by: By | None = None, *, missing: Any = None) -> Any: ...
-    def matrix(self, sources: Any, targets: Any = None, by: By | None = None, *, missing: Any = None) -> Any:
+    def matrix(
+        self, sources: Any, targets: Any = None, by: By | None = None, *, missing: Any = None, progress: Progress = False
+    ) -> Any: ...
+    def matrix(
+        self, sources: Any, targets: Any = None, by: By | None = None, *, missing: Any = None, progress: Progress = False
+    ) -> Any:
         """The lengths of shortest paths from each source to each target, an array of int64 of shape (sources, targets), -1
         if there is no path. Without targets they are the sources. If one of the two is a Series or Index of pandas, or a
         list of keys, the table is a DataFrame of Int64, missing if there is no path, whose axes are the sources and the
@@ -181,6 +186,7 @@ class Hierarchy:
 
         missing   what a cell without a path has instead, as numpy.inf to find the nearest, since -1 is below all lengths
         by        an old argument, which changes nothing any more: leave it out
+        progress  True shows a bar of tqdm; a callable receives ("matrix", rows done, rows) as they are answered
 
         The library computes all lengths, row by row, by as many threads as there are processors. Each thread selects what paths to
         the targets take, and keeps that: further rows to the same targets, in this call or in later ones, take less time. A table
@@ -196,7 +202,7 @@ class Hierarchy:
         targets = sources if targets is None else targets if hasattr(targets, "__array__") else as_list(targets)
         starts = arrays.nodes_of("sources", sources, self.keys, self.nodes)
         ends = arrays.nodes_of("targets", targets, self.keys, self.nodes)
-        table = batch.table(self._router, starts, ends)
+        table = batch.table(self._router, starts, ends, progress)
         return arrays.like_axes(table, sources, targets, self.keys is not None, missing)
 
     @overload

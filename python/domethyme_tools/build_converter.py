@@ -5,10 +5,15 @@ It is in C++ over libosmium, and is built once, in half a minute: osm_to_gr does
 
 Status 0: it is there. 1: it can't be built, and one line says why. 2: the arguments were refused.
 """
+import sys
+
+from domethyme.maps.map_arrays import ensure_built
+from domethyme.progress import reporting
+
 from .cli import argument_parser
-from .map_arrays import ensure_built
 
 
 def main() -> None:
     argument_parser(__doc__, "%(prog)s").parse_args()
-    print(ensure_built())
+    with reporting(sys.stderr.isatty()) as on_progress:
+        print(ensure_built(on_progress))

@@ -49,6 +49,7 @@ import numpy
 from domethyme.atomic_files import atomic_write
 from domethyme.csv_tables import excerpt, open_table, parse_float
 from domethyme.dimacs import read_answers
+from domethyme.drawing.geometry import join_lines
 from domethyme.network.from_tables import load_network_or_dimacs
 from domethyme.network.geo import Point, to_geojson_geometry, to_multilinestring
 from domethyme.network.groups import Ints
@@ -60,7 +61,6 @@ from domethyme.protocol import NO_PATH, RouteReply
 from .cli import (
     ToolError, add_hierarchy, argument_parser, current_arguments, need_hierarchy, refuse_overwriting, write_rows
 )
-from .draw.geometry import join_lines
 from .on_roads import open_road_index, routes_on_roads
 
 PAIR, KEYS = ("from_node", "to_node"), ("from_key", "to_key")

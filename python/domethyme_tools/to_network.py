@@ -42,10 +42,10 @@ from domethyme.atomic_files import atomic_write_all
 from domethyme.belonging import older_hierarchy
 from domethyme.errors import raised_as
 from domethyme.network import from_tables, net_file
+from domethyme.network.table_files import bytes_of, tables_there, write_graph_of, write_tables
 from domethyme.network.tables import ARC_COLUMNS, NODE_COLUMNS, Files, has_columns, read_attribution
 
 from .cli import ToolError, argument_parser, refuse_overwriting, warn
-from .table_files import bytes_of, tables_there, write_graph_of, write_tables
 
 
 def parse_args() -> argparse.Namespace:

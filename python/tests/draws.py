@@ -22,7 +22,7 @@ from model.request import ANNOTATIONS
 from model.sphere import Point, along, bearing, point_at
 
 import domethyme
-from domethyme_tools import turn_restrictions
+from domethyme.maps import turn_restrictions
 
 UNITS = 10**7
 # Where networks lie: a town, both sides of the 180th meridian, near a pole, and where both degrees change their signs.

@@ -12,12 +12,12 @@ import numpy as np
 from tool_case import PYTHON, SECONDS, TAKES_SIGNALS, VILLAGE, ToolCase
 
 from domethyme.dimacs import read_graph
-from domethyme.network import net_file, parallel
+from domethyme.errors import MapError
+from domethyme.maps import conversion, map_arrays, road_network
+from domethyme.maps.vehicle_profile import read_profile
+from domethyme.network import net_file, parallel, table_files
 from domethyme.network.reading import read_nodes
 from domethyme.network.tables import read_arcs
-from domethyme_tools import map_arrays, osm_to_gr, road_network, table_files
-from domethyme_tools.cli import ToolError
-from domethyme_tools.vehicle_profile import read_profile
 
 # A compiler that writes the program to the path behind -o
 BUILT = '#!/bin/sh\nwhile [ "$1" != -o ]; do shift; done\ncp program "$2"\nchmod +x "$2"\n'
@@ -73,7 +73,7 @@ class BuildTests(ProgramCase):
         wrong = "x.cpp:9:10: fatal error: osmium/io/any_input.hpp: No such file"
         self.put("g++", f"#!{shutil.which('sh')}\necho '{wrong}' >&2\nexit 1\n")
         self.refused(f"the converter can't be built: {wrong}: {self.INSTALL}")
-        self.assertEqual([path.name for path in (self.copy / "domethyme_tools/converter/built").iterdir()], ["lock"])
+        self.assertEqual([path.name for path in (self.copy / "domethyme/maps/converter/built").iterdir()], ["lock"])
 
     def test_it_is_built_once_for_its_source(self):
         self.put_compiler("#!/bin/sh\nexit 3\n")
@@ -82,13 +82,13 @@ class BuildTests(ProgramCase):
         self.assertEqual(
             self.run_program([*self.command, "build_converter"], environment=self.environment).stdout.strip(), built
         )
-        source = self.copy / "domethyme_tools/converter/map_arrays.cpp"
+        source = self.copy / "domethyme/maps/converter/map_arrays.cpp"
         source.write_text(source.read_text(encoding="utf-8") + "// changed\n", encoding="utf-8")
         self.refused("g++ is missing")
 
     def test_a_folder_that_can_not_be_written(self):
         self.put_compiler("#!/bin/sh\nexit 3\n")
-        (self.copy / "domethyme_tools/converter/built").write_text("no folder", encoding="utf-8")
+        (self.copy / "domethyme/maps/converter/built").write_text("no folder", encoding="utf-8")
         built = self.run_program([*self.command, "build_converter"], environment=self.environment).stdout.strip()
         self.assertEqual(os.path.dirname(built), str(self.folder / "home/.cache/domethyme"))
 
@@ -152,11 +152,11 @@ class FileTests(ToolCase):
 
 class RoomTests(unittest.TestCase):
     def test_a_network_that_is_too_large(self):
-        osm_to_gr.check_limits(1 << 25, 1 << 27, "map.osm")
+        conversion.check_limits(1 << 25, 1 << 27, "map.osm")
         cases = [((1 << 25) + 1, 0, "33554433 nodes, and there may be 33554432"), (0, (1 << 27) + 1, "134217729 arcs")]
         for nodes, arcs, says in cases:
-            with self.assertRaisesRegex(ToolError, f"map.osm: makes a network of {says}"):
-                osm_to_gr.check_limits(nodes, arcs, "map.osm")
+            with self.assertRaisesRegex(MapError, f"map.osm: makes a network of {says}"):
+                conversion.check_limits(nodes, arcs, "map.osm")
 
 
 class ArraysTests(ToolCase):
@@ -195,12 +195,10 @@ class ArraysTests(ToolCase):
         return (self.folder / "map.net").read_bytes()
 
     def arrays(self):
-        options = osm_to_gr.argparse.Namespace(
-            map=self.folder / "map.osm", longest_arc=120.0, ignore_turn_restrictions=False, keep_islands=True
-        )
-        with map_arrays.folder_beside(str(self.folder / "out")) as folder:
-            report = osm_to_gr.collections.Counter()
-            network, rows_of = osm_to_gr.convert(options, read_profile("car"), folder, report)
+        options = conversion.Options(longest_arc=120.0, keep_islands=True)
+        with map_arrays.folder_beside(str(self.folder / "out"), lambda *told: None) as folder:
+            report = conversion.collections.Counter()
+            network, rows_of = conversion.convert(self.folder / "map.osm", read_profile("car"), options, folder, report)
             return road_network.to_arrays(network, "time", rows_of, "said", report)
 
 

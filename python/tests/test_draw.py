@@ -9,7 +9,7 @@ import xml.etree.ElementTree as xml
 
 from tool_case import ToolCase
 
-from domethyme_tools.draw import geometry
+from domethyme.drawing import geometry
 
 # High Street has two directions, and Far Road lies two hundredths of a degree in the north.
 ARCS = """\

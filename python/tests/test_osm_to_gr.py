@@ -435,7 +435,7 @@ class Tags(NetworkCase):
                 self.assertEqual(arcs[number], 4 if parts else 2)
 
     def test_a_profile_of_ones_own(self):
-        profile = json.loads((PYTHON / "domethyme_tools/profiles/car.json").read_text(encoding="utf-8"))
+        profile = json.loads((PYTHON / "domethyme/maps/profiles/car.json").read_text(encoding="utf-8"))
         profile.update(speeds={"footway": 5}, access=["access", "foot"], barriers=["gate"])
         self.write("foot.json", json.dumps(profile))
         self.convert("--profile", "foot.json", "--keep-islands")
@@ -581,7 +581,7 @@ class BadInput(NetworkCase):
         self.refused(VILLAGE, "--profile", "own.json", says="own.json, row 3: isn't JSON")
 
     def test_profiles_with_faults(self):
-        car = json.loads((PYTHON / "domethyme_tools/profiles/car.json").read_text(encoding="utf-8"))
+        car = json.loads((PYTHON / "domethyme/maps/profiles/car.json").read_text(encoding="utf-8"))
         cases = [
             ([], "is no object with the members of a profile"),
             ({key: car[key] for key in car if key != "closed"}, "has no member closed"),

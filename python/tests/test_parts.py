@@ -15,8 +15,9 @@ import domethyme
 from domethyme import atomic_files, belonging, dimacs, hierarchy_file, links
 from domethyme.network import from_tables, net_file, parallel, reach, reading, snapping
 from domethyme_service import tiles
-from domethyme_tools import table, table_files
-from domethyme_tools.draw import roads as draw_roads
+from domethyme.network import table_files
+from domethyme_tools import table
+from domethyme.drawing import roads as draw_roads
 
 BENCH = pathlib.Path(__file__).resolve().parents[2] / "bench"
 ARCS = np.arange(1, 9), np.roll(np.arange(1, 9), 1), np.arange(10, 18)

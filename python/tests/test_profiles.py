@@ -7,8 +7,8 @@ from tool_case import VILLAGE, ToolCase
 
 from domethyme.network.reading import read_nodes
 from domethyme.network.tables import read_arcs
-from domethyme_tools.turn_restrictions import Member, restrictions_of
-from domethyme_tools.vehicle_profile import PROFILES, blocks_way, judge, limit_of, read_profile, way_keys
+from domethyme.maps.turn_restrictions import Member, restrictions_of
+from domethyme.maps.vehicle_profile import PROFILES, blocks_way, judge, limit_of, read_profile, way_keys
 
 # The km/h forward and backward of a way with these tags (~ is a blank), by vehicle; None where it may not be taken
 WAYS = {

@@ -4,7 +4,7 @@ from tool_case import VILLAGE, ToolCase
 from domethyme import NO_PATH, find_program
 from domethyme.dimacs import read_answers
 from domethyme.network.reading import read_nodes
-from domethyme_tools.turn_restrictions import Member, Restriction, restrictions_of
+from domethyme.maps.turn_restrictions import Member, Restriction, restrictions_of
 
 CAR = ["access", "vehicle", "motor_vehicle", "motorcar"]
 

@@ -78,6 +78,11 @@ class Network:
             raise NetworkError(why, self.prefix)
         return Keys.of_rows(zip(osm, [ENDS[each] for each in self.node_index.ends[:].tolist()]))
 
+    @property
+    def has_names(self) -> bool:
+        """Whether its nodes have names of a table, as those that `to_network` has made of one."""
+        return len(self.node_index.keys()) > 0
+
     def nodes_frame(self) -> Any:
         """A DataFrame of pandas with the columns osm, lon, lat and ends, and key where nodes have keys, whose index are the nodes from
         0."""

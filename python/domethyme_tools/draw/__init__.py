@@ -24,14 +24,14 @@ feature; 2 for arguments that are refused.
 import argparse
 
 from domethyme.atomic_files import atomic_write
+from domethyme.drawing.geometry import View
+from domethyme.drawing.picture import picture_of
+from domethyme.drawing.roads import make_scene
+from domethyme.drawing.routes import read_routes
 from domethyme.network.tables import paths_of
 
 from ..cli import argument_parser, current_arguments, display_name, refuse_overwriting, warn
-from .geometry import View
 from .page import page_of
-from .picture import picture_of
-from .roads import make_scene
-from .routes import read_routes
 
 PICTURE, PAGE = ".svg", ".html"
 

@@ -8,11 +8,12 @@ import re
 import string
 from typing import Any
 
+from domethyme.drawing.geometry import box_of, delta_encode
+from domethyme.drawing.picture import FAINT, INK, MAX_WITH_ARROWS, PAPER, escaped
+from domethyme.drawing.roads import RoadLines, all_places
+from domethyme.drawing.routes import COLOURS, DrawnRoute
+
 from ..cli import ToolError
-from .geometry import box_of, delta_encode
-from .picture import FAINT, INK, MAX_WITH_ARROWS, PAPER, escaped
-from .roads import RoadLines, all_places
-from .routes import COLOURS, DrawnRoute
 
 HERE = pathlib.Path(__file__).parent
 LEAFLET = pathlib.Path("/usr/share/javascript/leaflet")

@@ -8,8 +8,7 @@ from typing import NamedTuple
 
 import numpy
 
-from domethyme.network.geo import Point
-
+from ..network.geo import Point
 from .geometry import View, arrows, path_of, scale_bar_metres, to_mercator
 from .roads import RoadLines
 from .routes import NARROWEST, DrawnRoute

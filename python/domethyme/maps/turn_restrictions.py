@@ -19,9 +19,9 @@ from typing import Any, NamedTuple
 import numpy as np
 from numpy.typing import NDArray
 
-from domethyme.network.groups import Ints, expand, first_of_equal, offsets
-from domethyme.network.parallel import differs_from_previous as differs
-from domethyme.network.tables import ENDS
+from ..network.groups import Ints, expand, first_of_equal, offsets
+from ..network.parallel import differs_from_previous as differs
+from ..network.tables import ENDS
 
 Int32s = NDArray[np.int32]
 Bools = NDArray[np.bool_]

@@ -5,10 +5,9 @@ import re
 from collections.abc import Iterator
 from typing import Any, NamedTuple
 
-from domethyme.csv_tables import open_input
-from domethyme.network.geo import Point
-
-from ..cli import ToolError
+from ..csv_tables import open_input
+from ..errors import NetworkError
+from ..network.geo import Point
 from .geometry import overlap_pieces, point_at_fraction, unwrapped
 
 COLOURS = ["#0072b2", "#d55e00", "#009e73", "#cc5f9c", "#b8860b", "#2b8fc7", "#7b3294", "#5b7a1f"]
@@ -48,9 +47,9 @@ def read_routes(path: str, label: str | None) -> tuple[list[DrawnRoute], list[st
         try:
             text = stream.read().decode("utf-8-sig")
         except UnicodeDecodeError as error:
-            raise ToolError("isn't UTF-8", path) from error
+            raise NetworkError("isn't UTF-8", path) from error
     if not text.strip():
-        raise ToolError("is empty: a step that was to write it has failed", path)
+        raise NetworkError("is empty: a step that was to write it has failed", path)
     said: list[str] = []
     coloured = enumerate(zip(features_in(text, path, said), itertools.cycle(COLOURS)), 1)
     routes = [make_route(feature, FeatureRef(path, number), label, colour) for number, (feature, colour) in coloured]
@@ -81,13 +80,13 @@ def features_in(text: str, path: str, said: list[str]) -> Iterator[Any]:
         try:
             document, place = decoder.raw_decode(text, found.start())
         except json.JSONDecodeError as error:
-            raise ToolError(f"isn't GeoJSON: {error.msg}", path, error.lineno) from error
+            raise NetworkError(f"isn't GeoJSON: {error.msg}", path, error.lineno) from error
         except (RecursionError, ValueError) as error:
-            raise ToolError(f"isn't GeoJSON: {error}", path, row) from error
+            raise NetworkError(f"isn't GeoJSON: {error}", path, row) from error
         members: Any = document if isinstance(document, dict) else {}
         kind, features = members.get("type"), members.get("features")
         if kind != "Feature" and (kind != "FeatureCollection" or not isinstance(features, list)):
-            raise ToolError("is neither a feature nor a collection of features", path, row)
+            raise NetworkError("is neither a feature nor a collection of features", path, row)
         yield from [document] if kind == "Feature" else features
         if isinstance(members.get("attribution"), str):
             said.append(" ".join(members["attribution"].split()))
@@ -102,7 +101,7 @@ class FeatureRef(NamedTuple):
     def require(self, condition: object, problem: str) -> None:
         """Refuses the feature where it isn't so."""
         if not condition:
-            raise ToolError(f"feature {self.number} {problem}", self.path)
+            raise NetworkError(f"feature {self.number} {problem}", self.path)
 
 
 def make_route(feature: Any, place: FeatureRef, label: str | None, colour: str) -> DrawnRoute:

@@ -10,15 +10,13 @@ from typing import IO, Any, cast
 import numpy as np
 from numpy.typing import NDArray
 
-from domethyme.dimacs import write_graph
-from domethyme.errors import NetworkError
-from domethyme.network import net_file
-from domethyme.network.geo import format_linestring
-from domethyme.network.tables import (
+from ..dimacs import write_graph
+from ..errors import NetworkError
+from . import net_file
+from .geo import format_linestring
+from .tables import (
     ALL_ARC_COLUMNS, ALL_NODE_COLUMNS, ATTRIBUTION_COMMENT, ENDS, Arc, Files, Nodes, is_written_by_tools, write_arcs, write_nodes
 )
-
-from .cli import ToolError
 
 ROWS_AT_ONCE = 1 << 16
 
@@ -26,17 +24,17 @@ ROWS_AT_ONCE = 1 << 16
 def tables_there(names: Files, are_written: bool) -> list[str]:
     """The tables of a network that the tools have written, and the files for GDAL beside them.
 
-    Raises a ToolError where tables are to be written in the place of a user's own, and where one of the tools was edited
+    Raises a NetworkError where tables are to be written in the place of a user's own, and where one of the tools was edited
     since, as far as its size shows: it would be read in place of the new network, and may not be lost."""
     kinds = {names.nodes: ALL_NODE_COLUMNS, names.arcs: ALL_ARC_COLUMNS}
     found = [path for path, columns in kinds.items() if is_written_by_tools(path, columns)]
     for path in kinds:
         if are_written and os.path.isfile(path) and path not in found:
-            raise ToolError("is there, and no tool has written it: move it, or choose another OUT", path)
+            raise NetworkError("is there, and no tool has written it: move it, or choose another OUT", path)
     # (a file of the network that is damaged doesn't say that they have changed)
     with contextlib.suppress(NetworkError):
         if found and os.path.exists(names.binary) and not net_file.is_current(names.path):
-            raise ToolError(f"has changed since {names.binary} was made of it: move it, or choose another OUT", found[0])
+            raise NetworkError(f"has changed since {names.binary} was made of it: move it, or choose another OUT", found[0])
     texts = {path: (f"{text}\n", f"{names.forms_of(has_keys=True)[path]}\n") for path, text in names.forms.items()}
     forms = [path for path in filter(os.path.isfile, texts) if pathlib.Path(path).read_text("utf-8", "replace") in texts[path]]
     return [*found, *forms] if found else []

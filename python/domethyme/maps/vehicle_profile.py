@@ -7,10 +7,9 @@ import re
 from collections.abc import Iterable, Iterator, Mapping
 from typing import Any, NamedTuple, TypeVar
 
-from domethyme.csv_tables import open_input
-from domethyme.program import StrPath
-
-from .cli import ToolError
+from ..csv_tables import open_input
+from ..errors import MapError
+from ..program import StrPath
 
 Tags = dict[str, str]
 Value = TypeVar("Value")
@@ -76,29 +75,29 @@ def read_profile(word: str) -> Profile:
     if not word.endswith(".json") and not os.path.exists(path):
         known = ", ".join(sorted(each.stem for each in PROFILES.glob("*.json")))
         remedy = f"there is {known}; for another vehicle copy its file and name the copy"
-        raise ToolError(f"there is no profile {word}: {remedy}")
+        raise MapError(f"there is no profile {word}: {remedy}")
     with open_input(path) as stream:
         try:
             members = json.load(stream)
         except json.JSONDecodeError as error:
-            raise ToolError(f"isn't JSON: {error.msg}", path, error.lineno) from error
+            raise MapError(f"isn't JSON: {error.msg}", path, error.lineno) from error
         except UnicodeDecodeError as error:
-            raise ToolError("isn't UTF-8", path) from error
+            raise MapError("isn't UTF-8", path) from error
     return validate_profile(members, path)
 
 
 def validate_profile(members: Any, path: StrPath) -> Profile:
     """The profile with these members, or the first that is missing, unknown or of the wrong kind."""
     if not isinstance(members, dict):
-        raise ToolError("is no object with the members of a profile", path)
+        raise MapError("is no object with the members of a profile", path)
     members.pop("about", None)
     for name in Profile._fields:
         if name not in members and name not in Profile._field_defaults:
-            raise ToolError(f"has no member {name}", path)
+            raise MapError(f"has no member {name}", path)
         if name in members and (wrong := member_error(name, members[name])):
-            raise ToolError(f"{name} isn't {wrong}", path)
+            raise MapError(f"{name} isn't {wrong}", path)
     if unknown := [name for name in members if name not in Profile._fields]:
-        raise ToolError(f"has the unknown member {unknown[0]}", path)
+        raise MapError(f"has the unknown member {unknown[0]}", path)
     return Profile(**members)
 
 

@@ -7,11 +7,11 @@ from numpy.typing import NDArray
 from scipy.sparse import coo_matrix
 from scipy.sparse.csgraph import connected_components
 
-from domethyme.network import net_file
-from domethyme.network.groups import Ints, first_of_equal, offsets
-from domethyme.network.indexes import unique_text_rows
-from domethyme.network.parallel import differs_from_previous as differs, map_slices
-from domethyme.network.sphere import Floats
+from ..network import net_file
+from ..network.groups import Ints, first_of_equal, offsets
+from ..network.indexes import unique_text_rows
+from ..network.parallel import differs_from_previous as differs, map_slices
+from ..network.sphere import Floats
 
 from . import turn_restrictions
 from .map_arrays import NodeArrays, Runs
@@ -24,6 +24,8 @@ RowsOf = Callable[[Ints], Iterable[tuple[str, ...]]]
 STRAIGHT, BACK = 45, 15
 # What a weight counts, and how much of it a hundredth of a second is, where turns have penalties.
 WEIGHTS = {"length": 0, "time": 10}
+# What the report says of nodes that are left out by keep_largest.
+OUTSIDE = "nodes outside the largest strongly connected component"
 
 
 class RoadTable(NamedTuple):
@@ -209,7 +211,7 @@ def keep_largest(network: RoadNetwork, report: Report) -> RoadNetwork:
     kept |= (ends == turn_restrictions.END) & from_kept | (ends == turn_restrictions.START) & to_kept
     number = (np.cumsum(kept) - 1).astype(np.int32)
     found = network.with_arcs(kept[start] & kept[end])
-    report["nodes outside the largest strongly connected component"] = count - int(kept.sum())
+    report[OUTSIDE] = count - int(kept.sum())
     report["pieces of road outside it"] = int(network.is_first().sum()) - int(found.is_first().sum())
     return found._replace(
         node_osm=network.node_osm[kept], node_place=network.node_place[kept], node_ends=ends[kept],

@@ -6,12 +6,11 @@ from typing import NamedTuple
 
 import numpy
 
-from domethyme.network.from_tables import load_network_or_dimacs
-from domethyme.network.geo import EARTH_RADIUS, Point, metres_between
-from domethyme.network.net_file import TEXTS, UNITS, MappedNetwork
-from domethyme.network.tables import arcs_file
-
-from ..cli import ToolError
+from ..errors import NetworkError
+from ..network.from_tables import load_network_or_dimacs
+from ..network.geo import EARTH_RADIUS, Point, metres_between
+from ..network.net_file import TEXTS, UNITS, MappedNetwork
+from ..network.tables import arcs_file
 from .geometry import Box, box_of, from_mercator, to_mercator, unwrapped
 from .routes import DrawnRoute
 
@@ -106,7 +105,7 @@ def all_places(roads: list[RoadLines]) -> list[Point]:
 def make_scene(
     network: str, routes: list[DrawnRoute], is_whole: bool, is_picture: bool, path: str
 ) -> tuple[Box, list[RoadLines], str]:
-    """The box to show, its roads, and the attribution that the licence of the network's data requires. Raises a ToolError where the routes of the file at the path are another network's."""
+    """The box to show, its roads, and the attribution that the licence of the network's data requires. Raises a NetworkError where the routes of the file at the path are another network's."""
     arrays = load_network_or_dimacs(network)
     need_inside(arrays, routes, network, path)
     places = [] if is_whole else list(itertools.chain.from_iterable(route.places for route in routes))
@@ -116,12 +115,12 @@ def make_scene(
     roads = read_roads(arrays, None)
     places = all_places(roads)
     if not places:
-        raise ToolError("has no arcs", arcs_file(network))
+        raise NetworkError("has no arcs", arcs_file(network))
     return box_for(places, is_picture), roads, arrays.texts[0]
 
 
 def need_inside(arrays: MappedNetwork, routes: list[DrawnRoute], network: str, path: str) -> None:
-    """A ToolError where a route isn't in the box of the network's roads."""
+    """A NetworkError where a route isn't in the box of the network's roads."""
     west, south, east, north = (arrays.about[side] / UNITS for side in ("west", "south", "east", "north"))
     for number, route in enumerate(routes, 1):
         beside = AREA_BESIDE if route.rings else BESIDE
@@ -130,4 +129,4 @@ def need_inside(arrays: MappedNetwork, routes: list[DrawnRoute], network: str, p
             if not (is_beside and south - beside <= lat <= north + beside):
                 box = f"{west:.4f},{south:.4f} to {east:.4f},{north:.4f}"
                 where = f"leads by {wrapped_lon(lon):.4f},{lat:.4f}, and the roads of {network} are from {box}"
-                raise ToolError(f"feature {number} {where}: is it of another network?", path)
+                raise NetworkError(f"feature {number} {where}: is it of another network?", path)

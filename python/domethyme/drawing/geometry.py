@@ -9,7 +9,7 @@ import math
 from collections.abc import Iterable, Sequence
 from typing import NamedTuple
 
-from domethyme.network.geo import EARTH_RADIUS, Point
+from ..network.geo import EARTH_RADIUS, Point
 
 Line = Sequence[Point]
 Piece = tuple[int, list[Point]]

@@ -1,8 +1,8 @@
 """Reads a map into arrays, by a program in C++ over libosmium (converter/map_arrays.cpp), which knows no vehicle.
 
 In Debian's package the program is there. Elsewhere it is built at the first use, in half a minute, by g++ and Debian's
-libosmium2-dev; tools/build_converter does that alone. It is kept by the checksum of its source, in converter/built, or if that
-can't be written in the user's cache.
+libosmium2-dev, with the flags of dpkg-buildflags where that is there; tools/build_converter does that alone. It is kept by the
+checksum of its source and options, in converter/built, or if that can't be written in the user's cache.
 """
 import contextlib
 import errno
@@ -19,11 +19,10 @@ from typing import Any, NamedTuple
 
 import numpy as np
 from numpy.typing import NDArray
-from tqdm import tqdm
 
-from domethyme.program import StrPath
-
-from .cli import ToolError
+from ..errors import MapError
+from ..program import StrPath
+from ..progress import OnProgress, step
 from .turn_restrictions import Bools, Int32s, Member, mask
 from .vehicle_profile import Tags
 
@@ -31,6 +30,8 @@ SOURCE = pathlib.Path(__file__).resolve().parent / "converter" / "map_arrays.cpp
 PACKAGES, PACKAGED = "/usr/lib/python3/dist-packages/", "/usr/libexec/domethyme/map_arrays"
 # -ffp-contract=off: a product and a sum are rounded one by one, as in Python
 OPTIONS = ["-std=c++17", "-O2", "-ffp-contract=off"]
+# What dpkg-buildflags is told: to harden a program that reads files of strangers, without the paths that debuggers want.
+HARDENING = {"DEB_BUILD_MAINT_OPTIONS": "hardening=+all", "DEB_CXXFLAGS_MAINT_STRIP": "-g"}
 LIBRARIES = ["-lz", "-lbz2", "-lexpat", "-lpthread"]
 TO_INSTALL = "as root, apt-get install g++ libosmium2-dev"
 TEXTS = ("name", "ref", "destination")
@@ -41,17 +42,19 @@ DISK_IS_FULL = os.strerror(errno.ENOSPC)
 UNDEFINED = (1 << 31) - 1
 
 
-def ensure_built() -> str:
-    """The path of the program. Where it is missing it is built, and a ToolError says why that can't be done."""
+def ensure_built(report: OnProgress) -> str:
+    """The path of the program. Where it is missing it is built, and a MapError says why that can't be done."""
     if str(SOURCE).startswith(PACKAGES) and os.path.exists(PACKAGED):
         return PACKAGED
     folder = build_folder()
-    path = folder / f"map_arrays-{hashlib.sha256(SOURCE.read_bytes()).hexdigest()[:16]}"
+    made_of = SOURCE.read_bytes() + repr((OPTIONS, HARDENING)).encode()
+    path = folder / f"map_arrays-{hashlib.sha256(made_of).hexdigest()[:16]}"
     if not path.exists():
         with open(folder / "lock", "w", encoding="utf-8") as lock:
             fcntl.flock(lock, fcntl.LOCK_EX)
             if not path.exists():
-                build(path)
+                with step(report, "building the converter, once"):
+                    build(path)
     return str(path)
 
 
@@ -63,34 +66,42 @@ def build_folder() -> pathlib.Path:
             folder.mkdir(parents=True, exist_ok=True)
             if os.access(folder, os.W_OK):
                 return folder
-    raise ToolError("can't be written, and the converter has to be built there", cache)
+    raise MapError("can't be written, and the converter has to be built there", cache)
 
 
 def build(path: pathlib.Path) -> None:
     compiler = shutil.which("g++")
     if compiler is None:
-        raise ToolError(f"the converter has to be built, and g++ is missing: {TO_INSTALL}")
+        raise MapError(f"the converter has to be built, and g++ is missing: {TO_INSTALL}")
     with tempfile.TemporaryDirectory(dir=path.parent) as folder:
-        command = [compiler, *OPTIONS, "-o", f"{folder}/built", str(SOURCE), *LIBRARIES]
-        with progress("building the converter, once"):
-            ended = subprocess.run(command, stdin=subprocess.DEVNULL, capture_output=True)
+        command = [compiler, *hardening_flags(), *OPTIONS, "-o", f"{folder}/built", str(SOURCE), *LIBRARIES]
+        ended = subprocess.run(command, stdin=subprocess.DEVNULL, capture_output=True)
         if ended.returncode != 0:
             lines = ended.stderr.decode("utf-8", "replace").splitlines()
             wrong = next((line for line in lines if "error" in line), "g++ failed")
-            raise ToolError(f"the converter can't be built: {wrong}: {TO_INSTALL}")
+            raise MapError(f"the converter can't be built: {wrong}: {TO_INSTALL}")
         os.replace(f"{folder}/built", path)
 
 
-def progress(what: str) -> Any:
-    """A with-block that a terminal shows by these words, and how long it took."""
-    return tqdm(desc=what, bar_format="{desc} [{elapsed}]", disable=None)
+def hardening_flags() -> list[str]:
+    """The flags by which Debian compiles its packages; none where dpkg-dev isn't there."""
+    flags = shutil.which("dpkg-buildflags")
+    if flags is None:
+        return []
+    options: dict[str, Any] = {"stdin": subprocess.DEVNULL, "capture_output": True, "text": True, "env": {**os.environ, **HARDENING}}
+    said = (subprocess.run([flags, "--get", name], **options) for name in ("CPPFLAGS", "CXXFLAGS", "LDFLAGS"))
+    return [word for each in said for word in each.stdout.split()]
 
 
 class Folder:
-    """A folder of arrays, and the program's commands over it. `array` maps one, and `tags` reads combinations of tags."""
+    """A folder of arrays, and the program's commands over it. `array` maps one, and `tags` reads combinations of tags. `report`
+    receives how far a command is, and `step` reports a block."""
 
-    def __init__(self, path: str) -> None:
-        self.path, self.program = path, ensure_built()
+    def __init__(self, path: str, report: OnProgress) -> None:
+        self.path, self.report, self.program = path, report, ensure_built(report)
+
+    def step(self, what: str) -> contextlib.AbstractContextManager[None]:
+        return step(self.report, what)
 
     def array(self, name: str, kind: str, width: int = 1) -> NDArray[Any]:
         """An array of a kind, of shape (n,), or (n, width) for a greater width."""
@@ -103,11 +114,11 @@ class Folder:
             file.write(np.ascontiguousarray(values).data)
 
     def texts(self, name: str, of: StrPath) -> list[str]:
-        """The texts of a file, each with a zero behind it. Raises a ToolError of the map `of` where they aren't UTF-8."""
+        """The texts of a file, each with a zero behind it. Raises a MapError of the map `of` where they aren't UTF-8."""
         try:
             return pathlib.Path(self.path, name).read_bytes().decode().split("\0")[:-1]
         except UnicodeDecodeError as error:
-            raise ToolError(str(error), of) from error
+            raise MapError(str(error), of) from error
 
     def tags(self, name: str, of: StrPath) -> list[Tags]:
         """The combinations of tags of a file: of each its keys and values, and then an empty text."""
@@ -122,11 +133,11 @@ class Folder:
         return found
 
     def read_map(self, command: str, path: StrPath, words: Sequence[str]) -> None:
-        """Runs a command over a map, with a bar of its bytes. What libosmium finds wrong is a ToolError of the map."""
-        with tqdm(desc=command, total=os.path.getsize(path), unit="B", unit_scale=True, disable=None) as bar:
-            with self.running([command, self.path, os.fspath(path), *words], path, subprocess.PIPE) as process:
-                for line in process.stdout or ():
-                    bar.update(int(line) - bar.n)
+        """Runs a command over a map, and reports its bytes. What libosmium finds wrong is a MapError of the map."""
+        size = os.path.getsize(path)
+        with self.running([command, self.path, os.fspath(path), *words], path, subprocess.PIPE) as process:
+            for line in process.stdout or ():
+                self.report(command, int(line), size)
 
     def run(self, *words: Any) -> None:
         """Runs a command."""
@@ -146,13 +157,13 @@ class Folder:
                 process.kill()
                 raise
         if status == 1:
-            raise ToolError(f"{stderr}{gzip_hint(path)}", path)
+            raise MapError(f"{stderr}{gzip_hint(path)}", path)
         if status == 3:
             raise MemoryError
         if stderr.endswith(DISK_IS_FULL):
             raise OSError(errno.ENOSPC, DISK_IS_FULL)
         if status != 0:
-            raise ToolError(stderr or f"the converter's {words[0]} ended with status {status}")
+            raise MapError(stderr or f"the converter's {words[0]} ended with status {status}")
 
 
 def gzip_hint(path: StrPath) -> str:
@@ -162,11 +173,11 @@ def gzip_hint(path: StrPath) -> str:
 
 
 @contextlib.contextmanager
-def folder_beside(path: str) -> Iterator[Folder]:
+def folder_beside(path: str, report: OnProgress) -> Iterator[Folder]:
     """A Folder of arrays beside the files that begin with this path, which is removed after the block."""
     head, name = os.path.split(path)
     with tempfile.TemporaryDirectory(prefix=f"{name}.", suffix=".arrays", dir=head or ".") as folder:
-        yield Folder(folder)
+        yield Folder(folder, report)
 
 
 class WayArrays(NamedTuple):
