@@ -76,6 +76,27 @@ def nodes_of(name: str, values: Any, keys: Keys | None, nodes: int) -> Numbers:
     return array
 
 
+def places_of(places: Any) -> tuple[NDArray[np.float64], Any]:
+    """Places as an array of shape (n, 2), lon and lat in degrees, and the index of the frame that they came as, or None: rows
+    (lon, lat), a frame of pandas with the columns lon and lat, or points of geopandas in any system of coordinates. Raises
+    ValueError."""
+    index, points = getattr(places, "index", None), getattr(places, "geometry", None)
+    if points is not None and hasattr(points, "geom_type"):
+        if not (points.geom_type == "Point").all():
+            raise ValueError("places have to be points, and some geometries aren't: take their centroids, or representative points")
+        points = points if points.crs is None else points.to_crs(4326)
+        return np.column_stack((points.x, points.y)), index
+    if is_pandas(places):
+        if not {"lon", "lat"} <= set(getattr(places, "columns", ())):
+            raise ValueError("a frame of places has to have the columns lon and lat")
+        return places[["lon", "lat"]].to_numpy(float), index
+    rows = np.asarray(places, float)
+    rows = rows.reshape(-1, 2) if rows.size == 0 else rows
+    if rows.shape[1:] != (2,):
+        raise ValueError("places have to be rows (lon, lat)")
+    return rows, None
+
+
 def is_pandas(value: Any) -> bool:
     """Whether the value is of pandas, which is then loaded."""
     return type(value).__module__.partition(".")[0] == "pandas"
@@ -90,12 +111,17 @@ def like_axes(table: Numbers, sources: Any, targets: Any, has_keys: bool, missin
     """The table as a DataFrame if the places came as pandas' objects, or as lists of keys, else as an array. If there is no path
     it has `missing`, and without that a frame of Int64 has missing values and an array NO_PATH."""
     is_frame = any(is_pandas(side) or has_keys and not hasattr(side, "__array__") for side in (sources, targets))
-    filled = table if missing is None else np.where(table < 0, missing, table)
-    if not is_frame:
-        return filled
-    columns = {place: with_missing(column) if missing is None else column for place, column in enumerate(filled.T)}
-    frame = load("pandas").DataFrame(columns, index=axis(sources))
-    frame.columns = axis(targets)
+    return filled(table, (axis(sources), axis(targets)) if is_frame else None, missing)
+
+
+def filled(table: Numbers, axes: tuple[Any, Any] | None, missing: Any) -> Any:
+    """The table as a DataFrame with these axes, or without them as an array, with `missing` for no path as `like_axes` has it."""
+    values = table if missing is None else np.where(table < 0, missing, table)
+    if axes is None:
+        return values
+    columns = {place: with_missing(column) if missing is None else column for place, column in enumerate(values.T)}
+    frame = load("pandas").DataFrame(columns, index=axes[0])
+    frame.columns = axes[1]
     return frame
 
 

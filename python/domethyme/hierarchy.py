@@ -22,9 +22,12 @@ if TYPE_CHECKING:
     import numpy as np
     from numpy.typing import NDArray
 
+    from .network.directions import Directions, Tour
     from .network.isochrones import Shape
-    from .network.network import Network
+    from .network.network import Bearings, Network
+    from .network.snapping import SnappedPoint
     from .routes import Routes
+    from .tours import Destination, Source
 
 MAX_ADDED = (1 << 32) - 1
 
@@ -295,7 +298,95 @@ class Hierarchy:
         style = isochrones.Style(shape, generalize, denoise, colors, roads.texts[0])
         return isochrones.features(reach, asked, "distance" if is_metres else "time", style)
 
+    # Places on roads
+
+    def directions(
+        self, places: Any, *, radius: float = DEFAULT_RADIUS, bearings: "Bearings" = None, radiuses: Sequence[float | None] | None = None
+    ) -> "Directions | None":
+        """The Directions by two or more places in degrees in their order: a shortest path from each to the next, between the nearest
+        points of roads, each of which leaves its place in either direction. None if there is no path. Needs the network.
+
+        places    rows (lon, lat), a frame of pandas with the columns lon and lat, points of geopandas, or what
+                  Network.points_on_roads returned
+        radius, bearings, radiuses   as for Network.points_on_roads
+
+        The service's `/route` answers the same. Raises NoSuchNode if a road isn't near enough, and ValueError.
+        """
+        points = self._points(places, radius, bearings, radiuses)
+        if len(points) < 2:
+            raise ValueError("directions need two places or more")
+        from .network import directions
+
+        return directions.directions(self._router, self._need_network().roads, points)
+
+    def table(self, sources: Any, targets: Any = None, *, radius: float = DEFAULT_RADIUS, missing: Any = None) -> Any:
+        """The weights of shortest paths from each source to each target, places in degrees that are given as for `directions`: an array
+        of int64 of shape (sources, targets), -1 if there is no path. Without targets they are the sources. If a side is a frame of
+        pandas or geopandas, the table is a DataFrame of Int64, missing if there is no path, whose axes are the frames' own index, and
+        numbers from 0 for a side that is none. Needs the network.
+
+        radius    how many metres away a road may be
+        missing   as for `matrix`
+
+        One table of the library between the nodes of the roads has all lengths, and `matrix` says what it takes: some two rows and
+        columns a place. The service's `/table` answers the same. Raises NoSuchNode if a road isn't near enough, ValueError and
+        OutOfMemory.
+        """
+        starts = self._points(sources, radius)
+        ends = starts if targets is None else self._points(targets, radius)
+        from . import arrays
+        from .network import directions
+
+        found = directions.weights(self._router, self._need_network().roads, starts, ends)
+        indices = [getattr(side, "index", None) for side in (sources, sources if targets is None else targets)]
+        if all(index is None or callable(index) for index in indices):
+            return arrays.filled(found, None, missing)
+        axes = [range(size) if index is None or callable(index) else index for index, size in zip(indices, found.shape)]
+        return arrays.filled(found, (axes[0], axes[1]), missing)
+
+    def tour(
+        self, places: Any, *, roundtrip: bool = True, source: "Source" = "any", destination: "Destination" = "any",
+        radius: float = DEFAULT_RADIUS
+    ) -> "Tour | None":
+        """A Tour by up to 500 places in degrees, given as for `directions`, in an order for which the weight is least, or near that; None
+        if no order has a path. Needs the network.
+
+        roundtrip     whether it leads back to where it began
+        source        "first": it begins at the first place
+        destination   "last": the last place is the last of the order
+
+        Up to 12 places the order is the best one, by a search of all of them that is tested. Above it is found by insertion and by
+        moves of parts, the same each time, in some seconds for 500 places, and has no promise. Each leg is a shortest path.
+        Raises NoSuchNode if a road isn't near enough, and ValueError.
+        """
+        if source not in ("any", "first") or destination not in ("any", "last"):
+            raise ValueError(f'source has to be "any" or "first", and destination "any" or "last", not {source!r} and {destination!r}')
+        points = self._points(places, radius)
+        from . import tours
+        from .network import directions
+
+        if not 1 <= len(points) <= tours.MAX_PLACES:
+            raise ValueError(f"a tour has 1 to {tours.MAX_PLACES} places, and not {len(points)}")
+        roads = self._need_network().roads
+        order = tours.best_order(directions.weights(self._router, roads, points, points), roundtrip, source, destination)
+        if order is None:
+            return None
+        stops = [points[place] for place in [*order, *(order[:1] if roundtrip or len(order) == 1 else [])]]
+        route = directions.directions(self._router, roads, stops)
+        return None if route is None else directions.Tour(order, route)
+
     # What they share
+
+    def _points(
+        self, places: Any, radius: float, bearings: "Bearings" = None, radiuses: Sequence[float | None] | None = None
+    ) -> "list[SnappedPoint]":
+        """The points on roads for places, which may be such points already."""
+        need("numpy")
+        from .network.snapping import SnappedPoint
+
+        if isinstance(places, Sequence) and places and all(isinstance(each, SnappedPoint) for each in places):
+            return list(places)
+        return self._need_network().points_on_roads(places, radius, bearings=bearings, radiuses=radiuses)
 
     def _need_network(self) -> "Network":
         if self.network is None:

@@ -4,13 +4,12 @@ Trips are (row, (lon, lat), (lon, lat)), and places (lon, lat).
 """
 import itertools
 from collections.abc import Iterable, Iterator, Sequence
-from typing import Any, NamedTuple
 
 from domethyme.csv_tables import open_input
 from domethyme.errors import DomethymeError
+from domethyme.network.directions import RoadRoute, route_along
 from domethyme.network.geo import Point
-from domethyme.network.leg_geometry import leg_geometry, leg_totals
-from domethyme.network.legs import EMPTY_LEG, Leg, choose_leg, is_same_node
+from domethyme.network.legs import EMPTY_LEG, choose_leg, is_same_node
 from domethyme.network.net_file import MappedNetwork
 from domethyme.network.snapping import RoadIndex, SnappedPoint
 from domethyme.network.tables import is_coordinates, reject_wrong_suffix
@@ -26,18 +25,6 @@ PlaceOfRow = tuple[int | None, str, Point]
 MAX_SEEDS = 8
 # Places that are looked for together.
 SNAP_BATCH = 16
-
-
-class RoadRoute(NamedTuple):
-    """A trip's length in the graph's weights, how many arcs it has a part of, seconds, metres, the streets with their
-    metres and seconds, and the line; all None where there is no route."""
-
-    length: int | None = None
-    arcs: int | None = None
-    seconds: float | None = None
-    metres: float | None = None
-    steps: list[dict[str, Any]] | None = None
-    line: list[Point] | None = None
 
 
 def open_road_index(network: StrPath, opened: MappedNetwork | None = None) -> RoadIndex:
@@ -108,21 +95,6 @@ def routes_on_roads(roads: RoadIndex, replies: str, path: str, trips: Sequence[T
                 leg = EMPTY_LEG if is_same_node(*ends) else choose_leg(roads, *ends, route)
             except (DomethymeError, ValueError) as error:
                 raise ToolError(f"{error}: is it of another network?", replies, row) from error
-            yield RoadRoute() if leg is None else route_of(roads, *ends, leg)
+            yield RoadRoute() if leg is None else route_along(roads, *ends, leg)
         if (more := next(snapped, None)) is not None:
             raise ToolError("is a row more than there are replies", path, more[0][0])
-
-
-def route_of(roads: RoadIndex, start: SnappedPoint, end: SnappedPoint, leg: Leg) -> RoadRoute:
-    """The route along a leg."""
-    geometry, figures = leg_geometry(roads, leg, start, end), leg_totals(roads, leg)
-    if geometry is None:
-        return RoadRoute(0, 0, figures["duration"], 0.0, [], [(start.lon, start.lat), (end.lon, end.lat)])
-    names = [roads.arc(arc).name for arc in leg.arcs]
-    begins = [index for index, name in enumerate(names) if not index or names[index - 1] != name]
-    steps = []
-    for low, high in itertools.pairwise([*begins, len(names)]):
-        part = geometry.figures(low, high)
-        steps.append({"name": names[low], "metres": part["distance"], "seconds": part["duration"]})
-    line = [(lon, lat) for lon, lat in geometry.line(0, len(names))]
-    return RoadRoute(leg.weight, len(names), figures["duration"], figures["distance"], steps, line)

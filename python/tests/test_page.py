@@ -1,5 +1,6 @@
 """The page that finds routes offline (domethyme_tools.page): its files, its rules beside those of the service, and in a browser."""
 import base64
+import functools
 import gzip
 import hashlib
 import heapq
@@ -22,14 +23,13 @@ from web_case import built
 import domethyme
 from domethyme import HierarchyError, batch
 from domethyme.network import isochrones
+from domethyme.network.directions import ask_router, route_along
 from domethyme.network.legs import find_leg
 from domethyme.network.net_file import load_network
 from domethyme.network.snapping import RoadIndex
-from domethyme.protocol import RouteReply
 from domethyme.router import Router
 from domethyme_service.tiles import Tiles
 from domethyme_tools.cli import ToolError
-from domethyme_tools.on_roads import route_of
 from domethyme_tools.page import MOST_NODES
 from domethyme_tools.page.bundle import bundled
 from domethyme_tools.page.hierarchy import columns_of as columns_of_hierarchy
@@ -81,15 +81,6 @@ def places_near(roads: RoadIndex, count: int, seed: int = 5) -> list[tuple[float
         spread = draw.choice((0, 0.0002, 0.003))
         found.append(((lon + draw.gauss(0, spread) + 180) % 360 - 180, lat + draw.gauss(0, spread)))
     return found
-
-
-def between_of(router: Router):
-    """The question of find_leg."""
-    def between(exits, entries):
-        found = router.between(*([(node, side[node][0]) for node in sorted(side)] for side in (exits, entries)))
-        return found and RouteReply(found.source + 1, found.target + 1, found.length, tuple(node + 1 for node in found.nodes))
-
-    return between
 
 
 def asked_of_page(folder, tmp_path, **question):
@@ -148,11 +139,11 @@ class TestRules:
                 assert ours["metres"] == pytest.approx(theirs.metres, abs=2e-6)
                 assert ours["fraction"] == pytest.approx(theirs.fraction, abs=1e-9)
                 assert math.dist(ours["location"], (theirs.lon, theirs.lat)) < 1.5e-6
-            leg = find_leg(between_of(router), roads, *points)
+            leg = find_leg(functools.partial(ask_router, router), roads, *points)
             assert (leg is None) == (answer["leg"] is None)
             if leg is None:
                 continue
-            wanted, ours = route_of(roads, *points, leg), answer["leg"]
+            wanted, ours = route_along(roads, *points, leg), answer["leg"]
             assert ours["length"] == wanted.length
             assert ours["duration"] == pytest.approx(wanted.seconds, abs=0.002) if roads.has_seconds else ours["duration"] is None
             assert ours["distance"] == pytest.approx(wanted.metres, abs=0.02)
@@ -262,7 +253,7 @@ class TestInABrowser:
         roads, router = RoadIndex(str(village / "n")), Router((village / "n.rch").read_bytes(), "n")
         spots = browser.value("main_js.then(({places}) => places.all)")
         points = [roads.nearest(tuple(spot))[0] for spot in spots]
-        route = route_of(roads, *points, find_leg(between_of(router), roads, *points))
+        route = route_along(roads, *points, find_leg(functools.partial(ask_router, router), roads, *points))
         [answer] = asked_routes(browser, [spots])
         assert answer["routes"][0]["legs"][0]["length"] == route.length
         assert [step["name"] for step in answer["routes"][0]["legs"][0]["steps"]] == [step["name"] for step in route.steps] == ["High Street"]
@@ -280,7 +271,7 @@ class TestInABrowser:
         opened(browser, village / "page.html")
         for pair, answer in zip(pairs, asked_routes(browser, pairs), strict=True):
             points = [roads.nearest(place)[0] for place in pair]
-            leg = find_leg(between_of(router), roads, *points)
+            leg = find_leg(functools.partial(ask_router, router), roads, *points)
             wanted = "NoSegment" if max(point.metres for point in points) > 1000 else leg.weight if leg else "NoRoute"
             assert (answer if isinstance(answer, str) else answer["routes"][0]["legs"][0]["length"]) == wanted
         quiet(browser)

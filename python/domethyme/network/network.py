@@ -2,13 +2,14 @@
 import functools
 import itertools
 import os
-from collections.abc import Iterator
+from collections.abc import Iterable, Iterator, Sequence
 from typing import Any, overload
 
 import numpy as np
 from numpy.typing import ArrayLike, NDArray
 
 from .. import belonging
+from ..arrays import places_of
 from ..deprecated import radius_of, side_of
 from ..errors import NetworkError, NoSuchNode
 from ..extras import load
@@ -19,6 +20,7 @@ from ..program import StrPath
 from ..route import Route, Rows
 from ..routes import Routes
 from . import from_tables, net_file
+from .bearings import BearingRange, nearest_with_bearing
 from .geo import Point, to_geojson_geometry
 from .net_file import NO_OSM, UNITS
 from .node_index import NodeIndex, load_node_index
@@ -26,6 +28,9 @@ from .reading import arcs_from_net
 from .snapping import RoadIndex, SnappedPoint
 from .sphere import Floats as Floats
 from .tables import ALL_ARC_COLUMNS, ENDS, KEY, Files, Side, arcs_file, need_nodes
+
+# For each place None, or (bearing, tolerance) in degrees.
+Bearings = Sequence[tuple[int, int] | None] | None
 
 
 class Network:
@@ -188,22 +193,54 @@ class Network:
         return RoadIndex(self._arrays)
 
     def points_on_roads(
-        self, places: Rows, radius: float = DEFAULT_RADIUS, *, max_metres: float | None = None
+        self, places: Rows, radius: float = DEFAULT_RADIUS, *, bearings: Bearings = None, radiuses: Sequence[float | None] | None = None,
+        max_metres: float | None = None
     ) -> list[SnappedPoint]:
-        """The nearest point of a road to a place (lon, lat) in degrees, or to each of several. Raises NoSuchNode where none is
-        within `radius` metres, ValueError for what are no degrees, and NetworkError."""
+        """The nearest point of a road to a place (lon, lat) in degrees, or to each of several: rows, a frame with the columns lon and
+        lat, or points of geopandas.
+
+        radius    how many metres away a road may be; `radiuses` has a number for each place, or None for `radius`
+        bearings  for each place None, or (bearing, tolerance) in whole degrees clockwise from north: a route begins and ends
+                  there in a direction from bearing - tolerance to bearing + tolerance
+
+        Raises NoSuchNode where no such road is near enough, ValueError for what are no degrees, and NetworkError.
+        """
         radius = radius_of(radius, max_metres, "points_on_roads(max_metres=)")
-        rows = np.asarray(places, float)
-        if rows.shape[-1:] != (2,) or rows.ndim > 2 or not rows.size:
-            raise ValueError("a place is (lon, lat), and several are rows of these")
-        rows = rows.reshape(-1, 2)
+        is_one = np.shape(places) == (2,) and not hasattr(places, "columns")
+        rows, _ = places_of([places] if is_one else places)
+        if not len(rows):
+            raise ValueError("there has to be a place or more")
         check_degrees(rows[:, 0], rows[:, 1])
-        found = list(self.roads.nearest_batch([(lon, lat) for lon, lat in rows.tolist()]))
-        for number, point in enumerate(found):
-            if not point.metres <= radius:
-                away = f"the nearest is {point.metres:,.0f} m away; lon comes before lat"
-                raise NoSuchNode(f"place {number} has no road within {radius:g} m: {away}", number)
+        limits = [radius if each is None else each for each in each_place("radiuses", radiuses, len(rows))]
+        ranges = [each and bearing_range(each) for each in each_place("bearings", bearings, len(rows))]
+        points: Iterable[SnappedPoint | None] = self.roads.nearest_batch([(lon, lat) for lon, lat in rows.tolist()])
+        if any(ranges):
+            points = (
+                next(iter(nearest_with_bearing(self.roads, (lon, lat), 1, wanted, limit)), None) if wanted else self.roads.nearest((lon, lat))[0]
+                for (lon, lat), wanted, limit in zip(rows.tolist(), ranges, limits)
+            )
+        found = []
+        for number, (point, limit) in enumerate(zip(points, limits)):
+            if point is None or not point.metres <= limit:
+                away = "with its bearing" if point is None else f"the nearest is {point.metres:,.0f} m away; lon comes before lat"
+                raise NoSuchNode(f"place {number} has no road within {limit:g} m: {away}", number)
+            found.append(point)
         return found
+
+
+def each_place(name: str, values: "Sequence[Any] | None", count: int) -> Sequence[Any]:
+    """A value for each place, None for each without any. Raises ValueError for another number of them."""
+    if values is not None and len(values) != count:
+        raise ValueError(f"{name} have to be one for each place, {count}, and are {len(values)}")
+    return [None] * count if values is None else values
+
+
+def bearing_range(value: Sequence[int]) -> BearingRange:
+    """The range of a bearing and its tolerance. Raises ValueError."""
+    bearing, tolerance = value
+    if not (0 <= bearing <= 360 and 0 <= tolerance <= 180):
+        raise ValueError(f"a bearing is (degrees from 0 to 360, tolerance from 0 to 180), and not {value!r}")
+    return BearingRange(bearing, tolerance)
 
 
 def check_degrees(lon: Floats, lat: Floats) -> None:

@@ -1,0 +1,186 @@
+"""Routes, tables and tours between places on roads: by the model on drawn networks, and orders of tours by plain enumeration."""
+import functools
+import itertools
+import math
+import pathlib
+import re
+import tempfile
+from typing import Any
+
+import numpy as np
+import pandas
+import pytest
+from comparing import Near, difference, is_same_line
+from draws import drawn, networks, places, write_network
+from hypothesis import given
+from hypothesis import strategies as st
+from model.answers import figures, leg_line, sums
+from model.network import Ambiguous
+from tool_case import VILLAGE, ToolCase
+
+import domethyme
+from domethyme import tours
+
+SETTINGS = list(itertools.product((True, False), ("any", "first"), ("any", "last")))
+
+
+@drawn(80)
+@given(st.data())
+def test_as_the_model(data: Any) -> None:
+    made = data.draw(networks())
+    spots = data.draw(places(made.roads, 5))
+    bearings = data.draw(st.lists(st.sampled_from([None, None, (0, 60), (90, 20), (270, 180)]), min_size=len(spots), max_size=len(spots)))
+    radiuses = data.draw(st.lists(st.sampled_from([None, 60.5, math.inf]), min_size=len(spots), max_size=len(spots)))
+    with tempfile.TemporaryDirectory() as folder:
+        write_network(made, pathlib.Path(folder) / "net")
+        hierarchy = domethyme.Hierarchy(f"{folder}/net.rch", network=f"{folder}/net")
+        try:
+            points = [made.roads.snap(spot, radius or 1000.0, each) for spot, radius, each in zip(spots, radiuses, bearings)]
+        except Ambiguous:
+            return
+        if None in points:
+            with pytest.raises(domethyme.NoSuchNode) as raised:
+                hierarchy.network.points_on_roads(spots, bearings=bearings, radiuses=radiuses)
+            assert raised.value.key == points.index(None)
+            return
+        snapped = hierarchy.network.points_on_roads(spots, bearings=bearings, radiuses=radiuses)
+        try:
+            legs = {pair: made.roads.legs(*pair) for pair in itertools.product(points, repeat=2)}
+        except Ambiguous:
+            return
+        weights = [[least_weight(legs[start, end]) for end in points] for start in points]
+        table = hierarchy.table(snapped, snapped[::-1])
+        assert table.tolist() == [[-1 if weight is None else weight for weight in row[::-1]] for row in weights]
+        if len(spots) > 1:
+            check_directions(made.roads, hierarchy.directions(spots, bearings=bearings, radiuses=radiuses), points, legs)
+        for setting in SETTINGS:
+            check_tour(hierarchy.tour(snapped, **dict(zip(("roundtrip", "source", "destination"), setting))), weights, *setting)
+
+
+def least_weight(legs: Any) -> int | None:
+    return sum(part[3] for part in legs[0]) if legs else None
+
+
+def check_directions(roads: Any, found: Any, points: Any, legs: Any) -> None:
+    """The route has the figures and the line of some shortest path of each leg."""
+    options = [legs[pair] for pair in itertools.pairwise(points)]
+    if not all(options):
+        assert found is None
+        return
+    assert found.weight == sum(map(least_weight, options))
+    for leg, pair, choices in zip(found.legs, itertools.pairwise(points), options, strict=True):
+        fits = [
+            choice for choice in choices
+            if not difference({"seconds": leg.seconds, "metres": leg.metres}, in_seconds(figures(roads, choice)))
+            and is_same_line(leg.line, leg_line(roads, pair[0], choice, pair[1]), 1.5e-6)
+        ]
+        assert fits, (leg, choices)
+        assert [step["name"] for step in leg.steps] in [
+            [name for name, _ in itertools.groupby(roads.arcs[arc].name for arc, *_ in choice)] for choice in fits
+        ]
+    one_each = [min(choices, key=len) for choices in options]
+    if all(len(choices) == 1 for choices in options):
+        assert not difference({"seconds": found.seconds, "metres": found.metres}, in_seconds(sums([figures(roads, leg) for leg in one_each])))
+    feature = found.geojson()
+    assert feature == found.__geo_interface__
+    if feature["geometry"]["type"] == "LineString":
+        assert feature["geometry"]["coordinates"] == [list(point) for point in found.line]
+    assert feature["properties"]["weight"] == found.weight and found.steps == [step for leg in found.legs for step in leg.steps]
+
+
+def in_seconds(figures: Any) -> dict[str, Any]:
+    return {"seconds": figures["duration"], "metres": figures["distance"]}
+
+
+def check_tour(found: Any, weights: Any, roundtrip: bool, source: str, destination: str) -> None:
+    best = least_tour(weights, roundtrip, source, destination)
+    if best is None:
+        assert found is None
+        return
+    assert sorted(found.order) == list(range(len(weights))) and found.directions.weight == best
+    assert source != "first" or found.order[0] == 0
+    assert destination != "last" or found.order[-1] == len(weights) - 1
+
+
+def least_tour(weights: Any, roundtrip: bool, source: str, destination: str) -> int | None:
+    """The least weight of all orders, by enumeration."""
+    last, sums = len(weights) - 1, []
+    for order in itertools.permutations(range(len(weights))):
+        if (source == "any" or order[0] == 0) and (destination == "any" or order[-1] == last):
+            steps = [weights[start][end] for start, end in itertools.pairwise([*order, *(order[:1] if roundtrip else [])])]
+            sums += [] if None in steps else [sum(steps)]
+    return min(sums, default=None)
+
+
+@drawn(60)
+@given(st.data())
+def test_orders_by_enumeration(data: Any) -> None:
+    """Up to seven places by all orders, and twelve by another search of sets."""
+    count = data.draw(st.sampled_from([1, 2, 3, 5, 7, 12]))
+    cell = st.one_of(st.integers(0, 40), st.integers(0, 40), st.just(-1))
+    lengths = np.array(data.draw(st.lists(cell, min_size=count**2, max_size=count**2)), np.int64).reshape(count, count)
+    np.fill_diagonal(lengths, 0)
+    weights = [[None if each < 0 else each for each in row] for row in lengths.tolist()]
+    for setting in SETTINGS if count < 12 else [(True, "any", "any")]:
+        order = tours.best_order(lengths, *setting)
+        best = least_tour(weights, *setting) if count < 12 else least_round_trip(weights)
+        assert (order is None) == (best is None)
+        if order is not None:
+            assert sorted(order) == list(range(count)) and tours.tour_length(lengths, order, setting[0]) == best
+
+
+def least_round_trip(weights: Any) -> int | None:
+    @functools.cache
+    def rest(here: int, left: frozenset[int]) -> float:
+        if not left:
+            return math.inf if weights[here][0] is None else weights[here][0]
+        return min(rest(place, left - {place}) + (math.inf if weights[here][place] is None else weights[here][place]) for place in left)
+
+    found = rest(0, frozenset(range(1, len(weights))))
+    return None if found == math.inf else int(found)
+
+
+def test_long_tours() -> None:
+    """Of many places the tour is the same each time, and near the best one where that is known: around a ring, whatever the order."""
+    count, drawn_order = 60, np.random.default_rng(1).permutation(60)
+    angles = drawn_order * math.tau / count
+    chords = np.abs(np.exp(1j * angles)[:, None] - np.exp(1j * angles)[None, :])
+    lengths = np.rint(chords * 10_000).astype(np.int64)
+    orders = [tours.best_order(lengths, True, "first", "any") for _ in range(2)]
+    assert orders[0] == orders[1] and orders[0][0] == 0 and sorted(orders[0]) == list(range(count))
+    assert tours.tour_length(lengths, orders[0], True) == count * lengths[drawn_order == 0][0][drawn_order == 1][0]
+    lengths[:, 7] = -1
+    assert tours.best_order(lengths, True, "any", "any") is None
+
+
+class FramesTests(ToolCase):
+    def test_frames_and_refusals(self) -> None:
+        self.run_tool("osm_to_gr", VILLAGE, "v", "--keep-islands")
+        domethyme.prepare(self.folder / "v.gr", self.folder / "v.rch").close()
+        hierarchy = domethyme.Hierarchy(self.folder / "v.rch", network=self.folder / "v")
+        network = hierarchy.network
+        places = [(float(network.lon[node]), float(network.lat[node])) for node in (0, 3, 5)]
+        frame = pandas.DataFrame(places, columns=["lon", "lat"], index=["depot", "shop", "farm"])
+        rows = hierarchy.table(places)
+        table = hierarchy.table(frame, frame.iloc[:2])
+        assert table.index.tolist() == ["depot", "shop", "farm"] and table.columns.tolist() == ["depot", "shop"]
+        assert table.fillna(-1).to_numpy().tolist() == rows[:, :2].tolist()
+        assert hierarchy.table(places, frame).columns.tolist() == ["depot", "shop", "farm"]
+        assert hierarchy.table(frame, missing=math.inf).to_numpy().tolist() == np.where(rows < 0, math.inf, rows).tolist()
+        assert hierarchy.directions(frame) == hierarchy.directions(places) == hierarchy.directions(np.array(places))
+        for wrong, says in (
+            (places[:1], "two places or more"), ([(1, 2, 3)], "rows (lon, lat)"), (frame.rename(columns={"lon": "x"}), "columns lon and lat"),
+            ([], "a place or more"), ([(200, 0)] * 2, "lon has to be from -180"), ([places[0], (0.0, 80.0)], "no road within 1000 m"),
+        ):
+            with pytest.raises(ValueError, match=re.escape(says)):
+                hierarchy.directions(wrong)
+        with pytest.raises(ValueError, match="one for each place"):
+            hierarchy.directions(places, bearings=[(0, 10)])
+        with pytest.raises(ValueError, match="a bearing is"):
+            hierarchy.directions(places, bearings=[(400, 10), None, None])
+        with pytest.raises(ValueError, match="source has to be"):
+            hierarchy.tour(places, source="last")
+        with pytest.raises(ValueError, match="1 to 500 places"):
+            hierarchy.tour(places * 200)
+        with pytest.raises(ValueError, match="no network"):
+            domethyme.Hierarchy(self.folder / "v.rch").directions(places)
