@@ -5,6 +5,7 @@ weighs as much as such an arc; another one is lighter; and there is a link where
 another vehicle, one weight that differs, and damage of a weight that no shortcut rests on. The proof is `routecli check`.
 """
 import hashlib
+import logging
 import os
 import re
 from typing import TYPE_CHECKING, NamedTuple
@@ -18,32 +19,36 @@ if TYPE_CHECKING:
 
 # Links up to which all are compared; of more drawn ones, unless all are asked for.
 MAX_COMPARED = 10_000_000
-COMMENT = re.compile(r"c network (.+): ([0-9]{1,9}) nodes(?:, ([0-9]{1,9}) arcs)?\s*")
+COMMENT = re.compile(r"c network (.+): ([0-9]{1,9}) nodes(?:, ([0-9]{1,9}) arcs(?:, checksum ([0-9a-f]{8}))?)?\s*")
 
 
 class Origin(NamedTuple):
-    """The network in which pairs of nodes were found: its name, nodes and arcs, None where these aren't known."""
+    """The network in which pairs of nodes were found: its name, nodes and arcs, and the checksum of these, None where it isn't known."""
 
     name: str
     nodes: int
-    arcs: int | None
+    arcs: int | None = None
+    checksum: str | None = None
 
     @classmethod
     def of(cls, line: bytes) -> "Origin | None":
         """The one that a comment of a query file names; None for any other line."""
         found = COMMENT.fullmatch(line.decode("utf-8", "replace"))
-        return None if found is None else cls(found[1], int(found[2]), None if found[3] is None else int(found[3]))
+        return None if found is None else cls(found[1], int(found[2]), None if found[3] is None else int(found[3]), found[4])
 
     @property
     def comment(self) -> str:
         """The comment, without the `c`."""
         name = " ".join(os.fsencode(self.name).decode("utf-8", "replace").split())
-        return f"network {name}: {self.nodes} nodes" + ("" if self.arcs is None else f", {self.arcs} arcs")
+        more = f", {self.arcs} arcs" if self.arcs is not None else "", f", checksum {self.checksum}" if self.checksum else ""
+        return f"network {name}: {self.nodes} nodes{''.join(more)}"
 
-    def need(self, hierarchy: str, nodes: int, pairs: StrPath) -> None:
-        """Raises NetworkError where a hierarchy has another number of nodes."""
+    def need(self, hierarchy: str, nodes: int, pairs: StrPath, network: "MappedNetwork | None") -> None:
+        """Raises NetworkError where a hierarchy has another number of nodes, or its network, if that is known, other arcs."""
         if nodes != self.nodes:
             raise NetworkError(f"is of the network {self.name} with {self.nodes} nodes, and {hierarchy} has {nodes}", pairs)
+        if network is not None and self.checksum not in (None, network.checksum):
+            raise NetworkError(f"is of the network {self.name}, and {network.path} has other arcs: run `nearest` again", pairs)
 
 
 def compare_files(hierarchy: str, network: str, whole: bool = False) -> "MappedNetwork":
@@ -60,15 +65,19 @@ def compare_files(hierarchy: str, network: str, whole: bool = False) -> "MappedN
 def compare(file: int, name: str, network: "MappedNetwork", whole: bool = False) -> None:
     """Raises WrongHierarchy where an open file of a hierarchy, whose head fits its size, isn't that of a network.
 
-    Above MAX_COMPARED links 5,000 drawn ones or more are compared, unless `whole`. All of a million nodes take a second.
+    Above MAX_COMPARED links 5,000 drawn ones or more are compared, unless `whole`, and a warning is logged. All of a million nodes
+    take a second.
     """
     from .links import Links
 
     links = Links.of(file, name)
     need_nodes(name, links.nodes, network.path, len(network.node_osm))
-    compare_links = links.difference if whole or links.size <= MAX_COMPARED else links.drawn_difference
-    if (found := compare_links(network)) is not None:
+    is_whole = whole or links.size <= MAX_COMPARED
+    if (found := (links.difference if is_whole else links.drawn_difference)(network)) is not None:
         raise of_another(name, network.path, found)
+    if not is_whole:
+        some = f"5,000 of its {links.size:,} links were compared with {network.path}"
+        logging.getLogger(__name__).warning("%s: %s: --compare-all, or compare_all=True, compares all", name, some)
 
 
 def need_nodes(name: str, nodes: int, network: str, of_network: int) -> None:

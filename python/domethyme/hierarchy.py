@@ -64,7 +64,8 @@ class Hierarchy:
         """Reads the file, which takes 0.4 seconds for a million nodes, and some 350 bytes of memory a node.
 
         keys         a key for each node, in order, or a mapping from keys to nodes from 0; Keys.load has those that Graph.prepare
-                     saved. Saved keys of another file are refused, and others that contradict those saved beside it
+                     saved. Saved keys of another file are refused, and others that contradict those saved beside it, or the keys
+                     that the network's nodes have
         network      the network of the nodes: a Network, or the beginning of its files' names. It is compared with the hierarchy,
                      which takes a second for a million nodes: their nodes, and the weights of all links that are arcs
         compare_all  all links are compared with the network, also of a file with more than ten million; else 5,000 of these
@@ -100,6 +101,7 @@ class Hierarchy:
             del data  # (the library has what it needs of it)
             if self.network is not None:
                 self.network.compare(file.fileno(), self._name, compare_all)
+                self.network.check_keys(self.keys)
 
     def __enter__(self) -> "Hierarchy":
         return self

@@ -120,10 +120,14 @@ class Keys:
             saved = load_if_matching(hierarchy, digest)
         except FileError:
             return
+        if saved is not None:
+            self.need_same(saved, f"{keys_path(hierarchy)}: take Keys.load, or delete that file")
+
+    def need_same(self, others: "Keys", where: str) -> None:
+        """Raises ValueError where a key of these names another node there."""
         for key, node in self._nodes.items():
-            if saved is not None and (other := saved._nodes.get(key, node)) != node:
-                beside = f"node {other} in {keys_path(hierarchy)}: take Keys.load, or delete that file"
-                raise ValueError(f"key {key!r} names node {node} here, and {beside}")
+            if (other := others._nodes.get(key, node)) != node:
+                raise ValueError(f"key {key!r} names node {node} here, and node {other} in {where}")
 
     def __len__(self) -> int:
         """The number of nodes, with and without a key."""

@@ -73,6 +73,8 @@ def argument_parser() -> argparse.ArgumentParser:
     add("--tables", choices=("fast", "proved"), help=argparse.SUPPRESS)
     cells = "cells of a table (1000000)"
     add("--max-table-cells", metavar="N", type=int_between(1, 4_000_000), default=1_000_000, help=cells)
+    profile = "a word that PROFILE may be in paths, by default any; several times"
+    add("--profile", metavar="WORD", action="append", default=[], help=profile)
     add("--program", metavar="FILE", help="routecli, for --verify: by default that of ROUTECLI, on PATH, or built here")
     host = "a host that requests may be for, * for any; several times"
     add("--allowed-host", metavar="NAME", action="append", default=[], help=host)
@@ -185,7 +187,8 @@ def main(words: Sequence[str] | None = None) -> None:
     try:
         program = None if args.verify is None else find_program(args.program)
         paths = DatasetPaths(args.hierarchy, args.network, args.verify, program, args.compare_all)
-        options = Options(AccessPolicy.from_options(args.allowed_host, args.cors), args.radius, args.max_table_cells)
+        access = AccessPolicy.from_options(args.allowed_host, args.cors)
+        options = Options(access, args.radius, args.max_table_cells, args.profile)
         bind, has_probe = open_sockets(args)
         Application(paths, options, bind, max(args.workers, MIN_WORKERS), has_probe, args.log_places).run()
     except (StartupError, DomethymeError, OSError) as fault:

@@ -2,7 +2,7 @@
 unsupported parameter that would change the answer is an error, never ignored."""
 import re
 import urllib.parse
-from collections.abc import Mapping
+from collections.abc import Mapping, Sequence
 from typing import NamedTuple
 
 from domethyme.network.geo import Point
@@ -27,9 +27,10 @@ class Request(NamedTuple):
     values: Values
 
 
-def parse_request(path: str, query: Mapping[str, str], default_radius: float) -> Request:
+def parse_request(path: str, query: Mapping[str, str], default_radius: float, profiles: Sequence[str] = ()) -> Request:
     """The request of a path `/SERVICE/v1/PROFILE/PLACES`, percent-encoded, where an isochrone's PROFILE may have two
-    words, with the metres to a road of a place without a radius. Raises RequestError."""
+    words, with the metres to a road of a place without a radius. The last word is one of `profiles`, if there are any. Raises
+    RequestError."""
     service = path.split("/")[1]
     if service not in MAX_PLACES:
         raise RequestError(400, "InvalidService", f"the service {service} isn't supported")
@@ -41,6 +42,8 @@ def parse_request(path: str, query: Mapping[str, str], default_radius: float) ->
     if len(words) not in (5, 5 + is_isochrone) or not all(map(PROFILE.fullmatch, words[3:-1])):
         hint = ", and PROFILE has a word or two" if is_isochrone else ""
         raise RequestError(400, "InvalidUrl", f"the path is {form}{hint}")
+    if profiles and words[-2] not in profiles:
+        raise invalid_value(f"PROFILE has to be one of {', '.join(profiles)}")
     places = parse_coordinates(words[-1], service)
     return Request(service, places, BY_NAME[f"/{service}"].values(query, Context(len(places), default_radius)))
 

@@ -9,7 +9,7 @@ import itertools
 import logging
 import re
 import urllib.parse
-from collections.abc import Callable, Iterable, Mapping
+from collections.abc import Callable, Iterable, Mapping, Sequence
 from typing import Any, NamedTuple, TypeVar
 
 from domethyme import DomethymeError, HierarchyError, LibraryError, OutOfMemory
@@ -44,11 +44,13 @@ log = logging.getLogger("domethyme_service")
 
 
 class Options(NamedTuple):
-    """Which requests are allowed, the default of the greatest metres to a road, and a table's greatest number of cells."""
+    """Which requests are allowed, the default of the greatest metres to a road, a table's greatest number of cells, and the words that
+    PROFILE may be, any if there are none."""
 
     access: AccessPolicy
     default_radius: float = 1000.0
     max_table_cells: int = 1_000_000
+    profiles: Sequence[str] = ()
 
 
 class Response(NamedTuple):
@@ -148,7 +150,7 @@ class Service:
 
     def places(self, call: Call) -> Response:
         """Answers a request of OSRM's API, or for what is reached, as Mapbox's API has it."""
-        request = parse_request(call.path, call.query, self.options.default_radius)
+        request = parse_request(call.path, call.query, self.options.default_radius, self.options.profiles)
         return Response(BY_SERVICE[request.service](needed(self.engine), request))
 
     def pair(self, call: Call) -> Response:

@@ -7,8 +7,8 @@ The query file (`-` is standard input) is cut into parts, and each part is answe
 many at a time as there are workers. The parts and their answers are kept in the folder OUT.parts until OUT is written:
 after an interrupt or a failed run the same call resumes with what is done. OUT is whole, or as it was before.
 
-Pairs that `nearest` has written say how large their network is: a hierarchy with another number of nodes is refused. --network
-NETWORK compares the hierarchy with the network itself.
+Pairs that `nearest` has written name their network: a hierarchy with another number of nodes is refused. --network NETWORK, by default
+X where HIERARCHY is X.rch and there is X.net, compares the hierarchy with the network itself, and its arcs with those of the pairs'.
 
 Status 0 says that OUT is written (with --split-only also that the parts are), 1 bad input or a failed run, 2 arguments that are
 refused, and 130 an interrupt; if the program refuses the input, its line and its status, 3 to 8, are those of one process.
@@ -25,7 +25,7 @@ import sys
 import threading
 import uuid
 from collections.abc import Callable, Iterator
-from typing import Any, NamedTuple, NoReturn
+from typing import TYPE_CHECKING, Any, NamedTuple, NoReturn
 
 import tqdm
 
@@ -39,6 +39,9 @@ from . import parts
 from .cli import (
     ToolError, add_hierarchy, argument_parser, current_arguments, display_name, need_hierarchy, require_packages, warn
 )
+
+if TYPE_CHECKING:
+    from domethyme.network.net_file import MappedNetwork
 
 BAD_INPUT = (3, 4, 5)
 BLOCK = 1 << 20
@@ -75,20 +78,22 @@ def positive_int(text: str) -> int:
 def main() -> None:
     options = parse_args()
     check_out(options)
-    if options.network is not None:
-        need_hierarchy(options)
+    beside = options.hierarchy.removesuffix(".rch")
+    if options.network is None and beside != options.hierarchy and os.path.exists(f"{beside}.net"):
+        options.network = beside
+    network = None if options.network is None else need_hierarchy(options)
     folder = parts.Folder(options.out)
     try:
         # (a write to OUT itself names OUT)
         with add_paths_to_errors(folder.path):
-            run_all(options)
+            run_all(options, network)
     except KeyboardInterrupt:
         if os.path.exists(folder.plan_file):
             warn(f"what is done is kept in {folder.path}; the same call resumes with it")
         raise
 
 
-def run_all(options: argparse.Namespace) -> None:
+def run_all(options: argparse.Namespace, network: "MappedNetwork | None") -> None:
     """Cuts the pairs, has the parts answered, and joins them, as far as the arguments say."""
     program = find_program(options.program)
     hierarchy = os.path.join(os.getcwd(), options.hierarchy)
@@ -96,7 +101,7 @@ def run_all(options: argparse.Namespace) -> None:
         task = domethyme_part.task(program, hierarchy, folder.drafts, display_name(options.pairs))
         jobs = 1 if options.split_only else options.jobs or len(os.sched_getaffinity(0))
         with threads(task, jobs) if options.dask is None else cluster(task, options.dask) as workers:
-            plan, is_new = make_plan(options, folder, workers)
+            plan, is_new = make_plan(options, folder, workers, network)
             if options.split_only and is_new:
                 print(f"{len(plan.parts)} parts in {folder.path}")
                 return
@@ -123,13 +128,16 @@ def check_out(options: argparse.Namespace) -> None:
 # The parts
 
 
-def make_plan(options: argparse.Namespace, folder: parts.Folder, workers: "Workers") -> tuple[parts.Plan, bool]:
+def make_plan(
+    options: argparse.Namespace, folder: parts.Folder, workers: "Workers", network: "MappedNetwork | None"
+) -> tuple[parts.Plan, bool]:
     """The plan of the parts, and whether it is new: where an earlier call has kept none, the pairs are cut."""
     spooled = os.path.join(folder.drafts, "whole.pairs")
     survey = parts.spool(options.pairs, spooled)
     if survey.origin is not None:
         with open_hierarchy_file(options.hierarchy) as file:
-            survey.origin.need(options.hierarchy, read_header(file.fileno(), options.hierarchy)[0], options.pairs)
+            nodes, _ = read_header(file.fileno(), options.hierarchy)
+        survey.origin.need(options.hierarchy, nodes, options.pairs, network)
     hierarchy, program = (workers.task["digests"][workers.task[name]] for name in ("hierarchy", "program"))
     plan = parts.Plan(hierarchy, program, survey.sha256, options.pairs_per_part, [])
     kept = folder.load_plan()

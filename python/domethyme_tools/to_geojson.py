@@ -18,8 +18,8 @@ Its properties are
                          another are one step, and a street without a name has the name ""
 
 Where there is no route, all but the pair are null. From a node to the next a route takes the lightest arc, and the weights
-of its arcs have to sum to the answer's length: an answer of another network is refused. --hierarchy HIERARCHY also compares the
-hierarchy that answered with the network.
+of its arcs have to sum to the answer's length, and where there is no route no arcs may lead there: an answer of another network is
+refused. --hierarchy HIERARCHY also compares the hierarchy that answered with the network.
 
 --trips FILE is a CSV file with a row for each answer, in order, as `nearest` was given it, or as it wrote it by
 --snapped. Its columns are properties too, ahead of the others, as text. Where it has the columns from_node and to_node,
@@ -39,12 +39,15 @@ arguments that are refused.
 """
 import argparse
 import contextlib
+import functools
 import itertools
 import json
 from collections.abc import Iterable, Iterator
 from typing import IO, Any, NamedTuple
 
 import numpy
+from scipy.sparse import coo_array
+from scipy.sparse.csgraph import breadth_first_order, connected_components
 
 from domethyme.atomic_files import atomic_write
 from domethyme.csv_tables import excerpt, open_table, parse_float
@@ -123,11 +126,15 @@ def routes_of(
 ) -> Iterator[Route]:
     """The routes of the answers, which come with their row numbers, in order. Fields of a trip that name the pair or its
     keys have to be the answer's."""
+    reach = Reach(network)
     for row, answer in answers:
         trip_row, fields = next(trips, (None, None))
         if fields is None:
             raise ToolError(f"is an answer more than {options.trips} has rows", options.answers, row)
         arcs = arcs_along(network, answer, options.answers, row)
+        if answer.length == NO_PATH and reach.leads(answer.source, answer.target):
+            problem = f"says that no path leads from node {answer.source} to node {answer.target}, and one does"
+            raise ToolError(f"{problem}: is it of another network?", options.answers, row)
         ends: dict[str, Any] = dict(zip(PAIR, answer))
         if network.has_keys:
             ends |= {name: network.key(node) for name, node in zip(KEYS, answer[:2])}
@@ -139,6 +146,33 @@ def routes_of(
         yield make_route(network, answer, arcs, ends, others)
     if options.trips is not None and (more := next(trips, None)) is not None:
         raise ToolError("is a row more than there are answers", options.trips, more[0])
+
+
+class Reach:
+    """From which nodes, counted from 1, arcs lead to which: parts whose nodes reach one another, and which of these follow on each."""
+
+    def __init__(self, network: MappedNetwork) -> None:
+        self.network = network
+        self.followers = functools.lru_cache(1 << 8)(self._followers)
+
+    def leads(self, source: int, target: int) -> bool:
+        """Whether there is a path."""
+        labels, _ = self.parts
+        return bool(labels[source] == labels[target] or labels[target] in self.followers(int(labels[source])))
+
+    @functools.cached_property
+    def parts(self) -> tuple[Ints, Any]:
+        """The part of each node, and the matrix of arcs between parts."""
+        starts, ends, size = self.network.arc_from[:], self.network.arc_to[:], len(self.network.node_osm) + 1
+        count, labels = connected_components(matrix_of(starts, ends, size), directed=True, connection="strong")
+        return labels, matrix_of(labels[starts], labels[ends], count)
+
+    def _followers(self, part: int) -> frozenset[int]:
+        return frozenset(breadth_first_order(self.parts[1], part, return_predecessors=False).tolist())
+
+
+def matrix_of(starts: Ints, ends: Ints, size: int) -> Any:
+    return coo_array((numpy.ones(len(starts), bool), (starts, ends)), shape=(size, size)).tocsr()
 
 
 def arcs_along(network: MappedNetwork, answer: RouteReply, path: str, row: int) -> Ints:

@@ -83,6 +83,8 @@ def networks(draw: Any, kinds: Sequence[str] = KINDS, most: int = 8, origins: Se
 def draw_arc(draw: Any, kind: str, start: int, end: int, line: tuple[Point, ...], texts: tuple[Any, ...]) -> Arc:
     number = draw(st.one_of(st.integers(0, 20), st.integers(0, 100_000)))
     metres = round(along(line)[-1], 2)
+    if kind.startswith("weight") and draw(st.integers(0, 9)) == 0:
+        number = (1 << 32) - 1 - number  # (two of these are more than 32 bits)
     if kind == "duration":
         return Arc(start, end, number, number / 1000, metres, line, *texts)
     if kind == "distance":
@@ -153,6 +155,19 @@ def write_tables(drawn: Drawn, folder: pathlib.Path) -> None:
             rows.writerow((names[arc.start], names[arc.end], *arc[2:5], f"LINESTRING ({line})", *arc[6:]))
 
 
+def model_of(prefix: pathlib.Path) -> Network:
+    """The network of a file, without junctions that are split."""
+    network = domethyme.Network(prefix)
+    nodes, arcs = network.nodes_frame(), network.arcs_frame()
+    osm = [int(value) if is_there else None for value, is_there in zip(nodes["osm"], nodes["osm"].notna())]
+    lines = [tuple((float(lon), float(lat)) for lon, lat in map(str.split, text[12:-1].split(", "))) for text in arcs["WKT"]]
+    columns = [arcs[name].tolist() for name in ("from", "to", "weight", "seconds", "metres")]
+    texts = [arcs[name].tolist() for name in ("osm", "name", "ref", "destination", "junction")]
+    return Network(
+        map(Node, nodes["lon"].tolist(), nodes["lat"].tolist(), range(len(nodes)), osm), map(Arc, *columns, lines, *texts)
+    )
+
+
 def run_tool(name: str, *words: object, given: str = "") -> tuple[str, str]:
     """Runs a tool in this process. Returns what it wrote to standard output and to standard error; raises its errors."""
     module = __import__(f"domethyme_tools.{name}", fromlist=["main"])
@@ -219,31 +234,45 @@ def for_places(rows: Sequence[Coded], count: int) -> Coded:
     return ";".join(text for text, _ in rows), code if any(text for text, _ in rows) or len(rows) != count else ""
 
 
-YES_NO = invalid(["true", "false"], "yes", "")
+YES_NO = invalid(["true", "false"], "True", "FALSE", "yes", "", "1", "0", "none", "true;", "true,false", "\0", "\u2713", " true")
+# Texts that aren't numbers.
+WRONG = (
+    "", "x", "nan", "-nan", "inf", "Infinity", "1e3", "1e999", "0x1A", "1_0", "+5", "-1", "--1", "1..2", "1.2.3", ".", ".5", "5m", "1 ", " 1",
+    "1\0", "1,", "one", "None", "\u0661", "\uff11", "9" * 11
+)
+UNSUPPORTED = coded("", NotImplemented=["toll", "nan", "0;1", "\0"])
+LIMITS = ("5,3", "5,5", "0", "1,2,3,4,5", "5;6", "1,,2", "1000001", "0.00001,0.000011")
 KNOWN: dict[str, dict[str, dict[str, Sequence[str]]]] = {
     "osrm": {
-        "hints": coded("", "a;b"), "generate_hints": YES_NO, "skip_waypoints": YES_NO,
-        "exclude": coded("", NotImplemented=["toll"]),
-        "approaches": coded("", "unrestricted", NotImplemented=["unrestricted;curb"]), "unknown": {"InvalidQuery": ["1"]},
-        "snapping": coded("default", NotImplemented=["any"], InvalidValue=["x"]),
-        "format": coded("json", NotImplemented=["flatbuffers"], InvalidValue=["x"]),
+        "hints": coded("", "a;b"), "generate_hints": YES_NO, "skip_waypoints": YES_NO, "exclude": UNSUPPORTED,
+        "approaches": coded("", "unrestricted", NotImplemented=["unrestricted;curb", "Unrestricted", "unrestricted,"]),
+        "unknown": {"InvalidQuery": ["1"]}, "snapping": coded("default", NotImplemented=["any"], InvalidValue=["x", "", "any;"]),
+        "format": coded("json", NotImplemented=["flatbuffers"], InvalidValue=["x", "json5", ""]),
     },
     "route": {
-        "alternatives": invalid(["true", "false", "3"], "x"), "waypoints": coded("", NotImplemented=["0;1"]), "steps": YES_NO,
-        "overview": invalid(["simplified", "full", "false"], "by_legs"),
-        "geometries": invalid(["polyline", "polyline6", "geojson"], "wkt"),
+        "alternatives": invalid(["true", "false", "3"], "1000", "1.5", "maybe", *WRONG), "waypoints": UNSUPPORTED, "steps": YES_NO,
+        "overview": invalid(["simplified", "full", "false"], "by_legs", "True", "", "simplified,full", "full "),
+        "geometries": invalid(["polyline", "polyline6", "geojson"], "wkt", "polyline7", "geojson6", ""),
+        "annotations": YES_NO,
     },
-    "nearest": {"number": invalid(["1", "2", "5", "100"], "0", "101", "x")},
+    "nearest": {"number": invalid(["1", "2", "5", "100"], "0", "101", "1.0", "9999", *WRONG)},
     "table": {
-        "fallback_speed": invalid(["10", "0.5"], "0", "x"), "fallback_coordinate": invalid(["input", "snapped"], "x"),
-        "scale_factor": invalid(["2", "0.5"], "0"), "destinations": invalid(["all"], "x", "0;99"),
+        "fallback_speed": invalid(["10", "0.5"], "0", "0.0", *WRONG), "fallback_coordinate": invalid(["input", "snapped"], "x", ""),
+        "scale_factor": invalid(["2", "0.5"], "0", "0.0", *WRONG),
+        "destinations": invalid(["all"], "0;99", "all;0", "0,1", "0;", "any", *WRONG),
+        "annotations": invalid(["duration", "weight,distance"], "true", "speed", "durations", "duration,", "duration,duration", ""),
     },
     "isochrone": {
-        "polygons": YES_NO, "contours_colors": invalid(["ff0000", "00ff00,0000ff"], "red"),
-        "generalize": invalid(["0", "10"], "-1"),
-        "denoise": invalid(["0", "0.2", "1"], "2"), "reverse": coded("false", NotImplemented=["true"]),
-        "access_token": coded("x", ""), "exclude": coded("", NotImplemented=["toll"]), "unknown": {"InvalidQuery": ["1"]},
+        "polygons": YES_NO, "contours_colors": invalid(["ff0000", "00ff00,0000ff"], "red", "#ff0000", "ff000", ""),
+        "generalize": invalid(["0", "10"], "1000001", *WRONG), "denoise": invalid(["0", "0.2", "1"], "2", "1.1", *WRONG),
+        "reverse": coded("false", NotImplemented=["true"], InvalidValue=["1", ""]), "access_token": coded("x", ""),
+        "exclude": UNSUPPORTED, "depart_at": UNSUPPORTED, "unknown": {"InvalidQuery": ["1"]},
     },
+}
+# Of parameters with a word for each place.
+WORDS = {
+    "radiuses": invalid(["unlimited", "10", "50.5", "1000", "0"], "-1", "1e3", "Unlimited", "5m", *WRONG[1:9]),
+    "bearings": invalid(["360,90"], "361,5", "10,181", "10", "a,b", "5,", ",5", "-5,5", "5,5,5", "1e1,5", "n,s"),
 }
 
 
@@ -262,17 +291,17 @@ def texts_of(service: str, count: int, directions: Sequence[int], is_wrong: bool
     bearings = pairs.map(lambda pair: ("%d,%d" % pair, ""))
     known = {**(KNOWN["osrm"] if service != "isochrone" else {}), **KNOWN[service]}
     found = {name: any_of(texts) for name, texts in known.items()}
-    found["radiuses"] = of_places(any_of(invalid(["unlimited", "10", "50.5", "1000", "0"], "-1", "1e3")))
-    found["bearings"] = of_places(st.one_of(bearings, bearings, any_of(invalid(["360,90"], "361,5", "10,181", "10", "a,b"))))
+    found["radiuses"] = of_places(any_of(WORDS["radiuses"]))
+    found["bearings"] = of_places(st.one_of(bearings, bearings, any_of(WORDS["bearings"])))
     annotations = ["duration", "distance", "weight", *(ANNOTATIONS[3:] if is_wrong or service == "route" else ())]
     some = st.lists(st.sampled_from(annotations), min_size=1, max_size=4, unique=not is_wrong)
     if service == "route":
-        found["annotations"] = st.one_of(some.map(lambda words: of_words(words, ANNOTATIONS)), any_of(YES_NO))
+        found["annotations"] = st.one_of(some.map(lambda words: of_words(words, ANNOTATIONS)), found["annotations"])
         straight = coded("default", "false", *(() if count > 2 else ("true",)), NotImplemented=["true"] if count > 2 else [])
         found["continue_straight"] = any_of(straight)
     if service == "table":
         indices = st.lists(st.integers(0, count - 1).map(str), min_size=1, max_size=count)
-        found["annotations"] = some.map(lambda words: of_words(words, annotations[:3]))
+        found["annotations"] = st.one_of(some.map(lambda words: of_words(words, annotations[:3])), found["annotations"])
         places = indices.map(lambda words: (";".join(words), ""))
-        found["sources"] = st.one_of(places, any_of(invalid(["all"], "1,2", "a", "1;;2")))
+        found["sources"] = st.one_of(places, found["destinations"])
     return {name: texts for name, texts in found.items() if texts is not None}

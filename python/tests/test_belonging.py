@@ -1,5 +1,6 @@
 """Tests that what doesn't belong together is refused: a hierarchy of another network, keys of another file, pairs of another
 network, by the package, the tools and the service."""
+import contextlib
 import os
 import random
 import shutil
@@ -84,7 +85,9 @@ class HierarchyTests(ToolCase):
                     with self.subTest(changed=changed, by=by), self.assertRaisesRegex(domethyme.WrongHierarchy, FOREIGN):
                         belonging.compare(file.fileno(), "town.rch", arrays)
             with unittest.mock.patch.object(belonging, "MAX_COMPARED", 0):
-                belonging.compare(file.fileno(), "town.rch", net_file.read(str(self.folder / "town.net")))
+                with self.assertLogs("domethyme.belonging", "WARNING") as logged:
+                    belonging.compare(file.fileno(), "town.rch", net_file.read(str(self.folder / "town.net")))
+                self.assertRegex(logged.output[0], "town.rch: 5,000 of its [0-9,]+ links were compared with .*town.net: --compare-all")
                 with self.assertRaisesRegex(domethyme.WrongHierarchy, FOREIGN):
                     belonging.compare(file.fileno(), "town.rch", arrays)
                 with self.assertRaisesRegex(domethyme.WrongHierarchy, FOREIGN):
@@ -174,10 +177,12 @@ class ToolTests(ToolCase):
 
     def test_pairs_name_their_network(self):
         pairs = self.run_tool("nearest", "net", "trips.csv", "--hierarchy", "net.rch").stdout
-        self.assertEqual(pairs, "c network net: 3 nodes, 5 arcs\np aux sp p2p 1\nq 1 3\n")
+        checksum = net_file.read(str(self.folder / "net.net")).checksum
+        self.assertEqual(pairs, f"c network net: 3 nodes, 5 arcs, checksum {checksum}\np aux sp p2p 1\nq 1 3\n")
         origin = belonging.Origin.of(pairs.splitlines(True)[0].encode())
-        self.assertEqual(origin, ("net", 3, 5))
-        self.assertEqual(belonging.Origin("a\nb \udcff", 3, None).comment, "network a b \ufffd: 3 nodes")
+        self.assertEqual(origin, ("net", 3, 5, checksum))
+        self.assertEqual(belonging.Origin.of(b"c network net: 3 nodes, 5 arcs\n"), ("net", 3, 5, None))
+        self.assertEqual(belonging.Origin("a\nb \udcff", 3).comment, "network a b \ufffd: 3 nodes")
         for line in (b"c network", b"c network net: x nodes", b"c net: 3 nodes", b"q 1 2"):
             self.assertIsNone(belonging.Origin.of(line))
 
@@ -197,7 +202,28 @@ class ToolTests(ToolCase):
         self.write("nodes.csv", NODES + "d,0.003,0\n")
         self.made(ARCS)
         self.run_tool("nearest", "net", "trips.csv", "-o", "pairs")
+        (self.folder / "net.net").unlink()
         self.assert_refused("route_many", "net.rch", "pairs", "out", says="pairs: is of the network net with 4 nodes, and net.rch has 3")
+
+
+    def test_pairs_of_another_vehicle(self):
+        """Of a network with as many nodes and arcs: route_many sees it by the file that lies beside the hierarchy."""
+        self.write("slow.csv", ARCS.replace("a,b,100", "a,b,101"))
+        self.run_tool("to_network", "nodes.csv", "slow.csv", "slow")
+        for name in ("slow", "net"):
+            self.run_tool("nearest", name, "trips.csv", "-o", f"{name}.pairs")
+        says = "slow.pairs: is of the network slow, and net.net has other arcs: run `nearest` again"
+        self.assert_refused("route_many", "net.rch", "slow.pairs", "out", says=says)
+        self.run_tool("route_many", "net.rch", "net.pairs", "out")
+        shutil.copy(self.folder / "net.rch", self.folder / "alone.rch")
+        self.assert_refused("route_many", "alone.rch", "slow.pairs", "out", "--network", "net", says=says)
+
+    def test_keys_of_another_node(self):
+        """A list of keys that has a key of the network's at another node."""
+        for keys, says in ((["b", "a", "c"], "key 'b' names node 0 here, and node 1 in .*net.net"), (["x", "y", "c"], None)):
+            with contextlib.nullcontext() if says is None else self.assertRaisesRegex(ValueError, says):
+                domethyme.Hierarchy(self.folder / "net.rch", keys=keys, network=self.folder / "net").close()
+        domethyme.Hierarchy(self.folder / "net.rch", keys=["b", "a", "c"]).close()
 
 
 class ServiceTests(ServiceCase):

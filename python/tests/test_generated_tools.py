@@ -119,6 +119,10 @@ def check_between_nodes(network: Network, path: pathlib.Path, trips: list[tuple[
         length = network.lengths({pair[0]: 0}).get(pair[1])
         assert feature["properties"]["length"] == length and (feature["geometry"] is None) == (length is None)
         assert length is None or feature["properties"]["arcs"] == network.fewest_arcs(*pair)
+        if length is not None:  # (an answer that there is no path is refused)
+            (path / "no_path").write_text(f"n {pair[0] + 1} {pair[1] + 1}\n")
+            with pytest.raises(ToolError, match="says that no path leads from"):
+                run_tool("to_geojson", path / "net", path / "no_path", "-o", path / "routes")
     run_tool("table", path / "net", path / "net.rch", path / "sources.csv", path / "targets.csv", "-o", path / "t.npy")
     table = np.load(path / "t.npy")
     for (row, ((starts, _), _)), (column, (_, (ends, _))) in itertools.product(enumerate(near), enumerate(near)):

@@ -1,6 +1,5 @@
-"""OSRM's API: weights against a search in the graph that the points split, requests in many forms, and invalid requests."""
+"""OSRM's API: large tables, messages, and what is logged."""
 import json
-import urllib.parse
 
 from service_case import ServiceCase
 from tool_case import TOOLS
@@ -23,26 +22,6 @@ class OsrmCase(ServiceCase):
 
 
 class RequestTests(OsrmCase):
-    def test_shapes_of_requests(self):
-        """Forms beyond those of the eight clients of test_service_clients.py."""
-        line = self.good(f"/route/v1/car/{HIGH}?geometries=geojson&overview=full")["routes"][0]["geometry"]
-        self.assertEqual((line["coordinates"][0], line["coordinates"][-1]), ([0.0003, 0], [0.0077, 0]))
-        for path in (
-            f"/route/v1/driving/{HIGH}?overview=false&alternatives=true&steps=true&hints=;",
-            f"/route/v1/driving/{HIGH}?alternatives=false&overview=full&geometries=polyline6",
-            "/route/v1/driving/polyline(_ibE_seK_seK_seK)?generate_hints=false&radiuses=unlimited;unlimited",
-            f"/route/v1/driving/{HIGH}.json?continue_straight=true&approaches=unrestricted;&bearings=;",
-            "/route/v1/driving/0.00030000000000000003,1e-5;7.7e-3,-.00002",
-            f"/table/v1/car/{HIGH}?annotations=distance,duration&sources=0&destinations=0;1",
-            "/nearest/v1/car/0.0003,0.00001?number=3&radiuses=100",
-            f"/route/v1/car/{urllib.parse.quote(HIGH, safe='')}?skip_waypoints=true",
-        ):
-            with self.subTest(path=path):
-                self.good(path)
-        self.assertEqual(self.ask(f"/table/v1/car/{HIGH}", headers={"Connection": "Close"})[0], 200)
-        self.assertIn("Content-Length", self.headers)
-        self.assertNotIn("Access-Control-Allow-Origin", self.headers)
-
     def test_a_million_cells(self):
         places = [f"{0.00001 * number:.5f},0.00001" for number in range(1000)]
         found = self.good(f"/table/v1/car/{';'.join(places)}?skip_waypoints=true")["durations"]
@@ -56,6 +35,16 @@ class RequestTests(OsrmCase):
         status, found = self.ask(f"/table/v1/car/{HIGH};0.001,0")
         self.assertEqual((status, found["code"]), (400, "TooBig"))
         self.assertIn("5 cells (--max-table-cells)", found["message"])
+
+    def test_profiles(self):
+        """Any word, or those of --profile alone."""
+        self.serve("--network", self.folder / "v", "--profile", "car", "--profile", "driving")
+        for service, places in (("route", HIGH), ("table", HIGH), ("nearest", "0,0"), ("isochrone", "0,0")):
+            query = "?contours_minutes=1" if service == "isochrone" else ""
+            for word, status in (("car", 200), ("mapbox/driving" if query else "driving", 200), ("bike", 400)):
+                found = self.ask(f"/{service}/v1/{word}/{places}{query}")
+                self.assertEqual(found[0], status, found)
+        self.assertEqual(found[1], {"code": "InvalidValue", "message": "PROFILE has to be one of car, driving"})
 
     def test_messages(self):
         """Errors name the place, the extent of the roads, and that longitudes come first."""
@@ -72,46 +61,6 @@ class RequestTests(OsrmCase):
         self.assertIn(f"can't listen at 127.0.0.1, port {self.port}: Address already in use", said)
         said = self.run_program([*words[:-1], "0", "--network", self.folder / "none"], status=1).stderr
         self.assertIn(f"{self.folder}/none", said)
-
-    def test_requests_that_are_refused(self):
-        for path, code in [
-            ("/route/v1/car/0,0", "InvalidQuery"),
-            ("/route/v1/car/0,0;x,1", "InvalidQuery"),
-            ("/route/v1/car/0,0;nan,1", "InvalidQuery"),
-            ("/route/v1/car/0,0;1_0,1", "InvalidQuery"),
-            ("/route/v1/car/0,0;%D9%A9,1", "InvalidQuery"),
-            ("/route/v1/car/0,0;200,1", "InvalidValue"),
-            ("/route/v1/car/polyline(%00)", "InvalidQuery"),
-            ("/route/v1/car/0,0;60,1", "NoSegment"),
-            (f"/route/v1/car/{HIGH}?radiuses=0.5;0.5", "NoSegment"),
-            (f"/route/v1/car/{HIGH}?radiuses=5", "InvalidQuery"),
-            (f"/route/v1/car/{HIGH};0.020,0.005", "NoRoute"),
-            (f"/route/v1/car/{HIGH}?overview=some", "InvalidValue"),
-            (f"/route/v1/car/{HIGH}?bearings=10,20", "InvalidQuery"),
-            (f"/route/v1/car/{HIGH}?bearings=361,20;", "InvalidValue"),
-            (f"/route/v1/car/{HIGH}?bearings=0,5;0,5&radiuses=9;9", "NoSegment"),
-            (f"/route/v1/car/{HIGH}?approaches=curb;curb", "NotImplemented"),
-            (f"/route/v1/car/{HIGH}?exclude=motorway", "NotImplemented"),
-            (f"/route/v1/car/{HIGH};0,0?continue_straight=true", "NotImplemented"),
-            (f"/route/v1/car/{HIGH}?speed=3", "InvalidQuery"),
-            (f"/table/v1/car/{HIGH}?fallback_speed=0", "InvalidValue"),
-            (f"/table/v1/car/{HIGH}?scale_factor=-1", "InvalidValue"),
-            (f"/table/v1/car/{HIGH}?sources=2", "InvalidValue"),
-            (f"/table/v1/car/{HIGH}?steps=true", "InvalidQuery"),
-            ("/table/v1/car/" + ";".join(["0,0"] * 1001), "TooBig"),
-            ("/table/v1/car/" + ";".join(["0,0"] * 101) + "?annotations=duration,distance", "TooBig"),
-            (f"/route/v1/car/{HIGH}?annotations=speed,speed", "InvalidValue"),
-            (f"/route/v1/car/{HIGH}?annotations={','.join(['nodes', 'speed'] * 5000)}", "InvalidValue"),
-            (f"/table/v1/car/{HIGH}?annotations=duration,duration", "InvalidValue"),
-            ("/table/v1/car/" + ";".join(["0,0"] * 2001), "TooBig"),
-            ("/route/v1/car/" + ";".join(["0,0"] * 501), "TooBig"),
-            ("/nearest/v1/car/0,0?number=0", "InvalidValue"),
-            (f"/match/v1/car/{HIGH}", "InvalidService"),
-            (f"/route/v5/car/{HIGH}", "InvalidVersion"),
-        ]:
-            with self.subTest(path=path):
-                status, found = self.ask(path)
-                self.assertEqual((status, found["code"]), (400, code), found)
 
     def test_log_without_places(self):
         """A line for each request, without places and addresses unless --log-places."""

@@ -1,9 +1,8 @@
-"""Tests of to_geojson: a network of four nodes by hand, and all pairs of the village by routecli."""
+"""Tests of to_geojson: its forms to the byte, columns of trips, and its messages, on a network of four nodes by hand."""
 import csv
 import json
 
 from tool_case import ToolCase
-
 
 # From 2 to 3 the second arc is the lightest, and the first of two as light; 4 can't be reached.
 NODES = "node,osm,lon,lat\n1,11,0,0\n2,12,0.001,0\n3,13,0.002,0\n4,14,0.003,0\n"
@@ -18,174 +17,93 @@ from,to,weight,seconds,metres,osm,highway,name,WKT
 4,3,500,50.005,111.20,106,residential,"Mill ""Lane"" <&>","LINESTRING (0.003 0, 0.002 0)"
 """
 ANSWERS = "r 1 3 300 2 1 2 3\nr 4 2 1000 3 4 3 1 2\nn 1 4\nr 2 2 0 0 2\n"
-FORTH = {
-    "from_node": 1,
-    "to_node": 3,
-    "length": 300,
-    "arcs": 2,
-    "seconds": 30.003,
-    "metres": 231.45,
-    "steps": [{"name": "High Street", "metres": 231.45, "seconds": 30.003}],
-}
-BACK = {
-    "from_node": 4,
-    "to_node": 2,
-    "length": 1000,
-    "arcs": 3,
-    "seconds": 100.01,
-    "metres": 444.8,
-    "steps": [
-        {"name": 'Mill "Lane" <&>', "metres": 111.2, "seconds": 50.005},
-        {"name": "", "metres": 222.4, "seconds": 40.004},
-        {"name": "High Street", "metres": 111.2, "seconds": 10.001},
-    ],
-}
-NO_WAY = {
-    "from_node": 1,
-    "to_node": 4,
-    "length": None,
-    "arcs": None,
-    "seconds": None,
-    "metres": None,
-    "steps": None,
-}
-STAY = {"from_node": 2, "to_node": 2, "length": 0, "arcs": 0, "seconds": 0, "metres": 0, "steps": []}
+STREETS = [["High Street", 231.45, 30.003]], [['Mill "Lane" <&>', 111.2, 50.005], ["", 222.4, 40.004], ["High Street", 111.2, 10.001]]
+NAMES = ["from_node", "to_node", "length", "arcs", "seconds", "metres", "steps"]
+FORTH, BACK, NO_WAY, STAY = (
+    dict(zip(NAMES, [*row, steps and [dict(zip(("name", "metres", "seconds"), step)) for step in steps]])) for row, steps in (
+        ([1, 3, 300, 2, 30.003, 231.45], STREETS[0]), ([4, 2, 1000, 3, 100.01, 444.8], STREETS[1]),
+        ([1, 4, None, None, None, None], None), ([2, 2, 0, 0, 0, 0], []))
+)
 LINES = [
-    [[0, 0], [0.001, 0], [0.0015, 0.001], [0.002, 0]],
-    [[0.003, 0], [0.002, 0], [0, 0], [0.001, 0]],
-    None,
-    [[0.001, 0], [0.001, 0]],
+    [[0, 0], [0.001, 0], [0.0015, 0.001], [0.002, 0]], [[0.003, 0], [0.002, 0], [0, 0], [0.001, 0]], None, [[0.001, 0], [0.001, 0]],
 ]
-GEOMETRIES = [line and {"type": "LineString", "coordinates": line} for line in LINES]
+FEATURES = [
+    {"type": "Feature", "properties": properties, "geometry": line and {"type": "LineString", "coordinates": line}}
+    for properties, line in zip((FORTH, BACK, NO_WAY, STAY), LINES)
+]
 TRIPS = 'trip,seats\n007,"two, or three"\nsecond,\nthird,\u00e4\nfourth,1\n'
+# The second answer of two, and tables of trips of the four answers, and what is said of them.
+ANSWERS_REFUSED = [
+    ("r 1 3 301 2 1 2 3", "has the length 301, and its arcs' weights sum to 300"), ("r 1 3 400 2 1 2 3", "has the length 400"),
+    ("r 2 2 1 0 2", "has the length 1, and its arcs' weights sum to 0"), ("n 4 0", "has node 0"),
+    ("r 1 3 300 1 1 3", "leads from node 1 to node 3, where the network has no arc"),
+    ("n 1 3", "says that no path leads from node 1 to node 3, and one does: is it of another network?"),
+    ("n 4 4", "says that no path leads from node 4 to node 4"), ("r 5 5 0 0 5", "has node 5, and the network has 4 nodes"),
+    *((line, "") for line in ["", "n 1", "r 1 2", "x 1 2", "r 1 2 100 1 1 3", "r 1 2 100 2 1 2", "r 1 2 -1 1 1 2"]),
+]
+TRIPS_REFUSED = [
+    ("to_node\n3\n3\n4\n2\n", "trips.csv, row 3: has to_node '3' where the answer has 2"),
+    ("trip\na\nb\nc\n", "answers, row 4: is an answer more than trips.csv has rows"),
+    ("trip\n" + "a\n" * 5, "trips.csv, row 6: is a row more than there are answers"),
+    ("trip,trip\n" + "a,b\n" * 4, "trips.csv, row 1: has two columns trip"),
+    *((f"trip,{name}\n" + "a,b\n" * 4, f"trips.csv, row 1: column {name} has the name of") for name in [*NAMES[2:], "WKT"]),
+]
 
 
-def feature(properties, geometry):
-    return {"type": "Feature", "properties": properties, "geometry": geometry}
-
-
-class RoutesCase(ToolCase):
+class RoutesTests(ToolCase):
     def setUp(self):
         super().setUp()
-        self.write("net.nodes.csv", NODES)
-        self.write("net.arcs.csv", ARCS)
+        for name, text in (("net.nodes.csv", NODES), ("net.arcs.csv", ARCS), ("trips.csv", TRIPS), ("answers", ANSWERS)):
+            self.write(name, text)
 
     def routes_of(self, answers, *words):
         """What is printed for a text of answers."""
         return self.run_tool("to_geojson", "net", "-", *words, given=answers).stdout
 
-    def assert_answer_refused(self, answer, says):
-        """Wants a text of answers refused whose second line is the answer."""
-        answers = self.write("answers", f"r 1 2 100 1 1 2\n{answer}\n")
-        self.assert_refused("to_geojson", "net", answers, "-o", "routes", says=f"answers, row 2: {says}")
-
-    def assert_trips_refused(self, trips, says):
-        """Wants a table of trips of the four answers refused."""
-        self.write("answers", ANSWERS)
-        self.write("trips.csv", trips)
-        self.assert_refused("to_geojson", "net", "answers", "--trips", "trips.csv", "-o", "routes", says=says)
-
-
-class Features(RoutesCase):
-    def test_collection(self):
-        features = list(map(feature, [FORTH, BACK, NO_WAY, STAY], GEOMETRIES))
+    def test_forms(self):
         text = self.routes_of(ANSWERS)
-        self.assertEqual(json.loads(text), {"type": "FeatureCollection", "features": features})
-        self.assertEqual([json.loads(line.rstrip(",")) for line in text.splitlines()[1:-1]], features)
-
-    def test_no_answers(self):
-        for form in ("collection", "lines", "csv"):
-            words = ("net", "-", "--format", form, "-o", "routes")
-            self.assert_refused("to_geojson", *words, given="", says="to_geojson: standard input: has no answer")
-
-    def test_lines(self):
-        lines = self.routes_of(ANSWERS, "--format", "lines").splitlines()
-        self.assertEqual(list(map(json.loads, lines)), list(map(feature, [FORTH, BACK, NO_WAY, STAY], GEOMETRIES)))
-
-    def test_without_steps(self):
+        self.assertEqual(json.loads(text), {"type": "FeatureCollection", "features": FEATURES})
+        self.assertEqual([json.loads(line.rstrip(",")) for line in text.splitlines()[1:-1]], FEATURES)
+        self.assertEqual([*map(json.loads, self.routes_of(ANSWERS, "--format", "lines").splitlines())], FEATURES)
         found = json.loads(self.routes_of("r 1 3 300 2 1 2 3\n", "--no-steps", "--format", "lines"))
-        self.assertEqual(found["properties"], {name: FORTH[name] for name in FORTH if name != "steps"})
+        self.assertEqual(found["properties"], {name: FORTH[name] for name in NAMES[:-1]})
+        wanted = "from_node,to_node,length,arcs,seconds,metres,WKT\n1,3,300,2,30.003,231.45,"
+        wanted += '"LINESTRING (0.0000000 0.0000000, 0.0010000 0.0000000, 0.0015000 0.0010000, 0.0020000 0.0000000)"\n1,4,,,,,\n'
+        self.assertEqual(self.routes_of("r 1 3 300 2 1 2 3\nn 1 4\n", "--format", "csv"), wanted)
 
-    def test_csv(self):
-        self.assertEqual(
-            self.routes_of("r 1 3 300 2 1 2 3\nn 1 4\n", "--format", "csv"),
-            "from_node,to_node,length,arcs,seconds,metres,WKT\n"
-            '1,3,300,2,30.003,231.45,"LINESTRING (0.0000000 0.0000000, 0.0010000 0.0000000, '
-            '0.0015000 0.0010000, 0.0020000 0.0000000)"\n'
-            "1,4,,,,,\n",
-        )
-
-
-class Trips(RoutesCase):
-    def test_columns_are_kept(self):
-        self.write("trips.csv", TRIPS)
+    def test_columns_of_trips(self):
         lines = self.routes_of(ANSWERS, "--trips", "trips.csv", "--format", "lines").splitlines()
         first, third = json.loads(lines[0])["properties"], json.loads(lines[2])["properties"]
         self.assertEqual(list(first.items())[:3], [("trip", "007"), ("seats", "two, or three"), ("from_node", 1)])
         self.assertEqual(third, {"trip": "third", "seats": "\u00e4", **NO_WAY})
-
-    def test_columns_in_csv(self):
-        self.write("trips.csv", TRIPS)
-        text = self.routes_of(ANSWERS, "--trips", "trips.csv", "--format", "csv")
-        rows = list(csv.reader(text.splitlines()))
-        self.assertEqual(rows[0], ["trip", "seats", "from_node", "to_node", *"length arcs seconds metres WKT".split()])
-        self.assertEqual(rows[1][:4], ["007", "two, or three", "1", "3"])
-        self.assertEqual(rows[3], ["third", "\u00e4", "1", "4", "", "", "", "", ""])
-
-    def test_snapped(self):
+        rows = list(csv.reader(self.routes_of(ANSWERS, "--trips", "trips.csv", "--format", "csv").splitlines()))
+        self.assertEqual(rows[0], ["trip", "seats", *NAMES[:-1], "WKT"])
+        self.assertEqual((rows[1][:4], rows[3]), (["007", "two, or three", "1", "3"], ["third", "\u00e4", "1", "4", *[""] * 5]))
         self.write("snapped.csv", "from_node,trip,to_node,to_metres\n1,a,3,2.5\n")
-        words = ["--trips", "snapped.csv", "--format", "lines"]
-        found = json.loads(self.routes_of("r 1 3 300 2 1 2 3\n", *words))["properties"]
+        found = json.loads(self.routes_of("r 1 3 300 2 1 2 3\n", "--trips", "snapped.csv", "--format", "lines"))["properties"]
         self.assertEqual(found, {"trip": "a", "to_metres": "2.5", **FORTH})
 
-    def test_of_other_pairs(self):
-        trips = "to_node\n3\n3\n4\n2\n"
-        self.assert_trips_refused(trips, "trips.csv, row 3: has to_node '3' where the answer has 2")
-
-    def test_other_number(self):
-        self.assert_trips_refused("trip\na\nb\nc\n", "answers, row 4: is an answer more than trips.csv has rows")
-        self.assert_trips_refused("trip\n" + "a\n" * 5, "trips.csv, row 6: is a row more than there are answers")
-
-    def test_names_of_properties(self):
-        for name in ["length", "arcs", "seconds", "metres", "steps", "WKT"]:
-            self.assert_trips_refused(f"trip,{name}\n" + "a,b\n" * 4, f"trips.csv, row 1: column {name} has the name of")
-        self.assert_trips_refused("trip,trip\n" + "a,b\n" * 4, "trips.csv, row 1: has two columns trip")
-
-    def test_no_table(self):
-        self.write("answers", ANSWERS)
-        self.assert_refused("to_geojson", "net", "answers", "--trips", "none", says="none: No such file")
-
-
-class BadInput(RoutesCase):
-    def test_other_length(self):
-        self.assert_answer_refused("r 1 3 301 2 1 2 3", "has the length 301, and its arcs' weights sum to 300")
-        self.assert_answer_refused("r 1 3 400 2 1 2 3", "has the length 400")
-        self.assert_answer_refused("r 2 2 1 0 2", "has the length 1, and its arcs' weights sum to 0")
-
-    def test_no_arc(self):
-        self.assert_answer_refused("r 1 3 300 1 1 3", "leads from node 1 to node 3, where the network has no arc")
-
-    def test_no_node(self):
-        self.assert_answer_refused("r 5 5 0 0 5", "has node 5, and the network has 4 nodes")
-        self.assert_answer_refused("n 4 0", "has node 0")
-
-    def test_no_answer(self):
-        for line in ["", "n 1", "r 1 2", "x 1 2", "r 1 2 100 1 1 3", "r 1 2 100 2 1 2", "r 1 2 -1 1 1 2"]:
-            self.assert_answer_refused(line, "")
-
-    def test_network(self):
+    def test_refusals(self):
+        """A file that is there stays."""
+        self.write("routes", "as it was\n")
+        words = ("net", "answers", "-o", "routes")
+        for trips, says in TRIPS_REFUSED:
+            self.write("trips.csv", trips)
+            self.assert_refused("to_geojson", *words, "--trips", "trips.csv", says=says)
+        self.assert_refused("to_geojson", *words, "--trips", "none", says="none: No such file")
+        for answer, says in ANSWERS_REFUSED:
+            self.write("answers", f"r 1 2 100 1 1 2\n{answer}\n")
+            self.assert_refused("to_geojson", *words, says=f"answers, row 2: {says}")
+        for form in ("collection", "lines", "csv"):
+            says = "to_geojson: standard input: has no answer"
+            self.assert_refused("to_geojson", "net", "-", "--format", form, "-o", "routes", given="", says=says)
         self.write("answers", "r 1 2 100 1 1 2\n")
         self.write("net.arcs.csv", ARCS.replace("(0.001 0, 0 0)", "(0.001 0)"))
-        self.write("back", "r 2 1 100 1 2 1\n")
         says = "net.arcs.csv, row 3: WKT 'LINESTRING (0.001 0)' is no line"
-        self.assert_refused("to_geojson", "net", "back", "-o", "routes", says=says)
+        self.assert_refused("to_geojson", "net", self.write("back", "r 2 1 100 1 2 1\n"), "-o", "routes", says=says)
         self.write("net.arcs.csv", ARCS.replace("1,2,100", "1,2,light"))
         self.assert_refused("to_geojson", "net", "answers", says="net.arcs.csv, row 2: weight 'light'")
         self.assert_refused("to_geojson", "nowhere", "answers", says="nowhere.net: No such file")
-
-    def test_old_file_stays(self):
-        self.write("routes", "as it was\n")
-        self.assert_answer_refused("r 1 3 400 2 1 2 3", "has the length 400")
 
     def test_words(self):
         for words in [[], ["net"], ["net", "-", "--format", "picture"]]:

@@ -183,6 +183,11 @@ class Column:
     def __array__(self, dtype: Any = None) -> NDArray[Any]:
         return np.asarray(self[:], dtype)
 
+    @property
+    def checksum(self) -> int:
+        """A checksum of all values: that of those of the blocks."""
+        return zlib.crc32(self._sums.tobytes())
+
     def forget(self) -> None:
         """Has all blocks verified anew."""
         self._verified[:], self._all_verified = False, not len(self._sums)

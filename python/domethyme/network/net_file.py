@@ -423,6 +423,12 @@ class MappedNetwork:
         parts = range(0, len(self.arc_seconds), SECONDS_AT_A_TIME)
         return any(bool(self.arc_seconds[begin : begin + SECONDS_AT_A_TIME].any()) for begin in parts)
 
+    @property
+    def checksum(self) -> str:
+        """Eight digits that change with the ends and the weights of arcs."""
+        sums = [column.checksum for column in (self.arc_from, self.arc_to, self.arc_weight)]
+        return f"{zlib.crc32(np.array(sums, '<u4').tobytes()):08x}"
+
     def key(self, node: int) -> str | None:
         """The key of a node, counted from 1; None where nodes have none."""
         return self.texts[int(self.node_texts[node - 1])] if self.has_keys else None

@@ -179,6 +179,11 @@ class Network:
         else:
             belonging.need_nodes(name, Links.of(file, name).nodes, self.prefix, len(self.node_index.lon))
 
+    def check_keys(self, keys: Keys | None) -> None:
+        """Raises ValueError where a key is that of another node in the network's file."""
+        if keys is not None and self._has_arcs and self._arrays.has_keys:
+            keys.need_same(self.keys(), self._arrays.path)
+
     @functools.cached_property
     def _has_arcs(self) -> bool:
         return os.path.exists(arcs_file(self.prefix)) or os.path.exists(self._files.binary)

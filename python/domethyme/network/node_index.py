@@ -24,7 +24,9 @@ class NodeIndex:
 
     def origin(self, name: str) -> belonging.Origin:
         """What pairs of these nodes say of their network, whose name is given."""
-        return belonging.Origin(name, len(self.lon), len(self._arrays.arc_from) if self._has_arcs else None)
+        if not self._has_arcs:
+            return belonging.Origin(name, len(self.lon))
+        return belonging.Origin(name, len(self.lon), len(self._arrays.arc_from), self._arrays.checksum)
 
     def keys(self) -> Sequence[str]:
         return self._arrays.keys()
