@@ -79,19 +79,6 @@ def lengths(net, starts, towards=False):
     return np.where(np.isinf(found), -1, np.nan_to_num(found, posinf=0) // scale).astype(np.int64)
 
 
-def starts_at(net, place, towards=False):
-    """The nodes that a place on a road leads to, or that lead to it, with the weight between."""
-    found = {}
-    begin, end = net.edge_first[place.edge : place.edge + 2].tolist()
-    for arc in net.edge_arcs[begin:end].tolist():
-        share = place.fraction if net.arc_along[arc] else 1 - place.fraction
-        weight = int(net.arc_weight[arc])
-        before = round(share * weight)
-        node, added = (net.arc_from[arc], before) if towards else (net.arc_to[arc], weight - before)
-        found[int(node) - 1] = min(added, found.get(int(node) - 1, added))
-    return found
-
-
 SIDE, STEP, WEST, SOUTH = 24, 90.0, 9.0, 47.0
 # The nodes of the town that tests speak of, put there by `town`.
 ISLAND, APART = "island", "apart"

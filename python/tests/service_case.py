@@ -1,6 +1,5 @@
 """The village's service for tests: started and ended, and requests to it."""
 import contextlib
-import heapq
 import http.client
 import json
 import os
@@ -199,19 +198,3 @@ def read_rest(stream, lines):
 def end(process):
     process.kill()
     process.wait()
-
-
-def lengths_from(arcs, source):
-    """The lengths {node: length} of shortest paths from a node over arcs (from, to, weight), by Dijkstra's algorithm."""
-    after = {}
-    for start, stop, weight in arcs:
-        after.setdefault(start, []).append((stop, weight))
-    found, heap = {}, [(0, repr(source), source)]
-    while heap:
-        length, _, node = heapq.heappop(heap)
-        if node in found:
-            continue
-        found[node] = length
-        for stop, weight in after.get(node, []):
-            heapq.heappush(heap, (length + weight, repr(stop), stop))
-    return found

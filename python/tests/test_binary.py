@@ -9,13 +9,11 @@ import unittest.mock
 import zlib
 
 import numpy as np
-from test_turns import crossing
-from tool_case import PYTHON, ROOT, VILLAGE, ToolCase, lightest
+from tool_case import PYTHON, ROOT, VILLAGE, ToolCase
 
 import domethyme
 from domethyme.network import column_file, net_file
 from domethyme.network.snapping import RoadIndex
-from domethyme.network.tables import read_arcs
 from domethyme_service.tiles import Tiles
 
 # Two nodes, a road both ways and one that is straight on.
@@ -59,43 +57,23 @@ def answers(prefix):
 
 
 class SameTests(BinaryCase):
-    def turns(self):
-        """A network with a junction that a turn restriction splits."""
-        self.write("map.osm", crossing((2, 3, {"restriction": "no_left_turn"})))
-        self.run_tool("osm_to_gr", "map.osm", "t", "--keep-islands", "--tables")
-        return str(self.folder / "t")
-
-    def test_the_package_reads_it(self):
+    def test_the_file_and_the_tables(self):
+        """Both have the same arrays, and a route along each arc is the same by both, and by the file alone."""
+        before = net_file.arrays_from_tables(self.prefix)
         for name in ("nodes.csv", "arcs.csv"):
-            shutil.copy(f"{self.prefix}.{name}", self.folder / f"copy.{name}")
+            (self.folder / f"v.{name}").rename(self.folder / f"copy.{name}")
+        self.assert_same(net_file.load_network(self.prefix), before)
         network, tables = domethyme.Network(self.prefix), domethyme.Network(self.folder / "copy")
         self.assertEqual([net_file.is_current(each.prefix) for each in (network, tables)], [True, False])
-        weights = {ends: arc.weight for ends, arc in lightest(read_arcs(f"{self.prefix}.arcs.csv")).items()}
-        for (start, end), weight in weights.items():
-            found = [
-                domethyme.Route(start - 1, end - 1, weight, [], [start - 1, end - 1]).geojson(each)
-                for each in (network, tables)
-            ]
-            self.assertEqual(found[0], found[1])
+        frame = network.arcs_frame()
+        for (start, end), weight in frame.groupby(["from", "to"])["weight"].min().items():
+            route = domethyme.Route(start, end, weight, [], [start, end])
+            self.assertEqual(route.geojson(network), route.geojson(tables))
         for each in (network, tables):
             with self.assertRaisesRegex(domethyme.NetworkError, "has no arc from node 0 to node 37"):
                 each.line([0, 37])
-        self.assertEqual((network.lon.tolist(), network.lat.tolist()), (tables.lon.tolist(), tables.lat.tolist()))
-
-    def test_without_tables(self):
-        before, network = net_file.arrays_from_tables(self.prefix), domethyme.Network(self.prefix)
-        keys, nodes, arcs = network.keys(), network.nodes_frame(), network.arcs_frame()
-        for name in ("nodes.csv", "arcs.csv"):
-            (self.folder / f"v.{name}").unlink()
-        self.assert_same(net_file.load_network(self.prefix), before)
-        network = domethyme.Network(self.prefix)
-        self.assertEqual((network.keys().node(1), len(network.keys())), (keys.node(1), len(keys)))
-        frame = network.nodes_frame()
-        self.assertEqual(
-            (frame["osm"].fillna(0).tolist(), frame["lon"].tolist()),
-            (nodes["osm"].fillna(0).tolist(), nodes["lon"].tolist()),
-        )
-        self.assertEqual(network.arcs_frame().astype(str).values.tolist(), arcs.astype(str).values.tolist())
+        self.assertEqual(frame.astype(str).values.tolist(), tables.arcs_frame().astype(str).values.tolist())
+        self.assertEqual(network.nodes_frame().astype(str).values.tolist(), tables.nodes_frame().astype(str).values.tolist())
 
 
 class OtherTests(BinaryCase):
@@ -252,14 +230,13 @@ class SmallTests(BinaryCase):
             ("arc_from", lambda old: old + 100), ("arc_to", lambda old: old * 0), ("node_ends", lambda old: old + 4),
             ("edge_begin", lambda old: old[::-1]), ("edge_begin", lambda old: old[:-1]), ("points", lambda old: old[:-1]),
             ("points", lambda old: old + 2_000_000_000), ("arc_row", lambda old: old + 7),
-            ("row_texts", lambda old: old - 2),
-            ("arc_weight", lambda old: old - 10**9), ("arc_metres", lambda old: old * np.nan),
-            ("text_begin", lambda old: old[:0]),
+            ("row_texts", lambda old: old - 2), ("arc_weight", lambda old: old - 10**9),
+            ("arc_metres", lambda old: old * np.nan), ("text_begin", lambda old: old[:0]),
             ("node_lon", lambda old: old[:-1]), ("arc_edge", lambda old: old + 9), ("about", lambda old: old[:-1]),
             ("about", lambda old: old * 0), ("out_arcs", lambda old: old + 3), ("out_begin", lambda old: old[::-1]),
             ("edge_things", lambda old: old + 9), ("node_cells", lambda old: old[::-1]),
-            ("step_edges", lambda old: old - 5),
-            ("step_points", lambda old: old + 9), ("degrees", lambda old: old[:-1]), ("edge_keys", lambda old: old[:-1]),
+            ("step_edges", lambda old: old - 5), ("step_points", lambda old: old + 9), ("degrees", lambda old: old[:-1]),
+            ("edge_keys", lambda old: old[:-1])
         ]:
             with open(self.path, "wb") as file:
                 column_file.write(

@@ -30,71 +30,48 @@ class ColumnTests(ToolCase):
         said = self.run_tool("to_network", "nodes.csv", "arcs.csv", "net", *words).stderr
         return said, read_graph(self.folder / "net.gr")
 
-    def refused(self, says, nodes=NODES, arcs=ARCS):
-        self.write("nodes.csv", nodes)
-        self.write("arcs.csv", arcs)
-        self.assert_refused("to_network", "nodes.csv", "arcs.csv", "other", says=says)
-
-    def test_what_is_doubted(self):
-        said, _ = self.made(
-            arcs="from,to,metres,kmh\ndepot,shop,0.8,50\nshop,depot,112,50\nshop,farm,111,30\nfarm,shop,222.3,500000\n"
-        )
-        self.assertIn("to_network: arcs.csv: metres of 2 arcs are less than the straight line: are they km?\n", said)
-        self.assertIn("to_network: arcs.csv: 1 arcs are faster than 400 km/h", said)
-        self.assertIn(
-            "to_network: arcs.csv: 1 arcs take 0 seconds, and weigh 1\n",
-            self.made(arcs="from,to,seconds\ndepot,shop,0\n")[0],
-        )
-        self.assertEqual(self.made()[0].count("\n"), 1)
-
-    def test_columns_that_are_not_used(self):
-        said, _ = self.made(NODES.replace("node,lon,lat", "node,lon,lat").replace("\n", ",x\n"), ARCS)
-        self.assertIn("to_network: nodes.csv: columns not used: x\n", said)
-        said, _ = self.made(arcs="from,to,kmh,one_way,speed,kmhh\ndepot,shop,50,1,2,3\n")
-        self.assertIn("to_network: arcs.csv: columns not used: one_way (did you mean oneway?), speed, kmhh\n", said)
-
-    def test_common_names_and_other_letters(self):
+    def test_what_is_said(self):
+        """What is doubted, columns that aren't used, and common names and other letters, which are taken as they are meant."""
         wanted = self.made()[1]
-        said, graph = self.made(
-            "ID,Latitude,lng\ndepot,0,0\nshop,0,0.001\nfarm,0.002,0.001\n", ARCS.replace("from,to,kmh", "source,To_ID,KMH")
-        )
-        self.assertEqual(graph, wanted)
-        for line in (
-            "nodes.csv: column ID is taken as node",
-            "nodes.csv: column lng is taken as lon",
-            "arcs.csv: column source is taken as from",
-        ):
-            self.assertIn(f"to_network: {line}\n", said)
-        self.assertEqual(self.made(NODES.replace("lon,lat", "x,y"))[1], wanted)
-        self.assertEqual(self.made(NODES.replace("lon,lat", "LON,Lat"))[0].count("\n"), 1)
-        self.refused(
-            "nodes.csv, row 1: has the columns lon and Lon, of which each may be lon: rename one", "lon,Lon,lat\n0,0,0\n"
-        )
-        self.refused("nodes.csv, row 1: has the columns lng and x, of which each may be lon", "lng,x,lat\n0,0,0\n")
+        doubted = "from,to,metres,kmh\ndepot,shop,0.8,50\nshop,depot,112,50\nshop,farm,111,30\nfarm,shop,222.3,500000\n"
+        other = "ID,Latitude,lng\ndepot,0,0\nshop,0,0.001\nfarm,0.002,0.001\n", ARCS.replace("from,to,kmh", "source,To_ID,KMH")
+        for nodes, arcs, lines, is_same in [
+            (NODES, ARCS, (), True), (NODES.replace("lon,lat", "LON,Lat"), ARCS, (), True), (NODES.replace("lon,lat", "x,y"), ARCS, None, True),
+            (NODES, doubted, ("arcs.csv: metres of 2 arcs are less than the straight line: are they km?",
+                              "arcs.csv: 1 arcs are faster than 400 km/h"), False),
+            (NODES, "from,to,seconds\ndepot,shop,0\n", ("arcs.csv: 1 arcs take 0 seconds, and weigh 1\n",), False),
+            (NODES.replace("\n", ",x\n"), ARCS, ("nodes.csv: columns not used: x\n",), True),
+            (NODES, "from,to,kmh,one_way,speed,kmhh\ndepot,shop,50,1,2,3\n",
+             ("arcs.csv: columns not used: one_way (did you mean oneway?), speed, kmhh\n",), False),
+            (*other, [f"{name} is taken as {word}\n" for name, word in (
+                ("nodes.csv: column ID", "node"), ("nodes.csv: column lng", "lon"), ("arcs.csv: column source", "from"))], True),
+        ]:
+            said, graph = self.made(nodes, arcs)
+            with self.subTest(lines=lines):
+                self.assertTrue(all(f"to_network: {line}" in said for line in lines or ()), said)
+                self.assertTrue(lines != () or said.count("\n") == 1, said)
+                self.assertEqual(graph == wanted, is_same)
 
     def test_columns_that_are_missing(self):
-        self.refused("nodes.csv, row 1: has no columns lon, lat; its columns are node, place", "node,place\na,b\n")
-        self.refused("arcs.csv, row 1: has no columns from, to; its columns are a, b", arcs="a,b\n1,2\n")
-        self.refused(
-            "nodes.csv, row 1: has no columns lon, lat; its columns are node;lon;lat: fields have to be separated by commas",
-            "node;lon;lat\n",
-        )
-        self.refused("nodes.csv: is empty", "")
-        self.refused("arcs.csv: is empty", arcs="")
-        self.refused(
-            "arcs.csv, row 2: from 'depot' is no number, and nodes.csv has no column node, so its nodes are numbered by rows; "
-            "its columns are lon, lat",
-            "lon,lat\n0,0\n0.001,0\n",
-        )
+        for nodes, arcs, says in [
+            ("lon,Lon,lat\n0,0,0\n", ARCS, "nodes.csv, row 1: has the columns lon and Lon, of which each may be lon: rename one"),
+            ("lng,x,lat\n0,0,0\n", ARCS, "nodes.csv, row 1: has the columns lng and x, of which each may be lon"),
+            ("node,place\na,b\n", ARCS, "nodes.csv, row 1: has no columns lon, lat; its columns are node, place"),
+            (NODES, "a,b\n1,2\n", "arcs.csv, row 1: has no columns from, to; its columns are a, b"),
+            ("node;lon;lat\n", ARCS,
+             "nodes.csv, row 1: has no columns lon, lat; its columns are node;lon;lat: fields have to be separated by commas"),
+            ("", ARCS, "nodes.csv: is empty"), (NODES, "", "arcs.csv: is empty"),
+            ("lon,lat\n0,0\n0.001,0\n", ARCS, "arcs.csv, row 2: from 'depot' is no number, and nodes.csv has no column node, so its "
+             "nodes are numbered by rows; its columns are lon, lat"),
+        ]:
+            self.write("nodes.csv", nodes)
+            self.write("arcs.csv", arcs)
+            with self.subTest(says=says):
+                self.assert_refused("to_network", "nodes.csv", "arcs.csv", "other", says=says)
         self.write("trips.csv", "from_lon,From_Lat,to_lon\n")
         self.made()
-        self.assert_refused(
-            "nearest",
-            "net",
-            "trips.csv",
-            says="has no columns from_lat, to_lat; its columns are from_lon, From_Lat, to_lon: "
-            "is it From_Lat for from_lat, From_Lat for to_lat?",
-        )
+        says = "has no columns from_lat, to_lat; its columns are from_lon, From_Lat, to_lon: is it From_Lat for from_lat, From_Lat for to_lat?"
+        self.assert_refused("nearest", "net", "trips.csv", says=says)
 
     def test_keys_come_back(self):
         """In the package, in the tables and answers of the tools, and in tables that are written."""
@@ -125,14 +102,8 @@ class ColumnTests(ToolCase):
             self.assertEqual((table["from_key"], table["to_key"]), ("depot", "farm"))
         self.write("wrong.csv", (self.folder / "snapped.csv").read_text().replace("depot", "shop"))
         self.assert_refused(
-            "to_geojson",
-            "net",
-            "answers",
-            "--trips",
-            "wrong.csv",
-            "-o",
-            "out",
-            says="has from_key 'shop' where the answer has depot",
+            "to_geojson", "net", "answers", "--trips", "wrong.csv", "-o", "out",
+            says="has from_key 'shop' where the answer has depot"
         )
         self.run_tool("to_network", "nodes.csv", "arcs.csv", "tables", "--tables")
         self.assertEqual(

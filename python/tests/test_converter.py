@@ -46,7 +46,8 @@ class ProgramCase(ToolCase):
         """Has g++ build this script."""
         self.write("program", program)
         for name in ("sh", "cp", "chmod", "sleep", "cat"):
-            (self.programs / name).symlink_to(shutil.which(name))
+            if not (self.programs / name).exists():
+                (self.programs / name).symlink_to(shutil.which(name))
         self.put("g++", BUILT)
 
     def outputs(self):
@@ -95,20 +96,16 @@ class BuildTests(ProgramCase):
 
 class FailureTests(ProgramCase):
     def test_what_the_program_reports(self):
-        self.put_compiler("#!/bin/sh\necho 'way_osm: Permission denied' >&2\nexit 2\n")
-        self.refused("osm_to_gr: way_osm: Permission denied\n")
-
-    def test_a_full_disk_names_the_files(self):
-        self.put_compiler("#!/bin/sh\necho 'way_osm: No space left on device' >&2\nexit 2\n")
-        self.refused("osm_to_gr: out.gr, out.", ": No space left on device\n")
-
-    def test_no_memory(self):
-        self.put_compiler("#!/bin/sh\nexit 3\n")
-        self.refused("osm_to_gr: there isn't enough memory\n")
-
-    def test_one_that_is_killed(self):
-        self.put_compiler("#!/bin/sh\nkill -9 $$\n")
-        self.refused("osm_to_gr: the converter's ways ended with status -9\n")
+        """Its own error, a full disk, which names the files, no memory, and a signal."""
+        for lines, *says in (
+            ("echo 'way_osm: Permission denied' >&2\nexit 2", "osm_to_gr: way_osm: Permission denied\n"),
+            ("echo 'way_osm: No space left on device' >&2\nexit 2", "osm_to_gr: out.gr, out.", ": No space left on device\n"),
+            ("exit 3", "osm_to_gr: there isn't enough memory\n"),
+            ("kill -9 $$", "osm_to_gr: the converter's ways ended with status -9\n"),
+        ):
+            self.put_compiler(f"#!/bin/sh\n{lines}\n")
+            self.refused(*says)
+            shutil.rmtree(self.copy / "domethyme_tools/converter/built")
 
     def test_signals_leave_nothing(self):
         # (a pipe has no room for all of this, so the tool is reading when there is a pid)
@@ -133,20 +130,15 @@ class FailureTests(ProgramCase):
 
 class FileTests(ToolCase):
     def test_without_tables(self):
+        """The same graph, nodes and arcs; tables of another network are removed."""
         self.run_tool("osm_to_gr", VILLAGE, "v", "--tables")
-        tables = {path.name for path in self.folder.iterdir()}
-        nodes, arcs = read_nodes(self.folder / "v.nodes.csv"), list(read_arcs(self.folder / "v.arcs.csv"))
         self.run_tool("osm_to_gr", VILLAGE, "w")
-        whole = {path.name for path in self.folder.iterdir()} - tables
-        self.assertEqual(len(whole), 2)
-        self.assertEqual(read_graph(self.folder / "v.gr"), read_graph(self.folder / "w.gr"))
-        self.assertEqual(read_nodes(self.folder / "w.nodes.csv"), nodes)
-        self.assertEqual(len(arcs), len(read_graph(self.folder / "w.gr").starts))
-
-    def test_tables_of_another_network_are_removed(self):
-        self.run_tool("osm_to_gr", VILLAGE, "v", "--tables")
+        self.assertEqual(len(list(self.folder.glob("w.*"))), 2)
+        graph, nodes = read_graph(self.folder / "v.gr"), read_nodes(self.folder / "v.nodes.csv")
+        self.assertEqual((read_graph(self.folder / "w.gr"), read_nodes(self.folder / "w.nodes.csv")), (graph, nodes))
+        self.assertEqual(len(list(read_arcs(self.folder / "v.arcs.csv"))), len(graph.starts))
         self.run_tool("osm_to_gr", VILLAGE, "v", "--keep-islands")
-        self.assertEqual(len(list(self.folder.iterdir())), 2)
+        self.assertEqual(len(list(self.folder.glob("v.*"))), 2)
         self.assertEqual(len(read_nodes(self.folder / "v.nodes.csv").osm), read_graph(self.folder / "v.gr").nodes)
 
 

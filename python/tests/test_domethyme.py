@@ -3,14 +3,13 @@ import re
 import subprocess
 import sys
 import typing
-import unittest.mock
 
 import numpy as np
 import pandas as pd
 from tool_case import PYTHON, ROOT, ToolCase
 
 import domethyme
-from domethyme import batch, find_program
+from domethyme import find_program
 
 # Four nodes: two ways from 0 to 2, of 3 + 4 = 7 and of 9; back from 2 to 0 by 5; node 3 leads to 0 by 6, and nothing to it.
 SQUARE = ([0, 1, 0, 2, 3], [1, 2, 2, 0, 0], [3, 4, 9, 5, 6])
@@ -36,24 +35,6 @@ class DomethymeTests(ToolCase):
         self.assertEqual((self.folder / "square.gr").read_text(), "p sp 7 2\na 1 2 4294967295\na 2 1 0\n")
         domethyme.write_graph(self.folder / "square.gr", [], [], [])
         self.assertEqual((self.folder / "square.gr").read_text(), "p sp 0 0\n")
-
-    def test_lengths_beyond_32_bits(self):
-        hierarchy = self.prepared("line", [0, 1, 2], [1, 2, 3], [4294967295] * 3)
-        routes = hierarchy.routes([[0, 3]])
-        self.assertEqual(routes.lengths.tolist(), [12884901885])
-        self.assertEqual(routes[0].tolist(), [0, 1, 2, 3])
-        self.assertEqual(hierarchy.matrix([0, 3]).tolist(), [[0, 12884901885], [-1, 0]])
-        self.assertEqual(hierarchy.between({0: 4294967295}, {3: 4294967295}).length, 5 * 4294967295)
-
-    def test_answers_in_many_blocks(self):
-        lengths = [[0, 3, 7, -1], [9, 0, 4, -1], [5, 8, 0, -1], [6, 9, 13, 0]]
-        hierarchy, pairs = self.square(), [[row // 4 % 4, row % 4] for row in range(1000)]
-        for size in [3, 64, 1000]:
-            with self.subTest(size=size), unittest.mock.patch.object(batch, "CHUNK_SIZE", size):
-                routes = hierarchy.routes(pairs)
-                self.assertEqual(routes.lengths.tolist(), [lengths[start][end] for start, end in pairs])
-                for row in range(14, 1000, 16):
-                    self.assertEqual(routes[row].tolist(), [3, 0, 1, 2])
 
     def test_all_options_of_prepare(self):
         options = {"order": "edges", "workers": 1, "seed": 7, "switch_order_after": 2}
@@ -111,11 +92,9 @@ print(domethyme.Hierarchy("--help").length(0, 2))
             (([0], [1], [-1]), "weights have to be from 0 to 4294967295, and are from -1 to -1"),
             (([0], [1], [4294967296]), "weights have to be from 0"),
             (([0], [-1], [1]), "to_nodes have to be from 0 to 33554431, and are from -1 to -1"),
-            (([0], [2**63], [1]), "to_nodes have to be from 0"),
-            (([1 << 25], [1], [1]), "from_nodes have to be from 0"),
-            (([0], [1, 2], [1]), "as long as one another"),
-            (([[0]], [[1]], [[1]]), "of one dimension"),
-            (([0], [1], ["x"]), "weights have to be whole numbers"),
+            (([0], [2**63], [1]), "to_nodes have to be from 0"), (([1 << 25], [1], [1]), "from_nodes have to be from 0"),
+            (([0], [1, 2], [1]), "as long as one another"), (([[0]], [[1]], [[1]]), "of one dimension"),
+            (([0], [1], ["x"]), "weights have to be whole numbers")
         ]:
             with self.subTest(says=says), self.assertRaisesRegex(ValueError, says):
                 domethyme.write_graph(graph, *wrong)
@@ -124,11 +103,9 @@ print(domethyme.Hierarchy("--help").length(0, 2))
         self.assertEqual(self.contents(), {})
         hierarchy = self.square()
         for wrong, says in [
-            ([[0, 1, 2]], "rows of two nodes"),
-            ([0, 1], "rows of two nodes"),
-            ([[0.5, 1]], "whole numbers"),
+            ([[0, 1, 2]], "rows of two nodes"), ([0, 1], "rows of two nodes"), ([[0.5, 1]], "whole numbers"),
             ([[0, -1]], "from 0"),
-            ([[0, 1], [2, 3], [3, 4]], r"row 2 of the pairs, \[3, 4\], has a node that the hierarchy lacks"),
+            ([[0, 1], [2, 3], [3, 4]], r"row 2 of the pairs, \[3, 4\], has a node that the hierarchy lacks")
         ]:
             with self.subTest(says=says), self.assertRaisesRegex(ValueError, says):
                 hierarchy.routes(wrong)
@@ -166,39 +143,21 @@ print(domethyme.Hierarchy("--help").length(0, 2))
         self.assertEqual(caught.exception.status, 4)
         self.assertEqual((hierarchy.nodes, hierarchy.links), (4, (len(whole) - 24 - 16) // 24))
 
-    def test_one_question_at_a_time(self):
+    def test_ends_that_cannot_be_meant(self):
         hierarchy = self.square()
-        self.assertEqual([hierarchy.length(0, end) for end in range(4)], [0, 3, 7, None])
-        route = hierarchy.route(np.int64(3), 2)
-        self.assertEqual((route.source, route.target, route.length, route.nodes, route.arcs), (3, 2, 13, [3, 0, 1, 2], 3))
-        self.assertIsNone(hierarchy.route(0, 3))
         for node in (4, -1, np.uint64(1 << 63)):
             with self.assertRaisesRegex(domethyme.NoSuchNode, "nodes 0 to 3"):
                 hierarchy.length(0, node)
         for node in ("0", 0.0, None, True, np.True_):
             with self.assertRaisesRegex(ValueError, "is no node"):
                 hierarchy.route(node, 0)
-
-    def test_between_places_on_arcs(self):
-        hierarchy = self.square()
-        # from 3 (6 to node 0) with 1 added, or from 1 with 9: 1 + 13 = 14 to node 2, and 9 + 4 = 13
-        for starts in ({3: 1, 1: 9}, [(3, 1), (1, 9)]):
-            taken = hierarchy.between(starts, [2])
-            self.assertEqual((taken.source, taken.target, taken.length, taken.nodes), (1, 2, 13, [1, 2]))
-        self.assertEqual(hierarchy.between([3], {2: 5, 0: 20}).length, 18)
-        self.assertEqual(hierarchy.between([0, 1, 2], [2]).nodes, [2])
-        self.assertIsNone(hierarchy.between([0, 1, 2], [3]))
-        self.assertEqual(hierarchy.between([3] * 20 + [(3, 1)], [2] * 20).length, 13)
         for starts, ends, says in [
-            ([], [0], "a node or more"),
-            ([0], {}, "a node or more"),
-            ({0: -1}, [0], "from 0 to 4294967295"),
-            ({0: 1.5}, [0], "have to be whole numbers"),
-            ([0], {0: 1 << 32}, "from 0 to 4294967295"),
-            ([7], [0], "nodes 0 to 3"),
+            ([], [0], "a node or more"), ([0], {}, "a node or more"), ({0: -1}, [0], "from 0 to 4294967295"),
+            ({0: 1.5}, [0], "have to be whole numbers"), ([0], {0: 1 << 32}, "from 0 to 4294967295"), ([7], [0], "nodes 0 to 3"),
         ]:
             with self.subTest(says=says), self.assertRaisesRegex(ValueError, says):
                 hierarchy.between(starts, ends)
+        self.assertEqual(hierarchy.between([3] * 20 + [(3, 1)], [2] * 20).length, 13)
 
     def test_slices_and_equality(self):
         hierarchy, pairs = self.square(), [[0, 2], [0, 3], [3, 2], [1, 1]]
@@ -276,18 +235,15 @@ print(domethyme.Hierarchy("--help").length(0, 2))
             self.assertEqual(hierarchy.lengths(pd.DataFrame({"target": ["c"], "source": ["a"]})).tolist(), [7])
             self.assertEqual(hierarchy.lengths(pd.DataFrame({"o": ["a"], "d": ["c"]}).to_numpy()).tolist(), [7])
 
-    def test_the_nearest_depot(self):
-        """One that can't be reached is never the nearest: by frames of lists of keys, and by arrays with what stands for no way."""
+    def test_what_stands_for_no_path(self):
+        """One that can't be reached is never the nearest: by frames of lists of keys, and by arrays."""
         graph = domethyme.Graph.from_keys(["north", "south", "shop", "far"], ["shop", "far", "far", "shop"], [5, 9, 2, 4])
         with graph.prepare(self.folder / "depots.rch", program=find_program()) as hierarchy:
             depots, customers = ["south", "north"], ["shop", "far", "north"]
-            table = hierarchy.matrix(depots, customers)
-            self.assertEqual(
-                domethyme.unscaled(table).idxmin().to_dict(), {"shop": "north", "far": "north", "north": "north"}
-            )
+            nearest = domethyme.unscaled(hierarchy.matrix(depots, customers)).idxmin()
+            self.assertEqual(nearest.to_dict(), {"shop": "north", "far": "north", "north": "north"})
             lengths = hierarchy.matrix(np.array(depots), np.array(customers), missing=np.inf)
             self.assertEqual(lengths.tolist(), [[13, 9, np.inf], [5, 7, 0]])
-            self.assertEqual([depots[row] for row in lengths.argmin(axis=0)], ["north"] * 3)
             self.assertEqual(hierarchy.matrix(depots, customers, missing=np.inf).loc["south", "north"], np.inf)
             self.assertEqual(hierarchy.matrix(iter(depots), ["shop"]).index.tolist(), depots)
 
@@ -335,11 +291,7 @@ print(domethyme.Hierarchy("--help").length(0, 2))
 
         saved = (self.folder / "firm.rch.keys").read_text(encoding="utf-8")
         for text in (
-            "",
-            "[]",
-            saved[:-1],
-            saved.replace("keys 1", "keys 2"),
-            saved.replace('"chosen":[]', '"chosen":[["a",2]]'),
+            "", "[]", saved[:-1], saved.replace("keys 1", "keys 2"), saved.replace('"chosen":[]', '"chosen":[["a",2]]')
         ):
             (self.folder / "firm.rch.keys").write_text(text, encoding="utf-8")
             with self.subTest(text=text), self.assertRaises(domethyme.FileError):
@@ -402,8 +354,7 @@ print(domethyme.Hierarchy("--help").length(0, 2))
             domethyme.check(self.folder / "nowhere.gr", path, program)
 
     def test_keys_of_another_graph(self):
-        """Keys of a graph that was prepared are refused for a hierarchy of as many nodes of another one, whether they can be saved
-        or not, and taken for a second hierarchy of that graph."""
+        """Keys of a graph, saved or not, are refused for a hierarchy of as many nodes of another one, and taken for a second one of it."""
         for names in ("abcd", [("a",), ("b",), ("c",), ("d",)]):
             graph = domethyme.Graph.from_keys(*([names[node] for node in side] for side in SQUARE[:2]), SQUARE[2])
             for name, seed in (("one", 1), ("two", 2)):

@@ -4,29 +4,18 @@ from tool_case import VILLAGE, ToolCase
 
 import domethyme
 
-STEP = 0.001
-
-
 class NetworkTests(ToolCase):
     def setUp(self):
         super().setUp()
         self.run_tool("osm_to_gr", VILLAGE, "v", "--keep-islands", "--tables")
         self.network = domethyme.Network(self.folder / "v")
-        domethyme.prepare(self.folder / "v.gr", self.folder / "v.rch", workers=1).close()
-
-    def hierarchy(self, **more):
-        hierarchy = domethyme.Hierarchy(self.folder / "v.rch", network=self.network, **more)
-        self.addCleanup(hierarchy.close)
-        return hierarchy
 
     def test_keys_of_the_map(self):
         keys = self.network.keys()
-        self.assertEqual(keys.node(1), 0)
+        self.assertEqual((keys.node(1), 1 in keys, 53 in keys), (0, True, False))
         # a bollard parts node 53, which is two nodes then
         with self.assertRaisesRegex(domethyme.NoSuchNode, "53 names several nodes"):
             keys.node(53)
-        self.assertIn(1, keys)
-        self.assertNotIn(53, keys)
         with self.assertRaisesRegex(domethyme.NetworkError, "has no column name"):
             self.network.keys("name")
 

@@ -134,9 +134,7 @@ class Picture(DrawCase):
     def test_legend_and_titles(self):
         picture = self.picture_of(EAST, WEST, NO_WAY)
         texts = [told(text) for text in picture.findall("./g[@transform]/text")]
-        self.assertEqual(
-            texts, [LABEL, "0.44 km, 1.5 min", "west", "12.3 km, 2 h 3 min", "nowhere", "no path"]
-        )
+        self.assertEqual(texts, [LABEL, "0.44 km, 1.5 min", "west", "12.3 km, 2 h 3 min", "nowhere", "no path"])
         titles = [told(title) for title in picture.findall("./g/g/title")]
         self.assertEqual(titles[0], f"{LABEL}: 0.44 km, 1.5 min\n<High> Street, 222 m\nunnamed road, 222 m")
         self.assertEqual(len(picture.findall("./g[@transform]/circle")), 4)
@@ -382,16 +380,14 @@ class BadInput(DrawCase):
     def test_features(self):
         point = {**EAST, "geometry": {"type": "Point", "coordinates": [0, 0]}}
         for bad, says in [
-            (7, "has no properties"),
-            ({"type": "Feature", "geometry": None}, "has no properties"),
-            (point, "has no line of places"),
-            (route("a", [[0, 0]]), "has no line of places"),
+            (7, "has no properties"), ({"type": "Feature", "geometry": None}, "has no properties"),
+            (point, "has no line of places"), (route("a", [[0, 0]]), "has no line of places"),
             (route("a", [[0, 0], [0, 91]]), "has no line of places"),
             (route("a", [[0, 0], [0, float("nan")]]), "has no line of places"),
             (route("a", [[0, 0], [0, 1]], metres="far"), "has no number metres"),
             (route("a", [[0, 0], [0, 1]], metres=-1), "has no number metres"),
             (route("a", [[0, 0], [0, 1]], seconds=10**400), "has no number seconds"),
-            (route("a", [[0, 0], [0, 1]], steps=["High Street"]), "has no list of steps"),
+            (route("a", [[0, 0], [0, 1]], steps=["High Street"]), "has no list of steps")
         ]:
             text = json.dumps({"type": "FeatureCollection", "features": [EAST, bad]})
             self.assert_routes_refused(text, f": feature 2 {says}")
@@ -430,15 +426,10 @@ class BadInput(DrawCase):
     def test_words(self):
         routes = self.routes(EAST)
         for words in [
-            [],
-            ["net", routes],
-            ["net", routes, "out.png"],
-            ["net", routes, "-"],
-            ["net", routes, "out.svg", "--width", "0"],
-            ["net", routes, "out.svg", "--width", "wide"],
-            ["net", routes, "out.html", "--width", "500"],
-            ["net", routes, "out.svg", "--tiles", "{z}/{x}/{y}"],
-            ["net", routes, "out.html", "--tiles", "https://tiles.example"],
+            [], ["net", routes], ["net", routes, "out.png"], ["net", routes, "-"],
+            ["net", routes, "out.svg", "--width", "0"], ["net", routes, "out.svg", "--width", "wide"],
+            ["net", routes, "out.html", "--width", "500"], ["net", routes, "out.svg", "--tiles", "{z}/{x}/{y}"],
+            ["net", routes, "out.html", "--tiles", "https://tiles.example"]
         ]:
             self.assertEqual(self.run_tool("draw", *words, status=2).stdout, "")
         self.assertIn("--tiles", self.run_tool("draw", "--help").stdout)

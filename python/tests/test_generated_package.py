@@ -6,6 +6,7 @@ import tempfile
 from typing import Any
 
 import numpy as np
+import pandas
 import pytest
 from draws import Drawn, drawn, networks, places, run_tool, write_network
 from hypothesis import given
@@ -20,12 +21,12 @@ import domethyme
 # Kinds of keys: none, texts that programs take for something else, pairs, and numbers that are others' numbers of nodes.
 ODD = ("NA", "007", "7", "=x", "-1", "a,b", "nan", "", "None")
 KEYS: dict[str, Any] = {
-    "none": None,
-    "texts": lambda node: ODD[node] if node < len(ODD) else f"key {node}",
-    "pairs": lambda node: (node // 3, node % 3),
-    "numbers": lambda node: node * 7 % 1009,
-    "mixed": lambda node: [node, f"{node}", (node, 0)][node % 3],
+    "none": None, "texts": lambda node: ODD[node] if node < len(ODD) else f"key {node}",
+    "pairs": lambda node: (node // 3, node % 3), "numbers": lambda node: node * 7 % 1009,
+    "mixed": lambda node: [node, f"{node}", (node, 0)][node % 3]
 }
+# The columns of frames of pairs.
+FRAMES = {"nodes": ("from_node", "to_node"), "ends": ("from", "to"), "graph": ("source", "target")}
 
 
 class Asked:
@@ -52,27 +53,41 @@ def test_lengths_routes_and_tables(data: Any) -> None:
         nodes = st.sampled_from(range(len(asked.keys)))
         with asked.hierarchy:
             pairs = data.draw(st.lists(st.tuples(nodes, nodes), min_size=1, max_size=5))
-            check_pairs(asked, pairs)
-            check_table(asked, *(data.draw(st.lists(nodes, min_size=1, max_size=6)) for _ in range(2)))
+            has_arrays = kind in ("none", "texts", "numbers")  # (others can't be in an array of numpy)
+            check_pairs(asked, pairs, data.draw(st.sampled_from(["list", "array", *FRAMES])) if has_arrays else "list")
+            forms = [data.draw(st.sampled_from(["list", "iterator", "array", "series", "index"] if has_arrays else ["list"]))] * 2
+            sides = [data.draw(st.lists(nodes, min_size=1, max_size=6)) for _ in range(2)]
+            check_table(asked, *sides, forms[0], data.draw(st.sampled_from([None, None, -1, math.inf])))
             added = st.one_of(st.just(0), st.integers(0, 50_000), st.just((1 << 32) - 1))
             starts, ends = (data.draw(st.dictionaries(nodes, added, min_size=1, max_size=4)) for _ in range(2))
             check_between(asked, starts, ends, data.draw(st.sampled_from(["mapping", "rows", "alone"])))
             check_reach(asked, starts, data.draw(st.one_of(st.none(), st.integers(0, 100_000))))
 
 
-def check_pairs(asked: Asked, pairs: list[tuple[int, int]]) -> None:
+def check_pairs(asked: Asked, pairs: list[tuple[int, int]], form: str) -> None:
     by_key = [(asked.keys[source], asked.keys[target]) for source, target in pairs]
     wanted = [asked.lengths[source].get(target) for source, target in pairs]
     assert [asked.hierarchy.length(*each) for each in by_key] == wanted
     for pair, length in zip(by_key, wanted):
         check_route(asked, asked.hierarchy.route(*pair), pair, length)
     if any(isinstance(key, tuple) for key in asked.keys):
-        return  # (an array of pairs of pairs is no array of keys)
-    assert asked.hierarchy.lengths(by_key).tolist() == [-1 if length is None else length for length in wanted]
-    routes = asked.hierarchy.routes(by_key)
-    assert routes.lengths.tolist() == [-1 if length is None else length for length in wanted]
+        return
+    given: Any = np.array(by_key) if form == "array" else by_key
+    if form in FRAMES:
+        index = [7 * row for row in range(len(pairs))]
+        given = pandas.DataFrame([(*each, 1) for each in by_key], columns=[*FRAMES[form], "other"], index=index)
+    filled, lengths = [-1 if length is None else length for length in wanted], asked.hierarchy.lengths(given)
+    routes = asked.hierarchy.routes(given)
+    assert (lengths.fillna(-1) if form in FRAMES else lengths).tolist() == filled == routes.lengths.tolist()
+    arcs = [asked.net.fewest_arcs(*pair) for pair in pairs]
+    assert routes.arcs.tolist() == [-1 if count is None else count for count in arcs]
     for route, (source, target), length in zip(routes, by_key, wanted):
         assert len(route) == 0 if length is None else is_route(asked, list(route), source, target, length)
+    frame = routes.to_frame()
+    columns = [*zip(*by_key), wanted, arcs]
+    assert [[None if value is pandas.NA else value for value in frame[name]] for name in frame] == [*map(list, columns)]
+    if form in FRAMES:
+        assert lengths.index.tolist() == frame.index.tolist() == index
 
 
 def check_route(asked: Asked, route: Any, pair: tuple[Any, Any], length: int | None) -> None:
@@ -113,12 +128,22 @@ def check_line(asked: Asked, route: Any) -> None:
     assert is_same_line(found, points, 1e-6), (found, points)
 
 
-def check_table(asked: Asked, sources: list[int], targets: list[int]) -> None:
+def check_table(asked: Asked, sources: list[int], targets: list[int], form: str, missing: float | None) -> None:
+    """Objects of pandas and lists of keys give a frame, which has its axes, and arrays an array."""
+    make: Any = {"list": list, "iterator": iter, "array": np.array, "series": pandas.Series, "index": pandas.Index}[form]
     rows, columns = ([asked.keys[node] for node in side] for side in (sources, targets))
-    found = asked.hierarchy.matrix(rows, columns)
-    wanted = [[asked.lengths[source].get(target) for target in targets] for source in sources]
-    table = np.asarray(domethyme.unscaled(found), float)
-    assert table.tolist() == [[math.inf if length is None else length for length in row] for row in wanted]
+    found = asked.hierarchy.matrix(make(rows), make(columns), missing=missing)
+    is_frame = form in ("series", "index") or form != "array" and asked.hierarchy.keys is not None
+    assert isinstance(found, pandas.DataFrame) == is_frame
+    if is_frame:
+        assert (found.index.tolist(), found.columns.tolist()) == (rows, columns)
+    stand = missing if missing is not None else None if is_frame else -1
+    wanted = [[asked.lengths[source].get(target, stand) for target in targets] for source in sources]
+    cells = found.to_numpy(object).tolist() if is_frame else found.tolist()
+    assert [[None if value is pandas.NA else value for value in row] for row in cells] == wanted
+    if missing is None:
+        table = np.asarray(domethyme.unscaled(found), float).tolist()
+        assert table == [[asked.lengths[source].get(target, math.inf) for target in targets] for source in sources]
 
 
 def check_between(asked: Asked, starts: dict[int, int], ends: dict[int, int], form: str) -> None:

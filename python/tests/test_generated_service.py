@@ -4,15 +4,18 @@ import json
 import pathlib
 import tempfile
 import urllib.parse
+from collections.abc import Mapping, Sequence
 from typing import Any
 
-from draws import ORIGINS, Drawn, directions, drawn, networks, places, texts_of, write_network
+from draws import (
+    KNOWN, LIMITS, ORIGINS, WORDS, WRONG, Drawn, directions, drawn, networks, places, texts_of, write_network
+)
 from hypothesis import given
 from hypothesis import strategies as st
 from model import answers
 from model.answers import Refused
 from comparing import decoded, difference
-from model.network import Ambiguous
+from model.network import Ambiguous, Arc, Network, Node
 from model.request import Request
 
 from domethyme_service.access import AccessPolicy
@@ -21,7 +24,6 @@ from domethyme_service.metrics import SharedMetrics
 from domethyme_service.wsgi import Options, Service
 
 REQUESTS = 6
-WRONG_LIMITS = [("5,3", "InvalidValue"), ("0", "InvalidValue"), ("1,2,3,4,5", "InvalidValue"), ("x", "InvalidValue")]
 # How many places a request of each service has, at most: the small numbers are likelier.
 COUNTS = {"route": [2, 2, 2, 3, 4, 12], "nearest": [1], "table": [1, 2, 3, 6], "isochrone": [1]}
 
@@ -92,8 +94,37 @@ def test_isochrones(data: Any) -> None:
             request, codes = data.draw(requests(made, "isochrone"))
             limits = {"contours_minutes": ["0.02,0.5", "1,2", "0.1", "1,2,3,4"], "contours_meters": ["50,300", "700"]}
             own = "contours_minutes" if made.roads.unit == "duration" else "contours_meters"
-            text, code = data.draw(st.sampled_from([*((text, "") for text in 3 * limits[own]), *WRONG_LIMITS]))
+            text, code = data.draw(st.sampled_from([*((text, "") for text in 9 * limits[own]), *((text, "InvalidValue") for text in (*LIMITS, *WRONG))]))
             check(made, service, request._replace(query={own: text, **request.query}), codes | ({code} - {""}))
+
+
+def test_each_text_of_a_parameter(tmp_path: pathlib.Path) -> None:
+    """Each valid text is answered, and each other one gets its code; also beside a word for another place, and for too many places."""
+    line = ((0.0, 0.0), (0.001, 0.0))
+    net = Network([Node(*point) for point in line], [Arc(0, 1, 8006, 8.006, 111.2, line), Arc(1, 0, 8006, 8.006, 111.2, line[::-1])])
+    service = serve(Drawn(net, net, False), tmp_path)
+    rows = [(what, name, *row) for what, texts in KNOWN.items() for name, codes in texts.items() for row in rows_of(codes)]
+    rows += [("table", "sources", *row) for row in rows_of(KNOWN["table"]["destinations"])]
+    rows += [("isochrone", "contours_minutes", text, "InvalidValue") for text in (*LIMITS, *WRONG)]
+    rows += [("isochrone", "contours_meters", text, "InvalidValue") for text in (*LIMITS[:-1], *WRONG)]
+    for what, name, text, code in [*rows, *(("route", name, *row) for name in WORDS for row in words_of(WORDS[name]))]:
+        for endpoint in ["route", "nearest", "table"] if what == "osrm" else [what]:
+            where = [(0.0003, 0.0), (0.0007, 0.00001)] if endpoint in ("route", "table") else [(0.0003, 0.0)]
+            minutes = ",".join("1234"[: 1 + text.count(",") * (name == "contours_colors")])
+            limits = {"contours_minutes": minutes} if endpoint == "isochrone" and name != "contours_meters" else {}
+            status, found = ask(service, target(Request(endpoint, where, {**limits, name: text})))
+            assert (status, found.get("code", "Ok")) == ((400, code) if code else (200, "Ok")), (endpoint, name, text, found)
+
+
+def rows_of(codes: Mapping[str, Sequence[str]]) -> list[tuple[str, str]]:
+    """Each text with its code."""
+    return [(text, code) for code, texts in codes.items() for text in texts]
+
+
+def words_of(codes: Mapping[str, Sequence[str]]) -> list[tuple[str, str]]:
+    """Words for two places."""
+    rows = [(f"{word};", code) for word, code in rows_of(codes) if word not in ("0", "10", "360,90")]
+    return [*rows, *((f";{word}", code) for word, code in rows if code), (";;", "InvalidQuery"), (codes[""][0], "InvalidQuery")]
 
 
 def check_nodes(made: Drawn, service: Service, pairs: list[tuple[int, int]]) -> None:

@@ -61,9 +61,9 @@ def test_the_same_node_twice(network):
     np.testing.assert_array_equal(hierarchy.matrix(np.array([5, 9])[which]), hierarchy.matrix([5, 9])[which][:, which])
 
 
-@pytest.mark.parametrize("sources, targets", [([], []), ([1, 2], []), ([], [1, 2, 3])])
-def test_no_sources_or_no_targets(network, sources, targets):
-    assert network[0].matrix(sources, targets).shape == (len(sources), len(targets))
+def test_no_sources_or_no_targets(network):
+    for sources, targets in ([], []), ([1, 2], []), ([], [1, 2, 3]):
+        assert network[0].matrix(sources, targets).shape == (len(sources), len(targets))
 
 
 @pytest.mark.parametrize("sources, targets", [([0, NODES], [1]), ([0], [1, NODES]), ([-1], [0]), ([0], [1 << 32]), ([0.5], [1])])

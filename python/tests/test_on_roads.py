@@ -1,6 +1,4 @@
-"""Tests of places on roads in nearest and to_geojson: the same weights, lines and refusals as the service's rule has."""
-import json
-
+"""Tests of what nearest and to_geojson refuse of places on roads."""
 from service_case import ServiceCase
 
 from domethyme import find_program
@@ -16,31 +14,19 @@ Nowhere,0.001,0,0.001,0
 
 
 class OnRoadsTests(ServiceCase):
-    def routes(self, text, *words):
-        """The features by the three programs in a row."""
-        self.write("trips.csv", text)
-        lines = self.run_tool("nearest", "v", "trips.csv", "--on-roads").stdout
-        self.assertEqual(lines.count("\n"), text.count("\n") - 1)
-        replies = self.run_program([find_program(), "serve", "v.rch"], given=lines).stdout
-        self.write("replies", replies)
-        return json.loads(self.run_tool("to_geojson", "v", "replies", "--trips", "trips.csv", "--on-roads", *words).stdout)
-
     def test_refusals(self):
         self.write("trips.csv", TRIPS)
-        self.assert_refused(
-            "nearest",
-            "v",
-            "trips.csv",
-            "--on-roads",
-            "--radius",
-            "0.5",
-            says="trips.csv, row 2: from_lon 0.0003, from_lat 1e-05 is 1 m from the nearest road, and --radius is 0.5 m",
-        )
+        says = "trips.csv, row 2: from_lon 0.0003, from_lat 1e-05 is 1 m from the nearest road, and --radius is 0.5 m"
+        self.assert_refused("nearest", "v", "trips.csv", "--on-roads", "--radius", "0.5", says=says)
         for word in ("--matrix", "--skip-far"):
             self.run_tool("nearest", "v", "trips.csv", "--on-roads", word, status=2)
         self.run_tool("to_geojson", "v", "replies", "--on-roads", status=2)
-        self.routes(TRIPS)
-        replies = (self.folder / "replies").read_text().splitlines(keepends=True)
+        lines = self.run_tool("nearest", "v", "trips.csv", "--on-roads").stdout
+        replies = self.run_program([find_program(), "serve", "v.rch"], given=lines).stdout.splitlines(keepends=True)
+        self.assertEqual((lines.count("\n"), len(replies)), (5, 6))
+        changed = replies[1].split()
+        changed[3] = str(int(changed[3]) + 1)
+        words = ("v", "replies", "--trips", "trips.csv", "--on-roads", "-o", "out")
         for lines, says in [
             (replies[1:], "replies, row 1: is no reply of routecli serve with 38 nodes"),
             (["ready 7 7 2\n", *replies[1:]], "replies, row 1: is no reply of routecli serve with 38 nodes"),
@@ -48,23 +34,8 @@ class OnRoadsTests(ServiceCase):
             ([*replies, "n\n"], "replies, row 7: is a reply more than trips.csv has rows"),
             ([replies[0], *replies[:0:-1]], "is no reply to the request of row"),
             ([replies[0], *(line.replace(" ", " 1", 3) for line in replies[1:])], "is no reply to the request of row 2"),
+            ([replies[0], " ".join(changed) + "\n", *replies[2:]], "is it of another network?"),
         ]:
             self.write("replies", "".join(lines))
             with self.subTest(says=says):
-                self.assert_refused(
-                    "to_geojson", "v", "replies", "--trips", "trips.csv", "--on-roads", "-o", "out", says=says
-                )
-        changed = replies[1].split()
-        changed[3] = str(int(changed[3]) + 1)
-        self.write("replies", "".join([replies[0], " ".join(changed) + "\n", *replies[2:]]))
-        self.assert_refused(
-            "to_geojson",
-            "v",
-            "replies",
-            "--trips",
-            "trips.csv",
-            "--on-roads",
-            "-o",
-            "out",
-            says="is it of another network?",
-        )
+                self.assert_refused("to_geojson", *words, says=says)

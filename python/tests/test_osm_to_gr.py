@@ -25,44 +25,20 @@ FIRST_CUT, SECOND_CUT, RING_CUT = "(-1.667, 0.000)", "(-3.333, 0.000)", "(-5.500
 # The pieces of road: way, from, to, steps, and the milliseconds forward and backward. Nodes are named as in the map, and
 # points that aren't nodes by their places in the drawing.
 DRAWING = [
-    ("High Street", 1, 2, 2, 16012, 16012),
-    ("High Street", 2, 3, 2, 16012, 16012),
-    ("High Street", 3, 4, 2, 16012, 16012),
-    ("High Street", 4, 5, 2, 16012, 16012),
-    ("High Street", 5, 6, 2, 16012, 16012),
-    ("High Street", 6, 7, 2, 16012, 16012),
-    ("High Street", 7, 8, 1, 8006, 8006),
-    ("Bend Lane", 1, 12, 2, 26687, 26687),
-    ("Long Road", 1, FIRST_CUT, 5 / 3, 6672, 6672),
-    ("Long Road", FIRST_CUT, SECOND_CUT, 5 / 3, 6672, 6672),
-    ("Long Road", SECOND_CUT, 13, 5 / 3, 6672, 6672),
-    ("The Ring", 13, RING_CUT, 1, 13343, 13343),
-    ("The Ring", RING_CUT, 13, 1, 13343, 13343),
-    ("Up Street", 2, 21, 1, 13343, None),
-    ("Top Street", 21, 31, 2, 13343, 20015),
-    ("Down Street", 31, 3, 1, 13343, None),
-    ("Twin Row", 31, 32, 1, 13343, 13343),
-    ("Twin Link", 32, 33, 0, 1, 1),
-    ("Twin End", 33, 34, 1, 13343, 13343),
-    ("Cut Road", 34, 35, 1, 13343, 13343),
-    ("Cut Road", 46, 45, 1, 13343, 13343),
-    ("Mill Road", 4, 41, 1, 13343, 13343),
-    ("", 41, 43, 2, 26687, None),
-    ("", 43, 41, 2, 26687, None),
-    ("Hill Road", 43, 45, 1, 13343, 13343),
-    ("Bollard Way", 5, 53, 1, 13343, 13343),
-    ("Bollard Way", 53, 54, 1, 13343, 13343),
-    ("Top Lane", 54, 56, 2, 26687, 26687),
-    ("Gate Way", 6, 56, 2, 26687, 26687),
-    ("Wicket Way", 7, 71, 1, 13343, 13343),
-    ("Wicket Way", 71, 72, 1, 13343, 13343),
-    ("Upper Row", 72, 82, 1, 13343, 13343),
-    ("Post Way", 8, 82, 2, 26687, 26687),
-    ("Imperial Road", 8, 83, 1, 8291, 8291),
-    ("M1", 83, 85, 2, 6158, None),
-    ('Exit <&" Road', 85, 82, 1, 13343, 13343),
-    ("Bypass", 7, 8, 2, 6672, 6672),
-    ("Motorcar Yard", 1, 61, 1, 26687, 26687),
+    ("High Street", 1, 2, 2, 16012, 16012), ("High Street", 2, 3, 2, 16012, 16012), ("High Street", 3, 4, 2, 16012, 16012),
+    ("High Street", 4, 5, 2, 16012, 16012), ("High Street", 5, 6, 2, 16012, 16012), ("High Street", 6, 7, 2, 16012, 16012),
+    ("High Street", 7, 8, 1, 8006, 8006), ("Bend Lane", 1, 12, 2, 26687, 26687),
+    ("Long Road", 1, FIRST_CUT, 5 / 3, 6672, 6672), ("Long Road", FIRST_CUT, SECOND_CUT, 5 / 3, 6672, 6672),
+    ("Long Road", SECOND_CUT, 13, 5 / 3, 6672, 6672), ("The Ring", 13, RING_CUT, 1, 13343, 13343),
+    ("The Ring", RING_CUT, 13, 1, 13343, 13343), ("Up Street", 2, 21, 1, 13343, None),
+    ("Top Street", 21, 31, 2, 13343, 20015), ("Down Street", 31, 3, 1, 13343, None), ("Twin Row", 31, 32, 1, 13343, 13343),
+    ("Twin Link", 32, 33, 0, 1, 1), ("Twin End", 33, 34, 1, 13343, 13343), ("Cut Road", 34, 35, 1, 13343, 13343),
+    ("Cut Road", 46, 45, 1, 13343, 13343), ("Mill Road", 4, 41, 1, 13343, 13343), ("", 41, 43, 2, 26687, None),
+    ("", 43, 41, 2, 26687, None), ("Hill Road", 43, 45, 1, 13343, 13343), ("Bollard Way", 5, 53, 1, 13343, 13343),
+    ("Bollard Way", 53, 54, 1, 13343, 13343), ("Top Lane", 54, 56, 2, 26687, 26687), ("Gate Way", 6, 56, 2, 26687, 26687),
+    ("Wicket Way", 7, 71, 1, 13343, 13343), ("Wicket Way", 71, 72, 1, 13343, 13343), ("Upper Row", 72, 82, 1, 13343, 13343),
+    ("Post Way", 8, 82, 2, 26687, 26687), ("Imperial Road", 8, 83, 1, 8291, 8291), ("M1", 83, 85, 2, 6158, None),
+    ('Exit <&" Road', 85, 82, 1, 13343, 13343), ("Bypass", 7, 8, 2, 6672, 6672), ("Motorcar Yard", 1, 61, 1, 26687, 26687),
     ("Visitors' Way", 4, 64, 1, 13343, 13343),
 ]
 ISLANDS = [("Trap Street", 45, 47, 1, 13343, None), ("Far Road", 91, 92, 1, 13343, 13343)]
@@ -322,63 +298,37 @@ class Tags(NetworkCase):
     """The speed in each direction, in km/h, for the tags of a way (~ is a blank); None where it may not be taken."""
 
     CASES = [
-        ("highway=residential", 30, 30),
-        ("highway=motorway", 110, None),
-        ("highway=motorway oneway=no", 110, 110),
-        ("highway=motorway_link", 60, 60),
-        ("highway=living_street", 10, 10),
-        ("highway=service area=no", 15, 15),
-        ("highway=service area=yes", None, None),
-        ("highway=construction construction=primary", None, None),
-        ("highway=track motorcar=yes", None, None),
-        ("highway=primary oneway=yes", 70, None),
-        ("highway=primary oneway=true", 70, None),
-        ("highway=primary oneway=1", 70, None),
-        ("highway=primary oneway=-1", None, 70),
-        ("highway=primary oneway=reverse", None, 70),
-        ("highway=primary oneway=no", 70, 70),
-        ("highway=primary oneway=alternating", 70, 70),
-        ("highway=primary oneway=reversible", None, None),
-        ("highway=primary junction=roundabout", 70, None),
-        ("highway=primary junction=circular", 70, None),
-        ("highway=primary junction=roundabout oneway=no", 70, 70),
-        ("highway=primary junction=roundabout oneway=-1", None, 70),
-        ("highway=primary junction=yes", 70, 70),
-        ("highway=primary maxspeed=80", 80, 80),
-        ("highway=primary maxspeed=57.5", 57.5, 57.5),
-        ("highway=primary maxspeed=50~km/h", 50, 50),
-        ("highway=primary maxspeed=45mph", 72.42048, 72.42048),
-        ("highway=primary maxspeed=5~mph", 8.04672, 8.04672),
-        ("highway=primary maxspeed=10~knots", 18.52, 18.52),
-        ("highway=primary maxspeed=none", 130, 130),
-        ("highway=primary maxspeed=walk", 7, 7),
-        ("highway=primary maxspeed=DE:urban", 50, 50),
-        ("highway=primary maxspeed=RO:urban", 50, 50),
-        ("highway=primary maxspeed=DE:rural", 100, 100),
-        ("highway=primary maxspeed=XY:rural", 90, 90),
-        ("highway=primary maxspeed=DE:zone:30", 30, 30),
-        ("highway=primary maxspeed=NL:zone60", 60, 60),
-        ("highway=primary maxspeed=DE:variable", 70, 70),
-        ("highway=primary maxspeed=0", 70, 70),
-        ("highway=primary maxspeed=1001", 70, 70),
-        ("highway=primary maxspeed=-50", 70, 70),
+        ("highway=residential", 30, 30), ("highway=motorway", 110, None), ("highway=motorway oneway=no", 110, 110),
+        ("highway=motorway_link", 60, 60), ("highway=living_street", 10, 10), ("highway=service area=no", 15, 15),
+        ("highway=service area=yes", None, None), ("highway=construction construction=primary", None, None),
+        ("highway=track motorcar=yes", None, None), ("highway=primary oneway=yes", 70, None),
+        ("highway=primary oneway=true", 70, None), ("highway=primary oneway=1", 70, None),
+        ("highway=primary oneway=-1", None, 70), ("highway=primary oneway=reverse", None, 70),
+        ("highway=primary oneway=no", 70, 70), ("highway=primary oneway=alternating", 70, 70),
+        ("highway=primary oneway=reversible", None, None), ("highway=primary junction=roundabout", 70, None),
+        ("highway=primary junction=circular", 70, None), ("highway=primary junction=roundabout oneway=no", 70, 70),
+        ("highway=primary junction=roundabout oneway=-1", None, 70), ("highway=primary junction=yes", 70, 70),
+        ("highway=primary maxspeed=80", 80, 80), ("highway=primary maxspeed=57.5", 57.5, 57.5),
+        ("highway=primary maxspeed=50~km/h", 50, 50), ("highway=primary maxspeed=45mph", 72.42048, 72.42048),
+        ("highway=primary maxspeed=5~mph", 8.04672, 8.04672), ("highway=primary maxspeed=10~knots", 18.52, 18.52),
+        ("highway=primary maxspeed=none", 130, 130), ("highway=primary maxspeed=walk", 7, 7),
+        ("highway=primary maxspeed=DE:urban", 50, 50), ("highway=primary maxspeed=RO:urban", 50, 50),
+        ("highway=primary maxspeed=DE:rural", 100, 100), ("highway=primary maxspeed=XY:rural", 90, 90),
+        ("highway=primary maxspeed=DE:zone:30", 30, 30), ("highway=primary maxspeed=NL:zone60", 60, 60),
+        ("highway=primary maxspeed=DE:variable", 70, 70), ("highway=primary maxspeed=0", 70, 70),
+        ("highway=primary maxspeed=1001", 70, 70), ("highway=primary maxspeed=-50", 70, 70),
         ("highway=primary maxspeed:forward=40", 40, 70),
         ("highway=primary maxspeed=60 maxspeed:backward=20~mph", 60, 32.18688),
-        ("highway=primary oneway=yes maxspeed:backward=40", 70, None),
-        ("highway=primary access=no", None, None),
-        ("highway=primary access=private", None, None),
-        ("highway=primary access=permissive", 70, 70),
-        ("highway=primary access=destination", 70, 70),
-        ("highway=primary access=customers", 70, 70),
-        ("highway=primary access=no vehicle=yes", 70, 70),
-        ("highway=primary access=yes vehicle=no", None, None),
+        ("highway=primary oneway=yes maxspeed:backward=40", 70, None), ("highway=primary access=no", None, None),
+        ("highway=primary access=private", None, None), ("highway=primary access=permissive", 70, 70),
+        ("highway=primary access=destination", 70, 70), ("highway=primary access=customers", 70, 70),
+        ("highway=primary access=no vehicle=yes", 70, 70), ("highway=primary access=yes vehicle=no", None, None),
         ("highway=primary vehicle=no motor_vehicle=yes", 70, 70),
         ("highway=primary vehicle=yes motor_vehicle=private", None, None),
         ("highway=primary motor_vehicle=no motorcar=yes", 70, 70),
         ("highway=primary motor_vehicle=yes motorcar=no", None, None),
         ("highway=primary access=yes vehicle=yes motor_vehicle=yes motorcar=private", None, None),
-        ("highway=primary access=no bicycle=yes", None, None),
-        ("highway=primary motor_vehicle=forestry", None, None),
+        ("highway=primary access=no bicycle=yes", None, None), ("highway=primary motor_vehicle=forestry", None, None),
         ("highway=primary motor_vehicle=agricultural;forestry", None, None),
         ("highway=primary motor_vehicle=agricultural;destination", 70, 70),
         ("highway=primary motor_vehicle:conditional=no~@~(22:00-06:00)", 70, 70),
@@ -435,8 +385,7 @@ class Tags(NetworkCase):
                 self.assertEqual(arcs[number], 4 if parts else 2)
 
     def test_a_profile_of_ones_own(self):
-        profile = json.loads((PYTHON / "domethyme/maps/profiles/car.json").read_text(encoding="utf-8"))
-        profile.update(speeds={"footway": 5}, access=["access", "foot"], barriers=["gate"])
+        profile = {**CAR, "speeds": {"footway": 5}, "access": ["access", "foot"], "barriers": ["gate"]}
         self.write("foot.json", json.dumps(profile))
         self.convert("--profile", "foot.json", "--keep-islands")
         # Footpath leads from 11 to 21, 2 steps
@@ -490,6 +439,35 @@ class Routes(NetworkCase):
         self.assertEqual(length[32, 33], 1)
 
 
+# A map, or a path, with what is said of it.
+MAP = "<osm version='0.6'>{}</osm>"
+WAY = "<way id='1'><nd ref='1'/><nd ref='2'/><nd ref='3'/><tag k='highway' v='road'/></way>"
+BAD_MAPS = [
+    ("none.osm", None, "none.osm: No such file or directory"), ("/dev/null", None, "/dev/null: is no regular file"),
+    ("broken.osm", MAP.format("\n<node id='1' lon='0' lat='0'/>\n<way id='1'\n"), "broken.osm: XML parsing error at line 4"),
+    ("broken.osm", MAP.format("<node id='x' lon='0' lat='0'/>"), "broken.osm: illegal id: 'x'"),
+    ("broken.osm", MAP.format("<node id='1' lon='x' lat='0'/>"), "broken.osm: wrong format for coordinate: 'x'"),
+    ("broken.osm", MAP.format("<way id='1'><nd ref='x'/></way>"), "broken.osm: illegal id: 'x'"),
+    ("far.osm", MAP.format("<node id='1' lon='200' lat='0'/><node id='2' lon='0' lat='0'/><node id='3'/>" + WAY),
+     "far.osm: has no road that the profile takes"),
+    ("bare.osm", MAP.format("<node id='1' lon='0' lat='0'/>"), "bare.osm: has no road that the profile takes"),
+    ("map.txt", VILLAGE.read_bytes(), "map.txt: Could not detect file format"),
+    ("half.osm", VILLAGE.read_bytes()[:5000], "half.osm: XML parsing error"),
+    ("half.osm.bz2", bz2.compress(VILLAGE.read_bytes())[:900], "half.osm.bz2: bzip2 error"),
+    ("map.osm.opl", b"n1 x0 y0\nn2 x0.001 y0\nw1 Thighway=residential,name=caf\xe9 Nn1,n2\n",
+     "map.osm.opl: 'utf-8' codec can't decode byte 0xe9"),
+]
+CAR = json.loads((PYTHON / "domethyme/maps/profiles/car.json").read_text(encoding="utf-8"))
+BAD_PROFILES = [
+    ('{\n"speeds": {},\n}\n', ", row 3: isn't JSON"), ([], ": is no object with the members of a profile"),
+    ({key: CAR[key] for key in CAR if key != "closed"}, ": has no member closed"),
+    ({**CAR, "colour": "red"}, ": has the unknown member colour"), ({**CAR, "speeds": {"primary": "70"}}, ": speeds isn't speeds"),
+    ({**CAR, "speeds": {"primary": 0}}, ": speeds isn't speeds from 1 to 1000 by names"),
+    ({**CAR, "maxspeed_words": {"none": True}}, ": maxspeed_words isn't speeds"),
+    ({**CAR, "barriers": "bollard"}, ": barriers isn't a list of words"),
+]
+
+
 class BadInput(NetworkCase):
     """Each fault is one line with status 1, and the files are as they were."""
 
@@ -499,68 +477,25 @@ class BadInput(NetworkCase):
         self.write("out.arcs.csv", "old")
         self.assert_refused("osm_to_gr", source, "out", *words, says=says)
 
-    def test_no_map(self):
-        self.refused("none.osm", says="none.osm: No such file or directory")
-
-    def test_a_folder(self):
+    def test_maps(self):
+        for name, text, says in BAD_MAPS:
+            if text is not None:
+                (self.folder / name).write_bytes(text.encode() if isinstance(text, str) else text)
+            with self.subTest(says=says):
+                self.refused(name, says=says)
         (self.folder / "map.osm").mkdir()
         self.refused("map.osm", says="map.osm: Is a directory")
-
-    def test_a_device(self):
-        self.refused("/dev/null", says="/dev/null: is no regular file")
-
-    def test_broken_xml_tells_the_row(self):
-        self.write("broken.osm", "<osm version='0.6'>\n<node id='1' lon='0' lat='0'/>\n<way id='1'\n</osm>\n")
-        self.refused("broken.osm", says="broken.osm: XML parsing error at line 4")
-
-    def test_broken_objects(self):
-        cases = [
-            ("<node id='x' lon='0' lat='0'/>", "illegal id: 'x'"),
-            ("<node id='1' lon='x' lat='0'/>", "wrong format for coordinate: 'x'"),
-            ("<way id='1'><nd ref='x'/></way>", "illegal id: 'x'"),
-        ]
-        for text, says in cases:
-            with self.subTest(text):
-                self.write("broken.osm", f"<osm version='0.6'>{text}</osm>")
-                self.refused("broken.osm", says=f"broken.osm: {says}")
-
-    def test_a_name_that_is_not_utf_8(self):
-        way = b"w1 Thighway=residential,name=caf\xe9 Nn1,n2\n"
-        (self.folder / "map.osm.opl").write_bytes(b"n1 x0 y0\nn2 x0.001 y0\n" + way)
-        self.refused("map.osm.opl", says="map.osm.opl: 'utf-8' codec can't decode byte 0xe9")
-
-    def test_places_that_are_not_on_earth(self):
-        nodes = "<node id='1' lon='200' lat='0'/><node id='2' lon='0' lat='0'/><node id='3'/>"
-        way = "<way id='1'><nd ref='1'/><nd ref='2'/><nd ref='3'/><tag k='highway' v='road'/></way>"
-        self.write("far.osm", f"<osm version='0.6'>{nodes}{way}</osm>")
-        self.refused("far.osm", says="far.osm: has no road that the profile takes")
-
-    def test_a_truncated_map(self):
-        text = VILLAGE.read_text(encoding="utf-8")
-        self.write("half.osm", text[: len(text) // 2])
-        self.refused("half.osm", says="half.osm: XML parsing error")
-
-    def test_a_truncated_pbf(self):
         write_map(self.folder / "village.osm.pbf", VILLAGE)
-        whole = (self.folder / "village.osm.pbf").read_bytes()
-        (self.folder / "half.osm.pbf").write_bytes(whole[: len(whole) // 2])
+        (self.folder / "half.osm.pbf").write_bytes((self.folder / "village.osm.pbf").read_bytes()[:700])
         self.refused("half.osm.pbf", says="half.osm.pbf: PBF error")
 
-    def test_a_truncated_bzip2(self):
-        whole = bz2.compress(VILLAGE.read_bytes())
-        (self.folder / "half.osm.bz2").write_bytes(whole[: len(whole) // 2])
-        self.refused("half.osm.bz2", says="half.osm.bz2: bzip2 error")
-
-    def test_an_unknown_ending(self):
-        self.write("map.txt", VILLAGE.read_text(encoding="utf-8"))
-        self.refused("map.txt", says="map.txt: Could not detect file format")
-
-    def test_a_map_without_roads(self):
-        self.write("bare.osm", "<osm version='0.6'><node id='1' lon='0' lat='0'/></osm>\n")
-        self.refused("bare.osm", says="bare.osm: has no road that the profile takes")
-
-    def test_an_unknown_profile(self):
-        self.refused(VILLAGE, "--profile", "boat", says="there is no profile boat: there is bicycle, car, foot, lorry; for another")
+    def test_profiles(self):
+        says = "there is no profile boat: there is bicycle, car, foot, lorry; for another"
+        self.refused(VILLAGE, "--profile", "boat", says=says)
+        for members, says in BAD_PROFILES:
+            self.write("own.json", members if isinstance(members, str) else json.dumps(members))
+            with self.subTest(says=says):
+                self.refused(VILLAGE, "--profile", "own.json", says=f"own.json{says}")
 
     def test_a_folder_in_place_of_out(self):
         before = self.contents()
@@ -575,26 +510,6 @@ class BadInput(NetworkCase):
         trips = "from_lon,from_lat,to_lon,to_lat\n0,0,0,0\n"
         told = self.run_tool("nearest", "other", "-", "-o", "/dev/full", given=trips, status=1)
         self.assertEqual(told.stderr, "nearest: /dev/full: No space left on device\n")
-
-    def test_a_profile_that_is_no_json_tells_the_row(self):
-        self.write("own.json", '{\n"speeds": {},\n}\n')
-        self.refused(VILLAGE, "--profile", "own.json", says="own.json, row 3: isn't JSON")
-
-    def test_profiles_with_faults(self):
-        car = json.loads((PYTHON / "domethyme/maps/profiles/car.json").read_text(encoding="utf-8"))
-        cases = [
-            ([], "is no object with the members of a profile"),
-            ({key: car[key] for key in car if key != "closed"}, "has no member closed"),
-            ({**car, "colour": "red"}, "has the unknown member colour"),
-            ({**car, "speeds": {"primary": 0}}, "speeds isn't speeds from 1 to 1000 by names"),
-            ({**car, "speeds": {"primary": "70"}}, "speeds isn't speeds"),
-            ({**car, "maxspeed_words": {"none": True}}, "maxspeed_words isn't speeds"),
-            ({**car, "barriers": "bollard"}, "barriers isn't a list of words"),
-        ]
-        for members, says in cases:
-            with self.subTest(says):
-                self.write("own.json", json.dumps(members))
-                self.refused(VILLAGE, "--profile", "own.json", says=f"own.json: {says}")
 
     def test_no_folder_for_the_files(self):
         self.assert_refused("osm_to_gr", VILLAGE, "no/out", says="no/out.gr: No such file or directory")

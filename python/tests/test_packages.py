@@ -54,15 +54,15 @@ class CheckPackages(PackagesCase):
         self.assertTrue(self.calls()[1].endswith(" install -y --no-install-recommends second-package"))
         self.assertEqual(len(self.calls()), 2)
 
-    def test_lists_of_another_source_that_can_not_be_had(self):
-        self.second_is_missing('case "$*" in *update) echo "E: no lists" >&2; exit 100 ;; *) echo -n installed >status ;; esac')
-        self.run_tool("check_packages", "packages", environment=self.path)
-        self.assertEqual(len(self.calls()), 2)
-
-    def test_a_mirror_that_is_busy(self):
-        self.second_is_missing("[ $(wc -l <calls) = 6 ] || exit 100\necho -n installed >status")
-        self.run_tool("check_packages", "packages", environment=self.path)
-        self.assertEqual(len(self.calls()), 6)
+    def test_what_fails_at_first(self):
+        """Lists of another source that can't be had, and a mirror that is busy."""
+        there = "echo -n installed >status"
+        for apt_get, calls in ((f'case "$*" in *update) echo "E: no lists" >&2; exit 100 ;; *) {there} ;; esac', 2),
+                               (f"[ $(wc -l <calls) = 6 ] || exit 100\n{there}", 6)):
+            self.second_is_missing(apt_get)
+            self.run_tool("check_packages", "packages", environment=self.path)
+            self.assertEqual(len(self.calls()), calls)
+            (self.folder / "calls").unlink()
 
     def test_root_can_not_install(self):
         self.second_is_missing("echo 'E: no network' >&2\nexit 100")
@@ -99,24 +99,22 @@ class FetchExtract(PackagesCase):
     def refused(self, says):
         self.assert_refused("fetch_extract", ".", says=says, environment=self.path)
 
-    def test_no_network(self):
-        self.put_program("apt-get", "#!/bin/sh\necho 'W: slow' >&2\necho 'E: Could not connect' >&2\nexit 100\n")
-        self.refused("liechtenstein-2013-08-03.osm.pbf can't be had: apt-get says: Could not connect\n")
+    def test_what_apt_get_says(self):
+        name = "liechtenstein-2013-08-03.osm.pbf"
+        for lines, says in (
+            ("echo 'W: slow' >&2\necho 'E: Could not connect' >&2\nexit 100", f"{name} can't be had: apt-get says: Could not connect\n"),
+            ("touch empty\ntar -cf osm2pgsql_1.tar.gz empty", "can't be had: Debian's source package hasn't got it"),
+            (f"echo wrong >{name}\ntar -cf osm2pgsql_1.tar.gz {name}",
+             "can't be had: Debian's source package has another file of that name"),
+        ):
+            self.put_program("apt-get", f"#!/bin/sh\n{lines}\n")
+            self.refused(says)
 
     def test_no_apt_get(self):
         for name in ("dirname", "readlink"):  # which the command of the tool calls
             (self.programs / name).symlink_to(shutil.which(name))
         self.path = {"PATH": str(self.programs)}
         self.refused("can't be had: there is no apt-get on this machine")
-
-    def test_another_package(self):
-        self.put_program("apt-get", "#!/bin/sh\ntouch empty\ntar -cf osm2pgsql_1.tar.gz empty\n")
-        self.refused("can't be had: Debian's source package hasn't got it")
-
-    def test_another_file_of_that_name(self):
-        name = "liechtenstein-2013-08-03.osm.pbf"
-        self.put_program("apt-get", f"#!/bin/sh\necho wrong >{name}\ntar -cf osm2pgsql_1.tar.gz {name}\n")
-        self.refused("can't be had: Debian's source package has another file of that name")
 
     def test_words(self):
         self.run_tool("fetch_extract", ".", "..", status=2)

@@ -28,9 +28,8 @@ class CommandTests(ToolCase):
         text = (PACKAGING / "routecli").read_text(encoding="utf-8")
         self.write("accounting", "0\n")
         for path, instead in (
-            ("/usr/libexec/domethyme/routecli", "program"),
-            ("/usr/lib/x86_64-linux-gnu", "libraries"),
-            ("/proc/sys/vm/overcommit_memory", "accounting"),
+            ("/usr/libexec/domethyme/routecli", "program"), ("/usr/lib/x86_64-linux-gnu", "libraries"),
+            ("/proc/sys/vm/overcommit_memory", "accounting")
         ):
             self.assertEqual(text.count(f"={path}\n"), 1)
             text = text.replace(f"={path}\n", f"={self.folder / instead}\n")

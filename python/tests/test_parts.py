@@ -12,7 +12,7 @@ import pytest
 from tool_case import TOOLS, VILLAGE
 
 import domethyme
-from domethyme import atomic_files, belonging, dimacs, hierarchy_file, links
+from domethyme import atomic_files, batch, belonging, dimacs, hierarchy_file, links
 from domethyme.network import from_tables, net_file, parallel, reach, reading, snapping
 from domethyme_service import tiles
 from domethyme.network import table_files
@@ -97,8 +97,14 @@ def straight(drawn):
     return plain(from_tables.straight_arcs(*(np.array(each) for each in ([1, 2, 3, 4, 5], [2, 3, 4, 5, 6], [7] * 5)), nodes).metres)
 
 
+def in_blocks(drawn):
+    """The lengths and routes of many pairs."""
+    routes = drawn.hierarchy.routes([[row * 7 % 50, row % 40] for row in range(100)])
+    return plain([routes.lengths, [routes[row] for row in range(100)], drawn.hierarchy.lengths([[0, 5]] * 10)])
+
+
 CASES = [
-    (hierarchy_file, "MAX_READ", lambda drawn: domethyme.Hierarchy(f"{drawn.prefix}.rch").length(0, 5)),
+    (batch, "CHUNK_SIZE", in_blocks), (hierarchy_file, "MAX_READ", lambda drawn: domethyme.Hierarchy(f"{drawn.prefix}.rch").length(0, 5)),
     (links, "AT_A_TIME", comparing),
     (from_tables, "ARCS_AT_ONCE", straight),
     (net_file, "SECONDS_AT_A_TIME", lambda drawn: net_file.read(f"{drawn.prefix}.net").has_seconds),

@@ -1,24 +1,25 @@
-"""Tests of which roads are reached. A thousandth of a degree is 111.195 m along the equator, and weighs 1000 there."""
+"""Tests of which roads are reached, and of what Hierarchy.reach and within refuse. A thousandth of a degree is 111.195 m along the
+equator, and weighs 1000 there."""
 import numpy as np
 import pytest
-from reach_case import Road, lengths, network, town
+from reach_case import Road, lengths, network, prepared, town, town_map
+from shapely.geometry import Point, shape
 
+import domethyme
+from domethyme import library
+from domethyme.network import isochrones
+from domethyme.network.isochrones import features
 from domethyme.network.reach import Reach
 
-# Four nodes in a row, a thousandth of a degree apart: a road, one to the east alone, and one with a bend.
-ROW = [(0, 0), (0.001, 0), (0.002, 0), (0.003, 0)]
-BEND = (0.0025, 0.0005)
-ROADS = [Road(0, 1, 1000, 1000), Road(1, 2, 1000, None), Road(2, 3, 1000, 1000, (BEND,))]
+# A road of two directions, one to the east alone, and roads without weight; a node apart.
+ROW = [(0, 0), (0.001, 0), (0.002, 0), (0.003, 0), (0.004, 0), (0, 0.01)]
+ROADS = [Road(0, 1, 1000, 1000), Road(1, 2, 1000, None), Road(2, 3, 0, 0), Road(3, 4, 60_000, 0)]
 
 
-def roads(net, starts, limit, places=(), towards=False):
-    """The lines that are reached within a limit."""
-    reach = Reach(net, lengths(net, starts, towards), [limit], places, towards)
-    return sorted(reach.roads(0))
-
-
-def line(*lons):
-    return [(lon, 0.0) for lon in lons]
+@pytest.fixture(scope="module")
+def row(tmp_path_factory):
+    with prepared(ROW, ROADS, tmp_path_factory.mktemp("row") / "row") as hierarchy:
+        yield hierarchy
 
 
 def test_copies_of_a_node_count_once():
@@ -28,18 +29,17 @@ def test_copies_of_a_node_count_once():
     net = network(nodes, [Road(start, end, 1000, None) for start, end in ((0, 2), (1, 5), (3, 5), (4, 5))])
     reach = Reach(net, lengths(net, {0: 0}), [500, 1500])
     assert reach.node_levels(np.arange(6)).tolist() == [0, 1, 1, 1, 2, 2]
-    assert reach.roads(1) == [line(0, 0.001)]  # the copy from which roads lead isn't reached itself
+    assert reach.roads(1) == [[(0, 0), (0.001, 0)]]  # the copy from which roads lead isn't reached itself
 
 
 def test_nothing_is_reached():
-    net = network(ROW, ROADS)
-    reach = Reach(net, np.full(4, -1), [1000])
-    assert reach.boxes == [None] and reach.roads(0) == []
+    reach = Reach(network(ROW, ROADS), np.full(6, -1), [1000])
+    assert reach.boxes == [None] and list(reach.roads(0)) == []
 
 
 @pytest.mark.parametrize("values, limits", [
-    (np.zeros(3, np.int64), [1]), (np.zeros(4), [1]), (np.zeros(4, np.uint64), [1]),
-    (np.zeros(4, np.int64), []), (np.zeros(4, np.int64), [-1]), (np.zeros(4, np.int64), [2, 2]),
+    (np.zeros(3, np.int64), [1]), (np.zeros(6), [1]), (np.zeros(6, np.uint64), [1]),
+    (np.zeros(6, np.int64), []), (np.zeros(6, np.int64), [-1]), (np.zeros(6, np.int64), [2, 2]),
 ])
 def test_what_does_not_fit(values, limits):
     with pytest.raises(ValueError):
@@ -55,7 +55,7 @@ def test_a_town_road_by_road(towards):
     for arc in range(len(net.arc_from)):
         start, weight = int((net.arc_to if towards else net.arc_from)[arc]) - 1, int(net.arc_weight[arc])
         share = min(1.0, (limit - found[start]) / weight) if 0 <= found[start] <= limit else 0.0
-        wanted.setdefault(int(net.arc_edge[arc]), []).append(share * net.arc_metres[arc] / net.arc_metres[arc])
+        wanted.setdefault(int(net.arc_edge[arc]), []).append(share)
     metres = {int(edge): float(long) for edge, long in zip(net.arc_edge[:], net.arc_metres[:])}
     expected = sum(min(1.0, sum(shares)) * metres[edge] for edge, shares in wanted.items())
     reach = Reach(net, found, [limit], towards=towards)
@@ -63,3 +63,66 @@ def test_a_town_road_by_road(towards):
     found = sum(np.hypot(*np.diff(each, axis=0).T).sum() for each in points)
     assert found == pytest.approx(expected, abs=0.2 * len(points))
     assert 100 < len(points) < len(net.edge_begin) - 1
+
+
+@pytest.mark.parametrize("starts, limit, says", [
+    ([], 5, "a node or more"), ([True], 5, "no node"), (["a"], 5, "no node"), ({0: -1}, 5, "from 0 to"),
+    ({0: 1 << 32}, 5, "from 0 to"), ({0: 0.5}, 5, "whole numbers"), ([0], -1, "limit"), ([0], (1 << 62) + 1, "limit"),
+    ([0], 1.5, "limit"), ([0], True, "limit"), ([0], "5", "limit"), ([6], 5, "nodes 0 to 5"),
+])
+def test_what_cannot_be_reached(row, starts, limit, says):
+    with pytest.raises(ValueError, match=says) as caught:
+        row.reach(starts, limit)
+    assert isinstance(caught.value, domethyme.NoSuchNode) == (starts == [6])
+
+
+def test_an_older_library(row, monkeypatch):
+    """The error for a call that the library lacks says what to do."""
+    monkeypatch.setitem(library.LATER_ARGUMENTS, "reached_by_nobody", [])
+    with pytest.raises(domethyme.LibraryNotFound, match="older than this package, and has no domethyme_reached_by_nobody"):
+        library.load_later_call("reached_by_nobody")
+
+
+@pytest.fixture(scope="module")
+def made_town(tmp_path_factory):
+    nodes, roads, _ = town_map()
+    with prepared(nodes, roads, tmp_path_factory.mktemp("town") / "town") as hierarchy:
+        yield hierarchy
+
+
+@pytest.mark.parametrize("form, kinds", [
+    ("polygons", {"Polygon", "MultiPolygon"}), ("lines", {"LineString", "MultiLineString"}), ("roads", {"MultiLineString"}),
+])
+def test_within(made_town, form, kinds):
+    """What features makes of scipy's lengths, and each contour within the next."""
+    at, net = (float(made_town.network.lon[300]), float(made_town.network.lat[300])), made_town.network.roads.arrays
+    found = made_town.within(at, [0.5, 1, 1.5], shape=form)
+    reach = Reach(net, lengths(net, {300: 0}), [30_000, 60_000, 90_000])
+    assert found == features(reach, [0.5, 1, 1.5], "time", isochrones.Style(form, attribution="© the town"))
+    assert {each["geometry"]["type"] for each in found["features"]} <= kinds
+    if form == "polygons":
+        large, middle, small = (shape(each["geometry"]) for each in found["features"])
+        assert large.is_valid and large.covers(middle) and middle.covers(small) and small.contains(Point(at))
+
+
+@pytest.mark.parametrize("place, words, error, says", [
+    ((0, 2), {}, domethyme.NoSuchNode, "no road within 1000 m"), ((0, 91), {}, ValueError, "swapped"),
+    ((0, float("nan")), {}, ValueError, "degrees"), ((0, 0, 0), {}, ValueError, "lon, lat"), ([], {}, ValueError, "lon, lat"),
+    ((0, 0), {"minutes": [5, 3]}, ValueError, "greater than the one before"),
+    ((0, 0), {"metres": [5]}, ValueError, "aren't a distance"),
+    ((0, 0), {"minutes": [5], "metres": [5]}, ValueError, "one of both"), ((0, 0), {"minutes": [1e300]}, ValueError, "too much"),
+    ((0, 0), {"colors": ["red"] * 3}, ValueError, "hexadecimal"), ((0, 0), {"colors": ["ff0000"]}, ValueError, "colours"),
+    ((0, 0), {"denoise": 2}, ValueError, "denoise"), ((0, 0), {"generalize": -1}, ValueError, "generalize"),
+    ((0, 0), {"minutes": [float("nan")]}, ValueError, "above 0"), ((0, 0), {"minutes": [0, 1]}, ValueError, "above 0"),
+    ((0, 0), {"minutes": [float("inf")]}, ValueError, "above 0"), ((0, 0), {"shape": "circles"}, ValueError, "shape"),
+])
+def test_what_is_refused(row, place, words, error, says):
+    with pytest.raises(error, match=says):
+        row.within(place, **words)
+
+
+def test_without_a_network(row):
+    with domethyme.Hierarchy(row.path) as hierarchy, pytest.raises(ValueError, match="no network"):
+        hierarchy.within((0, 0))
+    with pytest.raises(ValueError, match="closed"):
+        hierarchy.reach([0])

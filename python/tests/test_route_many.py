@@ -131,6 +131,14 @@ class RouteManyCase(ToolCase):
         words = [TOOLS / "route_many", hierarchy, "pairs", "out", "--pairs-per-part", PART, *words]
         return self.start([*environment, *words], "said")
 
+    def held_at(self, part, *words, **more):
+        """A run whose program is held at a part, once it is there; and that program."""
+        program = self.held_program()
+        self.hold(part)
+        run = self.start_many(*words, "--program", program, **more)
+        self.until(lambda: part in self.parts_begun())
+        return run, program
+
     def said(self):
         """What route_many said, but that it waits for a scheduler, as it does on a busy machine."""
         return WAITS.sub("", (self.folder / "said").read_text())
@@ -139,6 +147,13 @@ class RouteManyCase(ToolCase):
         """What an interrupted run says."""
         folder = self.folder.resolve() / "out.parts"
         return f"route_many: what is done is kept in {folder}; the same call resumes with it\n"
+
+    def goes_on_alone(self, program):
+        """The same call goes on without Dask, and begins no part again that is done."""
+        self.release("000003.pairs")
+        self.many("--jobs", 1, "--program", program)
+        self.assertEqual(self.parts_begun().count("000000.pairs"), 1)
+        self.assert_answered()
 
     def assert_ends(self, process, status=0):
         """The process ends, with the status."""
@@ -203,28 +218,19 @@ class PartsTests(ToolCase):
         self.assertGreater(min(verdicts[kind] for kind in ["refused as a whole", "refused in a part", "taken"]), 100)
 
 
+KINDS = ["q 1 2"] * 20 + [
+    "q 3 4", "q\t5 6 ", " q 7 8", "qq 1 2", "q 1", "q 1 x", "q 0 1", "q", "Q 1 2", "x", "\r", "\v", "", "c", "cq 1 2", "  c", " \t",
+    "p aux sp p2p 2", "p", "q 1 2\r", "\x0bq 1 2", "q\xa01 2", "q 1 2\x0c"
+]
+PROBLEMS = ["p aux sp p2p {}"] * 20 + ["p\taux sp p2p  00{} ", "p aux sp p2p", "p aux sp {}", "p aux sp p2p -{}"]
+
+
 def random_text(draw):
     """A text of a few lines, many of them right and some of any other kind, with any of the ways to end and to part."""
     pairs = draw.randint(0, 5)
-    kinds = ["q 1 2"] * 20 + [
-        "q 3 4",
-        "q\t5 6 ",
-        " q 7 8",
-        "qq 1 2",
-        "q 1",
-        "q 1 x",
-        "q 0 1",
-        "q",
-        "Q 1 2",
-        "x",
-        "\r",
-        "\v",
-    ]
-    kinds += ["", "c", "cq 1 2", "  c", " \t", "p aux sp p2p 2", "p", "q 1 2\r", "\x0bq 1 2", "q\xa01 2", "q 1 2\x0c"]
-    problems = ["p aux sp p2p {}"] * 20 + ["p\taux sp p2p  00{} ", "p aux sp p2p", "p aux sp {}", "p aux sp p2p -{}"]
-    lines = [draw.choice(kinds) for _ in range(pairs)]
+    lines = [draw.choice(KINDS) for _ in range(pairs)]
     right = sum(line.split(" ")[0].split("\t")[0] == "q" or line.startswith(" q") for line in lines)
-    problem = draw.choice(problems).format(right if draw.random() < 0.9 else draw.randint(0, 5))
+    problem = draw.choice(PROBLEMS).format(right if draw.random() < 0.9 else draw.randint(0, 5))
     before = [draw.choice(["c", "", " c x", "q 1 2", "x"])] if draw.random() < 0.2 else []
     ends = [draw.choice(["\n"] * 9 + ["\r\n"]) for _ in range(pairs + 3)]
     text = "".join(line + end for line, end in zip([*before, problem, *lines], ends))
@@ -272,14 +278,9 @@ class OneMachineTests(RouteManyCase):
 
     def test_words(self):
         words = ["network.rch", "pairs", "out"]
-        wrongs = [
-            words[:2],
-            [*words, "--jobs", "0"],
-            [*words, "--pairs-per-part", "1.5"],
-            [*words, "--jobs", "2", "--split-only"],
-        ]
-        wrongs += [["network.rch", "pairs", out] for out in ["-", "/dev/null", "new/", ".", "pairs"]]
-        for wrong in wrongs:
+        more = [["--jobs", "0"], ["--pairs-per-part", "1.5"], ["--jobs", "2", "--split-only"]]
+        outs = [["network.rch", "pairs", out] for out in ["-", "/dev/null", "new/", ".", "pairs"]]
+        for wrong in [words[:2], *([*words, *each] for each in more), *outs]:
             with self.subTest(words=wrong):
                 self.run_tool("route_many", *wrong, status=2)
                 self.assert_untouched()
@@ -310,12 +311,9 @@ class OneMachineTests(RouteManyCase):
         self.assert_answered()
 
     def test_no_scheduler(self):
-        ended = self.many("--dask", "tcp://127.0.0.1:1", status=1, environment={CONNECT: "200ms"})
-        self.assertEqual(ended.stderr.count("\n"), 1)
-        self.assertIn("route_many: tcp://127.0.0.1:1: no scheduler answers", ended.stderr)
-        ended = self.many("--dask", "no.json", status=1)
-        self.assertEqual(ended.stderr.count("\n"), 1)
-        self.assertIn("route_many: no.json: no scheduler answers", ended.stderr)
+        for where, environment in (("tcp://127.0.0.1:1", {CONNECT: "200ms"}), ("no.json", {})):
+            said = self.many("--dask", where, status=1, environment=environment).stderr
+            self.assertEqual((said.count("\n"), f"route_many: {where}: no scheduler answers" in said), (1, True), said)
 
 
 class PartsFolderTests(RouteManyCase):
@@ -369,34 +367,23 @@ class RefusalTests(RouteManyCase):
         self.assertEqual(self.contents(), before)
         self.assertEqual(sorted(os.listdir(self.folder)), sorted({*self.before, "out"}))
 
-    def test_wrong_count(self):
-        pairs = "q 1 2\n" * 200
-        self.write("pairs", f"c\np aux sp p2p 201\n{pairs}c\n\n")
-        self.assert_program_refuses("routecli: queries: ArcCount line 204")
-        self.write("pairs", f"c\np aux sp p2p 199\n{pairs}c\n\n")
-        self.assert_program_refuses("routecli: queries: ArcCount line 202")
-        self.write("pairs", f"p aux sp p2p 250\n{pairs}")
-        self.assert_program_refuses("routecli: queries: ArcCount line 201")
-        self.write("pairs", f"p aux sp p2p 0\n{pairs}")
-        self.assert_program_refuses("routecli: queries: ArcCount line 2")
-
-    def test_wrong_count_behind_another_fault(self):
-        self.write("pairs", "p aux sp p2p 201\n" + "q 1 2\n" * 150 + "q 1 301\n" + "q 1 2\n" * 51)
-        self.assert_program_refuses("routecli: queries: NodeRange line 152")
-
-    def test_problem_line(self):
+    def test_queries(self):
+        """Wrong counts, problem lines, and the first fault of several, also behind others."""
+        pairs, lines = "q 1 2\n" * 200, ["p aux sp p2p 1000", "c", ""] + ["q 1 2"] * 1000
+        lines[903], lines[999] = "q 1", "q 1 x"
         for text, fault in [
-            ("", "NoProblemLine line 0"),
-            ("q 1 2\np aux sp p2p 1\n", "NoProblemLine line 1"),
+            (f"c\np aux sp p2p 201\n{pairs}c\n\n", "ArcCount line 204"), (f"c\np aux sp p2p 199\n{pairs}c\n\n", "ArcCount line 202"),
+            (f"p aux sp p2p 250\n{pairs}", "ArcCount line 201"), (f"p aux sp p2p 0\n{pairs}", "ArcCount line 2"),
+            ("p aux sp p2p 201\n" + "q 1 2\n" * 150 + "q 1 301\n" + "q 1 2\n" * 51, "NodeRange line 152"),
+            ("", "NoProblemLine line 0"), ("q 1 2\np aux sp p2p 1\n", "NoProblemLine line 1"),
             ("p aux sp p2p 1\nq 1 2\np aux sp p2p 1\n", "SecondProblemLine line 3"),
             ("p aux sp p2p 134217729\nq 1 2\n", "TooManyArcs line 1"),
             (f"p aux sp p2p {'0' * 5000}{'9' * 5000}\nq 1 2\n", "TooManyArcs line 1"),
-            ("p aux sp p2p 1\n\rq 1 2\n", "UnknownLine line 2"),
-            ("p aux sp p2p 1\nq 1 2\r\r\n", "NotANumber line 2"),
-            ("x\np aux sp p2p 1\nq 1 2\n", "UnknownLine line 1"),
-            ("p aux sp co 1\np aux sp p2p 1\nq 1 2\n", "UnknownLine line 1"),
+            ("p aux sp p2p 1\n\rq 1 2\n", "UnknownLine line 2"), ("p aux sp p2p 1\nq 1 2\r\r\n", "NotANumber line 2"),
+            ("x\np aux sp p2p 1\nq 1 2\n", "UnknownLine line 1"), ("p aux sp co 1\np aux sp p2p 1\nq 1 2\n", "UnknownLine line 1"),
+            ("\n".join([*lines[:620], "q 1 0", *lines[621:]]), "NodeRange line 621"), ("\n".join(lines), "FieldCount line 904"),
         ]:
-            with self.subTest(text=text[:40]):
+            with self.subTest(fault=fault, text=text[:40]):
                 self.write("pairs", text)
                 self.assert_program_refuses(f"routecli: queries: {fault}")
 
@@ -405,15 +392,6 @@ class RefusalTests(RouteManyCase):
         self.write("pairs", text)
         self.many("--jobs", 2)
         self.assert_answered()
-
-    def test_first_fault_of_several_parts(self):
-        lines = ["p aux sp p2p 1000", "c", ""] + ["q 1 2"] * 1000
-        lines[620], lines[903], lines[999] = "q 1 0", "q 1", "q 1 x"
-        self.write("pairs", "\n".join(lines))
-        self.assert_program_refuses("routecli: queries: NodeRange line 621")
-        lines[620] = "q 1 2"
-        self.write("pairs", "\n".join(lines))
-        self.assert_program_refuses("routecli: queries: FieldCount line 904")
 
     def test_first_fault_though_a_later_part_fails_first(self):
         lines = ["p aux sp p2p 1000"] + ["q 1 2"] * 1000
@@ -440,8 +418,7 @@ class RefusalTests(RouteManyCase):
     def test_statuses_of_the_program_that_are_no_fault_of_the_input(self):
         program = self.held_program(trouble="echo routecli: memory >&2; exit 6")
         self.write("trouble", "")
-        ended = self.many("--jobs", 1, "--program", program, status=6)
-        self.assertEqual(ended.stderr, "routecli: memory\n")
+        self.assertEqual(self.many("--jobs", 1, "--program", program, status=6).stderr, "routecli: memory\n")
         self.assertEqual(self.answered(), ["000000.answers", "000001.answers"])
         (self.folder / "trouble").unlink()
         self.many("--jobs", 1, "--program", program)
@@ -474,49 +451,38 @@ class TwoCallsTests(RouteManyCase):
         self.assert_ends(first)
         self.assert_answered()
 
-    def interrupted(self, program, number):
-        """Interrupts a run while it is at the part 000003.pairs, the three before it done, and wants its status."""
-        self.hold("000003.pairs")
-        run = self.start_many("--jobs", 1, "--program", program)
-        self.until(lambda: "000003.pairs" in self.parts_begun())
+    def interrupted(self, number):
+        """Interrupts a run while it is at the part 000003.pairs, the three before it done, and wants its status; returns its program."""
+        run, program = self.held_at("000003.pairs", "--jobs", 1)
         run.send_signal(number)
-        self.assert_ends(run, 128 + number)
+        self.assert_ends(run, -number if number == signal.SIGKILL else 128 + number)
         self.assertEqual(self.said(), self.kept_line() if number == signal.SIGINT else "")
-        self.until(lambda: not any(is_running(int(process)) for process, _, _ in self.begun()))
+        if number != signal.SIGKILL:
+            self.until(lambda: not any(is_running(int(process)) for process, _, _ in self.begun()))
         self.assertFalse((self.folder / "out").exists())
         self.assertEqual(self.answered(), ["000000.answers", "000001.answers", "000002.answers"])
-
-    def test_interrupted_and_gone_on_with(self):
-        program = self.held_program()
-        self.interrupted(program, signal.SIGINT)
         self.release("000003.pairs")
+        return program
+
+    def goes_on(self, number):
+        """The same call goes on with what an interrupted one has done."""
+        program = self.interrupted(number)
         self.many("--jobs", 3, "--program", program)
         wanted = [f"{part:06}.pairs" for part in range(20)] + ["000003.pairs"]
         self.assertEqual(sorted(self.parts_begun()), sorted(wanted))
         self.assert_answered()
 
+    def test_interrupted_and_gone_on_with(self):
+        self.goes_on(signal.SIGINT)
+
     def test_ended_by_sigterm_and_gone_on_with(self):
-        program = self.held_program()
-        self.interrupted(program, signal.SIGTERM)
-        self.release("000003.pairs")
-        self.many("--jobs", 3, "--program", program)
-        self.assert_answered()
+        self.goes_on(signal.SIGTERM)
 
     def test_killed_and_gone_on_with(self):
-        program = self.held_program()
-        self.hold("000003.pairs")
-        run = self.start_many("--jobs", 1, "--program", program)
-        self.until(lambda: "000003.pairs" in self.parts_begun())
-        end(run)
-        self.release("000003.pairs")
-        self.many("--jobs", 3, "--program", program)
-        self.assertEqual(self.parts_begun().count("000000.pairs"), 1)
-        self.assert_answered()
+        self.goes_on(signal.SIGKILL)
 
     def test_another_call_does_not_go_on(self):
-        program = self.held_program()
-        self.interrupted(program, signal.SIGINT)
-        self.release("000003.pairs")
+        program = self.interrupted(signal.SIGINT)
         kept = self.contents()
         other = self.write("other.pairs", "p aux sp p2p 2\nq 1 2\n")
         self.run_program([self.program, "prepare", "--workers", "0", "network.gr", "other.rch"])
@@ -556,24 +522,14 @@ class TwoCallsTests(RouteManyCase):
 
     def test_a_full_disk_names_the_folder(self):
         words = [
-            "/usr/bin/prlimit",
-            "--fsize=300",
-            TOOLS / "route_many",
-            "network.rch",
-            "pairs",
-            "out",
-            "--pairs-per-part",
-            PART,
+            "/usr/bin/prlimit", "--fsize=300", TOOLS / "route_many", "network.rch", "pairs", "out", "--pairs-per-part", PART
         ]
         ended = self.run_program(words, 1)
         self.assertEqual(ended.stderr, f"route_many: {self.folder.resolve() / 'out.parts'}: File too large\n")
 
     def test_a_hierarchy_that_changes_during_the_run(self):
         self.run_program([self.program, "prepare", "--workers", "0", "network.gr", "other.rch"])
-        program = self.held_program()
-        self.hold("000003.pairs")
-        run = self.start_many("--jobs", 1, "--program", program)
-        self.until(lambda: "000003.pairs" in self.parts_begun())
+        run, _ = self.held_at("000003.pairs", "--jobs", 1)
         os.replace(self.folder / "other.rch", self.folder / "network.rch")
         self.release("000003.pairs")
         self.assert_ends(run, 1)
@@ -675,10 +631,7 @@ class DaskTests(RouteManyCase):
 
     def test_all_workers_are_killed_and_a_late_one_finishes(self):
         first = self.start_workers("one")[0]
-        program = self.held_program()
-        self.hold("000003.pairs")
-        run = self.start_many("--dask", "scheduler.json", "--program", program)
-        self.until(lambda: "000003.pairs" in self.parts_begun())
+        run, program = self.held_at("000003.pairs", "--dask", "scheduler.json")
         first.kill()
         self.release("000003.pairs")
         self.start_worker("late")
@@ -716,11 +669,8 @@ class DaskTests(RouteManyCase):
         (self.folder / "stale").mkdir()
         self.run_program([self.program, "prepare", "--workers", "0", "network.gr", "stale/network.rch"])
         first = self.start_workers("right")[0]
-        program = self.held_program()
-        self.hold("000003.pairs")
         hierarchy = "/proc/self/cwd/network.rch"
-        run = self.start_many("--dask", "scheduler.json", "--program", program, hierarchy=hierarchy)
-        self.until(lambda: "000003.pairs" in self.parts_begun())
+        run, _ = self.held_at("000003.pairs", "--dask", "scheduler.json", hierarchy=hierarchy)
         self.start_workers("stale-one", folder="stale")
         first.kill()
         self.assert_ends(run, 1)
@@ -742,30 +692,18 @@ class DaskTests(RouteManyCase):
 
     def test_the_scheduler_goes_away(self):
         self.start_workers("one")
-        program = self.held_program()
-        self.hold("000003.pairs")
-        run = self.start_many("--dask", "scheduler.json", "--program", program, environment=[f"{CONNECT}=2s"])
-        self.until(lambda: "000003.pairs" in self.parts_begun())
+        run, program = self.held_at("000003.pairs", "--dask", "scheduler.json", environment=[f"{CONNECT}=2s"])
         end(self.scheduler)
         self.assert_ends(run, 1)
         said = "the scheduler went away; the same call resumes with the parts that are done"
         self.assertEqual(self.said(), f"route_many: scheduler.json: {said}\n")
-        self.release("000003.pairs")
-        self.many("--jobs", 1, "--program", program)
-        self.assertEqual(self.parts_begun().count("000000.pairs"), 1)
-        self.assert_answered()
+        self.goes_on_alone(program)
 
     def test_an_interrupt(self):
         self.start_workers("one")
-        program = self.held_program()
-        self.hold("000003.pairs")
-        run = self.start_many("--dask", "scheduler.json", "--program", program)
-        self.until(lambda: "000003.pairs" in self.parts_begun())
+        run, program = self.held_at("000003.pairs", "--dask", "scheduler.json")
         run.send_signal(signal.SIGINT)
         self.assert_ends(run, 130)
         self.assertEqual(self.said(), self.kept_line())
         self.assertEqual(self.answered(), ["000000.answers", "000001.answers", "000002.answers"])
-        self.release("000003.pairs")
-        self.many("--jobs", 1, "--program", program)
-        self.assertEqual(self.parts_begun().count("000000.pairs"), 1)
-        self.assert_answered()
+        self.goes_on_alone(program)

@@ -101,16 +101,6 @@ class RouterTests(ToolCase):
             asking.result(SECONDS)
         self.assertEqual(found, [8] * 200)
 
-    def test_both_sides_of_a_fork(self):
-        hierarchy = self.ring()
-        child = os.fork()
-        if child == 0:
-            good = all(hierarchy.length(0, end) == end for end in range(50))
-            hierarchy.close()
-            os._exit(0 if good else 1)
-        self.assertEqual([hierarchy.length(1, end) for end in range(1, 50)], [*range(49)])
-        self.assertEqual(os.waitpid(child, 0)[1], 0)
-
     def test_a_fork_while_seats_are_taken(self):
         """The child asks by a seat of its own; where one was being made, which is as another thread left it, it is closed."""
         hierarchy = self.ring()

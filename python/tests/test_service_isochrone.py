@@ -60,40 +60,19 @@ class IsochroneTests(ServiceCase):
             self.assertEqual(feature["properties"]["metric"], "time")
 
     def test_what_is_refused(self):
+        """Messages; and paths, since a profile may have two words. (Other texts of parameters are in draws.py.)"""
         for query, code, says in [
             ("", "InvalidQuery", "one of contours_minutes and contours_meters"),
             ("contours_minutes=5&contours_meters=5", "InvalidQuery", "one of"),
             ("contours_meters=500", "NotImplemented", "contours_meters isn't supported"),
-            ("contours_minutes=", "InvalidValue", "contours_minutes"), ("contours_minutes=0", "InvalidValue", "contours_minutes"),
-            ("contours_minutes=5,5", "InvalidValue", "rising"), ("contours_minutes=9,5", "InvalidValue", "rising"),
-            ("contours_minutes=1,2,3,4,5", "InvalidValue", "1 to 4"), ("contours_minutes=601", "InvalidValue", "600"),
-            ("contours_minutes=-5", "InvalidValue", "contours_minutes"),
-            ("contours_minutes=nan", "InvalidValue", "contours_minutes"),
-            ("contours_minutes=1e2", "InvalidValue", "contours_minutes"),
-            ("contours_minutes=5%3B6", "InvalidValue", "contours_minutes"),
-            ("contours_minutes=0.00001,0.00002", "InvalidValue", "differ"),
-            ("contours_meters=1000001", "InvalidValue", "1,000,000"),
-            ("contours_minutes=5&contours_colors=red", "InvalidValue", "contours_colors"),
-            ("contours_minutes=5&contours_colors=ff0000,00ff00", "InvalidValue", "contours_colors"),
-            ("contours_minutes=5&contours_colors=%23ff0000", "InvalidValue", "contours_colors"),
-            ("contours_minutes=5&polygons=yes", "InvalidValue", "polygons"),
-            ("contours_minutes=5&denoise=1.1", "InvalidValue", "denoise"),
-            ("contours_minutes=5&denoise=-1", "InvalidValue", "denoise"),
-            ("contours_minutes=5&generalize=x", "InvalidValue", "generalize"),
-            ("contours_minutes=5&generalize=1000001", "InvalidValue", "generalize"),
-            ("contours_minutes=5&reverse=true", "NotImplemented", "reverse"),
-            ("contours_minutes=5&reverse=1", "InvalidValue", "reverse"),
-            ("contours_minutes=5&exclude=toll", "NotImplemented", "exclude"),
-            ("contours_minutes=5&depart_at=2026-11-28T08:00", "NotImplemented", "depart_at"),
-            ("contours_minutes=5&radiuses=5;5", "InvalidQuery", "radius"),
-            ("contours_minutes=5&bearings=400,5", "InvalidValue", "bearings"),
-            ("contours_minutes=5&costing=auto", "InvalidQuery", "'costing'"),
+            ("contours_minutes=9,5", "InvalidValue", "rising"), ("contours_minutes=601", "InvalidValue", "600"),
+            ("contours_minutes=0.00001,0.00002", "InvalidValue", "differ"), ("contours_meters=1000001", "InvalidValue", "1,000,000"),
+            ("contours_minutes=5&radiuses=5;5", "InvalidQuery", "radius"), ("contours_minutes=5&costing=auto", "InvalidQuery", "'costing'"),
         ]:
             with self.subTest(query=query):
                 self.refused(query, code, says)
         for path, code in [
-            ("/isochrone/v2/car/0,0", "InvalidVersion"),
-            ("/isochrone/v1/0,0", "InvalidUrl"), ("/isochrone/v1/a/b/c/0,0", "InvalidUrl"),
+            ("/isochrone/v2/car/0,0", "InvalidVersion"), ("/isochrone/v1/0,0", "InvalidUrl"), ("/isochrone/v1/a/b/c/0,0", "InvalidUrl"),
             ("/isochrone/v1/a,b/0,0", "InvalidUrl"), ("/isochrone/v1/car/0,0;1,1", "InvalidQuery"),
             ("/isochrone/v1/car/x", "InvalidQuery"), ("/isochrone/v1/car/0,91", "InvalidValue"),
         ]:

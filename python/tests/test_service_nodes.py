@@ -14,30 +14,6 @@ from domethyme_service import command
 
 
 class NodesTests(ServiceCase):
-    def test_requests_that_are_refused(self):
-        self.serve()
-        for path, status, code in [
-            ("/nodes/length?from=1", 400, "InvalidQuery"),
-            ("/nodes/length?from=1&to=0", 400, "InvalidValue"),
-            ("/nodes/length?from=1&to=99999", 400, "InvalidValue"),
-            ("/nodes/length?from=1&to=1_0", 400, "InvalidValue"),
-            ("/nodes/length?from=1&to=%D9%A1", 400, "InvalidValue"),
-            ("/nodes/length?from=1&to=-1", 400, "InvalidValue"),
-            ("/nodes/length?from=1&to=2&to=3", 400, "InvalidQuery"),
-            ("/nodes/length?from=1&to=2&by=car", 400, "InvalidQuery"),
-            ("/nodes/length?from=1&to=%FF", 400, "InvalidQuery"),
-            ("/nodes/lengths", 405, "MethodNotAllowed"),
-            ("/nodes", 404, "InvalidUrl"),
-            ("/map/../server.py", 404, "InvalidUrl"),
-            ("/map/about", 400, "InvalidService"),
-        ]:
-            with self.subTest(path=path):
-                found = self.ask(path)
-                self.assertEqual((found[0], found[1]["code"]), (status, code))
-        self.assertEqual(self.ask("/nodes/length?from=1&to=2", "POST", "")[0], 405)
-        self.assertEqual(self.ask("/nodes/lengths", "POST", b" " * (5 << 20))[0], 413)
-        self.assertEqual(self.ask("/nodes/lengths", "POST", "x", {"Content-Encoding": "gzip"})[0], 415)
-
     def test_faults_in_lines_of_a_batch(self):
         self.serve()
         lines = ['{"from": 1, "to": 1}', "", "[1, 2]", '{"from": 1}', '{"from": true, "to": 1}', '{"from": 1.5, "to": 1}',

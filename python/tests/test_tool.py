@@ -188,64 +188,58 @@ class Tables(SharedCase):
             self.assert_fault(f"f, row 1: n {text!r} is no number", csv_tables.parse_float, text, "n", "f", 1)
 
 
+# A reader, the name and the text of a file, and what is said of it.
+HEAD = "node,osm,lon,lat\n"
+FAULTS = [
+    (reading.read_nodes, "n.nodes.csv", HEAD + "2,,0,0\n", ", row 2: has node '2' where node 1 comes next"),
+    (reading.read_nodes, "n.nodes.csv", HEAD + "1,,0,0\n2,,0,91\n", ", row 3: lat '91' isn't from -90 to 90"),
+    (reading.read_nodes, "n.nodes.csv", HEAD + "1,x,0,0\n", ", row 2: osm 'x' isn't an integer"),
+    (reading.read_nodes, "n.co", "", ": has no line `p aux sp co N`"),
+    (reading.read_nodes, "n.co", "v 1 0 0\n", ", row 1: is no line of coordinates before the line `p aux sp co N`"),
+    (reading.read_nodes, "n.co", "p aux sp co 1\nv 2 0 0\n", ", row 2: node 2 isn't from 1 to 1"),
+    (reading.read_nodes, "n.co", "p aux sp co 2\nv 1 0 0\n", ": has no coordinates of node 2"),
+    (reading.read_nodes, "n.co", "p aux sp p2p 2\n", ", row 1: is no problem line `p aux sp co NUMBER`"),
+    (dimacs.read_graph, "n.gr", "c only\n", ": has no line `p sp NODES ARCS`"),
+    (dimacs.read_graph, "n.gr", "a 1 2 3\n", ", row 1: is no line of a graph"),
+    (dimacs.read_graph, "n.gr", "p sp 2 1\n\na 1 3 3\n", ", row 3: node 3 isn't from 1 to 2"),
+    (dimacs.read_graph, "n.gr", "p sp 2 1\na 1 2 4294967296\n", ", row 2: weight 4294967296 isn't from 0 to 4294967295"),
+    (dimacs.read_graph, "n.gr", "p sp 2 2\na 1 2 3\n", ": has 1 arcs and announces 2"),
+    (dimacs.read_graph, "n.gr", "p sp 2 1\na 1 2 3\na 2 1 3\n", ": has 2 arcs and announces 1"),
+    (dimacs.read_graph, "n.gr", "p sp 2 1\np sp 2 1\n", ", row 2: is no line of a graph"),
+    (dimacs.read_answers, "answers", "n 1 2\n\n", ", row 2: is no answer of routecli"),
+    (dimacs.read_answers, "answers", "r 1 2 9\n", ", row 1: is no answer of routecli"),
+    (dimacs.read_answers, "answers", "n 1 2 3\n", ", row 1: is no answer of routecli"),
+    (dimacs.read_answers, "answers", "r 1 2 x 1 1 2\n", ", row 1: the number 'x' isn't an integer"),
+    (dimacs.read_answers, "answers", "r 1 2 9 2 1 2\n", ", row 1: has nodes that don't fit its pair and its number of arcs"),
+    (dimacs.read_answers, "answers", "r 1 2 9 1 1 3\n", ", row 1: has nodes that don't fit its pair and its number of arcs"),
+]
+
+
 class Networks(SharedCase):
     def write_and(self, read, name, text):
-        path = self.write(name, text)
-        result = read(path)
+        result = read(self.write(name, text))
         return list(result) if hasattr(result, "__next__") else result
 
-    def assert_text_fault(self, read, name, text, says):
-        self.assert_fault(f"{self.folder / name}{says}", self.write_and, read, name, text)
+    def test_faults(self):
+        for read, name, text, says in FAULTS:
+            with self.subTest(name=name, text=text):
+                self.assert_fault(f"{self.folder / name}{says}", self.write_and, read, name, text)
 
     def test_words_that_name_no_network(self):
+        by = "name the network by the beginning of its files' names"
         for word, says in [
-            ("li.net", "li.net: name the network by the beginning of its files' names, li"),
-            ("li.gr", "li.gr: is a graph: name the network by the beginning of its files' names, li, or a file of "
-             "coordinates, li.co"),
-            ("li.rch", "li.rch: is a hierarchy: name the network by the beginning of its files' names"),
-            ("li.nodes.csv", "li.nodes.csv: name the network by the beginning of its files' names, li"),
-            ("li.arcs.csv", "li.arcs.csv: name the network by the beginning of its files' names, li"),
+            ("li.net", f"{by}, li"), ("li.gr", f"is a graph: {by}, li, or a file of coordinates, li.co"),
+            ("li.rch", f"is a hierarchy: {by}"), ("li.nodes.csv", f"{by}, li"), ("li.arcs.csv", f"{by}, li"),
         ]:
-            self.assert_fault(says, tables.nodes_file, word)
-        self.assertEqual(
-            [tables.nodes_file(word) for word in ("li", "li.co", "li.co.gz")], ["li.nodes.csv", "li.co", "li.co.gz"]
-        )
+            self.assert_fault(f"{word}: {says}", tables.nodes_file, word)
+        words = ("li", "li.co", "li.co.gz")
+        self.assertEqual([tables.nodes_file(word) for word in words], ["li.nodes.csv", "li.co", "li.co.gz"])
 
-    def test_nodes_there_and_back(self):
+    def test_there_and_back(self):
         nodes = tables.Nodes([5, None, -7], [-180.0, 0.1234567, 180.0], [-90.0, 0.0, 90.0], ["", "from", "no"])
         with atomic_files.atomic_write(self.folder / "n.nodes.csv") as file:
             tables.write_nodes(file, nodes)
         self.assertEqual(reading.read_nodes(self.folder / "n.nodes.csv"), nodes)
-
-    def test_nodes_with_faults(self):
-        head = "node,osm,lon,lat\n"
-        cases = [
-            (head + "2,,0,0\n", ", row 2: has node '2' where node 1 comes next"),
-            (head + "1,,0,0\n2,,0,91\n", ", row 3: lat '91' isn't from -90 to 90"),
-            (head + "1,x,0,0\n", ", row 2: osm 'x' isn't an integer"),
-        ]
-        for text, says in cases:
-            self.assert_text_fault(reading.read_nodes, "n.nodes.csv", text, says)
-
-    def test_coordinates_of_dimacs(self):
-        text = "c New York\np aux sp co 2\nv 2 -73530767 41085396\nv 1 -73530538 41086098\n"
-        nodes = self.write_and(reading.read_nodes, "ny.co", text)
-        self.assertEqual(nodes, tables.Nodes([None, None], [-73.530538, -73.530767], [41.086098, 41.085396], ["", ""]))
-        self.assertEqual(tables.nodes_file("ny.co"), "ny.co")
-        self.assertEqual(tables.nodes_file("ny"), "ny.nodes.csv")
-
-    def test_coordinates_with_faults(self):
-        cases = [
-            ("", ": has no line `p aux sp co N`"),
-            ("v 1 0 0\n", ", row 1: is no line of coordinates before the line `p aux sp co N`"),
-            ("p aux sp co 1\nv 2 0 0\n", ", row 2: node 2 isn't from 1 to 1"),
-            ("p aux sp co 2\nv 1 0 0\n", ": has no coordinates of node 2"),
-            ("p aux sp p2p 2\n", ", row 1: is no problem line `p aux sp co NUMBER`"),
-        ]
-        for text, says in cases:
-            self.assert_text_fault(reading.read_nodes, "n.co", text, says)
-
-    def test_arcs_there_and_back(self):
         arcs = [
             tables.Arc(1, 2, 16012, 16.012, 222.39, 101, "tertiary", 'High "Street", N', "LINESTRING (0 0, 1 1)"),
             tables.Arc(2, 1, 1, 0.0, 0.0, -5, "residential", "", "LINESTRING (1 1, 0 0)"),
@@ -253,6 +247,21 @@ class Networks(SharedCase):
         with atomic_files.atomic_write(self.folder / "n.arcs.csv") as file:
             tables.write_arcs(file, arcs)
         self.assertEqual(list(tables.read_arcs(self.folder / "n.arcs.csv")), arcs)
+        with atomic_files.atomic_write(self.folder / "n.gr", "wb") as file:
+            dimacs.write_graph(file, 3, [[1, 1, 3], [2, 2, 3], [7, 8, 1]], ["a comment"])
+        text = (self.folder / "n.gr").read_text(encoding="ascii")
+        self.assertEqual(text, "c a comment\np sp 3 3\na 1 2 7\na 1 2 8\na 3 3 1\n")
+        self.assertEqual(dimacs.read_graph(self.folder / "n.gr"), dimacs.GraphLists(3, [1, 1, 3], [2, 2, 3], [7, 8, 1]))
+        with atomic_files.atomic_write(self.folder / "pairs") as file:
+            dimacs.write_pairs(file, [(1, 2), (3, 3)])
+        self.assertEqual((self.folder / "pairs").read_text(encoding="ascii"), "p aux sp p2p 2\nq 1 2\nq 3 3\n")
+
+    def test_coordinates_and_answers(self):
+        text = "c New York\np aux sp co 2\nv 2 -73530767 41085396\nv 1 -73530538 41086098\n"
+        nodes = self.write_and(reading.read_nodes, "ny.co", text)
+        self.assertEqual(nodes, tables.Nodes([None, None], [-73.530538, -73.530767], [41.086098, 41.085396], ["", ""]))
+        answers = self.write_and(dimacs.read_answers, "answers", "r 1 2 9 2 1 5 2\nn 2 1\nr 3 3 0 0 3\n")
+        self.assertEqual(answers, [RouteReply(1, 2, 9, (1, 5, 2)), RouteReply(2, 1, NO_PATH, ()), RouteReply(3, 3, 0, (3,))])
 
     def test_lines(self):
         points = [(-0.0016667, 0.0), (9.5, 47.1878542)]
@@ -261,48 +270,6 @@ class Networks(SharedCase):
         bodies = ("(1 2)", "(1_0 2, 3 4)", "(1 2, 3)", "(1 2, 3 4", "EMPTY", "(1 2, 3 4) 5", "(1 2, 3 x)")
         for text in ("", "POINT (1 2, 3 4)", *(f"LINESTRING {body}" for body in bodies)):
             self.assert_fault(f"f, row 7: WKT {text!r} is no line", geo.parse_linestring, text, "f", 7)
-
-    def test_graph_there_and_back(self):
-        with atomic_files.atomic_write(self.folder / "n.gr", "wb") as file:
-            dimacs.write_graph(file, 3, [[1, 1, 3], [2, 2, 3], [7, 8, 1]], ["a comment"])
-        text = (self.folder / "n.gr").read_text(encoding="ascii")
-        self.assertEqual(text, "c a comment\np sp 3 3\na 1 2 7\na 1 2 8\na 3 3 1\n")
-        self.assertEqual(dimacs.read_graph(self.folder / "n.gr"), dimacs.GraphLists(3, [1, 1, 3], [2, 2, 3], [7, 8, 1]))
-
-    def test_graph_with_faults(self):
-        cases = [
-            ("c only\n", ": has no line `p sp NODES ARCS`"),
-            ("a 1 2 3\n", ", row 1: is no line of a graph"),
-            ("p sp 2 1\n\na 1 3 3\n", ", row 3: node 3 isn't from 1 to 2"),
-            ("p sp 2 1\na 1 2 4294967296\n", ", row 2: weight 4294967296 isn't from 0 to 4294967295"),
-            ("p sp 2 2\na 1 2 3\n", ": has 1 arcs and announces 2"),
-            ("p sp 2 1\na 1 2 3\na 2 1 3\n", ": has 2 arcs and announces 1"),
-            ("p sp 2 1\np sp 2 1\n", ", row 2: is no line of a graph"),
-        ]
-        for text, says in cases:
-            self.assert_text_fault(dimacs.read_graph, "n.gr", text, says)
-
-    def test_pairs(self):
-        with atomic_files.atomic_write(self.folder / "pairs") as file:
-            dimacs.write_pairs(file, [(1, 2), (3, 3)])
-        self.assertEqual((self.folder / "pairs").read_text(encoding="ascii"), "p aux sp p2p 2\nq 1 2\nq 3 3\n")
-
-    def test_answers(self):
-        answers = self.write_and(dimacs.read_answers, "answers", "r 1 2 9 2 1 5 2\nn 2 1\nr 3 3 0 0 3\n")
-        expected = [RouteReply(1, 2, 9, (1, 5, 2)), RouteReply(2, 1, NO_PATH, ()), RouteReply(3, 3, 0, (3,))]
-        self.assertEqual(answers, expected)
-
-    def test_answers_with_faults(self):
-        cases = [
-            ("n 1 2\n\n", ", row 2: is no answer of routecli"),
-            ("r 1 2 9\n", ", row 1: is no answer of routecli"),
-            ("n 1 2 3\n", ", row 1: is no answer of routecli"),
-            ("r 1 2 x 1 1 2\n", ", row 1: the number 'x' isn't an integer"),
-            ("r 1 2 9 2 1 2\n", ", row 1: has nodes that don't fit its pair and its number of arcs"),
-            ("r 1 2 9 1 1 3\n", ", row 1: has nodes that don't fit its pair and its number of arcs"),
-        ]
-        for text, says in cases:
-            self.assert_text_fault(dimacs.read_answers, "answers", text, says)
 
 
 class Program(SharedCase):

@@ -19,15 +19,6 @@ SECONDS = 300
 TAKES_SIGNALS = ["/usr/bin/env", "--default-signal=HUP,INT,QUIT,TERM"]
 
 
-def lightest(arcs):
-    """{(start, end): the first arc of the least weight between them}."""
-    best = {}
-    for arc in arcs:
-        if arc.weight < best.setdefault((arc.start, arc.end), arc).weight:
-            best[arc.start, arc.end] = arc
-    return best
-
-
 class ToolCase(unittest.TestCase):
     """A test in an empty folder of its own, `self.folder`, in which the tools run."""
 

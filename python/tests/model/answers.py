@@ -15,6 +15,7 @@ from .steps import steps
 # The roundings of degrees, metres and seconds; and alternatives up to which an answer is compared with each.
 DEGREES, METRES, SECONDS, MOST = 1.1e-6, 0.011, 0.0015, 256
 UNITS = {"duration": 1000, "distance": 100}
+TEXT = Holds("a text", lambda value: isinstance(value, str))
 SHAPES = {"true": ("Polygon", "MultiPolygon"), "false": ("LineString", "MultiLineString")}
 
 
@@ -22,26 +23,16 @@ class Refused(Exception):
     """An error, by its code."""
 
 
-def figures(network: Network, leg: Sequence[Part]) -> dict[str, Any]:
-    """The weight, duration and distance of a leg: a weight in seconds or metres where weights are these."""
-    total = sum(part[3] for part in leg)
-    weight = total / UNITS[network.unit] if network.unit in UNITS else total
+def figures(network: Network, *legs: Sequence[Part]) -> dict[str, Any]:
+    """The weight, duration and distance of legs together: a weight in seconds or metres where weights are these."""
+    parts, unit = [*itertools.chain(*legs)], network.unit
+    weight = sum(part[3] for part in parts) / UNITS.get(unit, 1)
     seconds, metres = (
-        sum(getattr(network.arcs[arc], name) * (stop - begin) for arc, begin, stop, _ in leg) for name in ("seconds", "metres")
+        sum(getattr(network.arcs[arc], name) * (stop - begin) for arc, begin, stop, _ in parts) for name in ("seconds", "metres")
     )
-    duration = Near(weight if network.unit == "duration" else seconds, SECONDS) if network.has_seconds else None
-    distance = Near(weight if network.unit == "distance" else metres, METRES)
-    return {"weight": Near(weight, 0), "duration": duration, "distance": distance}
-
-
-def sums(legs: Sequence[dict[str, Any]]) -> dict[str, Any]:
-    """The figures of several legs together."""
-    tolerances = {"weight": 0.001, "duration": SECONDS * len(legs), "distance": METRES * len(legs)}
-    columns = {name: [leg[name] for leg in legs] for name in tolerances}
-    return {
-        name: None if None in column else Near(sum(each.value for each in column), tolerances[name])
-        for name, column in columns.items()
-    }
+    duration = Near(weight if unit == "duration" else seconds, SECONDS * len(legs)) if network.has_seconds else None
+    distance = Near(weight if unit == "distance" else metres, METRES * len(legs))
+    return {"weight": Near(weight, 0 if len(legs) == 1 else 0.001), "duration": duration, "distance": distance}
 
 
 def arc_line(network: Network, part: Part) -> list[Point]:
@@ -57,10 +48,10 @@ def leg_line(network: Network, start: SnappedPoint, leg: Sequence[Part], end: Sn
 
 def waypoint(network: Network, point: SnappedPoint, request: Request) -> dict[str, Any]:
     """A snapped point in an answer."""
-    names = [network.arcs[arc].name for arc in network.edges[point.edge].arcs if network.arcs[arc].name]
+    name = next(filter(None, (network.arcs[arc].name for arc in network.edges[point.edge].arcs)), "")
     place = [Near(degrees, DEGREES) for degrees in point.place]
-    hint = {"hint": Holds("a text", lambda value: isinstance(value, str))} if request.value("generate_hints") != "false" else {}
-    return {"name": names[0] if names else "", "location": place, "distance": Near(point.metres, 2e-5), **hint}
+    hint = {} if request.value("generate_hints") == "false" else {"hint": TEXT}
+    return {"name": name, "location": place, "distance": Near(point.metres, 2e-5), **hint}
 
 
 def waypoints(network: Network, request: Request, **members: Sequence[SnappedPoint]) -> dict[str, Any]:
@@ -71,9 +62,10 @@ def waypoints(network: Network, request: Request, **members: Sequence[SnappedPoi
 def places_on_roads(network: Network, request: Request) -> list[SnappedPoint]:
     """The points of roads that are nearest to the places. Raises Refused where one has none."""
     found = [network.snap(*each) for each in zip(request.places, request.radiuses(), request.bearings())]
-    if None in found:
+    known = [point for point in found if point is not None]
+    if len(known) < len(found):
         raise Refused("NoSegment")
-    return [point for point in found if point is not None]
+    return known
 
 
 def route(network: Network, request: Request) -> Any:
@@ -95,7 +87,7 @@ def route_along(
     lines = [leg_line(network, start, leg, end) for start, leg, end in zip(points, legs, points[1:])]
     totals, ends = [figures(network, leg) for leg in legs], itertools.pairwise(points)
     answers = [leg_answer(network, request, *each) for each in zip(ends, legs, totals, strict=True)]
-    whole: dict[str, Any] = {"legs": answers, "weight_name": network.unit, **sums(totals)}
+    whole: dict[str, Any] = {"legs": answers, "weight_name": network.unit, **figures(network, *legs)}
     if overview != "false":
         every = [point for line in lines for point in line]
         whole["geometry"] = Line(every, form) if overview == "full" else Simplified(lines, form)
@@ -110,7 +102,7 @@ def leg_answer(
     if request.value("steps") == "true":
         lines = [arc_line(network, part) for part in leg]
         found["steps"] = steps(network, *ends, leg, lines, request.value("geometries", "polyline"), figures)
-        found["summary"] = Holds("a text", lambda value: isinstance(value, str))
+        found["summary"] = TEXT
     if names := request.annotations():
         found["annotation"] = annotation(network, leg, names, total)
     return found
@@ -160,8 +152,7 @@ def table(network: Network, request: Request) -> Any:
         [cell(network, request, points, (row, column), each) for column, each in zip(columns, some)]
         for row, some in zip(rows, legs)
     ]
-    shown = [name for name in ("duration", "distance", "weight") if name in names]
-    found: dict[str, Any] = {f"{name}s": [[each[name] for each in row] for row in cells] for name in shown}
+    found: dict[str, Any] = {f"{name}s": [[each[name] for each in row] for row in cells] for name in names}
     if request.value("fallback_speed"):
         empty = [(row, column) for row, some in enumerate(legs) for column, each in enumerate(some) if not each]
         found["fallback_speed_cells"] = [list(pair) for pair in empty]
@@ -176,13 +167,13 @@ def cell(
     scale, speed = float(request.value("scale_factor", "1")), float(request.value("fallback_speed", "0"))
     totals = [figures(network, leg) for leg in legs]
     if not legs and speed:
-        is_snapped = request.value("fallback_coordinate") == "snapped"
-        metres = metres_between(*(points[number].place if is_snapped else request.places[number] for number in pair))
+        places = [point.place for point in points] if request.value("fallback_coordinate") == "snapped" else request.places
+        metres = metres_between(*(places[number] for number in pair))
         guess: dict[str, Any] = {"duration": Near(metres / speed, METRES), "distance": Near(metres, METRES)}
         totals = [{**guess, "weight": guess.get(network.unit)}]
     for total in totals:
-        if total["duration"] is not None:
-            total["duration"] = Near(total["duration"].value * scale, METRES * (1 + scale) if not legs else SECONDS * (1 + scale))
+        if duration := total["duration"]:
+            total["duration"] = Near(duration.value * scale, duration.tolerance * (1 + scale))
     return {name: AnyOf([total[name] for total in totals]) if totals else None for name in ("duration", "distance", "weight")}
 
 

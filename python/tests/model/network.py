@@ -1,15 +1,15 @@
 """A network as its tables have it, shortest paths between nodes, and places on roads with the graph that is split there."""
 import functools
 import heapq
-from collections.abc import Collection, Iterable, Iterator, Mapping, Sequence
+from collections.abc import Callable, Collection, Iterable, Iterator, Mapping, Sequence
 from typing import NamedTuple
 
 from .sphere import EARTH_RADIUS, Point, along, bearing, interpolate, metres_between, nearest_on_segment
 
 # A point is a line's end within so many metres of it. Rounding may decide about so many metres, and degrees of bearings.
 END_TOLERANCE, METRES_TOLERANCE, EQUAL, BEARING_TOLERANCE = 0.005, 2e-6, 1e-8, 1.0
-# So many shortest paths are compared.
-MOST_PATHS = 100
+# So many shortest paths are compared; and a number above those of a path's arcs.
+MOST_PATHS, MANY = 100, 1 << 20
 
 
 class Ambiguous(Exception):
@@ -74,7 +74,7 @@ class Network:
 
     def __init__(self, nodes: Iterable[Node], arcs: Iterable[Arc], forbidden: Collection[tuple[int, int]] = ()) -> None:
         self.nodes, self.arcs, self.forbidden = list(nodes), list(arcs), frozenset(forbidden)
-        known: dict[tuple[int, tuple[Point, ...]], Edge] = {}
+        known: dict[object, Edge] = {}
         for number, arc in enumerate(self.arcs):
             line = min(arc.line, arc.line[::-1])
             known.setdefault((arc.way, line), Edge(line, {})).arcs[number] = line == arc.line
@@ -105,33 +105,26 @@ class Network:
     @functools.cached_property
     def followers(self) -> list[list[int]]:
         """The arcs that may follow on each."""
-        pairs = ((one, other) for one in range(len(self.arcs)) for other in range(len(self.arcs)))
-        free = [pair for pair in pairs if self.arcs[pair[0]].end == self.arcs[pair[1]].start and pair not in self.forbidden]
-        return [[other for one, other in free if one == arc] for arc in range(len(self.arcs))]
+        return [
+            [other for other, row in enumerate(self.arcs) if row.start == arc.end and (number, other) not in self.forbidden]
+            for number, arc in enumerate(self.arcs)
+        ]
 
     # Between nodes
 
     def search(self, starts: Mapping[int, int]) -> dict[int, tuple[int, int]]:
         """The length of a shortest path to each node from the nearest of several, each with what is added there, and the least
         number of its arcs."""
-        found: dict[int, tuple[int, int]] = {}
-        heap = [(added, 0, node) for node, added in starts.items()]
-        heapq.heapify(heap)
-        while heap:
-            length, arcs, node = heapq.heappop(heap)
-            if node not in found:
-                found[node] = length, arcs
-                for arc in self.arcs:
-                    if arc.start == node:
-                        heapq.heappush(heap, (length + arc.weight, arcs + 1, arc.end))
-        return found
+        found = cheapest(((added * MANY, node) for node, added in starts.items()), lambda node: (
+            (arc.weight * MANY + 1, arc.end) for arc in self.arcs if arc.start == node
+        ))
+        return {node: divmod(cost, MANY) for node, cost in found.items()}
 
     def lengths(self, starts: Mapping[int, int]) -> dict[int, int]:
         return {node: length for node, (length, _) in self.search(starts).items()}
 
     def fewest_arcs(self, source: int, target: int) -> int | None:
-        found = self.search({source: 0}).get(target)
-        return None if found is None else found[1]
+        return self.search({source: 0}).get(target, (0, None))[1]
 
     def is_path(self, nodes: Sequence[int], source: int, target: int, length: int) -> bool:
         """Whether nodes lead from one to another, by lightest arcs that weigh so much together."""
@@ -165,9 +158,7 @@ class Network:
             found = found or point
         return found
 
-    def by_distance(
-        self, place: Point, bearings: tuple[int, int] | None
-    ) -> Iterator[tuple[float, SnappedPoint | None]]:
+    def by_distance(self, place: Point, bearings: tuple[int, int] | None) -> Iterator[tuple[float, SnappedPoint | None]]:
         """For each edge, the nearest first and equally near ones as in the file, the metres and the nearest point, None where it
         has not that direction."""
         rows = []
@@ -226,16 +217,9 @@ class Network:
 
     def ended(self, first: Iterable[Part]) -> dict[int, int]:
         """The least weight at the end of each arc, from the parts of arcs that are driven first: a search from arc to arc."""
-        found: dict[int, int] = {}
-        heap = [(part[3], part[0]) for part in first]
-        heapq.heapify(heap)
-        while heap:
-            weight, arc = heapq.heappop(heap)
-            if arc not in found:
-                found[arc] = weight
-                for other in self.followers[arc]:
-                    heapq.heappush(heap, (weight + self.arcs[other].weight, other))
-        return found
+        return cheapest(((part[3], part[0]) for part in first), lambda arc: (
+            (self.arcs[other].weight, other) for other in self.followers[arc]
+        ))
 
     def legs(self, start: SnappedPoint, end: SnappedPoint) -> list[list[Part]]:
         """The shortest paths between two points, in the graph whose arcs are split there."""
@@ -264,6 +248,20 @@ class Network:
             if len(found) + len(tails) > MOST_PATHS:
                 raise Ambiguous
         return found
+
+
+def cheapest(starts: Iterable[tuple[int, int]], steps: Callable[[int], Iterable[tuple[int, int]]]) -> dict[int, int]:
+    """The least cost of each place, from those where one begins, by Dijkstra's algorithm: `steps` are the costs to others."""
+    found: dict[int, int] = {}
+    heap = list(starts)
+    heapq.heapify(heap)
+    while heap:
+        cost, place = heapq.heappop(heap)
+        if place not in found:
+            found[place] = cost
+            for more, other in steps(place):
+                heapq.heappush(heap, (cost + more, other))
+    return found
 
 
 def is_other_by_rounding(one: float, other: float) -> bool:

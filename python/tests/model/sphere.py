@@ -21,11 +21,6 @@ def metres_between(one: Point, other: Point) -> float:
     return EARTH_RADIUS * angle(vector(one), vector(other))
 
 
-def unit(x: float, y: float, z: float) -> Vector:
-    size = math.hypot(x, y, z)
-    return x / size, y / size, z / size
-
-
 def cross(one: Vector, other: Vector) -> Vector:
     (a, b, c), (x, y, z) = one, other
     return b * z - c * y, c * x - a * z, a * y - b * x
@@ -52,9 +47,11 @@ def nearest_on_segment(place: Point, begin: Point, end: Point) -> tuple[float, f
     ends = min((EARTH_RADIUS * angle(here, one), 0.0), (EARTH_RADIUS * angle(here, other), 1.0))
     if one == other:
         return ends[0], 0.0
-    across = unit(*cross(one, other))
-    aside = dot(here, across)
-    foot = unit(here[0] - aside * across[0], here[1] - aside * across[1], here[2] - aside * across[2])
+    across = cross(one, other)
+    aside = dot(here, across) / dot(across, across)
+    x, y, z = (a - aside * b for a, b in zip(here, across))
+    size = math.hypot(x, y, z)
+    foot = x / size, y / size, z / size
     whole, gone = angle(one, other), math.copysign(angle(one, foot), dot(cross(one, foot), across))
     return min(ends, (EARTH_RADIUS * angle(here, foot), gone / whole)) if 0 < gone < whole else ends
 
