@@ -76,10 +76,32 @@ class Graph:
         numbers = {key: node for node, key in enumerate(dict.fromkeys([*starts, *ends]))}
         if any(map(is_missing, numbers)):
             raise ValueError("an arc has no key at an end")
-        if scale is not None:
-            weights = scaled(weights, scale)
         from_nodes, to_nodes = (np.array([numbers[key] for key in side], dtype=np.int64) for side in (starts, ends))
-        return cls(from_nodes, to_nodes, weights, len(numbers), Keys(numbers))
+        return cls(from_nodes, to_nodes, whole_or_scaled(weights, scale), len(numbers), Keys(numbers))
+
+    @classmethod
+    def from_networkx(cls, graph: Any, weight: str | None = "weight", scale: float | None = None) -> "Graph":
+        """The graph of networkx's Graph, DiGraph, MultiGraph or MultiDiGraph, as osmnx makes them too. Its nodes are the keys, in its order;
+        an edge of an undirected graph is an arc in both directions, and of parallel ones the lightest counts.
+
+        weight   the attribute of edges that has their weight; None for 1 each
+        scale    as for `from_keys`
+
+        Raises ValueError where an edge lacks it, and what `from_keys` does.
+        """
+        need("numpy")
+        import numpy as np
+
+        numbers = {node: number for number, node in enumerate(graph)}
+        edges = [(numbers[start], numbers[end], 1 if weight is None else value) for start, end, value in graph.edges(data=weight)]
+        if not graph.is_directed():
+            edges += [(end, start, value) for start, end, value in edges if start != end]
+        if any(value is None for _, _, value in edges):
+            start, end = next((start, end) for start, end, value in graph.edges(data=weight) if value is None)
+            raise ValueError(f"the edge from {start!r} to {end!r} has no {weight}")
+        starts, ends, weights = zip(*edges) if edges else ((), (), ())
+        from_nodes, to_nodes = (np.array(side, np.int64) for side in (starts, ends))
+        return cls(from_nodes, to_nodes, whole_or_scaled(list(weights), scale), len(numbers), Keys(numbers))
 
     of_keys = classmethod(old_word("Graph.of_keys", "Graph.from_keys"))
     of_frame = classmethod(old_word("Graph.of_frame", "Graph.from_frame"))
@@ -88,8 +110,12 @@ class Graph:
     def from_frame(
         cls, frame: Any, source: str = "from", target: str = "to", weight: str = "weight", scale: float | None = None
     ) -> "Graph":
-        """The graph of a frame of pandas with a row for each arc, by the names of its columns; as `from_keys`. Raises KeyError
-        for a column that isn't there, and ValueError."""
+        """The graph of a frame of pandas with a row for each arc, by the names of its columns or of the levels of its index, such as u and
+        v of the edges of osmnx.graph_to_gdfs; as `from_keys`. Raises KeyError for a name that isn't there, and ValueError."""
+        if levels := [name for name in (source, target, weight) if name not in frame.columns and name in frame.index.names]:
+            frame = frame.reset_index(levels)
+        if missing := [name for name in (source, target, weight) if name not in frame.columns]:
+            raise KeyError(f"the frame has no column {missing[0]}; it has {', '.join(map(str, frame.columns))}")
         return cls.from_keys(frame[source], frame[target], frame[weight].to_numpy(), scale)
 
     def __repr__(self) -> str:
@@ -106,6 +132,17 @@ class Graph:
         return prepare(self, hierarchy, **options)
 
 
+def whole_or_scaled(weights: "ArrayLike", scale: float | None) -> "ArrayLike":
+    """The weights as whole numbers: times the scale, if there is one. Raises ValueError for others."""
+    import numpy as np
+
+    if scale is not None:
+        return scaled(weights, scale)
+    if np.asarray(weights).dtype.kind == "f":
+        raise ValueError("weights have to be whole numbers, and are floats: scale=1000 makes thousandths of them")
+    return weights
+
+
 def scaled(weights: "ArrayLike", scale: float) -> "NDArray[np.int64]":
     import numpy as np
 
@@ -119,7 +156,7 @@ def scaled(weights: "ArrayLike", scale: float) -> "NDArray[np.int64]":
     rounded: "NDArray[np.int64]" = np.rint(products).astype(np.int64)
     if lost := int(np.count_nonzero((products > 0) & (rounded == 0))):
         says = f"{lost} of {rounded.size} weights are above 0, and 0 once they are scaled by {scale:g}"
-        warnings.warn(says, stacklevel=3)
+        warnings.warn(says, stacklevel=4)
     return rounded
 
 

@@ -9,6 +9,7 @@ from typing import TYPE_CHECKING, Any, Literal, Union, overload
 from .deprecated import check_by, radius_of, side_of
 from .errors import NoSuchNode, WrongHierarchy
 from .extras import need
+from .features import Features
 from .hierarchy_file import file_stamp, open_hierarchy_file, pread_all, read_header
 from .keys import Keys, as_list
 from .limits import DEFAULT_RADIUS
@@ -173,7 +174,9 @@ class Hierarchy:
         asked = arrays.pairs_of(pairs, self.keys, self.nodes)
         lengths, counts, nodes = batch.routes(self._router, asked)
         index = pairs.index if hasattr(pairs, "iloc") else None
-        return routes.Routes(lengths, nodes, offsets(counts), asked, self.keys, index)
+        found = routes.Routes(lengths, nodes, offsets(counts), asked, self.keys, index)
+        found.network = self.network
+        return found
 
     @overload
     def matrix(self, sources: "NDArray[Any]", targets: "NDArray[Any] | None" = None, by: By | None = None) -> "NDArray[np.int64]": ...
@@ -265,9 +268,9 @@ class Hierarchy:
         self, place: Rows, minutes: Sequence[float] = (), *, metres: Sequence[float] = (), shape: "Shape" = "polygons",
         generalize: float = 0.0, denoise: float = 0.0, colors: Sequence[str] = (), towards: bool = False,
         radius: float = DEFAULT_RADIUS, max_metres: float | None = None
-    ) -> dict[str, Any]:
+    ) -> Features:
         """What is reached from a place (lon, lat) in degrees, or from the nearest of several, as GeoJSON: a
-        FeatureCollection with a Feature for each number of minutes, the greatest first, with the properties of Mapbox's
+        FeatureCollection (Features, a dict) with a Feature for each number of minutes, the greatest first, with the properties of Mapbox's
         Isochrone API. It begins at the nearest point of a road, in both directions. Needs the network, scipy, contourpy and
         shapely.
 
@@ -298,7 +301,7 @@ class Hierarchy:
         points = network.points_on_roads(place, radius)
         reach = isochrones.reach_from(roads, points, limits, functools.partial(batch.reach, self._router))
         style = isochrones.Style(shape, generalize, denoise, colors, roads.texts[0])
-        return isochrones.features(reach, asked, "distance" if is_metres else "time", style)
+        return Features(isochrones.features(reach, asked, "distance" if is_metres else "time", style), network)
 
     # Places on roads
 
@@ -430,7 +433,7 @@ class Hierarchy:
         if answer is None:
             return None
         nodes: list[Any] = list(answer.nodes if self.keys is None else map(self.keys.key, answer.nodes))
-        return Route(nodes[0], nodes[-1], answer.length, nodes, answer.nodes, answer.added)
+        return Route(nodes[0], nodes[-1], answer.length, nodes, answer.nodes, answer.added, self.network)
 
 
 def reopened(path: str, keys: Keys | None, network: "Network | None", compare_all: bool, checksum: int) -> Hierarchy:

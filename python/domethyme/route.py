@@ -3,6 +3,7 @@ from collections.abc import Hashable, Sequence
 from typing import TYPE_CHECKING, Any, NamedTuple, Union
 
 from .deprecated import warn_renamed
+from .features import need_network, picture
 
 if TYPE_CHECKING:
     from numpy.typing import NDArray
@@ -20,6 +21,7 @@ class Route(NamedTuple):
     nodes            its nodes from the first to the last, or their keys
     node_indices     its nodes from 0, whatever keys there are
     added            what `between` has added to the weights of its arcs
+    network          the network of its hierarchy, on which it is drawn, or None
     """
 
     source: Hashable
@@ -28,6 +30,7 @@ class Route(NamedTuple):
     nodes: list[Any]
     node_indices: list[int]
     added: int = 0
+    network: "Network | None" = None
 
     @property
     def arcs(self) -> int:
@@ -40,7 +43,18 @@ class Route(NamedTuple):
         warn_renamed("Route.numbers", "Route.node_indices")
         return self.node_indices
 
-    def geojson(self, network: "Network") -> dict[str, Any]:
-        """The route as a Feature along the real road; see Network.geojson."""
-        feature: dict[str, Any] = network.geojson(self)["features"][0]
+    def geojson(self, network: "Network | None" = None) -> dict[str, Any]:
+        """The route as a Feature along the real road, of its hierarchy's network unless one is named; see Network.geojson. Raises
+        ValueError where there is none."""
+        feature: dict[str, Any] = need_network(network, self.network).geojson(self)["features"][0]
         return feature
+
+    @property
+    def __geo_interface__(self) -> dict[str, Any]:
+        if self.network is None:
+            raise AttributeError("the route's hierarchy has no network")
+        return self.geojson()
+
+    def _repr_html_(self) -> str | None:
+        """Its picture in a notebook, None without a network."""
+        return None if self.network is None else picture(self.network, [self.geojson()])

@@ -8,6 +8,7 @@ from numpy.typing import NDArray
 from .arrays import with_missing
 from .deprecated import old_word
 from .extras import load
+from .features import MAX_SHOWN, need_network, picture
 from .keys import Keys
 from .network.groups import expand, offsets
 
@@ -25,7 +26,10 @@ class Routes:
     lengths   the least lengths, of shape (n,), NO_PATH (-1) if there is no path
     nodes     the nodes of all routes from 0, one route after the other
     offsets   where each route begins in `nodes`, and last where they end, of shape (n + 1,)
+    network   the network of their hierarchy, on which they are drawn, or None
     """
+
+    network: "Network | None" = None
 
     def __init__(
         self, lengths: NDArray[np.int64], nodes: NDArray[np.int32], offsets: NDArray[np.int64], pairs: NDArray[np.int64],
@@ -46,7 +50,9 @@ class Routes:
             counts, index = np.diff(self.offsets)[row], None if self.index is None else self.index[row]
             route, position = expand(counts)
             nodes = self.nodes[self.offsets[:-1][row][route] + position]
-            return Routes(self.lengths[row].copy(), nodes, offsets(counts), self.pairs[row].copy(), self.keys, index)
+            part = Routes(self.lengths[row].copy(), nodes, offsets(counts), self.pairs[row].copy(), self.keys, index)
+            part.network = self.network
+            return part
         nodes = self.node_indices(row)
         return nodes if self.keys is None else self.keys.of(nodes)
 
@@ -85,6 +91,28 @@ class Routes:
         columns = {"from": ends[0], "to": ends[1], "length": with_missing(self.lengths), "arcs": with_missing(self.arcs)}
         return load("pandas").DataFrame(columns, index=self.index)
 
-    def geojson(self, network: "Network") -> dict[str, Any]:
-        """The routes as a FeatureCollection along the real road; see Network.geojson."""
-        return network.geojson(self)
+    def geojson(self, network: "Network | None" = None) -> dict[str, Any]:
+        """The routes as a FeatureCollection along the real road, of their hierarchy's network unless one is named; see Network.geojson.
+        Raises ValueError where there is none."""
+        return need_network(network, self.network).geojson(self)
+
+    def to_geodataframe(self, network: "Network | None" = None) -> Any:
+        """The frame of `to_frame` as a GeoDataFrame of geopandas, with seconds, metres and the lines in WGS 84, None if there is no path.
+        Raises ValueError where there is no network."""
+        geopandas, features = load("geopandas"), self.geojson(network)["features"]
+        figures = {name: [feature["properties"][name] for feature in features] for name in ("seconds", "metres")}
+        lines = [feature["geometry"] and load("shapely.geometry").shape(feature["geometry"]) for feature in features]
+        frame = self.to_frame().assign(**figures)
+        return geopandas.GeoDataFrame(frame, geometry=geopandas.GeoSeries(lines, index=frame.index, dtype="geometry"), crs="EPSG:4326")
+
+    @property
+    def __geo_interface__(self) -> dict[str, Any]:
+        if self.network is None:
+            raise AttributeError("the routes' hierarchy has no network")
+        return self.geojson()
+
+    def _repr_html_(self) -> str | None:
+        """Their picture in a notebook, of the first of them, None without a network."""
+        if self.network is None:
+            return None
+        return picture(self.network, self[:MAX_SHOWN].geojson()["features"], max(0, len(self) - MAX_SHOWN))

@@ -3,15 +3,16 @@ import html
 import itertools
 import math
 import re
-from collections.abc import Iterator, Sequence
-from typing import NamedTuple
+from collections.abc import Iterable, Iterator, Sequence
+from typing import Any, NamedTuple
 
 import numpy
 
 from ..network.geo import Point
+from ..network.net_file import MappedNetwork
 from .geometry import View, arrows, path_of, scale_bar_metres, to_mercator
-from .roads import RoadLines
-from .routes import NARROWEST, DrawnRoute
+from .roads import RoadLines, make_scene
+from .routes import NARROWEST, DrawnRoute, routes_of
 
 PAPER, INK, FAINT = "#fbfaf8", "#33302b", "#7a756c"
 LETTER, BOLD_LETTER = 7.8, 8.8
@@ -25,6 +26,13 @@ ARROW = ((7, 0), (-5, 6), (-5, -6))
 # How much wider than a route its white edge is, which parts it from the roads.
 CASING = 2.5
 HALO = f' paint-order="stroke" stroke="{PAPER}" stroke-width="3" stroke-linejoin="round"'
+
+
+def svg_of(arrays: MappedNetwork, name: str, features: Iterable[Any], width: int) -> str:
+    """The picture of features of GeoJSON, whose name messages have, over the roads of their network around them."""
+    routes = routes_of(features, name, None)
+    box, roads = make_scene(arrays, routes, False, True, name)
+    return picture_of(routes, roads, View(box, width), arrays.texts[0])
 
 
 def picture_of(routes: list[DrawnRoute], roads: list[RoadLines], view: View, attribution: str) -> str:

@@ -7,10 +7,8 @@ from typing import NamedTuple
 import numpy
 
 from ..errors import NetworkError
-from ..network.from_tables import load_network_or_dimacs
 from ..network.geo import EARTH_RADIUS, Point, metres_between
 from ..network.net_file import TEXTS, UNITS, MappedNetwork
-from ..network.tables import arcs_file
 from .geometry import Box, box_of, from_mercator, to_mercator, unwrapped
 from .routes import DrawnRoute
 
@@ -103,23 +101,22 @@ def all_places(roads: list[RoadLines]) -> list[Point]:
 
 
 def make_scene(
-    network: str, routes: list[DrawnRoute], is_whole: bool, is_picture: bool, path: str
-) -> tuple[Box, list[RoadLines], str]:
-    """The box to show, its roads, and the attribution that the licence of the network's data requires. Raises a NetworkError where the routes of the file at the path are another network's."""
-    arrays = load_network_or_dimacs(network)
-    need_inside(arrays, routes, network, path)
+    arrays: MappedNetwork, routes: list[DrawnRoute], is_whole: bool, is_picture: bool, path: str
+) -> tuple[Box, list[RoadLines]]:
+    """The box to show, and its roads. Raises a NetworkError where the routes of the file at the path are another network's."""
+    need_inside(arrays, routes, path)
     places = [] if is_whole else list(itertools.chain.from_iterable(route.places for route in routes))
     if places:
         box = box_for(places, is_picture)
-        return box, read_roads(arrays, box), arrays.texts[0]
+        return box, read_roads(arrays, box)
     roads = read_roads(arrays, None)
     places = all_places(roads)
     if not places:
-        raise NetworkError("has no arcs", arcs_file(network))
-    return box_for(places, is_picture), roads, arrays.texts[0]
+        raise NetworkError("has no arcs", arrays.path)
+    return box_for(places, is_picture), roads
 
 
-def need_inside(arrays: MappedNetwork, routes: list[DrawnRoute], network: str, path: str) -> None:
+def need_inside(arrays: MappedNetwork, routes: list[DrawnRoute], path: str) -> None:
     """A NetworkError where a route isn't in the box of the network's roads."""
     west, south, east, north = (arrays.about[side] / UNITS for side in ("west", "south", "east", "north"))
     for number, route in enumerate(routes, 1):
@@ -128,5 +125,5 @@ def need_inside(arrays: MappedNetwork, routes: list[DrawnRoute], network: str, p
             is_beside = (lon - west + beside) % 360 <= east - west + 2 * beside
             if not (is_beside and south - beside <= lat <= north + beside):
                 box = f"{west:.4f},{south:.4f} to {east:.4f},{north:.4f}"
-                where = f"leads by {wrapped_lon(lon):.4f},{lat:.4f}, and the roads of {network} are from {box}"
+                where = f"leads by {wrapped_lon(lon):.4f},{lat:.4f}, and the roads of {arrays.path} are from {box}"
                 raise NetworkError(f"feature {number} {where}: is it of another network?", path)

@@ -2,7 +2,7 @@
 import itertools
 import json
 import re
-from collections.abc import Iterator
+from collections.abc import Iterable, Iterator
 from typing import Any, NamedTuple
 
 from ..csv_tables import open_input
@@ -51,9 +51,13 @@ def read_routes(path: str, label: str | None) -> tuple[list[DrawnRoute], list[st
     if not text.strip():
         raise NetworkError("is empty: a step that was to write it has failed", path)
     said: list[str] = []
-    coloured = enumerate(zip(features_in(text, path, said), itertools.cycle(COLOURS)), 1)
-    routes = [make_route(feature, FeatureRef(path, number), label, colour) for number, (feature, colour) in coloured]
-    return placed(routes), said
+    return routes_of(features_in(text, path, said), path, label), said
+
+
+def routes_of(features: Iterable[Any], path: str, label: str | None) -> list[DrawnRoute]:
+    """The routes of features of GeoJSON, which are in the file at the path."""
+    coloured = enumerate(zip(features, itertools.cycle(COLOURS)), 1)
+    return placed([make_route(feature, FeatureRef(path, number), label, colour) for number, (feature, colour) in coloured])
 
 
 def placed(routes: list[DrawnRoute]) -> list[DrawnRoute]:

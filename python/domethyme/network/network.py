@@ -107,6 +107,12 @@ class Network:
         frame = pandas.DataFrame(rows, columns=list(ALL_ARC_COLUMNS))
         return frame.assign(**{end: frame[end] - 1 for end in ("from", "to")})
 
+    def to_geodataframe(self) -> Any:
+        """The frame of `arcs_frame` as a GeoDataFrame of geopandas, with the line of each arc in WGS 84 in place of WKT."""
+        frame, geopandas = self.arcs_frame(), load("geopandas")
+        lines = geopandas.GeoSeries.from_wkt(frame.pop("WKT"))
+        return geopandas.GeoDataFrame(frame, geometry=lines, crs="EPSG:4326")
+
     @overload
     def nearest(self, lon: float, lat: float, side: Side | bool = "from", *, end: bool | None = None) -> tuple[int, float]: ...
     @overload
@@ -127,12 +133,13 @@ class Network:
             return int(nodes[0]), float(away[0])
         return nodes.reshape(east.shape), away.reshape(east.shape)
 
-    def geojson(self, routes: "Route | Routes") -> dict[str, Any]:
+    def geojson(self, routes: "Route | Routes | None") -> dict[str, Any]:
         """The routes along the real road, as a FeatureCollection with a Feature for each, longitude first.
 
         The properties are from, to (nodes or keys), length, arcs, seconds, None if the network has none, and metres. If there is
         no path there is no geometry, and all but the pair are None. From a node to the next a route takes the lightest arc.
-        Raises NetworkError if the network lacks an arc, or if weights don't sum to a length: then it is another network's.
+        Raises NetworkError if the network lacks an arc, or if weights don't sum to a length: then it is another network's; and ValueError
+        for None, as `route` returns if there is no path.
         """
         return {"type": "FeatureCollection", "features": [self._feature(*each) for each in iter_routes(routes)]}
 
@@ -187,6 +194,11 @@ class Network:
     @functools.cached_property
     def _has_arcs(self) -> bool:
         return os.path.exists(arcs_file(self.prefix)) or os.path.exists(self._files.binary)
+
+    @property
+    def arrays(self) -> net_file.MappedNetwork:
+        """What NETWORK.net has, in arrays. Raises NetworkError."""
+        return self._arrays
 
     @functools.cached_property
     def _arrays(self) -> net_file.MappedNetwork:
@@ -256,8 +268,10 @@ def check_degrees(lon: Floats, lat: Floats) -> None:
         raise ValueError("lon has to be from -180 to 180 and lat from -90 to 90: are they swapped?")
 
 
-def iter_routes(routes: "Route | Routes") -> Iterator[tuple[tuple[Any, Any], int | None, list[int], int]]:
+def iter_routes(routes: "Route | Routes | None") -> Iterator[tuple[tuple[Any, Any], int | None, list[int], int]]:
     """For each route its ends, its length or None, its nodes from 0, and what was added to the weights of its arcs."""
+    if routes is None:
+        raise ValueError("there is no route: the hierarchy has no path between these nodes")
     if isinstance(routes, Route):
         yield (routes.source, routes.target), routes.length, routes.node_indices, routes.added
         return

@@ -28,6 +28,7 @@ from domethyme.drawing.geometry import View
 from domethyme.drawing.picture import picture_of
 from domethyme.drawing.roads import make_scene
 from domethyme.drawing.routes import read_routes
+from domethyme.network.from_tables import load_network_or_dimacs
 from domethyme.network.tables import paths_of
 
 from ..cli import argument_parser, current_arguments, display_name, refuse_overwriting, warn
@@ -77,8 +78,9 @@ def main() -> None:
     if not routes:
         warn(f"{display_name(options.routes)} has no route: the roads alone are drawn")
     is_picture = options.output.endswith(PICTURE)
-    box, roads, own = make_scene(options.network, routes, options.full_network, is_picture, options.routes)
-    of_all = [own, *said, options.attribution]
+    network = load_network_or_dimacs(options.network)
+    box, roads = make_scene(network, routes, options.full_network, is_picture, options.routes)
+    of_all = [network.texts[0], *said, options.attribution]
     attribution = ", ".join(dict.fromkeys(filter(None, of_all)))
     if is_picture:
         # by default the longer side has 1000 pixels
