@@ -11,6 +11,8 @@ from .keys import Keys, as_list
 from .limits import MAX_NODES
 
 Numbers = NDArray[np.int64]
+# What names nodes, which places are taken for.
+OF_NODES = ("sources", "targets", "pairs")
 COLUMNS = (("from_node", "to_node"), ("from", "to"), ("source", "target"))
 
 
@@ -20,7 +22,8 @@ def whole_numbers(name: str, values: "ArrayLike | list[Hashable]", low: int, hig
     if array.size == 0:
         return array.astype(np.int64)
     if array.dtype.kind not in "iu" and not (array.dtype == object and all(type(value) is int for value in array.flat)):
-        raise ValueError(f"{name} have to be whole numbers, and are {array.dtype}")
+        places = ": nearest(lon, lat) finds the nodes of places" if array.dtype.kind == "f" and name in OF_NODES else ""
+        raise ValueError(f"{name} have to be whole numbers, and are {array.dtype}{places}")
     if array.min() < low or array.max() > high:
         raise ValueError(f"{name} have to be from {low} to {high}, and are from {array.min()} to {array.max()}")
     return array.astype(np.int64)

@@ -11,14 +11,14 @@ import re
 import sys
 import zlib
 from collections.abc import Iterable, Iterator
-from typing import IO, cast
+from typing import IO, NamedTuple, cast
 
 from .errors import NetworkError, raised_as
 from .limits import MAX_WEIGHT
 from .program import StrPath
 
 MAX_COLUMNS = 12
-GZIP = b"\x1f\x8b"
+GZIP, XLSX = b"\x1f\x8b", b"PK\x03\x04"
 # How alike two names of columns are, from 0 to 1, for one to be suggested in place of the other.
 ALIKE = 0.7
 # How a formula begins for programs that show tables, and what is a number to them.
@@ -36,6 +36,8 @@ def open_input(path: StrPath) -> Iterator[IO[bytes]]:
         if str(path) != "-":
             with raised_as(NetworkError, path):
                 stream = opened.enter_context(open(path, "rb"))
+        if stream.peek(4)[:4] == XLSX:
+            raise NetworkError("is a spreadsheet, or another archive of zip: save it as CSV", path)
         if stream.peek(2)[:2] != GZIP:
             yield stream
             return
@@ -48,12 +50,20 @@ def open_input(path: StrPath) -> Iterator[IO[bytes]]:
 # Tables
 
 
-class Row(dict[str, str]):
-    """The texts of a row by their columns, and the file and row that they are of."""
+class Form(NamedTuple):
+    """How a table is written: what is between its fields, and before the decimals of a number."""
 
-    __slots__ = ("path", "row")
+    delimiter: str = ","
+    decimal: str = "."
+
+
+class Row(dict[str, str]):
+    """The texts of a row by their columns, the file and row that they are of, and what is before decimals."""
+
+    __slots__ = ("path", "row", "decimal")
     path: StrPath
     row: int
+    decimal: str
 
     def error(self, message: str) -> NetworkError:
         return NetworkError(message, self.path, self.row)
@@ -62,15 +72,16 @@ class Row(dict[str, str]):
         return parse_int(self[column], column, self.path, self.row, low, high)
 
     def read_float(self, column: str, low: float = -math.inf, high: float = math.inf) -> float:
-        return parse_float(self[column], column, self.path, self.row, low, high)
+        text = self[column] if self.decimal == "." else self[column].replace(".", " ").replace(self.decimal, ".")
+        return parse_float(text, column, self.path, self.row, low, high)
 
 
 class Table:
     """The rows of a CSV file, by the names of its first row, `columns`: iterate for (row, Row)."""
 
-    def __init__(self, path: StrPath, stream: IO[bytes], required: Iterable[str]) -> None:
-        self.path = path
-        self.reader = csv.reader(decode_lines(path, stream), strict=True)
+    def __init__(self, path: StrPath, stream: IO[bytes], required: Iterable[str], form: Form = Form()) -> None:
+        self.path, self.form = path, form
+        self.reader = csv.reader(decode_lines(path, stream), strict=True, delimiter=form.delimiter)
         if (columns := self.next_record()) is None:
             raise NetworkError("is empty", path)
         self.columns = columns
@@ -81,7 +92,7 @@ class Table:
             if not record:
                 continue
             fields = Row(zip(self.columns, record))
-            fields.path, fields.row = self.path, self.reader.line_num
+            fields.path, fields.row, fields.decimal = self.path, self.reader.line_num, self.form.decimal
             if len(record) != len(self.columns):
                 raise fields.error(f"has {len(record)} fields in place of {len(self.columns)}")
             yield fields.row, fields
@@ -105,7 +116,7 @@ def need_columns(path: StrPath, columns: list[str], needed: Iterable[str]) -> No
     found = ", ".join(columns[:MAX_COLUMNS]) + ", ..." * (len(columns) > MAX_COLUMNS)
     doubt = ""
     if len(columns) == 1 and (";" in columns[0] or "\t" in columns[0]):
-        doubt = ": fields have to be separated by commas"
+        doubt = ": fields have to be separated by commas (to_network has --delimiter)"
     elif blank := next((name for name in missing if name in map(str.strip, columns)), None):
         doubt = f": there is a blank beside {blank}"
     elif near := [f"{other} for {name}" for name in missing if (other := alike(name, columns)) is not None]:
@@ -122,10 +133,10 @@ def alike(name: str, others: Iterable[str]) -> str | None:
 
 
 @contextlib.contextmanager
-def open_table(path: StrPath, required: Iterable[str]) -> Iterator[Table]:
+def open_table(path: StrPath, required: Iterable[str], form: Form = Form()) -> Iterator[Table]:
     """The Table of a file (`-` is standard input) that has each of the columns `required` once."""
     with open_input(path) as stream:
-        yield Table(path, stream, required)
+        yield Table(path, stream, required, form)
 
 
 def decode_lines(path: StrPath, stream: IO[bytes]) -> Iterator[str]:
@@ -134,7 +145,7 @@ def decode_lines(path: StrPath, stream: IO[bytes]) -> Iterator[str]:
         try:
             yield line.decode("utf-8-sig" if row == 1 else "utf-8")
         except UnicodeDecodeError as error:
-            raise NetworkError("isn't UTF-8", path, row) from error
+            raise NetworkError("isn't UTF-8: save it as CSV UTF-8", path, row) from error
 
 
 def parse_int(text: str | bytes, what: str, path: StrPath, row: int | None, low: int = 0, high: int = MAX_WEIGHT) -> int:
@@ -154,7 +165,8 @@ def parse_float(
     try:
         value = plain_float(text)
     except ValueError as error:
-        raise NetworkError(f"{what} {excerpt(text)} is no number", path, row) from error
+        comma = ": write a point for the comma" if re.fullmatch("[-+]?[0-9]+,[0-9]+", text) else ""
+        raise NetworkError(f"{what} {excerpt(text)} is no number{comma}", path, row) from error
     if not math.isfinite(value):
         raise NetworkError(f"{what} {excerpt(text)} is no finite number", path, row)
     if not low <= value <= high:

@@ -2,6 +2,7 @@
 import contextlib
 import math
 import os
+import pathlib
 import subprocess
 import tempfile
 import warnings
@@ -11,7 +12,7 @@ from typing import TYPE_CHECKING, Any, Literal
 from . import dimacs, library
 from .atomic_files import atomic_write
 from .deprecated import old_word, warn_renamed
-from .errors import NotProved, ReadWriteError, WrongHierarchy, error_from_exit, os_reason
+from .errors import GraphError, NotProved, ReadWriteError, WrongHierarchy, error_from_exit, os_reason
 from .extras import need
 from .hierarchy import Hierarchy
 from .keys import Keys, as_list, is_missing, to_python_scalar
@@ -24,6 +25,8 @@ if TYPE_CHECKING:
     from numpy.typing import ArrayLike, NDArray
 
 Order = Literal["edges", "neighbours", "depth", "balanced"]
+# What files that are no graphs, by their endings, are taken in place of.
+INSTEAD = {".net": "is a network: its graph ends in .gr", ".osm.pbf": "is a map: from_osm makes a graph of it", ".rch": "is a hierarchy"}
 # What `routecli check` ends with where a hierarchy isn't right, or neither is shown.
 WRONG, NOT_SHOWN = 9, 10
 
@@ -56,6 +59,8 @@ class Graph:
         if nodes is not None and not least <= nodes <= MAX_NODES:
             raise ValueError(f"the number of nodes has to be from {least}, by the arcs, to {MAX_NODES}")
         self.nodes, self.keys = least if nodes is None else int(nodes), keys
+        if nodes is None and len(self.weights) and min(self.from_nodes.min(), self.to_nodes.min()) > 0:
+            warnings.warn("node 0 has no arc: nodes count from 0", stacklevel=2)
 
     @classmethod
     def from_keys(cls, sources: Any, targets: Any, weights: "ArrayLike", scale: float | None = None) -> "Graph":
@@ -241,6 +246,8 @@ def graph_file(graph: "Graph | StrPath") -> Iterator[str]:
     """The path of the text of a graph, which is written for the block where there is only a Graph. Raises ReadWriteError where a
     file can't be opened."""
     if not isinstance(graph, Graph):
+        if instead := INSTEAD.get("".join(pathlib.Path(graph).suffixes[-2:]), INSTEAD.get(pathlib.Path(graph).suffix)):
+            raise GraphError(f"{os.fspath(graph)}: {instead}", 3)
         try:
             open(graph, "rb").close()
         except OSError as error:

@@ -81,6 +81,8 @@ class Hierarchy:
         compare_all: bool, checksum: int | None
     ) -> None:
         """Reads the file, which has to have the checksum if one is given. Raises WrongHierarchy, and what `__init__` does."""
+        if not isinstance(path, (str, os.PathLike)):
+            raise ValueError(f"Hierarchy takes the path of a file, and no {type(path).__name__}")
         self.path, self._name, self._checksum = path, os.fspath(path), checksum
         self._full_path = os.path.abspath(self._name)
         with open_hierarchy_file(self._name) as file:
@@ -206,6 +208,9 @@ class Hierarchy:
         need("numpy")
         from . import arrays, batch
 
+        for name, nodes in (("sources", sources), ("targets", targets)):
+            if isinstance(nodes, (int, float, str)):
+                raise ValueError(f"{name} are nodes in a list, as [{nodes!r}]")
         sources = sources if hasattr(sources, "__array__") else as_list(sources)
         targets = sources if targets is None else targets if hasattr(targets, "__array__") else as_list(targets)
         starts = arrays.nodes_of("sources", sources, self.keys, self.nodes)
@@ -230,25 +235,22 @@ class Hierarchy:
         """The node nearest to each place in degrees, or its key, and how many metres away it is along the great circle: one
         where routes begin, or with side="to" one where they end, which differ at junctions with turn restrictions. Two numbers
         give a node and a float, two arrays give two arrays. Needs the network. Raises NoSuchNode where none is within
-        `radius` metres, and ValueError."""
+        `radius` metres, and ValueError. A node is up to half an arc from the place on the road that `within` and the service begin at."""
         radius = radius_of(radius, within, "nearest(within=)")
-        nodes, metres = self._need_network().nearest(lon, lat, side_of(side, end))
-        for place, away in enumerate([metres] if isinstance(metres, float) else metres.ravel().tolist()):
-            if not away <= radius:
-                nearest = f"the nearest is {away:,.0f} m away; lon comes before lat"
-                raise NoSuchNode(f"place {place} has no node within {radius:g} m: {nearest}", place)
+        nodes, metres = self._need_network().nearest(lon, lat, side_of(side, end), radius=radius)
         if self.keys is None:
             return nodes, metres
         return (self.keys.key(nodes) if isinstance(nodes, int) else self.keys.of(nodes)), metres
 
     # What is reached
 
-    def reach(self, starts: Ends, limit: int | None = None, towards: bool = False) -> Any:
+    def reach(self, starts: Ends, limit: int | None = None, towards: bool = False, *, minutes: float | None = None) -> Any:
         """The length of a shortest path to each node from the nearest of several starts, which are given as for `between`:
         an array of int64 of shape (nodes,), -1 for a node without a path or above the limit. With keys it is a Series of
         Int64 with the nodes' keys as its index, missing for these.
 
-        limit   the greatest length that is asked for, from 0 to 2^62; None for all
+        limit   the greatest length that is asked for, in the unit of the weights, from 0 to 2^62; None for all
+        minutes the same in minutes, if weights are milliseconds: of a network, or else nobody compares them
         towards lengths to the nearest instead: the library has none yet, so True raises ValueError
 
         The library goes once over all nodes, whatever the limit: 0.02 s for a million, and 0.1 s the first time. Memory: 8
@@ -259,8 +261,12 @@ class Hierarchy:
         from . import arrays, batch
 
         refuse_towards(towards)
+        if minutes is not None:
+            limit = self._limit_of(minutes, limit)
         if limit is not None and not (is_whole(limit) and 0 <= limit <= MAX_LIMIT):
             raise ValueError(f"limit has to be a whole number from 0 to 2^62, or None, and is {limit!r}")
+        if isinstance(starts, (int, float)) and not isinstance(starts, bool):
+            raise ValueError(f"starts are nodes in a list, as [{starts!r}]")
         lengths = batch.reach(self._router, self._ends("starts", starts), limit)
         return lengths if self.keys is None else arrays.by_keys(lengths, self.keys)
 
@@ -293,6 +299,9 @@ class Hierarchy:
         from .network import isochrones
 
         refuse_towards(towards)
+        for name, numbers in (("minutes", minutes), ("metres", metres)):
+            if not isinstance(numbers, Iterable):
+                raise ValueError(f"{name} are a list, as [{numbers!r}], and a place is (lon, lat)")
         asked = list(metres) or list(minutes) or list(DEFAULT_MINUTES)
         roads, is_metres = network.roads, len(metres) > 0
         limits = isochrones.limits(roads.unit, minutes if is_metres else asked, metres)
@@ -392,6 +401,14 @@ class Hierarchy:
         if isinstance(places, Sequence) and places and all(isinstance(each, SnappedPoint) for each in places):
             return list(places)
         return self._need_network().points_on_roads(places, radius, bearings=bearings, radiuses=radiuses)
+
+    def _limit_of(self, minutes: float, limit: int | None) -> int:
+        """Minutes in milliseconds. Raises ValueError where a limit is given too, or weights are no times."""
+        if limit is not None:
+            raise ValueError("give limit or minutes, one of both")
+        from .network import isochrones
+
+        return isochrones.limits("duration" if self.network is None else self.network.roads.unit, [minutes])[0]
 
     def _need_network(self) -> "Network":
         if self.network is None:

@@ -17,7 +17,8 @@ def open_hierarchy_file(name: str) -> IO[bytes]:
         file = open(name, "rb", buffering=0, opener=open_nonblocking)
     except OSError as error:
         kind = HierarchyNotFound if isinstance(error, FileNotFoundError) else HierarchyError
-        raise kind(f"{name}: {os_reason(error)}", 7) from error
+        makes = f": `routecli prepare --order balanced {name.removesuffix('.rch')}.gr {name}` makes it" if name.endswith(".rch") else ""
+        raise kind(f"{name}: {os_reason(error)}{makes if kind is HierarchyNotFound else ''}", 7) from error
     if not stat.S_ISREG(os.fstat(file.fileno()).st_mode):
         file.close()
         raise HierarchyError(f"{name}: is no regular file", 7)

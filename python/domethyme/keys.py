@@ -3,7 +3,7 @@ import hashlib
 import json
 import os
 from collections import Counter
-from collections.abc import Hashable, Iterable, Mapping, Sequence
+from collections.abc import Hashable, Iterable, Iterator, Mapping, Sequence
 from typing import TYPE_CHECKING, Any
 
 from .atomic_files import atomic_write
@@ -37,6 +37,8 @@ class Keys:
         self._is_partial = isinstance(keys, Mapping)
         if isinstance(keys, Keys):
             vars(self).update(vars(keys))
+        elif not isinstance(keys, Iterable):
+            raise ValueError(f"keys are one for each node, or a mapping, and no {type(keys).__name__}: is it network.keys()?")
         elif isinstance(keys, Mapping):
             self._names = keys_by_node(keys, MAX_NODES if nodes is None else nodes)
             self._nodes = {to_python_scalar(key): int(node) for key, node in keys.items()}
@@ -52,11 +54,12 @@ class Keys:
 
     @classmethod
     def read(cls, path: StrPath, column: str = "osm") -> "Keys":
-        """The keys in a column of a CSV file with a row for each node, in order, as NETWORK.nodes.csv: whole numbers as
-        int, other texts as str, an empty one for no key. A key of several nodes can't be asked for, but that of a junction with
+        """The keys in a column of a CSV file with a row for each node, in order, as NETWORK.nodes.csv: as int if all are whole
+        numbers, else all as str; an empty field is no key. A key of several nodes can't be asked for, but that of a junction with
         turn restrictions, which is the node where routes begin (the column ends is `from`). Raises NetworkError."""
         with open_table(path, [column]) as rows:
-            return cls.of_rows((parse_key(fields[column]), fields.get("ends", "")) for _, fields in rows)
+            listed = [(fields[column], fields.get("ends", "")) for _, fields in rows]
+        return cls.of_rows(zip(parse_keys([text for text, _ in listed]), [ends for _, ends in listed]))
 
     @classmethod
     def of_rows(cls, rows: Iterable[tuple[Hashable, str]]) -> "Keys":
@@ -133,6 +136,10 @@ class Keys:
         """The number of nodes, with and without a key."""
         return len(self._names)
 
+    def __iter__(self) -> Iterator[Hashable]:
+        """The key of each node in order, None where it has none."""
+        return iter(self._names)
+
     def __repr__(self) -> str:
         return f"<Keys of {len(self._nodes)} nodes>"
 
@@ -147,7 +154,9 @@ class Keys:
         """The node of a key, from 0. Raises NoSuchNode."""
         if is_hashable(key) and key in self._nodes:
             return self._nodes[key]
-        raise NoSuchNode(f"key {key!r} names {'several nodes' if self.names_any(key) else 'no node'}", key)
+        other = next((each for each in (str(key), parse_key(str(key))) if each != key and each in self._nodes), None)
+        doubt = "" if other is None else f"; there is {other!r}, {'a number' if type(other) is int else 'a text'}"
+        raise NoSuchNode(f"key {key!r} names {'several nodes' if self.names_any(key) else 'no node'}{doubt}", key)
 
     def key(self, node: int) -> Hashable:
         """The key of a node, None where it has none."""
@@ -222,6 +231,13 @@ def parse_key(text: str) -> Hashable:
     digits = text.removeprefix("-")
     is_plain = digits.isascii() and digits.isdigit() and (digits[0] != "0" or text == "0")
     return int(text) if is_plain else text or None
+
+
+def parse_keys(texts: Iterable[str]) -> list[Hashable]:
+    """The keys that the fields of a column mean: of one type, whole numbers if all are, else texts; None for an empty field."""
+    listed = list(texts)
+    keys = [parse_key(text) for text in listed]
+    return keys if all(type(key) is not str for key in keys) else [text or None for text in listed]
 
 
 def to_python_scalar(key: Any) -> Any:

@@ -1,5 +1,6 @@
 """Finds the library libdomethyme and declares its calls, those of docs/LIBRARY.md, for ctypes."""
 import ctypes
+import errno
 import functools
 import os
 import pathlib
@@ -73,7 +74,8 @@ def find_library(named: StrPath | None = None) -> str:
     there."""
     if choice := named or os.environ.get("DOMETHYME_LIBRARY"):
         if not os.path.isfile(choice):
-            raise LibraryNotFound(f"{os.fspath(choice)}: is no file of a library")
+            why = "is no file of a library" if os.path.exists(choice) else os.strerror(errno.ENOENT)
+            raise LibraryNotFound(f"{os.fspath(choice)}: {why}")
         return os.path.abspath(choice)
     return next((str(place) for place in (INSIDE, BUILT) if place.is_file()), NAME)
 

@@ -2,7 +2,6 @@
 import os
 from typing import Any
 
-from .errors import HierarchyNotFound
 from .extras import need
 from .graphs import Order, prepare
 from .hierarchy import Hierarchy
@@ -48,9 +47,7 @@ def open(path: StrPath) -> Hierarchy:
     """
     prefix = os.fspath(path).removesuffix(".rch")
     hierarchy = f"{prefix}.rch"
-    if not os.path.exists(hierarchy):
-        raise HierarchyNotFound(f"{hierarchy}: No such file or directory: `routecli prepare {prefix}.gr {hierarchy}` makes it")
-    keys = Keys.load(hierarchy) if os.path.exists(f"{hierarchy}.keys") else None
+    keys = Keys.load(hierarchy) if os.path.exists(hierarchy) and os.path.exists(f"{hierarchy}.keys") else None
     if not os.path.exists(f"{prefix}.net"):
         return Hierarchy(hierarchy, keys=keys)
     need("numpy")

@@ -10,9 +10,14 @@ ARCS is a CSV table with a row for each arc and the columns from and to. Other c
   weight    a whole number from 0 to 4294967295: routes have the least sum. Without it it is the milliseconds of seconds, or
             with --weight length the centimetres of metres, at least 1
   metres    or km; without both the length of the line
-  seconds   without it those of the metres at kmh kilometres an hour, and without kmh 0
+  seconds   without it those of the metres at kmh kilometres an hour. An arc needs one of weight, seconds and kmh; with weight alone,
+            and in files of DIMACS, it takes 0 seconds
   WKT       the line, LINESTRING (LON LAT, LON LAT, ..); without it the straight one
   name, highway, ref, junction, destination, structure, osm    as in NETWORK.arcs.csv of osm_to_gr
+
+--delimiter and --decimal are for tables with other marks than a comma between fields and a point before decimals, as ";" and ",".
+--largest keeps the largest set of nodes that can all reach one another, as osm_to_gr does; without it all are kept, and their number is
+reported, with the least, the quartiles and the greatest of the metres and km/h of arcs.
 
 An empty field is as if its column weren't there. Columns may be in other letters, and have common names: id for node; lng,
 longitude or x for lon; latitude or y for lat; source and target, or from_id and to_id, for from and to. Columns that aren't used
@@ -30,8 +35,8 @@ A table that the tools didn't write is never overwritten.
 With --tables there are OUT.nodes.csv and OUT.arcs.csv too, as osm_to_gr writes them. So the tables of osm_to_gr may be NODES
 and ARCS, after they were edited, or where OUT.net is damaged.
 
-Exit status: 0; 1 for bad input or a failed write, with one line on standard error that names file and row; 2 for arguments
-that are refused.
+Exit status: 0; 1 for bad input or a failed write, with one line on standard error that names file and row; 2 for arguments that
+are refused.
 """
 import argparse
 import os
@@ -40,8 +45,10 @@ import numpy
 
 from domethyme.atomic_files import atomic_write_all
 from domethyme.belonging import older_hierarchy
+from domethyme.csv_tables import Form
 from domethyme.errors import raised_as
 from domethyme.network import from_tables, net_file
+from domethyme.network.components import described, in_largest, keep
 from domethyme.network.table_files import bytes_of, tables_there, write_graph_of, write_tables
 from domethyme.network.tables import ARC_COLUMNS, NODE_COLUMNS, Files, has_columns, read_attribution
 
@@ -57,9 +64,14 @@ def parse_args() -> argparse.Namespace:
     parser.add_argument("out", metavar="OUT", help="the beginning of the names of the files")
     parser.add_argument("--weight", choices=("time", "length"), default="time",
                         help="what a weight is without the column (time)")
+    parser.add_argument("--delimiter", type=mark, default=",", metavar="MARK", help="what is between fields (,)")
+    parser.add_argument("--decimal", choices=(".", ","), default=".", help="what is before the decimals of a number (.)")
+    parser.add_argument("--largest", action="store_true", help="keep the largest set of nodes that can all reach one another")
     parser.add_argument("--tables", action="store_true", help="write OUT.nodes.csv and OUT.arcs.csv too")
     parser.add_argument("--attribution", metavar="TEXT", help="the attribution that maps show (that in OUT.gr)")
     options = parser.parse_args()
+    if options.delimiter == options.decimal:
+        parser.error("--delimiter and --decimal are one mark")
     if not os.path.basename(options.out) or os.path.isdir(options.out):
         parser.error("OUT is the beginning of the names of files, as out/firm, and no folder")
     paths = Files(options.out)
@@ -67,6 +79,13 @@ def parse_args() -> argparse.Namespace:
     options.outputs = [paths.graph, *tables, paths.binary]
     refuse_overwriting(parser, options.outputs, [options.nodes, options.arcs])
     return options
+
+
+def mark(text: str) -> str:
+    found = {"\\t": "\t", "tab": "\t"}.get(text, text)
+    if len(found) != 1 or found.isalnum() or found in '"\r\n':
+        raise argparse.ArgumentTypeError(f"{text!r} is no mark such as ; or tab")
+    return found
 
 
 def marks_beside(paths: Files, options: argparse.Namespace) -> list[int]:
@@ -88,8 +107,15 @@ def main() -> None:
     if options.tables:
         tables_there(paths, True)
     marks = numpy.array(net_file.NO_TABLES if options.tables else marks_beside(paths, options))
-    nodes = from_tables.read_nodes(options.nodes, warn)
-    arcs = from_tables.read_arcs(options.arcs, nodes, options.weight, warn)
+    form = Form(options.delimiter, options.decimal)
+    nodes = from_tables.read_nodes(options.nodes, warn, form)
+    arcs = from_tables.read_arcs(options.arcs, nodes, options.weight, warn, form)
+    kept = in_largest(nodes.ends, arcs.starts - 1, arcs.ends - 1)
+    said = described(nodes, arcs, kept)
+    if options.largest:
+        nodes, arcs = keep(nodes, arcs, kept)
+        if not len(arcs.starts):
+            raise ToolError("has no nodes that reach one another: are all roads of one way?", options.arcs)
     with raised_as(ToolError, options.arcs, ValueError):
         arrays = from_tables.build_arrays(nodes, arcs, attribution)
     with atomic_write_all(*options.outputs) as (graph, *tables, network):
@@ -98,6 +124,8 @@ def main() -> None:
         write_graph_of(bytes_of(graph), arrays, attribution)
         with raised_as(ToolError, options.arcs, ValueError):
             net_file.write(bytes_of(network), arrays._replace(tables=marks))
+    for line in said:
+        warn(line)
     kilometres = arrays.arc_metres[numpy.unique(arrays.arc_edge, return_index=True)[1]].sum() / 1000
     warn(f"{options.out}: {len(arrays.node_osm)} nodes, {len(arrays.arc_from)} arcs, {kilometres:.1f} km of road")
     if (older := older_hierarchy(options.out)) is not None:

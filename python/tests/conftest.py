@@ -1,9 +1,23 @@
 """What the tests add to pytest: those that wait begin first, what is optional is left out, and the last line counts all."""
+import subprocess
+
 import pytest
 from kit import optional
 
 # Tests that mostly wait, or take longest: each begins in a worker of its own, before all others.
 FIRST = ["AttackTests", "ReplacedTests", "DaskTests", "test_web.py", "test_page.py"]
+
+
+@pytest.fixture
+def run(tmp_path):
+    """Runs a program in the test's folder, and returns what it says on standard error."""
+
+    def run_program(*words, status=0):
+        ended = subprocess.run([*map(str, words)], cwd=tmp_path, capture_output=True, text=True, stdin=subprocess.DEVNULL)
+        assert ended.returncode == status, ended.stderr
+        return ended.stderr
+
+    return run_program
 
 
 def pytest_configure(config):

@@ -49,7 +49,7 @@ class ColumnTests(ToolCase):
             said, graph = self.made(nodes, arcs)
             with self.subTest(lines=lines):
                 self.assertTrue(all(f"to_network: {line}" in said for line in lines or ()), said)
-                self.assertTrue(lines != () or said.count("\n") == 1, said)
+                self.assertTrue(lines != () or said.count("\n") == 4, said)
                 self.assertEqual(graph == wanted, is_same)
 
     def test_columns_that_are_missing(self):

@@ -105,7 +105,7 @@ class FailureTests(ProgramCase):
         ):
             self.put_compiler(f"#!/bin/sh\n{lines}\n")
             self.refused(*says)
-            shutil.rmtree(self.copy / "domethyme_tools/converter/built")
+            shutil.rmtree(self.copy / "domethyme/maps/converter/built")
 
     def test_signals_leave_nothing(self):
         # (a pipe has no room for all of this, so the tool is reading when there is a pid)

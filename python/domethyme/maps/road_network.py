@@ -4,10 +4,8 @@ from typing import Any, NamedTuple
 
 import numpy as np
 from numpy.typing import NDArray
-from scipy.sparse import coo_matrix
-from scipy.sparse.csgraph import connected_components
-
 from ..network import net_file
+from ..network.components import in_largest
 from ..network.groups import Ints, first_of_equal, offsets
 from ..network.indexes import unique_text_rows
 from ..network.parallel import differs_from_previous as differs, map_slices
@@ -202,13 +200,8 @@ def headings(network: RoadNetwork, arcs: Ints, is_end: bool) -> tuple[Floats, Fl
 
 def keep_largest(network: RoadNetwork, report: Report) -> RoadNetwork:
     """The network with the nodes of the largest set that can all reach one another, and the arcs between them."""
-    count, start, end = len(network.node_osm), network.start, network.end
-    arcs = coo_matrix((np.ones(len(start), np.int8), (start, end)), shape=(count, count))
-    _, labels = connected_components(arcs, directed=True, connection="strong")
-    kept = labels == np.bincount(labels).argmax()
-    # a route may begin or end at a node that it can't pass
-    from_kept, to_kept, ends = mask(count, end[kept[start]]), mask(count, start[kept[end]]), network.node_ends
-    kept |= (ends == turn_restrictions.END) & from_kept | (ends == turn_restrictions.START) & to_kept
+    count, start, end, ends = len(network.node_osm), network.start, network.end, network.node_ends
+    kept = in_largest(ends, start, end)
     number = (np.cumsum(kept) - 1).astype(np.int32)
     found = network.with_arcs(kept[start] & kept[end])
     report[OUTSIDE] = count - int(kept.sum())

@@ -5,17 +5,18 @@ import dataclasses
 import os
 import warnings
 from collections.abc import Callable, Iterable, Iterator, Mapping, Sequence
+from typing import Any
 
 import numpy as np
 from numpy.typing import NDArray
 
-from ..csv_tables import Row, Table, alike, excerpt, need_columns, open_input, open_table
+from ..csv_tables import Form, Row, Table, alike, excerpt, need_columns, open_input, open_table
 from ..dimacs import read_graph
 from ..errors import NetworkError, raised_as
 from ..limits import MAX_LINES, MAX_NODES, MAX_WEIGHT
 from ..program import StrPath
 from .geo import parse_linestring
-from .groups import Ints
+from .groups import Ints, first_of_equal
 from .net_file import (
     NO_OSM, TEXTS, UNITS, ArcArrays, MappedNetwork, NodeArrays, build_arrays as build_arrays, load_network, map_tempfile,
     to_units
@@ -40,10 +41,11 @@ IDS = NO_OSM + 1, (1 << 63) - 1
 # In which directions a road is open, 1 along its row and -1 back; and what says so.
 ALONG, BACK, BOTH = (1,), (-1,), (1, -1)
 ONE_WAY: dict[str, tuple[int, ...]] = {
-    "1": ALONG, "yes": ALONG, "true": ALONG, "-1": BACK, "reverse": BACK, "0": BOTH, "no": BOTH, "false": BOTH, "": BOTH
+    "1": ALONG, "yes": ALONG, "true": ALONG, "-1": BACK, "reverse": BACK, "0": BOTH, "no": BOTH, "false": BOTH, "": BOTH,
+    "1.0": ALONG, "-1.0": BACK, "0.0": BOTH,  # (as a program writes them that has made numbers of a column with blanks)
 }
-# What is doubted: arcs that are so much shorter than the straight line, to a metre, and faster than so many km/h.
-SHORTER, FASTEST = 0.99, 400.0
+# What is doubted: arcs that are so much shorter, to a metre, or longer than a straight line of 10 m or more, and faster than so many km/h.
+SHORTER, LONGER, FASTEST = 0.99, 100.0, 400.0
 # Straight arcs whose metres are computed at once.
 ARCS_AT_ONCE = 1 << 20
 # Makes numpy refuse what it takes for a blank, or drops, and bytes.split doesn't.
@@ -91,19 +93,21 @@ class Nodes(NodeArrays):
                 raise fields.error(f"{column} {excerpt(name)} is no number, and {why}")
             return fields.read_int(column, 1, len(self.osm))
         if name not in self.rows:
-            raise fields.error(f"{column} {excerpt(name)} isn't in {self.path}")
+            whole = name.removesuffix(".0")
+            doubt = f": is it {whole}? A table program may have made numbers of the names" if whole != name and whole in self.rows else ""
+            raise fields.error(f"{column} {excerpt(name)} isn't in {self.path}{doubt}")
         return self.rows[name]
 
 
-def read_nodes(path: StrPath, say: Say = lambda line: None) -> Nodes:
-    """The nodes of a table, or of a .co file; `say` gets a line for what may be meant otherwise. Raises NetworkError."""
+def read_nodes(path: StrPath, say: Say = lambda line: None, form: Form = Form()) -> Nodes:
+    """The nodes of a table of this form, or of a .co file; `say` gets a line for what may be meant otherwise. Raises NetworkError."""
     if is_coordinates(path):
         places = read_co(path)
         return Nodes(np.full(len(places), NO_OSM), places, np.zeros(len(places), np.uint8))
     osm, ends, degrees = array.array("q"), array.array("B"), array.array("d")
     rows: dict[str, int] = {}
     keys: dict[str, int] = {}
-    with open_table(path, ()) as lines:
+    with open_table(path, (), form) as lines:
         take_columns(lines, OF_NODES, ("lon", "lat"), say)
         is_named, columns = "node" in lines.columns, lines.columns
         named = [(name, into) for name, into in (("node", rows), ("key", keys)) if name in columns]
@@ -122,31 +126,35 @@ def read_nodes(path: StrPath, say: Say = lambda line: None) -> Nodes:
     return Nodes(np.array(osm), places, np.array(ends), shown_keys, rows if is_named else None, path, columns)
 
 
-def read_arcs(path: StrPath, nodes: Nodes, weight: str = "time", say: Say = lambda line: None) -> ArcArrays:
-    """The arcs of a table, or of a .gr file. Those without a weight have milliseconds (`time`) or centimetres (`length`). `say` gets a
-    line for what may be meant otherwise. Raises NetworkError."""
+def read_arcs(
+    path: StrPath, nodes: Nodes, weight: str = "time", say: Say = lambda line: None, form: Form = Form()
+) -> ArcArrays:
+    """The arcs of a table of this form, or of a .gr file. Those without a weight have milliseconds (`time`) or centimetres (`length`).
+    `say` gets a line for what may be meant otherwise. Raises NetworkError for the first row that is refused, with the number of others."""
     if os.fspath(path).endswith((".gr", ".gr.gz")):
         return straight_arcs(*read_gr(path, len(nodes.osm)), nodes)
     numbers = array.array("q")  # (of an arc five: from, to, way, row of texts, row of the table)
     figures = array.array("d")  # (weight, seconds, metres, km/h, where NaN is none)
     begins_of_lines, points_of_lines = array.array("q", [0]), array.array("i")
     known: dict[tuple[str, ...], int] = {}
-    with open_table(path, ()) as rows:
+    refused, refusals = None, 0
+    with open_table(path, (), form) as rows:
         take_columns(rows, OF_ARCS, ("from", "to"), say)
         for row, fields in rows:
-            start, end = nodes.number(fields, "from"), nodes.number(fields, "to")
-            texts = tuple(fields.get(name, "") for name in TEXTS)
-            osm = fields.read_int("osm", *IDS) if fields.get("osm") else 0
-            more = osm, known.setdefault(texts, len(known)), row
-            line, values = line_of(nodes.places[[start - 1, end - 1]], fields), arc_values(fields, weight)
-            direction = fields.get("oneway", "1").strip().lower()
-            if direction not in ONE_WAY:
-                raise fields.error(f"oneway {excerpt(direction)} is none of 1, yes, -1, 0, no")
-            for step in ONE_WAY[direction]:
-                numbers.extend((*(start, end)[::step], *more))
+            try:
+                ends, osm, line, values, directions = road_of(fields, nodes, weight)
+            except NetworkError as error:
+                refused, refusals = refused or error, refusals + 1
+                continue
+            more = osm, known.setdefault(tuple(fields.get(name, "") for name in TEXTS), len(known)), row
+            for step in directions:
+                numbers.extend((*ends[::step], *more))
                 figures.extend(values)
                 points_of_lines.frombytes(line[::step].tobytes())
                 begins_of_lines.append(len(points_of_lines) // 2)
+    if refused is not None:
+        others = {0: "", 1: "; another row is refused too"}.get(refusals - 1, f"; {refusals - 1} other rows are refused too")
+        raise NetworkError(f"{refused.message}{others}") from refused
     starts, stops, osm_ids, of_texts, of_rows = np.array(numbers, dtype=np.int64).reshape(-1, 5).T.copy()
     if not len(starts) or len(starts) > MAX_LINES:
         raise NetworkError(f"has {len(starts)} arcs, and a network has from 1 to {MAX_LINES}", path)
@@ -159,12 +167,37 @@ def read_arcs(path: StrPath, nodes: Nodes, weight: str = "time", say: Say = lamb
     whole, seconds = weights_and_seconds(given, lengths, weight)
     if whole.max() > MAX_WEIGHT:
         raise NetworkError(f"would weigh more than {MAX_WEIGHT}", path, int(of_rows[whole.argmax()]))
+    doubt_rows(of_rows, (starts, stops, whole, seconds, lengths), path, say)
     is_fast = (seconds > 0) & (lengths * 3.6 > FASTEST * seconds)
     doubt(is_fast, f"{{}} arcs are faster than {FASTEST:g} km/h: are the units those of --help?", path, say)
     takes_none = (seconds == 0) & np.isnan(given[0]) & (weight == "time")
     doubt(takes_none, "{} arcs take 0 seconds, and weigh 1", path, say)
     figures_of_arcs = whole.astype(np.int64), seconds, lengths
     return ArcArrays(starts, stops, *figures_of_arcs, osm_ids, of_texts, list(known), begins, points)
+
+
+def road_of(fields: Row, nodes: Nodes, weight: str) -> tuple[tuple[int, int], int, NDArray[np.int32], tuple[float, ...], tuple[int, ...]]:
+    """What a row of arcs says: its nodes, from 1, its way, line and figures (arc_values), and the directions in which it is open."""
+    start, end = nodes.number(fields, "from"), nodes.number(fields, "to")
+    osm = fields.read_int("osm", *IDS) if fields.get("osm") else 0
+    line, values = line_of(nodes.places[[start - 1, end - 1]], fields), arc_values(fields, weight)
+    direction = fields.get("oneway", "1").strip().lower()
+    if direction not in ONE_WAY:
+        raise fields.error(f"oneway {excerpt(direction)} is none of 1, yes, -1, 0, no")
+    return (start, end), osm, line, values, ONE_WAY[direction]
+
+
+def doubt_rows(of_rows: Ints, columns: Sequence[NDArray[Any]], path: StrPath, say: Say) -> None:
+    """Says of roads that are all of one way, and of rows that are there twice, by the columns of arcs, of which the first two are their
+    nodes: both come of a table that means something else."""
+    starts, stops = columns[:2]
+    low, high = np.minimum(starts, stops), np.maximum(starts, stops)
+    first = first_of_equal(low, high)
+    if len(starts) > 1 and (starts == starts[first]).all() and (low != high).any():
+        say(f"{path}: no arc has one back: if rows are two-way roads, add a column oneway")
+    again = first_of_equal(*columns)
+    if count := len(np.unique(of_rows[of_rows[again] != of_rows])):
+        say(f"{path}: {count} rows have the ends and figures of earlier ones")
 
 
 def weights_and_seconds(given: Floats, lengths: Floats, weight: str) -> tuple[Floats, Floats]:
@@ -186,6 +219,8 @@ def doubts(given: Floats, straight: Floats, weight: str) -> Iterator[tuple[NDArr
         if not is_empty.all():
             yield is_empty, says
     yield lengths < SHORTER * straight - 1, "metres of {} arcs are less than the straight line: are they km?"
+    is_long = (lengths > LONGER * straight) & (straight >= 10)
+    yield is_long, f"metres, or km, of {{}} arcs are over {LONGER:g} times the straight line: are km metres?"
 
 
 def doubt(arcs: NDArray[np.bool_], says: str, path: StrPath, say: Say) -> None:
@@ -204,7 +239,7 @@ def arc_values(fields: Row, weight: str) -> tuple[float, float, float, float]:
     if speed == 0:
         raise fields.error("kmh is 0")
     if np.isnan(own) and weight == "time" and np.isnan(seconds) and np.isnan(speed):
-        raise fields.error("has none of weight, seconds and kmh (with --weight length the metres are taken)")
+        raise fields.error("has none of weight, seconds and kmh, and an arc needs one (with --weight length the metres are taken)")
     return own, seconds, length, speed
 
 

@@ -1,4 +1,5 @@
 """What is reached, as GeoJSON with the properties of Mapbox's Isochrone API. Needs numpy, scipy, contourpy and shapely."""
+import numbers
 import re
 from collections.abc import Callable, Sequence
 from typing import Any, Literal, NamedTuple, get_args
@@ -16,6 +17,9 @@ OPACITY = 0.33
 COLOR = re.compile("[0-9A-Fa-f]{6}")
 # By the unit of weights: the metric of contours, and how many weights are a minute or a metre.
 METRICS: dict[str, tuple["Metric", int]] = {"duration": ("time", 60_000), "distance": ("distance", 100)}
+
+# As many as the service takes.
+MAX_MINUTES = 600
 
 Metric = Literal["time", "distance"]
 # The least length of each node from the nearest of several, from 0, each with a length that is added; -1 above a limit.
@@ -47,8 +51,10 @@ def limits(unit: str, minutes: Sequence[float] = (), metres: Sequence[float] = (
     if bool(len(minutes)) == bool(len(metres)):
         raise ValueError("give minutes or metres, one of both")
     wanted, asked = ("time", minutes) if len(minutes) else ("distance", metres)
-    if not all(0 < value < float("inf") for value in asked):
+    if not all(isinstance(value, numbers.Real) and 0 < value < float("inf") for value in asked):
         raise ValueError("minutes, or metres, have to be numbers above 0")
+    if wanted == "time" and max(asked) > MAX_MINUTES:
+        raise ValueError(f"{max(asked):g} minutes are too much: there may be {MAX_MINUTES}, or are they seconds?")
     if metric != wanted:
         raise ValueError(f"the weights of the network aren't a {wanted}: they are {unit}s")
     return [round(value * factor) for value in asked]

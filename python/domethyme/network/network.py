@@ -6,14 +6,14 @@ from collections.abc import Iterable, Iterator, Sequence
 from typing import Any, overload
 
 import numpy as np
-from numpy.typing import ArrayLike, NDArray
+from numpy.typing import NDArray
 
 from .. import belonging
 from ..arrays import places_of
 from ..deprecated import radius_of, side_of
 from ..errors import NetworkError, NoSuchNode
 from ..extras import load
-from ..keys import Keys, parse_key
+from ..keys import Keys, parse_keys
 from ..limits import DEFAULT_RADIUS
 from ..links import Links
 from ..program import StrPath
@@ -76,7 +76,7 @@ class Network:
                 raise NetworkError(f"isn't the table of the nodes that {self._arrays.path} has", self._files.nodes)
             return Keys.read(self._files.nodes, column)
         if column != "osm" and (keys := self.node_index.keys()):
-            return Keys([parse_key(key) for key in keys])
+            return Keys(parse_keys(keys))
         osm = [None if each == NO_OSM else each for each in self.node_index.osm[:].tolist()]
         if all(each is None for each in osm):
             why = "its nodes have no keys: they are in the column node, or osm, of the table of nodes"
@@ -97,7 +97,7 @@ class Network:
         ends = np.array(ENDS, dtype=object)[self.node_index.ends[:]]
         columns = {"osm": osm, "lon": self.lon, "lat": self.lat, "ends": ends}
         if keys := self.node_index.keys():
-            columns[KEY] = np.array([parse_key(key) for key in keys], dtype=object)
+            columns[KEY] = np.array(parse_keys(keys), dtype=object)
         return pandas.DataFrame(columns).rename_axis("node")
 
     def arcs_frame(self) -> Any:
@@ -114,21 +114,30 @@ class Network:
         return geopandas.GeoDataFrame(frame, geometry=lines, crs="EPSG:4326")
 
     @overload
-    def nearest(self, lon: float, lat: float, side: Side | bool = "from", *, end: bool | None = None) -> tuple[int, float]: ...
+    def nearest(
+        self, lon: float, lat: float, side: Side | bool = "from", *, radius: float = DEFAULT_RADIUS, end: bool | None = None
+    ) -> tuple[int, float]: ...
     @overload
     def nearest(
-        self, lon: Rows, lat: Rows, side: Side | bool = "from", *, end: bool | None = None
+        self, lon: Rows, lat: Rows, side: Side | bool = "from", *, radius: float = DEFAULT_RADIUS, end: bool | None = None
     ) -> tuple[NDArray[np.int64], Floats]: ...
     def nearest(
-        self, lon: ArrayLike, lat: ArrayLike, side: Side | bool = "from", *, end: bool | None = None
+        self, lon: Any, lat: Any, side: Side | bool = "from", *, radius: float = DEFAULT_RADIUS, end: bool | None = None
     ) -> tuple[Any, Any]:
         """The node nearest to each place, from 0, and how many metres away it is along the great circle, on a sphere of
         6,371,008.8 m: of those where routes may begin, or with side="to" of those where they may end, which differ at
         junctions with turn restrictions. Two numbers give an int and a float, two arrays of one shape give two arrays of that shape.
-        Raises ValueError for what are no degrees."""
-        east, north = np.broadcast_arrays(np.asarray(lon, float), np.asarray(lat, float))
+        Raises NoSuchNode where none is within `radius` metres, and ValueError for what are no degrees."""
+        east, north = np.asarray(lon, float), np.asarray(lat, float)
+        if east.ndim and north.ndim and east.shape != north.shape:
+            raise ValueError(f"there are {east.size} values of lon and {north.size} of lat")
+        east, north = np.broadcast_arrays(east, north)
         check_degrees(east, north)
         nodes, away = self.node_index.nearest(east.ravel(), north.ravel(), side_of(side, end))
+        for place in np.flatnonzero(~(away <= radius))[:1].tolist():
+            other_lon, other_lat = north.ravel()[[place]], east.ravel()[[place]]
+            swapped = abs(other_lat[0]) <= 90 and self.node_index.nearest(other_lon, other_lat, side_of(side, end))[1][0] <= radius
+            raise too_far("node", place, float(away[place]), radius, bool(swapped))
         if east.ndim == 0:
             return int(nodes[0]), float(away[0])
         return nodes.reshape(east.shape), away.reshape(east.shape)
@@ -238,9 +247,12 @@ class Network:
             )
         found = []
         for number, (point, limit) in enumerate(zip(points, limits)):
-            if point is None or not point.metres <= limit:
-                away = "with its bearing" if point is None else f"the nearest is {point.metres:,.0f} m away; lon comes before lat"
-                raise NoSuchNode(f"place {number} has no road within {limit:g} m: {away}", number)
+            if point is None:
+                raise NoSuchNode(f"place {number} has no road within {limit:g} m in the direction of its bearing", number)
+            if not point.metres <= limit:
+                lon, lat = rows[number].tolist()
+                swapped = abs(lon) <= 90 and next(iter(self.roads.nearest_batch([(lat, lon)]))).metres <= limit
+                raise too_far("road", number, point.metres, limit, swapped)
             found.append(point)
         return found
 
@@ -258,6 +270,12 @@ def bearing_range(value: Sequence[int]) -> BearingRange:
     if not (0 <= bearing <= 360 and 0 <= tolerance <= 180):
         raise ValueError(f"a bearing is (degrees from 0 to 360, tolerance from 0 to 180), and not {value!r}")
     return BearingRange(bearing, tolerance)
+
+
+def too_far(what: str, place: int, metres: float, radius: float, is_swapped: bool) -> NoSuchNode:
+    """What to raise of a place that has nothing near."""
+    doubt = ": are lon and lat swapped?" if is_swapped else ""
+    return NoSuchNode(f"place {place} has no {what} within {radius:g} m: the nearest is {metres:,.0f} m away{doubt}", place)
 
 
 def check_degrees(lon: Floats, lat: Floats) -> None:

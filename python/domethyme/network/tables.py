@@ -39,6 +39,7 @@ WRONG_SUFFIXES = {
     ".gr": f"is a graph: {NAME_IT}, {{0}}, or a file of coordinates, {{0}}.co",
     ".rch": f"is a hierarchy: {NAME_IT}",
     **dict.fromkeys((".nodes.csv", ".arcs.csv", ".net"), f"{NAME_IT}, {{0}}"),
+    ".csv": f"is a table: NETWORK comes first, and {NAME_IT}",
 }
 ENDS = ("", "from", "to", "no")
 INT64 = -(1 << 63), (1 << 63) - 1

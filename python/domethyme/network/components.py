@@ -1,0 +1,59 @@
+"""Which nodes of a network reach one another, and a network of these alone. Needs numpy and scipy."""
+import dataclasses
+from typing import TYPE_CHECKING, Any
+
+import numpy as np
+from numpy.typing import NDArray
+from scipy.sparse import coo_matrix
+from scipy.sparse.csgraph import connected_components
+
+from .groups import Ints, expand, offsets
+from .net_file import ArcArrays
+from .tables import ENDS
+
+if TYPE_CHECKING:
+    from .from_tables import Nodes
+
+
+def in_largest(node_ends: NDArray[np.uint8], starts: NDArray[np.integer[Any]], stops: NDArray[np.integer[Any]]) -> NDArray[np.bool_]:
+    """Which nodes, from 0, are of the largest set that can all reach one another along the arcs, or are where a route of these may begin
+    or end and none may pass."""
+    count = len(node_ends)
+    arcs = coo_matrix((np.ones(len(starts), np.int8), (starts, stops)), shape=(count, count))
+    _, labels = connected_components(arcs, directed=True, connection="strong")
+    kept: NDArray[np.bool_] = labels == np.bincount(labels).argmax()
+    from_kept, to_kept = np.zeros(count, np.bool_), np.zeros(count, np.bool_)
+    from_kept[stops[kept[starts]]] = True
+    to_kept[starts[kept[stops]]] = True
+    kept |= (node_ends == ENDS.index("to")) & from_kept | (node_ends == ENDS.index("from")) & to_kept
+    return kept
+
+
+def keep(nodes: "Nodes", arcs: ArcArrays, kept: NDArray[np.bool_]) -> "tuple[Nodes, ArcArrays]":
+    """The nodes that are kept, in their order, and the arcs between them."""
+    number: Ints = np.cumsum(kept)
+    chosen = np.flatnonzero(kept[arcs.starts - 1] & kept[arcs.ends - 1])
+    counts = np.diff(arcs.begins)[chosen]
+    group, position = expand(counts)
+    columns = {name: getattr(arcs, name)[chosen] for name in ("weights", "seconds", "metres", "osm", "row")}
+    keys = [key for key, is_kept in zip(nodes.keys, kept.tolist()) if is_kept] if nodes.keys else ()
+    few = dataclasses.replace(nodes, osm=nodes.osm[kept], places=nodes.places[kept], ends=nodes.ends[kept], keys=keys)
+    return few, arcs._replace(
+        starts=number[arcs.starts[chosen] - 1], ends=number[arcs.ends[chosen] - 1], begins=offsets(counts),
+        points=arcs.points[arcs.begins[chosen][group] + position], **columns,
+    )
+
+
+def described(nodes: "Nodes", arcs: ArcArrays, kept: NDArray[np.bool_]) -> list[str]:
+    """Lines that say how a network hangs together, and the quartiles of the lengths and speeds of its arcs."""
+    said = []
+    alone = len(kept) - len(np.union1d(arcs.starts, arcs.ends))
+    if left := len(kept) - int(kept.sum()):
+        said.append(f"{int(kept.sum())} of {len(kept)} nodes reach one another, and {left} don't, of which {alone} have no arc")
+    figures = [("metres", arcs.metres)]
+    if (timed := arcs.seconds > 0).any():
+        figures.append(("km/h", arcs.metres[timed] * 3.6 / arcs.seconds[timed]))
+    for name, values in figures:
+        quartiles = ", ".join(f"{value:.0f}" for value in np.quantile(values, [0, 0.25, 0.5, 0.75, 1]))
+        said.append(f"{name} of arcs, from the least by quartiles to the greatest: {quartiles}")
+    return said

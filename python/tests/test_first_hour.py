@@ -1,0 +1,122 @@
+"""A newcomer's first hour: a map in one call, progress, frames, pictures, and what is said of what nobody can have meant."""
+import json
+
+import numpy as np
+import pytest
+from tool_case import TOOLS, VILLAGE
+
+import domethyme
+from domethyme.network.components import in_largest
+
+
+@pytest.fixture(scope="module")
+def village(tmp_path_factory):
+    """The hierarchy of the village, and what its progress was."""
+    told, out = [], tmp_path_factory.mktemp("village") / "v"
+    with domethyme.from_osm(VILLAGE, out, keep_islands=True, progress=lambda *told_now: told.append(told_now)) as hierarchy:
+        yield hierarchy, told, out
+
+
+def test_a_map_in_one_call(village):
+    hierarchy, told, out = village
+    assert [what for what in dict.fromkeys(what for what, _, _ in told)][:3] == ["ways", "places", "roads"]
+    assert all(0 <= done <= total for _, done, total in told) and told[-1][0] in ("files", "prepare")
+    with domethyme.open(out) as again, domethyme.open(f"{out}.rch") as third:
+        assert again.keys is None and again.network.prefix == str(out)
+        assert again.route(0, 5).nodes == third.route(0, 5).nodes == hierarchy.route(0, 5).nodes
+    for words, says in [({"profile": "tank"}, "no profile tank"), ({"speed": 3}, "no option speed"), ({"at_least": 1.0}, "35 of 38 nodes reach")]:
+        with pytest.raises((domethyme.MapError, ValueError), match=says):
+            domethyme.from_osm(VILLAGE, out.parent / "w", **words)
+    assert not list(out.parent.glob("w*"))
+
+
+def test_progress_of_what_takes_long(tmp_path):
+    rows = np.arange(60_000)
+    told = []
+    with domethyme.prepare(domethyme.Graph(rows, (rows + 1) % 60_000, rows % 7 + 1), tmp_path / "ring.rch", progress=lambda *now: told.append(now)) as ring:
+        assert all(what == "prepare" and done <= 60_000 == total for what, done, total in told)
+        parts = []
+        table = ring.matrix(rows[:1000], rows[:300], progress=lambda *now: parts.append(now))
+        assert parts[-1] == ("matrix", 1000, 1000) and [done for _, done, _ in parts] == sorted({done for _, done, _ in parts})
+        assert (table == ring.matrix(rows[:1000], rows[:300])).all()
+    with pytest.raises(domethyme.GraphError, match="TooManyArcs|ArcCount"):
+        (tmp_path / "bad.gr").write_text("p sp 2 5\na 1 2 3\n")
+        domethyme.prepare(tmp_path / "bad.gr", tmp_path / "bad.rch", progress=lambda *now: None)
+
+
+def test_what_notebooks_and_others_know(village):
+    hierarchy, _, _ = village
+    route, routes = hierarchy.route(0, 5), hierarchy.routes([[0, 5], [0, 0]] * 15)
+    assert route.geojson() == route.__geo_interface__ == hierarchy.network.geojson(route)["features"][0]
+    assert routes[:1].__geo_interface__["features"] == hierarchy.routes([[0, 5]]).geojson()["features"]
+    contours = hierarchy.within((float(hierarchy.network.lon[0]), float(hierarchy.network.lat[0])), [1, 2])
+    assert json.loads(json.dumps(contours)) == contours == contours.__geo_interface__
+    for shown, what in ((route, "stroke"), (routes, "and 10 more"), (contours, "fill-rule")):
+        assert shown._repr_html_().startswith("<svg") and what in shown._repr_html_()
+    with domethyme.Hierarchy(hierarchy.path) as bare:
+        assert bare.route(0, 5)._repr_html_() is None and not hasattr(bare.route(0, 5), "__geo_interface__")
+        with pytest.raises(ValueError, match="no network to draw on"):
+            bare.route(0, 5).geojson()
+
+
+PLACE = 47.1, 9.5
+
+
+@pytest.mark.parametrize("call, says", [
+    (lambda h: h.within(PLACE, 10), r"minutes are a list, as \[10\]"), (lambda h: h.within(9.5, 47.1), r"a place is \(lon, lat\)"),
+    (lambda h: h.within(PLACE, ["5"]), "have to be numbers"), (lambda h: h.within(PLACE, [600000]), "there may be 600"),
+    (lambda h: h.reach(0, 5), r"starts are nodes in a list, as \[0\]"), (lambda h: h.matrix(5), r"sources are nodes in a list, as \[5\]"),
+    (lambda h: h.reach([0], 5, minutes=3), "one of both"), (lambda h: h.matrix(np.array([9.5])), "nearest.lon, lat. finds the nodes of places"),
+    (lambda h: h.nearest([0, 0.01], [0.0]), "2 values of lon and 1 of lat"), (lambda h: h.nearest(60, 0.0), r"km|m away$"),
+    (lambda h: h.nearest(0.0, 60), "m away$"), (lambda h: h.network.nearest(0, 60), "no node within 1000 m"),
+    (lambda h: h.network.geojson(None), "there is no route"), (lambda h: domethyme.Hierarchy(b"x"), "takes the path of a file, and no bytes"),
+    (lambda h: domethyme.Hierarchy(h.path, keys=h.network), r"is it network.keys\(\)"),
+    (lambda h: domethyme.Graph.from_keys([1], [2], [5e9]), "scale=1000"), (lambda h: domethyme.open("none"), "none.gr none.rch` makes it"),
+    (lambda h: domethyme.prepare("li.net", "li.rch"), "its graph ends in .gr"), (lambda h: domethyme.prepare("li.osm.pbf", "li.rch"), "is a map"),
+])
+def test_calls_that_nobody_can_mean(village, call, says):
+    with pytest.raises((ValueError, domethyme.DomethymeError), match=says):
+        call(village[0])
+
+
+def test_keys_of_one_type():
+    keys = domethyme.Keys(["-17", "KN-1"])
+    assert list(keys) == ["-17", "KN-1"]
+    with pytest.raises(domethyme.NoSuchNode, match="there is '-17', a text"):
+        keys.node(-17)
+    with pytest.warns(UserWarning, match="node 0 has no arc"):
+        domethyme.Graph([1, 2], [2, 3], [1, 1])
+
+
+NODES = "node,lon,lat\n7,0,0\n8,0.001,0\n9,0.001,0.002\n10,0.5,0.5\n"
+BOTH = "from,to,kmh,km,oneway\n7,8,50,0.2,no\n8,9,50,0.3,no\n9,10,30,90,1\n"
+
+
+@pytest.mark.parametrize("nodes, arcs, words, status, says", [
+    (NODES, BOTH.replace(",no", "").replace(",1\n", "\n").replace(",oneway", ""), [], 0, ["no arc has one back", "1 of 4 nodes reach one another, and 3 don't"]),
+    (NODES, BOTH.replace("0.2", "200"), [], 0, ["km, of 2 arcs are over 100 times", "3 of 4 nodes reach one another, and 1 don't, of which 0 have no arc"]),
+    (NODES, BOTH + "7,8,50,0.2,no\n", [], 0, ["1 rows have the ends and figures of earlier ones"]),
+    (NODES, BOTH, ["--largest"], 0, ["out: 3 nodes, 4 arcs, 0.5 km"]), (NODES, BOTH.replace(",1\n", ",1.0\n"), [], 0, ["out: 4 nodes, 5 arcs"]),
+    (NODES.replace(",", ";").replace(".", ","), BOTH.replace(",", ";").replace(".", ","), ["--delimiter", ";", "--decimal", ","], 0, ["out: 4 nodes"]),
+    (NODES, BOTH.replace("7,", "7.0,"), [], 1, ["is it 7?"]), (NODES.replace("0.5,0.5", '"0,5",0'), BOTH, [], 1, ["write a point for the comma"]),
+    (NODES, BOTH.replace("50", ""), [], 1, ["row 2: has none of weight", "another row is refused too"]), ("PK\3\4", BOTH, [], 1, ["spreadsheet"]),
+    (NODES, BOTH, ["--delimiter", "ab"], 2, ["no mark"]), (NODES, BOTH.replace("kmh", "kmh\u00df").encode("latin-1"), [], 1, ["save it as CSV UTF-8"]),
+])
+def test_what_to_network_says(tmp_path, run, nodes, arcs, words, status, says):
+    (tmp_path / "n.csv").write_text(nodes)
+    (tmp_path / "a.csv").write_bytes(arcs if isinstance(arcs, bytes) else arcs.encode())
+    said = run(TOOLS / "to_network", "n.csv", "a.csv", "out", *words, status=status)
+    assert all(text in said for text in says), said
+
+
+def test_largest_keeps_lines_and_keys(tmp_path, run):
+    (tmp_path / "n.csv").write_text(NODES)
+    (tmp_path / "a.csv").write_text(BOTH)
+    run(TOOLS / "to_network", "n.csv", "a.csv", "out", "--largest")
+    network = domethyme.Network(tmp_path / "out")
+    assert list(network.keys()) == [7, 8, 9] and network.arcs_frame()["metres"].tolist() == [200, 200, 300, 300]
+    with domethyme.prepare(tmp_path / "out.gr", tmp_path / "out.rch"):
+        assert domethyme.open(tmp_path / "out").length(7, 9) == 36_000
+    said = run(TOOLS / "nearest", "n.csv", "out", status=1)
+    assert "n.csv: is a table: NETWORK comes first" in said
+    assert in_largest(np.zeros(3, np.uint8), np.array([0, 1, 1]), np.array([1, 0, 2])).tolist() == [True, True, False]
