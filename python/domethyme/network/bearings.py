@@ -1,11 +1,20 @@
 """The nearest point of a road in a given direction, for OSRM's `bearings`."""
+import itertools
 from typing import NamedTuple
 
+import numpy as np
+from numpy.typing import NDArray
+
 from .geo import Point, bearing
+from .grid import Ints, concat_ranges
+from .net_file import UNITS
+from .parallel import differs_from_previous
 from .snapping import Arc, RoadIndex, SnappedPoint
 
 # How many of the nearest edges are examined, until enough have a road in the direction.
 CANDIDATES = (8, 64, 512, 4096)
+# Segments on each side of the nearest one whose directions are examined first.
+BESIDE = 2
 
 
 class BearingRange(NamedTuple):
@@ -24,12 +33,48 @@ def nearest_with_bearing(
     """The `count` nearest points, up to `radius`, of roads with a direction in the range, which routes keep to."""
     found: list[SnappedPoint] = []
     for limit in CANDIDATES:
-        snapped_points = roads.nearest(place, limit)
-        restricted = (restrict_to_bearing(roads, snapped, bearing_range) for snapped in snapped_points)
-        found = [snapped for snapped in restricted if snapped is not None]
-        if len(found) >= count or len(snapped_points) < limit or snapped_points[-1].metres > radius:
+        edges = roads.nearest_edges(place, limit, within=radius)
+        chosen = (roads.snap(place, edge) for edge in likely_edges(roads, place, edges, bearing_range))
+        restricted = (restrict_to_bearing(roads, snapped, bearing_range) for snapped in chosen)
+        found = list(itertools.islice((snapped for snapped in restricted if snapped is not None), count))
+        if len(found) >= count or len(edges) < limit:
             break
-    return found[:count]
+    return found
+
+
+def likely_edges(roads: RoadIndex, place: Point, edges: list[int], bearing_range: BearingRange) -> list[int]:
+    """Those of some edges with an arc whose direction is in the range on the segment nearest to a place, or on one beside it: all that
+    `restrict_to_bearing` may keep, and few others."""
+    if not edges:
+        return []
+    rows = np.array(edges)
+    ways = roads.project(np.array(place), rows)
+    begins, ends = roads.arrays.points[ways.rows] / UNITS, roads.arrays.points[ways.rows + 1] / UNITS
+    is_way = (begins != ends).any(axis=1)
+    nearest = np.lexsort((ways.rows, ways.metres, ways.which))[np.flatnonzero(differs_from_previous(ways.which))]
+    # (of the segments with a length the nearest one, and those beside it: a point is at an end of a road from some millimetres on)
+    with_length = np.flatnonzero(is_way)
+    beside = is_way.cumsum()[nearest] - 1 + np.arange(-BESIDE, BESIDE + 1)[:, None]
+    lines = with_length[np.clip(beside, 0, len(with_length) - 1)] if len(with_length) else np.zeros_like(beside)
+    is_own = ways.which[lines] == np.arange(len(rows))
+    east, north = (ends - begins)[lines].transpose(2, 0, 1)
+    east = np.remainder(east + 180, 360) - 180
+    directions = np.degrees(np.arctan2(east * np.cos(np.radians(begins[lines, 1])), north))
+    # (a road of no length has the direction 0)
+    is_likely = np.bincount(ways.which[is_way], minlength=len(rows)) == 0
+    for is_along, turned in ((True, 0), (False, 180)):
+        off = np.abs((directions + turned - bearing_range.bearing + 180) % 360 - 180)
+        is_in_range = (is_own & (off <= bearing_range.tolerance + 1)).any(axis=0)
+        is_likely |= is_in_range & has_arcs(roads, rows, is_along)
+    return list(rows[is_likely].tolist())
+
+
+def has_arcs(roads: RoadIndex, edges: Ints, is_along: bool) -> NDArray[np.bool_]:
+    """Whether each edge has an arc along it, or against it."""
+    first = roads.arrays.edge_first[edges]
+    which, places = concat_ranges(first, roads.arrays.edge_first[edges + 1] - first)
+    is_so = roads.arrays.arc_along[roads.arrays.edge_arcs[places]] == is_along
+    return np.bincount(which[is_so], minlength=len(edges)) > 0
 
 
 def restrict_to_bearing(roads: RoadIndex, snapped: SnappedPoint, bearing_range: BearingRange) -> SnappedPoint | None:

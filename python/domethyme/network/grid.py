@@ -93,16 +93,19 @@ class Grid(NamedTuple):
         return self.height * EARTH_RADIUS * math.pi / 720
 
     def nearest(
-        self, place: tuple[float, float], count: int, metres: DistanceFunction, step: Callable[[], object] = lambda: None
+        self, place: tuple[float, float], count: int, metres: DistanceFunction, step: Callable[[], object] = lambda: None,
+        within: float = math.inf
     ) -> list[tuple[float, int]]:
         """The metres to the `count` nearest things of those that `metres` gives less than infinity, and their numbers: the nearest
-        first, and of equally near ones the lesser number. There are fewer only where there are no more. `step` is called for each
-        circle that is looked at, and for each part of the things in it; what it raises ends the search.
+        first, and of equally near ones the lesser number. There are fewer only where there are no more. What is farther than
+        `within` isn't looked for: it may be among them, or be missing. `step` is called for each circle that is looked at, and
+        for each part of the things in it; what it raises ends the search.
 
         A circle with more things than MAX_CANDIDATES, and more than twice as many as the last one, is narrowed, down to a metre beyond what is
         known. So each circle is wider than the last, and few are looked at however many things there are.
         """
-        known, reach, most = 0.0, self.initial_radius, MAX_CANDIDATES
+        farther = min(within, HALF_WAY_ROUND)
+        known, reach, most = 0.0, min(self.initial_radius, farther), MAX_CANDIDATES
         found: list[tuple[float, int]] = []
         while True:
             step()
@@ -114,10 +117,10 @@ class Grid(NamedTuple):
             most = max(MAX_CANDIDATES, 2 * size_of(slices))
             found = self._nearest_in(slices, count, metres, step)
             farthest = found[-1][0] if len(found) == count else math.inf
-            if farthest <= reach or reach >= HALF_WAY_ROUND:
+            if farthest <= reach or reach >= farther:
                 return found
             further = farthest if farthest < math.inf else max(wide, 4 * reach)
-            known, reach = reach, min(further, HALF_WAY_ROUND)
+            known, reach = reach, min(further, farther)
 
     def _nearest_in(
         self, slices: list[tuple[int, int]], count: int, metres: DistanceFunction, step: Callable[[], object]

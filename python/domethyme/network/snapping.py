@@ -7,6 +7,7 @@ the rest what is left, so the parts are integers and sum to w.
 import bisect
 import functools
 import itertools
+import math
 from collections.abc import Callable, Iterator, Sequence
 from typing import NamedTuple
 
@@ -92,7 +93,10 @@ class RoadIndex:
     unit         of weights: `duration` (milliseconds), `distance` (centimetres), or `weight` for anything else
     has_seconds  whether arcs have seconds; if not, durations aren't known
     box          the bounding box in degrees: west, south, east, which may be beyond 180, and north
+    on_looked    called with a number of edges before so many are looked at; what it raises ends the search
     """
+
+    on_looked: Callable[[int], object] = staticmethod(lambda count: None)
 
     def __init__(self, network: MappedNetwork | str) -> None:
         self.arrays = load_network(network) if isinstance(network, str) else network
@@ -145,28 +149,47 @@ class RoadIndex:
         }
         return Edge(points, list(itertools.accumulate(segment_metres(points), initial=0.0)), found)
 
-    def nearest(self, place: Point, count: int = 1, step: Callable[[], object] = lambda: None) -> list[SnappedPoint]:
-        """The nearest points of the `count` nearest edges, the nearest first, and of equally near ones the first of the file.
-        `step` is called between parts of the work; an exception of it ends the work."""
+    def nearest(
+        self, place: Point, count: int = 1, step: Callable[[], object] = lambda: None, within: float = math.inf
+    ) -> list[SnappedPoint]:
+        """The nearest points of the `count` nearest edges, the nearest first, and of equally near ones the first of the file, up to
+        `within` metres. `step` is called between parts of the work; an exception of it ends the work."""
+        return [self.snap(place, edge) for edge in self.nearest_edges(place, count, step, within)]
+
+    def snap(self, place: Point, edge: int) -> SnappedPoint:
+        """The nearest point of an edge."""
+        ways = self.project(np.array(place), np.array([edge]))
+        return self._snap_on_segment(edge, ways, int(ways.metres.argmin()))
+
+    def nearest_edges(
+        self, place: Point, count: int, step: Callable[[], object] = lambda: None, within: float = math.inf
+    ) -> list[int]:
+        """The edges of `nearest`."""
         self.arrays.file.check_unchanged()
         here = np.array(place)
 
         def metres(edges: Ints) -> Floats:
             found = []
             for part in split_by_points(edges, self.arrays.edge_begin):
-                ways = self._project(here, part)
+                ways = self.project(here, part)
                 found.append(np.minimum.reduceat(ways.metres, np.flatnonzero(differs_from_previous(ways.which))))
             return np.concatenate(found)
 
-        near = self.arrays.edge_grid.nearest(place, min(count, self.edges), metres, step)
-        found = ((edge, self._project(here, np.array([edge]))) for _, edge in near)
-        return [self._snap_on_segment(edge, ways, int(ways.metres.argmin())) for edge, ways in found]
+        # (metres are rounded to the millionth)
+        near = self.arrays.edge_grid.nearest(place, min(count, self.edges), metres, step, within + 1e-6)
+        return [edge for away, edge in near if away <= within]
 
     def nearest_batch(self, places: Sequence[Point]) -> Iterator[SnappedPoint]:
-        """The nearest point of a road to each place, as by `nearest`. Those within the grid's first radius are found at once."""
+        """The nearest point of a road to each place, as by `nearest`."""
+        return (found for found in self.nearest_within(places, [math.inf] * len(places)) if found is not None)
+
+    def nearest_within(self, places: Sequence[Point], within: Sequence[float]) -> Iterator[SnappedPoint | None]:
+        """The same up to so many metres from each place, or None. Those within the grid's first radius are found at once."""
         self.arrays.file.check_unchanged()
         near = self._snap_nearby(places)
-        return (near[number] if number in near else self.nearest(place)[0] for number, place in enumerate(places))
+        for number, (place, metres) in enumerate(zip(places, within, strict=True)):
+            found = [near[number]] if number in near else self.nearest(place, within=metres)
+            yield found[0] if found and found[0].metres <= metres else None
 
     def _snap_nearby(self, places: Sequence[Point]) -> dict[int, SnappedPoint]:
         """The nearest points by the index of their places, for places with one within the grid's first radius."""
@@ -174,7 +197,7 @@ class RoadIndex:
         which, edges = grid.candidates_of_each(places, grid.initial_radius)
         if not len(edges):
             return {}
-        ways = self._project(np.array(places)[which], edges)
+        ways = self.project(np.array(places)[which], edges)
         place = which[ways.which]
         order = np.lexsort((ways.rows, ways.metres, place))  # (rows are in the order of edges)
         for best in order[differs_from_previous(place[order])].tolist():
@@ -182,8 +205,9 @@ class RoadIndex:
                 found[int(place[best])] = self._snap_on_segment(int(edges[ways.which[best]]), ways, best)
         return found
 
-    def _project(self, places: Floats, edges: Ints) -> SegmentProjections:
+    def project(self, places: Floats, edges: Ints) -> SegmentProjections:
         """The nearest points of the segments of edges to one place, or to a place for each edge."""
+        self.on_looked(len(edges))
         begins = self.arrays.edge_begin[edges]
         which, rows = concat_ranges(begins, self.arrays.edge_begin[edges + 1] - begins - 1)
         points = self.arrays.points[rows + SEGMENT_END_OFFSETS] / UNITS
