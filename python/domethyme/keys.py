@@ -99,7 +99,7 @@ class Keys:
         digest = digest_of(hierarchy)
         saved = {"format": FORMAT, "hierarchy": digest, "keys": self._names, "chosen": chosen}
         with atomic_write(keys_path(hierarchy)) as file:
-            json.dump(saved, file, ensure_ascii=False, separators=(",", ":"))
+            file.write(as_json({**saved, "sum": hashlib.sha256(as_json(saved).encode()).hexdigest()}))
         self._digests |= {digest}
 
     def belong_to(self, hierarchy: StrPath) -> None:
@@ -190,6 +190,9 @@ def load_if_matching(hierarchy: StrPath, digest: str) -> Keys | None:
     try:
         with open(path, encoding="utf-8") as file:
             saved = json.load(file)
+        # (earlier files have none)
+        if (said := saved.pop("sum", None)) and said != hashlib.sha256(as_json(saved).encode()).hexdigest():
+            raise FileError("is damaged: its keys have another digest", path)
         if saved["format"] != FORMAT:
             raise FileError(f"is of another format than {FORMAT!r}", path)
         if saved["hierarchy"] != digest:
@@ -200,10 +203,14 @@ def load_if_matching(hierarchy: StrPath, digest: str) -> Keys | None:
         keys = Keys._choosing(names, chosen)
     except OSError as error:
         raise FileError(os_reason(error), path) from error
-    except (ValueError, TypeError, LookupError) as error:
+    except (ValueError, TypeError, LookupError, AttributeError) as error:
         raise FileError("has no keys as Keys.save writes them", path) from error
     keys._digests, keys._is_partial = frozenset({digest}), True
     return keys
+
+
+def as_json(saved: Mapping[str, Any]) -> str:
+    return json.dumps(saved, ensure_ascii=False, separators=(",", ":"))
 
 
 def keys_by_node(nodes: Mapping[Any, int], count: int) -> list[Hashable]:

@@ -291,7 +291,8 @@ print(domethyme.Hierarchy("--help").length(0, 2))
 
         saved = (self.folder / "firm.rch.keys").read_text(encoding="utf-8")
         for text in (
-            "", "[]", saved[:-1], saved.replace("keys 1", "keys 2"), saved.replace('"chosen":[]', '"chosen":[["a",2]]')
+            "", "[]", saved[:-1], saved.replace("keys 1", "keys 2"), saved.replace('"chosen":[]', '"chosen":[["a",2]]'),
+            saved.replace('"a"', '"c"'),
         ):
             (self.folder / "firm.rch.keys").write_text(text, encoding="utf-8")
             with self.subTest(text=text), self.assertRaises(domethyme.FileError):
