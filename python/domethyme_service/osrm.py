@@ -2,20 +2,22 @@
 `weight`, between the points of roads that are nearest to the places, as the library proves."""
 import base64
 import itertools
-from collections.abc import Iterable, Sequence
+from collections.abc import Iterable, Iterator, Sequence
 from typing import NamedTuple
 
+import numpy as np
+
 from domethyme.network.bearings import BearingRange, nearest_with_bearing
-from domethyme.network.leg_geometry import LegGeometry, leg_geometry, leg_totals
+from domethyme.network.leg_geometry import LegTotals, RouteGeometry, leg_totals
 from domethyme.network.legs import Leg, find_leg
 from domethyme.network.snapping import RoadIndex, SnappedPoint
 
 from .endpoints import ANNOTATIONS, BEARINGS, GENERATE_HINTS, GEOMETRIES, NUMBER, OVERVIEW, RADIUSES, SKIP_WAYPOINTS, STEPS
 from .errors import RequestError
-from .json_text import Json, join_array, join_object, to_json
-from .osrm_geometry import Budget, annotate, encode_geometries, join_lines, leg_lines, simplify_lines
+from .json_text import Json, figure_json, join_array, join_object, string_json, to_json
+from .osrm_geometry import Budget, annotations_json, join_lines, line_json, simplify_lines
 from .osrm_request import Request
-from .osrm_steps import build_steps
+from .osrm_steps import LegSteps, build_steps
 from .queries import Queries
 
 # A place is near the network if it is within this many degrees of the bounding box of its roads.
@@ -39,7 +41,7 @@ def nearest(engine: Engine, request: Request) -> str:
     if not points:
         raise no_segment_error(roads, request, 0)
     arcs = [next(iter(roads.edge(snapped.edge).arcs.values())) for snapped in points]
-    ids = [[roads.osm_id(arc.start), roads.osm_id(arc.end)] for arc in arcs]
+    ids = roads.osm_ids(np.array([[arc.start, arc.end] for arc in arcs])).tolist()
     found = [{**make_waypoint(request, snapped), "nodes": nodes} for snapped, nodes in zip(points, ids)]
     return to_json({"code": "Ok", "waypoints": found})
 
@@ -105,54 +107,44 @@ def waypoints(request: Request, **points: Sequence[SnappedPoint]) -> dict[str, s
 
 def route(engine: Engine, request: Request) -> str:
     """The route by all places in order, a leg between each two. Raises RequestError if a leg has no path."""
-    roads, points, budget = engine.roads, snap_places(engine.roads, request), Budget()
-    legs, geometries, totals, texts = list[Leg](), list[LegGeometry | None](), [], []
+    roads, points, budget, legs = engine.roads, snap_places(engine.roads, request), Budget(), list[Leg]()
     for start, end in itertools.pairwise(points):
         leg = find_leg(engine.queries.between, roads, start, end)
         if leg is None:
             raise RequestError(400, "NoRoute", f"there is no route from place {len(legs)} to place {len(legs) + 1}")
         legs.append(leg)
-    for leg, ends in zip(legs, itertools.pairwise(points)):
-        geometries.append(geometry := leg_geometry(roads, leg, *ends))
-        budget.spend(0 if geometry is None else len(geometry.points))
-    for each in zip(itertools.pairwise(points), legs, geometries):
-        leg_json = leg_response(roads, request, *each)
-        texts.append(to_json(leg_json))
-        totals.append((leg_json["weight"], leg_json["duration"] or 0.0, leg_json["distance"]))
-    weight, duration, distance = (round(sum(values), 3) for values in zip(*totals))
+    totals = [leg_totals(roads, leg) for leg in legs]
+    weight, duration, distance = (round(sum(value or 0.0 for value in column), 3) for column in zip(*totals))
+    geometry = RouteGeometry(roads, legs, points) if needs_points(request) else None
+    if geometry is not None:
+        budget.spend(geometry.point_count)
     whole = {
-        "legs": join_array(texts), "weight_name": to_json(roads.unit), "weight": to_json(weight),
-        "duration": to_json(duration if roads.has_seconds else None), "distance": to_json(distance),
+        "legs": join_array(leg_texts(request, points, totals, geometry)), "weight_name": string_json(roads.unit),
+        "weight": figure_json(weight), "duration": figure_json(duration if roads.has_seconds else None),
+        "distance": figure_json(distance),
     }
-    if request.values[OVERVIEW] != "false":
-        whole["geometry"] = overview(request, points, geometries, budget)
+    if geometry is not None and request.values[OVERVIEW] != "false":
+        lines = geometry.lines()
+        line = join_lines(simplify_lines(lines, budget) if request.values[OVERVIEW] == "simplified" else lines)
+        whole["geometry"] = line_json(line, request.values[GEOMETRIES])
     return join_object({"code": '"Ok"', "routes": join_array([join_object(whole)]), **waypoints(request, waypoints=points)})
 
 
-def leg_response(
-    roads: RoadIndex, request: Request, ends: tuple[SnappedPoint, SnappedPoint], leg: Leg, geometry: LegGeometry | None
-) -> Json:
-    """An OSRM route leg; `geometry` is None for a leg that stays at its point."""
-    names = request.values[ANNOTATIONS]
-    response: Json = {"summary": "", "steps": [], **leg_totals(roads, leg)}
-    if request.values[STEPS] == "true":
-        start, end = ((each.lon, each.lat) for each in ends)
-        response["steps"] = build_steps(roads, geometry, start, end, request.values[GEOMETRIES])
-        response["summary"] = ", ".join(list(dict.fromkeys(step["name"] for step in response["steps"] if step["name"]))[:2])
-    if names:
-        response["annotation"] = {name: [] for name in names} if geometry is None else annotate(geometry, names)
-    return response
+def needs_points(request: Request) -> bool:
+    """Whether an answer shows points of the route."""
+    values = request.values
+    return values[OVERVIEW] != "false" or values[STEPS] == "true" or bool(values[ANNOTATIONS])
 
 
-def overview(
-    request: Request, points: Sequence[SnappedPoint], geometries: Sequence[LegGeometry | None], budget: Budget
-) -> str:
-    """The line of the whole route as JSON, simplified by default."""
-    lines = leg_lines(geometries, [(snapped.lon, snapped.lat) for snapped in points])
-    if request.values[OVERVIEW] == "simplified":
-        lines = simplify_lines(lines, budget)
-    line = join_lines(lines)
-    if request.values[GEOMETRIES] != "geojson":
-        return to_json(encode_geometries([line], request.values[GEOMETRIES])[0])
-    parts = (to_json(line[begin : begin + 1000])[1:-1] for begin in range(0, len(line), 1000))
-    return join_object({"type": '"LineString"', "coordinates": join_array(parts)})
+def leg_texts(
+    request: Request, points: Sequence[SnappedPoint], totals: Sequence[LegTotals], geometry: RouteGeometry | None
+) -> Iterator[str]:
+    """The OSRM legs of a route, with their totals."""
+    steps, annotations = [LegSteps("[]", "")] * len(totals), [""] * len(totals)
+    if geometry is not None and request.values[STEPS] == "true":
+        steps = build_steps(geometry, points, request.values[GEOMETRIES])
+    if geometry is not None and request.values[ANNOTATIONS]:
+        annotations = [f',"annotation":{text}' for text in annotations_json(geometry, request.values[ANNOTATIONS])]
+    for some, annotation, (weight, duration, distance) in zip(steps, annotations, totals):
+        figures = f'"weight":{figure_json(weight)},"duration":{figure_json(duration)},"distance":{figure_json(distance)}'
+        yield f'{{"summary":{string_json(some.summary)},"steps":{some.text},{figures}{annotation}}}'

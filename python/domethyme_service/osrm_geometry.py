@@ -1,29 +1,36 @@
-"""The lines of OSRM's answers, simplified, as polylines or GeoJSON; and annotations of their segments."""
+"""The lines of OSRM's answers, simplified, as polylines or GeoJSON; and annotations of their segments. Lines are arrays of points in
+microdegrees, of shape (points, 2)."""
 import itertools
 import math
-from collections.abc import Iterable, Sequence
+from collections.abc import Sequence
 
 import numpy as np
+from numpy.typing import NDArray
+from shapely.geometry import LineString
 
-from domethyme.network.geo import Point
-from domethyme.network.leg_geometry import LegGeometry
-from domethyme.network.network import Floats
-from domethyme.network.polyline import Line, encode_polylines, points_array
+from domethyme.network.groups import Ints, offsets
+from domethyme.network.leg_geometry import MICRODEGREES, RouteGeometry
+from domethyme.network.parallel import differs_from_previous
+from domethyme.network.polyline import encode_polylines
 
 from .errors import too_big
-from .json_text import Json
+from .json_text import Texts, decimal_texts, join_object, number_texts, point_texts, string_json
 
 # Points of the lines of an answer, and points that may be examined to simplify its line.
 MAX_POINTS, MAX_EXAMINED = 4_000_000, 80_000_000
-# A polyline, or GeoJSON.
-Geometry = str | Json
+# GEOS simplifies lines of up to so many points, while it may examine so many in all lines: of a zigzag it examines half the square
+# of the points, each in some 10 ns, and calls itself as often as there are points.
+MAX_GEOS_POINTS, MAX_GEOS_EXAMINED = 4096, 40_000_000
+# Points that are examined together.
+CHUNK = 1 << 16
+DECIMALS = 3
 
 
 class Budget:
     """What is left of the points of an answer, so that none is larger than a process can hold."""
 
     def __init__(self) -> None:
-        self.points, self.examined = MAX_POINTS, MAX_EXAMINED
+        self.points, self.examined, self.examined_by_geos = MAX_POINTS, MAX_EXAMINED, MAX_GEOS_EXAMINED
 
     def spend(self, points: int) -> None:
         """Subtracts points of the answer. Raises RequestError if fewer are left."""
@@ -37,101 +44,133 @@ class Budget:
         if self.examined < 0:
             raise too_big("the line of the route takes too long to simplify: ask for overview=full or false")
 
+    def may_use_geos(self, points: int) -> bool:
+        """Whether GEOS may simplify a line of so many points, which subtracts what it may examine."""
+        most = points * points // 2
+        is_allowed = points <= MAX_GEOS_POINTS and most <= min(self.examined_by_geos, self.examined)
+        self.examined_by_geos -= most if is_allowed else 0
+        return is_allowed
 
-def leg_lines(geometries: Sequence[LegGeometry | None], ends: list[Point]) -> list[Line]:
-    """The line of each leg, from a place to the next."""
-    return [
-        [list(begin), list(end)] if geometry is None else geometry.line(0, len(geometry.arcs))
-        for begin, geometry, end in zip(ends, geometries, ends[1:])
-    ]
 
-
-def join_lines(lines: Iterable[Line]) -> Line:
+def join_lines(lines: Sequence[Ints]) -> Ints:
     """One line of several, without repeated points; at least two points."""
-    line = [point for point, _ in itertools.groupby(itertools.chain.from_iterable(lines))]
-    return line if len(line) > 1 else line * 2
+    line = np.concatenate(lines)
+    line = line[differs_from_previous(line[:, 0]) | differs_from_previous(line[:, 1])]
+    return line if len(line) > 1 else line.repeat(2, axis=0)
 
 
-def simplify_lines(lines: Sequence[Line], budget: Budget) -> list[Line]:
+def simplify_lines(lines: Sequence[Ints], budget: Budget) -> list[Ints]:
     """The lines, each of which begins where the one before ends, simplified with a tolerance of a thousandth of the extent of all."""
-    arrays = [points_array(line) for line in lines]
-    east, north = np.concatenate(arrays).T
-    shrink = math.cos(math.radians(north[0]))
-    tolerance = float(max(np.ptp(np.unwrap(east, period=360)) * shrink, np.ptp(north))) / 1000
-    return [simplified(array, tolerance, budget).tolist() for array in arrays]
+    east, north = np.concatenate(lines).T
+    shrink = math.cos(math.radians(north[0] / MICRODEGREES))
+    tolerance = float(max(np.ptp(np.unwrap(east, period=360 * MICRODEGREES)) * shrink, np.ptp(north))) / 1000
+    return [line[simplified(line, tolerance, budget)] for line in lines]
 
 
-def encode_geometries(lines: Sequence[Line], format_: str) -> list[Geometry]:
-    """Lines as polyline, polyline6 or geojson."""
-    if format_ == "geojson":
-        return [{"type": "LineString", "coordinates": line} for line in lines]
-    return list(encode_polylines(lines, 6 if format_ == "polyline6" else 5))
+def simplified(points: NDArray[np.integer], tolerance: float, budget: Budget) -> Ints:
+    """The indices of the points that are left of a line without points within `tolerance`, in microdegrees of latitude, of what is left
+    (Douglas, Peucker 1973)."""
+    east = np.unwrap(points[:, 0], period=360 * MICRODEGREES) * math.cos(math.radians(points[0, 1] / MICRODEGREES))
+    north = points[:, 1].astype(float)
+    if not budget.may_use_geos(len(points)):
+        return kept_by_levels(east + 1j * north, tolerance, budget)
+    # (GEOS keeps the third coordinate of a point)
+    line = LineString(np.column_stack((east, north, np.arange(len(points)))))
+    return np.array(line.simplify(tolerance, preserve_topology=False).coords)[:, 2].astype(np.int64)
 
 
-def annotate(geometry: LegGeometry, names: list[str]) -> Json:
-    """The annotations of these names: for each segment of the leg's full line its metres, seconds, weight and speed, an arc's
-    divided by metres; for each point the OpenStreetMap id of its node, or 0. Durations and speeds are None if the
-    network has no seconds."""
-    found: Json = {name: [] for name in names}
-    computed = [name for name in names if name != "nodes"]
-    for totals, metres in geometry.segments():
-        total, duration = sum(metres), totals["duration"]
-        for share in (each / total for each in metres):
-            values = {
-                "weight": totals["weight"] * share, "distance": totals["distance"] * share, "datasources": 0,
-                "duration": None if duration is None else duration * share,
-                "speed": None if duration is None else totals["distance"] / duration if duration else 0.0,
-            }
-            for name in computed:
-                value = values[name]
-                found[name].append(None if value is None else round(value, 3))
-    if "nodes" in found:
-        found["nodes"] = osm_node_ids(geometry)
-    return found
-
-
-def osm_node_ids(geometry: LegGeometry) -> list[int]:
-    """The OpenStreetMap id of each point of the line, one more than segments; 0 for none. A line of one point has none."""
-    roads, arrays, (begins, ends) = geometry.roads, geometry.roads.arrays, geometry.shown_arcs
-    found = [0] * (ends[-1] + 1)
-    for number, (place, node) in enumerate(zip(begins, arrays.arc_from[geometry.arcs].tolist())):
-        if number or geometry.leg.begin == 0.0:
-            found[place] = found[place] or roads.osm_id(node)
-    if geometry.leg.end == 1.0:
-        found[-1] = found[-1] or roads.osm_id(int(arrays.arc_to[geometry.arcs[-1]]))
-    return found if ends[-1] else []
-
-
-def simplified(points: Floats, tolerance: float, budget: Budget) -> Floats:
-    """A line without points within `tolerance`, in degrees of latitude, of what is left (Douglas, Peucker 1973)."""
-    east = np.unwrap(points[:, 0], period=360) * math.cos(math.radians(points[0, 1]))
-    flat: list[complex] = (east + 1j * points[:, 1]).tolist()
-    is_kept = np.zeros(len(points), dtype=bool)
+def kept_by_levels(flat: NDArray[np.complex128], tolerance: float, budget: Budget) -> Ints:
+    """The same, level by level: all pieces of the line at once, each of which is cut where a point is farthest from the segment between
+    its ends, if that is beyond the tolerance."""
+    is_kept = np.zeros(len(flat), dtype=bool)
     is_kept[[0, -1]] = True
-    stack = [(0, len(points) - 1)]
-    while stack:
-        low, high = stack.pop()
-        if high - low < 2:
-            continue
-        budget.examine(high - low)
-        index = farthest_point(flat, low, high, tolerance)
-        if index > low:
-            is_kept[index] = True
-            stack += [(low, index), (index, high)]
-    found: Floats = points[is_kept]
+    lows, highs = np.array([0]), np.array([len(flat) - 1])
+    while len(lows):
+        budget.examine(int((highs - lows).sum()))
+        middles = farthest_points(flat, lows, highs, tolerance)
+        is_cut = middles > lows
+        is_kept[middles[is_cut]] = True
+        lows, highs = (
+            np.concatenate(pair) for pair in ((lows[is_cut], middles[is_cut]), (middles[is_cut], highs[is_cut]))
+        )
+        is_long = highs - lows > 1
+        lows, highs = lows[is_long], highs[is_long]
+    return np.flatnonzero(is_kept)
+
+
+def farthest_points(flat: NDArray[np.complex128], lows: Ints, highs: Ints, tolerance: float) -> Ints:
+    """For each piece of a line the index of the point that is farthest from the segment between its ends; its low index if none is
+    beyond the tolerance."""
+    begins, along = flat[lows], flat[highs] - flat[lows]
+    direction = along.conj() / np.maximum(np.square(np.abs(along)), 1e-300)
+    ends, (found, greatest) = offsets(highs - lows - 1), (lows.copy(), np.full(len(lows), tolerance))
+    for first in range(0, int(ends[-1]), CHUNK):
+        numbers = np.arange(first, min(first + CHUNK, int(ends[-1])))
+        row = np.searchsorted(ends, numbers, side="right") - 1
+        index = lows[row] + 1 + numbers - ends[row]
+        offset = flat[index] - begins[row]
+        shares = np.clip((offset * direction[row]).real, 0, 1)
+        away = np.abs(offset - shares * along[row])
+        starts = np.flatnonzero(differs_from_previous(row))
+        most = np.maximum.reduceat(away, starts)
+        hits = np.flatnonzero(away == most.repeat(np.diff(np.append(starts, len(row)))))
+        hits = hits[differs_from_previous(row[hits])]
+        is_more = most > greatest[row[starts]]
+        pieces = row[starts[is_more]]
+        greatest[pieces], found[pieces] = most[is_more], index[hits[is_more]]
     return found
 
 
-def farthest_point(flat: list[complex], low: int, high: int, tolerance: float) -> int:
-    """The index of the point between two others that is farthest from the segment between them; `low` if none is beyond
-    `tolerance`. (Most lines are short: numpy would take several times as long.)"""
-    begin, along = flat[low], flat[high] - flat[low]
-    direction = along.conjugate() / (abs(along) ** 2 or 1.0)
-    greatest, farthest = tolerance, low
-    for index in range(low + 1, high):
-        offset = flat[index] - begin
-        share = (offset * direction).real
-        distance = abs(offset if share <= 0.0 else offset - along if share >= 1.0 else offset - share * along)
-        if distance > greatest:
-            greatest, farthest = distance, index
-    return farthest
+def line_json(line: Ints, format_: str) -> str:
+    """A line as polyline, polyline6 or geojson."""
+    if format_ != "geojson":
+        return polylines_json([line], format_)[0]
+    return line_string(point_texts(line, 6).array(0, len(line)))
+
+
+def line_string(coordinates: str) -> str:
+    return f'{{"type":"LineString","coordinates":{coordinates}}}'
+
+
+def polylines_json(lines: Sequence[Ints], format_: str) -> list[str]:
+    degrees = [line / MICRODEGREES for line in lines]
+    return [string_json(text) for text in encode_polylines(degrees, 6 if format_ == "polyline6" else 5)]
+
+
+def annotations_json(geometry: RouteGeometry, names: list[str]) -> list[str]:
+    """The annotations of these names of each leg: for each segment of its full line its metres, seconds, weight and speed, an arc's
+    divided by metres; for each point the OpenStreetMap id of its node, or 0. Durations and speeds are null if the network
+    has no seconds."""
+    segments = geometry.segments()
+    weights, seconds, metres = segments.totals
+    speeds = None if seconds is None else np.where(seconds == 0, 0, metres / np.where(seconds == 0, 1, seconds))
+    of_parts = {"weight": weights, "distance": metres, "duration": seconds, "speed": speeds}
+    texts = {}
+    for name in names:
+        of_part = of_parts.get(name)
+        if name == "nodes":
+            texts[name] = node_texts(geometry, segments.begins)
+        elif name == "datasources":
+            texts[name] = leg_arrays(number_texts(np.zeros(len(segments.parts), np.int64), 0), segments.begins)
+        elif of_part is None:
+            texts[name] = leg_arrays(decimal_texts(np.full(len(segments.parts), np.nan), DECIMALS), segments.begins)
+        else:
+            values = of_part[segments.parts] * (1.0 if name == "speed" else segments.shares)
+            texts[name] = leg_arrays(decimal_texts(values, DECIMALS), segments.begins)
+    return [join_object({name: texts[name][leg] for name in names}) for leg in range(len(geometry.legs))]
+
+
+def leg_arrays(texts: Texts, begins: Ints) -> list[str]:
+    """The array of each leg, which begins at these rows."""
+    return [texts.array(*pair) for pair in itertools.pairwise(begins.tolist())]
+
+
+def node_texts(geometry: RouteGeometry, begins: Ints) -> list[str]:
+    """The array of the ids at each leg's points, one more than segments; a leg of one point has none."""
+    nodes, places = geometry.shown_nodes()
+    ids, of_points = geometry.roads.osm_ids(nodes), np.zeros(len(geometry.shown), np.int64)
+    # (the first of several counts)
+    of_points[places[ids != 0][::-1]] = ids[ids != 0][::-1]
+    found, counts = number_texts(of_points, 0), np.diff(begins).tolist()
+    firsts = geometry.line_begins[:-1].tolist()
+    return [found.array(first, first + count + 1) if count else "[]" for first, count in zip(firsts, counts)]

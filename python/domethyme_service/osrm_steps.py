@@ -1,113 +1,177 @@
 """The steps of a leg. A step begins where the name of the road changes, at a turn of more than 45 degrees at a junction, and
 at a roundabout, until after its exit. Types are depart, turn, new name, continue, roundabout and arrive."""
-import bisect
 import itertools
 from collections.abc import Sequence
+from typing import NamedTuple
 
 import numpy as np
+from numpy.typing import NDArray
 
-from domethyme.network.geo import Point
-from domethyme.network.leg_geometry import Figures, LegGeometry, make_totals
+from domethyme.network.groups import Ints
+from domethyme.network.leg_geometry import RouteGeometry, microdegrees
 from domethyme.network.net_file import TEXTS
-from domethyme.network.snapping import RoadIndex
+from domethyme.network.snapping import SnappedPoint
 
-from .json_text import Json
-from .osrm_geometry import Geometry, encode_geometries
+from .json_text import Texts, join_array, point_texts, string_json
+from .osrm_geometry import line_string, polylines_json
 
 MIN_TURN_DEGREES = 45
 # The least degrees of each of MODIFIERS but the first, which has its words for turns to the left, and to the right.
 MODIFIER_LIMITS = (20, 45, 120, 170)
 MODIFIERS = [("straight", f"slight {side}", side, f"sharp {side}", "uturn") for side in ("left", "right")]
+KINDS = ("continue", "new name", "turn", "roundabout")
+# The first members of a maneuver, by kind, side and modifier.
+TURNS = [f'"type":"{kind}","modifier":"{modifier}"' for kind in KINDS for side in MODIFIERS for modifier in side]
+DEPART = '"type":"depart"'
 MIN_JUNCTION_DEGREE = 3
 # The columns of arc_texts that steps have.
 NAME_COLUMNS = [TEXTS.index(name) for name in ("name", "ref", "destination")]
+# What a step's JSON has of its totals: a weight, seconds or None, and metres.
+StepTotals = tuple[float, float | None, float]
+
+
+class LegSteps(NamedTuple):
+    """The steps of a leg as JSON, and the text of its summary."""
+
+    text: str
+    summary: str
+
+
+class RoadTexts(NamedTuple):
+    """The name of a road, and as JSON its name and the members with its refs and destinations, if it has any."""
+
+    name: str
+    name_json: str
+    more: str
+
+    @classmethod
+    def of(cls, name: str, ref: str, destinations: str) -> "RoadTexts":
+        """Semicolons between refs and destinations become "; " and ", "."""
+        more = f',"ref":{string_json("; ".join(part.strip() for part in ref.split(";")))}' if ref else ""
+        if destinations:
+            more += f',"destinations":{string_json(", ".join(part.strip() for part in destinations.split(";")))}'
+        return cls(name, string_json(name), more)
 
 
 class StepBuilder:
-    """The steps of a leg, by their first arcs, and the texts of each arc and its bearings at both ends."""
+    """The steps of a route's legs, by their first arcs, and the texts of each arc and its bearings at both ends."""
 
-    def __init__(self, geometry: LegGeometry) -> None:
+    def __init__(self, geometry: RouteGeometry) -> None:
         self.geometry, self.roads = geometry, geometry.roads
-        texts = self.roads.arrays.arc_texts(geometry.arcs)[:, NAME_COLUMNS]
-        is_on_roundabout = self.roads.is_roundabout(geometry.arcs)
-        first, last = geometry.bearings
-        turns = (first[1:] - last[:-1] + 180) % 360 - 180
+        self.names = self.roads.arrays.arc_texts(geometry.arcs, NAME_COLUMNS[0])
+        self.is_on_roundabout = self.roads.is_roundabout(geometry.arcs)
+        self.first_bearings, self.last_bearings = geometry.bearings
+        self.begins = np.flatnonzero(self._is_first())
+        self.ends = np.append(self.begins[1:], len(geometry.arcs))
+        self.is_leg_first = np.isin(self.begins, geometry.first)
+        # (a step that enters a roundabout is named after the first arc behind it)
+        self.named = self.begins.copy()
+        self.roundabouts: list[int] = np.flatnonzero(self.is_on_roundabout[self.begins] & ~self.is_leg_first).tolist()
+        for step in self.roundabouts:
+            behind = np.flatnonzero(~self.is_on_roundabout[self.begins[step] : self.ends[step]])
+            self.named[step] += behind[0] if len(behind) else 0
+
+    def _is_first(self) -> NDArray[np.bool_]:
+        """Whether a step begins with each arc."""
+        geometry, names, is_round = self.geometry, self.names, self.is_on_roundabout
+        turns = (self.first_bearings[1:] - self.last_bearings[:-1] + 180) % 360 - 180
         degrees = self.roads.degree[self.roads.arrays.arc_from[geometry.arcs[1:]]]
         is_turn = (degrees >= MIN_JUNCTION_DEGREE) & (np.abs(turns) > MIN_TURN_DEGREES)
-        is_new = (texts[1:, 0] != texts[:-1, 0]) | is_turn
-        if is_on_roundabout.any():  # (a step begins before a roundabout, but not on it or after it)
-            before, after = is_on_roundabout[:-1], is_on_roundabout[1:]
-            is_free = ~before
-            if is_on_roundabout[0]:  # (the leg begins on this one, so no step has entered it)
-                is_free[: int(np.argmin(is_on_roundabout))] = True
-            is_new = np.where(after, ~before, is_new & is_free)
-        self.step_begins: list[int] = [0, *(np.flatnonzero(is_new) + 1).tolist(), len(geometry.arcs)]
-        self.lines = [geometry.line(begin, end) for begin, end in itertools.pairwise(self.step_begins)]
-        self.arc_texts: list[list[int]] = texts.tolist()
-        self.is_on_roundabout: list[bool] = is_on_roundabout.tolist()
-        self.first_bearings: list[int] = first.tolist()
-        self.last_bearings: list[int] = last.tolist()
+        is_new = np.append(True, (names[1:] != names[:-1]) | is_turn)
+        if is_round.any():  # (a step begins before a roundabout, but not on it or after it)
+            is_free = np.append(True, ~is_round[:-1])
+            for first, behind in itertools.pairwise(geometry.first.tolist()):
+                if first < behind and is_round[first]:  # (the leg begins on this one, so no step has entered it)
+                    is_free[first : first + 1 + int(np.argmin(is_round[first:behind]))] = True
+            is_new = np.where(is_round, np.append(True, ~is_round[:-1]), is_new & is_free)
+        is_new[geometry.first[:-1][np.diff(geometry.first) > 0]] = True
+        return is_new
 
-    def steps(self, shapes: list[Geometry]) -> list[Json]:
-        """The steps without the arrival, from the encoded geometries of their lines."""
-        found = []
-        for begin, end, line, shape in zip(self.step_begins, self.step_begins[1:], self.lines, shapes):
-            # (a step that enters a roundabout is named after the first arc behind it)
-            named = begin
-            if begin and self.is_on_roundabout[begin]:
-                named = next((arc for arc in range(begin, end) if not self.is_on_roundabout[arc]), begin)
-            names = [self.roads.texts[number] for number in self.arc_texts[named]]
-            before = self.last_bearings[begin - 1] if begin else 0
-            maneuver = make_maneuver(self.turn(begin, end, named), line[0], before, self.first_bearings[begin])
-            found.append(make_step(maneuver, names, self.geometry.figures(begin, end), shape))
+    def steps(self, locations: Sequence[str], shapes: Sequence[str]) -> tuple[list[str], list[RoadTexts]]:
+        """The JSON of the steps without arrivals, from that of their beginnings and of their lines; and the texts of their roads."""
+        roads = self.road_texts()
+        before = np.where(self.is_leg_first, 0, self.last_bearings[self.begins - 1]).tolist()
+        after = self.first_bearings[self.begins].tolist()
+        totals = self.geometry.totals(self.begins, self.ends).rows
+        return [*map(step_json, self.turns(), locations, before, after, roads, totals, shapes)], roads
+
+    def road_texts(self) -> list[RoadTexts]:
+        """The texts of each step's road, each row of texts once."""
+        rows, number = np.unique(self.roads.arrays.arc_row[self.geometry.arcs[self.named]], return_inverse=True)
+        texts = self.roads.texts
+        known = [RoadTexts.of(*(texts[each] for each in row)) for row in self.roads.arrays.row_texts[rows, :][:, NAME_COLUMNS].tolist()]
+        return [known[each] for each in number.tolist()]
+
+    def turns(self) -> list[str]:
+        """The first members of each step's maneuver: its type, its modifier, and the exit of a roundabout that it leaves."""
+        angles = (self.first_bearings[self.named] - self.last_bearings[self.begins - 1] + 180) % 360 - 180
+        is_same = self.names[self.begins - 1] == self.names[self.begins]
+        kinds = np.where(is_same, 0, np.where(np.abs(angles) > MIN_TURN_DEGREES, 2, 1))
+        kinds[self.roundabouts] = 3
+        modifiers = np.searchsorted(MODIFIER_LIMITS, np.abs(angles), side="right")
+        numbers = (kinds * 2 + (angles > 0)) * len(MODIFIERS[0]) + modifiers
+        found = [TURNS[number] for number in numbers.tolist()]
+        for step in np.flatnonzero(self.is_leg_first).tolist():
+            found[step] = DEPART
+        for step in self.roundabouts:
+            found[step] += self.exit_member(step)
         return found
 
-    def turn(self, begin: int, end: int, named: int) -> Json:
-        """The type, the modifier and the exit of the maneuver before arcs `begin` to `end`, named after arc `named`."""
-        if not begin:
-            return {"type": "depart"}
-        angle = (self.first_bearings[named] - self.last_bearings[begin - 1] + 180) % 360 - 180
-        modifier = MODIFIERS[angle > 0][bisect.bisect(MODIFIER_LIMITS, abs(angle))]
-        if self.is_on_roundabout[begin]:
-            found: Json = {"type": "roundabout", "modifier": modifier}
-            if named > begin or not self.is_on_roundabout[end - 1]:
-                ends = self.roads.arrays.arc_to[self.geometry.arcs[begin:named]].tolist()
-                found["exit"] = 1 + sum(self.roads.count_exits(node) for node in ends[:-1])
-            return found
-        is_same = self.arc_texts[begin - 1][0] == self.arc_texts[begin][0]
-        kind = "continue" if is_same else "turn" if abs(angle) > MIN_TURN_DEGREES else "new name"
-        return {"type": kind, "modifier": modifier}
+    def exit_member(self, step: int) -> str:
+        """The exit of the roundabout of a step, if it leaves that."""
+        begin, end, named = int(self.begins[step]), int(self.ends[step]), int(self.named[step])
+        if named == begin and self.is_on_roundabout[end - 1]:
+            return ""
+        nodes = self.roads.arrays.arc_to[self.geometry.arcs[begin:named]].tolist()
+        return f',"exit":{1 + sum(self.roads.count_exits(node) for node in nodes[:-1])}'
 
 
-def build_steps(roads: RoadIndex, geometry: LegGeometry | None, start: Point, end: Point, format_: str) -> list[Json]:
-    """The steps of a leg, with geometries as `format_`; `geometry` is None for a leg that stays at its point."""
-    nothing = make_totals(roads, 0, 0.0, 0.0)
-    builder = None if geometry is None else StepBuilder(geometry)
-    *shapes, at_end = encode_geometries([*(builder.lines if builder else [[list(start)] * 2]), [list(end)] * 2], format_)
-    if builder is None:
-        depart = make_maneuver({"type": "depart"}, list(start), 0, 0)
-        found, before = [make_step(depart, ("", "", ""), nothing, shapes[0])], 0
-    else:
-        found, before = builder.steps(shapes), builder.last_bearings[-1]
-    arrive = make_maneuver({"type": "arrive"}, list(end), before, 0)
-    return [*found, make_step(arrive, (found[-1]["name"], "", ""), nothing, at_end)]
+def step_json(turn: str, location: str, before: int, after: int, road: RoadTexts, totals: StepTotals, shape: str) -> str:
+    """An OSRM step, with the intersection at its start."""
+    weight, seconds, metres = totals
+    return (
+        f'{{"maneuver":{{{turn},"location":{location},"bearing_before":{before},"bearing_after":{after}}},"name":{road.name_json},'
+        f'"mode":"driving","driving_side":"right","weight":{weight!r},"duration":{"null" if seconds is None else repr(seconds)},'
+        f'"distance":{metres!r},"geometry":{shape},"intersections":[{{"location":{location},"bearings":[{after}],"entry":[true],'
+        f'"out":0}}]{road.more}}}'
+    )
 
 
-def make_maneuver(turn: Json, location: list[float], before: int, after: int) -> Json:
-    return {**turn, "location": location, "bearing_before": before, "bearing_after": after}
-
-
-def make_step(maneuver: Json, names: Sequence[str], totals: Figures, geometry: Geometry) -> Json:
-    """An OSRM step, with the intersection at its start. `names` are its name, refs and destinations: semicolons between
-    refs and destinations become "; " and ", "; empty ones are left out."""
-    name, ref, destinations = names
-    junction = {"location": maneuver["location"], "bearings": [maneuver["bearing_after"]], "entry": [True], "out": 0}
-    found: Json = {
-        "maneuver": maneuver, "name": name, "mode": "driving", "driving_side": "right", **totals,
-        "geometry": geometry, "intersections": [junction],
-    }
-    if ref:
-        found["ref"] = "; ".join(part.strip() for part in ref.split(";"))
-    if destinations:
-        found["destinations"] = ", ".join(part.strip() for part in destinations.split(";"))
+def build_steps(geometry: RouteGeometry, points: Sequence[SnappedPoint], format_: str) -> list[LegSteps]:
+    """The steps of each leg between points, with geometries as `format_`."""
+    ends = microdegrees(points)
+    places = point_texts(ends, 6)
+    at_places = shapes_of(ends, places, np.arange(len(ends)), np.arange(len(ends)) + 1, format_)
+    nothing = (0.0, 0.0 if geometry.roads.has_seconds else None, 0.0)
+    texts, roads, bounds, last_bearings = list[str](), list[RoadTexts](), [0] * (len(geometry.legs) + 1), list[int]()
+    if len(geometry.arcs):
+        builder = StepBuilder(geometry)
+        firsts, behind = geometry.slices(builder.begins, builder.ends)
+        shown = point_texts(geometry.shown, 6)
+        texts, roads = builder.steps([*map(shown.row, firsts.tolist())], shapes_of(geometry.shown, shown, firsts, behind, format_))
+        bounds = np.searchsorted(builder.begins, geometry.first).tolist()
+        last_bearings = builder.last_bearings[geometry.first[1:] - 1].tolist()
+    found = []
+    for leg, (low, high) in enumerate(itertools.pairwise(bounds)):
+        some, names, before = texts[low:high], roads[low:high], last_bearings[leg] if low < high else 0
+        if not some:
+            names = [RoadTexts.of("", "", "")]
+            some = [step_json(DEPART, places.row(leg), 0, 0, names[0], nothing, at_places[leg])]
+        arrival, place = names[-1]._replace(more=""), places.row(leg + 1)
+        some.append(step_json('"type":"arrive"', place, before, 0, arrival, nothing, at_places[leg + 1]))
+        found.append(LegSteps(join_array(some), ", ".join(first_names(names))))
     return found
+
+
+def first_names(roads: Sequence[RoadTexts]) -> list[str]:
+    """The first two names."""
+    first = next((road.name for road in roads if road.name), "")
+    return [first, *itertools.islice((road.name for road in roads if road.name not in ("", first)), 1)] if first else []
+
+
+def shapes_of(points: Ints, texts: Texts, firsts: Ints, behind: Ints, format_: str) -> list[str]:
+    """The JSON of the lines points[firsts[k]:behind[k]], of which `texts` are those; of two equal points if it is of one."""
+    pairs = [*zip(firsts.tolist(), behind.tolist())]
+    if format_ != "geojson":
+        return polylines_json([points[low:high] if high - low > 1 else points[[low, low]] for low, high in pairs], format_)
+    return [line_string(texts.array(low, high) if high - low > 1 else f"[{texts.row(low)},{texts.row(low)}]") for low, high in pairs]

@@ -1,18 +1,20 @@
 """Tables of durations and distances between points on roads. Weights come of the library's tables, which are proved
 (domethyme.network.leg_tables); other values are sums along routes, with a query for each cell."""
 from collections.abc import Iterator, Sequence
-from typing import cast
 
-from domethyme.network.geo import Point, metres_between
+import numpy as np
+
 from domethyme.network.leg_geometry import UNITS_PER_OUTPUT_UNIT, leg_totals
 from domethyme.network.leg_tables import weight_rows
 from domethyme.network.legs import find_leg
+from domethyme.network.network import Floats
 from domethyme.network.snapping import SnappedPoint
+from domethyme.network.sphere import great_circle_metres, unit_vectors
 from domethyme.protocol import NO_PATH
 
 from .endpoints import DESTINATIONS, FALLBACK_COORDINATE, FALLBACK_SPEED, SCALE_FACTOR, SOURCES, TABLE_ANNOTATIONS
 from .errors import not_implemented, too_big
-from .json_text import join_array, join_object, to_json
+from .json_text import decimal_texts, join_array, join_object, to_json
 from .osrm import Engine, snap_places, waypoints
 from .osrm_request import Request
 
@@ -20,7 +22,10 @@ from .osrm_request import Request
 MAX_ROUTED_CELLS = 10_000
 # Lengths between nodes that are computed at once, in some ten milliseconds: an alarm is handled between two calls.
 NODE_CELLS = 1 << 16
-Row = list[float | None]
+# Decimals of durations and distances, and of weights, by what they are.
+DIGITS = {"duration": 3, "distance": 2, "weight": 1}
+# Some rows of a table by the names of their values; NaN is none.
+Rows = dict[str, Floats]
 
 
 def table(engine: Engine, request: Request) -> str:
@@ -45,56 +50,54 @@ def table(engine: Engine, request: Request) -> str:
 
 def rows_of_weights(
     engine: Engine, names: list[str], starts: Sequence[SnappedPoint], ends: Sequence[SnappedPoint]
-) -> Iterator[dict[str, Row]]:
-    """The rows of a table by the names of its values, all of which are weights."""
+) -> Iterator[Rows]:
+    """The rows of a table, some at a time, all of whose values are weights."""
     unit = UNITS_PER_OUTPUT_UNIT.get(engine.roads.unit, 1)
-    for some in weight_rows(engine.queries.table, engine.roads, starts, ends, NODE_CELLS):
-        for weights in some:
-            row = (weights / unit).astype(object)
-            row[weights == NO_PATH] = None
-            yield dict.fromkeys(names, row.tolist())
+    for weights in weight_rows(engine.queries.table, engine.roads, starts, ends, NODE_CELLS):
+        values = np.where(weights == NO_PATH, np.nan, weights / unit)
+        yield {name: values.copy() for name in names}
 
 
 def routed_rows(
     engine: Engine, names: list[str], starts: Sequence[SnappedPoint], ends: Sequence[SnappedPoint]
-) -> Iterator[dict[str, Row]]:
-    """The same from a route for each cell."""
+) -> Iterator[Rows]:
+    """The same from a route for each cell, a row at a time."""
     for start in starts:
         legs = (find_leg(engine.queries.between, engine.roads, start, end) for end in ends)
-        totals = [{} if leg is None else cast(dict[str, float | None], leg_totals(engine.roads, leg)) for leg in legs]
-        yield {name: [each.get(name) for each in totals] for name in names}
+        totals = [(None, None, None) if leg is None else leg_totals(engine.roads, leg) for leg in legs]
+        columns = dict(zip(("weight", "duration", "distance"), np.array(totals, np.float64).T))
+        yield {name: columns[name].reshape(1, -1) for name in names}
 
 
-def table_members(
-    request: Request, unit: str, points: list[SnappedPoint], rows: Iterator[dict[str, Row]]
-) -> dict[str, str]:
+def table_members(request: Request, unit: str, points: list[SnappedPoint], rows: Iterator[Rows]) -> dict[str, str]:
     """The members of the answer, from the rows of the values by name."""
     values = request.values
     sources, scale, speed = values[SOURCES], values.get(SCALE_FACTOR), values.get(FALLBACK_SPEED)
     is_snapped = values[FALLBACK_COORDINATE] == "snapped"
-    places = [(point.lon, point.lat) for point in points] if is_snapped else request.places
-    ends = [places[number] for number in values[DESTINATIONS]]
+    places = np.array([(point.lon, point.lat) for point in points] if is_snapped else request.places)
     texts: dict[str, list[str]] = {name: [] for name in values[TABLE_ANNOTATIONS]}
-    fallback_cells: list[tuple[int, int]] = []
-    for number, (source, figures) in enumerate(zip(sources, rows)):
+    fallback_cells, done = list[tuple[int, int]](), 0
+    for some in rows:
+        count = len(next(iter(some.values())))
         if speed is not None:
-            columns = fill_fallback(figures, unit, speed, places[source], ends)
-            fallback_cells += [(number, column) for column in columns]
-        if scale is not None and "duration" in figures:
-            figures["duration"] = [None if value is None else round(value * scale, 3) for value in figures["duration"]]
-        for name, row in figures.items():
-            texts[name].append(to_json(row))
-    found = {f"{name}s": join_array(texts[name]) for name in ("duration", "distance", "weight") if name in texts}
-    return found if speed is None else {**found, "fallback_speed_cells": to_json(fallback_cells)}
+            cells = fill_fallback(some, unit, speed, places[sources[done : done + count]], places[values[DESTINATIONS]])
+            fallback_cells += [(done + row, column) for row, column in cells]
+        if scale is not None and "duration" in some:
+            some["duration"] *= scale
+        for name, each in some.items():
+            found = decimal_texts(each.ravel(), DIGITS[unit if name == "weight" else name])
+            texts[name] += [found.array(begin, begin + each.shape[1]) for begin in range(0, each.size, each.shape[1])]
+        done += count
+    members = {f"{name}s": join_array(texts[name]) for name in ("duration", "distance", "weight") if name in texts}
+    return members if speed is None else {**members, "fallback_speed_cells": to_json(fallback_cells)}
 
 
-def fill_fallback(figures: dict[str, Row], unit: str, speed: float, start: Point, ends: list[Point]) -> list[int]:
-    """Fills cells of a row without a route by the great-circle distance, or that over `speed` in metres a second, if
-    they have such a unit; returns their columns."""
-    columns = [column for column in range(len(ends)) if any(row[column] is None for row in figures.values())]
-    for column in columns:
-        metres = metres_between(*start, *ends[column])
-        guesses = {"duration": round(metres / speed, 3), "distance": round(metres, 2)}
-        for name, row in figures.items():
-            row[column] = guesses.get(unit if name == "weight" else name)
-    return columns
+def fill_fallback(rows: Rows, unit: str, speed: float, starts: Floats, ends: Floats) -> list[tuple[int, int]]:
+    """Fills cells without a route by the great-circle distance, or that over `speed` in metres a second, if they have such a
+    unit; returns their rows and columns."""
+    cells = np.nonzero(np.any([np.isnan(values) for values in rows.values()], axis=0))
+    metres = great_circle_metres(unit_vectors(*starts[cells[0]].T), unit_vectors(*ends[cells[1]].T))
+    guesses = {"duration": (metres / speed).round(3), "distance": metres.round(2)}
+    for name, values in rows.items():
+        values[cells] = guesses.get(unit if name == "weight" else name, np.nan)
+    return [*zip(cells[0].tolist(), cells[1].tolist())]

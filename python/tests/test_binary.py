@@ -52,7 +52,7 @@ def answers(prefix):
     roads = RoadIndex(prefix)
     columns = [column[:].tolist() for column in roads.arrays.file.columns.values()]
     return str(
-        (columns, roads.nearest((0.0004, 0.0001), 2), roads.lightest((1, 2, 1)), roads.unit, Tiles(roads.arrays).about)
+        (columns, roads.nearest((0.0004, 0.0001), 2), roads.lightest((1, 2, 1)).tolist(), roads.unit, Tiles(roads.arrays).about)
     )
 
 
@@ -267,7 +267,7 @@ class SmallTests(BinaryCase):
             file.seek(begin)
             file.write(b"\x0b")
         roads = RoadIndex(self.prefix)
-        self.assertEqual(roads.lightest((1, 2, 3)), [0, 2])
+        self.assertEqual(roads.lightest((1, 2, 3)).tolist(), [0, 2])
         for _ in range(2):
             with self.assertRaisesRegex(domethyme.NetworkError, r"v\.net: is damaged: arc_weight has another checksum"):
                 roads.arc(0)

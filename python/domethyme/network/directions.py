@@ -15,10 +15,11 @@ from ..protocol import RouteReply
 from ..router import Router
 from .geo import Point, to_geojson_geometry
 from .groups import Ints
-from .leg_geometry import leg_geometry, leg_totals
+from .leg_geometry import MICRODEGREES, RouteGeometry, leg_totals
 from .leg_tables import weight_rows
 from .legs import Leg, SnapEnds, find_leg
-from .snapping import RoadIndex, SnappedPoint
+from .parallel import differs_from_previous
+from .snapping import NAME, RoadIndex, SnappedPoint
 
 # Lengths between nodes that are computed at once, for a table.
 NODE_CELLS = 1 << 22
@@ -115,14 +116,14 @@ def weights(router: Router, roads: RoadIndex, starts: Sequence[SnappedPoint], en
 
 def route_along(roads: RoadIndex, start: SnappedPoint, end: SnappedPoint, leg: Leg) -> RoadRoute:
     """The route along a leg between two points."""
-    geometry, figures = leg_geometry(roads, leg, start, end), leg_totals(roads, leg)
-    if geometry is None:
-        return RoadRoute(0, 0, figures["duration"], 0.0, [], [(start.lon, start.lat), (end.lon, end.lat)])
-    names = [roads.arc(arc).name for arc in leg.arcs]
-    begins = [index for index, name in enumerate(names) if not index or names[index - 1] != name]
-    steps = []
-    for low, high in itertools.pairwise([*begins, len(names)]):
-        part = geometry.figures(low, high)
-        steps.append({"name": names[low], "metres": part["distance"], "seconds": part["duration"]})
-    line = [(lon, lat) for lon, lat in geometry.line(0, len(names))]
-    return RoadRoute(leg.weight, len(names), figures["duration"], figures["distance"], steps, line)
+    geometry = RouteGeometry(roads, [leg], [start, end])
+    _, seconds, metres = leg_totals(roads, leg)
+    texts = roads.arrays.arc_texts(leg.arcs, NAME)
+    begins = np.flatnonzero(differs_from_previous(texts))[: len(texts)]
+    parts = geometry.totals(begins, np.append(begins[1:], len(texts))[: len(begins)]).rows
+    steps = [
+        {"name": roads.texts[name], "metres": part_metres, "seconds": part_seconds}
+        for name, (_, part_seconds, part_metres) in zip(texts[begins].tolist(), parts)
+    ]
+    line = [(lon, lat) for lon, lat in (geometry.lines()[0] / MICRODEGREES).tolist()]
+    return RoadRoute(leg.weight, len(leg.arcs), seconds, metres, steps, line)

@@ -18,7 +18,7 @@ import numpy as np
 from numpy.typing import NDArray
 
 from .geo import EARTH_RADIUS
-from .groups import Ints as Ints, expand
+from .groups import Ints as Ints
 from .parallel import differs_from_previous, parallel_sort
 from .sphere import Floats
 
@@ -149,13 +149,21 @@ class Grid(NamedTuple):
 
     def candidates_of_each(self, places: Sequence[tuple[float, float]], reach: float) -> tuple[Ints, Ints]:
         """The number of a place, and a thing within `reach` metres, or another. Places with very many are left out."""
-        found: list[tuple[int, int, int]] = []
+        cells, counts, slices = list[int](), [0] * len(places), list[tuple[int, int, int]]()
         for number, place in enumerate(places):
-            slices = self._slices_around(place, reach)
-            if size_of(slices) <= MAX_CANDIDATES:
-                found += [(number, begin, end) for begin, end in slices]
-        which, begins, ends = np.array(found, dtype=np.int64).reshape(-1, 3).T
-        pairs, rows = concat_ranges(begins, ends - begins)
+            some = self._small_key_ranges(*place, (reach + self.margin) / EARTH_RADIUS)
+            if some is None:
+                slices += [(number, *each) for each in self._slices_around(place, reach)]
+            else:
+                cells += some
+                counts[number] = len(some) // 2
+        which, begins, ends = np.array(slices, dtype=np.int64).reshape(-1, 3).T
+        bounds = self.begins[np.searchsorted(self.keys[:], cells)]
+        which = np.concatenate((which, np.arange(len(places)).repeat(counts)))
+        begins, lengths = np.concatenate((begins, bounds[::2])), np.concatenate((ends - begins, bounds[1::2] - bounds[::2]))
+        if len(lengths) and (is_much := np.bincount(which, lengths, len(places)) > MAX_CANDIDATES).any():
+            which, begins, lengths = (column[~is_much[which]] for column in (which, begins, lengths))
+        pairs, rows = concat_ranges(begins, lengths)
         return which[pairs], self.things[rows]
 
     def candidates(self, place: tuple[float, float], reach: float) -> Iterator[NDArray[Any]]:
@@ -233,8 +241,8 @@ def size_of(slices: list[tuple[int, int]]) -> int:
 
 def concat_ranges(begins: NDArray[Any], counts: NDArray[Any]) -> tuple[Ints, Ints]:
     """All numbers from begins[k], counts[k] of them, for each k in a row; and k for each of them, which comes first."""
-    owner, position = expand(counts)
-    return owner, begins[owner] + position
+    owner = np.arange(len(counts)).repeat(counts)
+    return owner, np.arange(len(owner)) + (begins - (counts.cumsum(dtype=np.int64) - counts)).repeat(counts)
 
 
 def half_widths(lat: Floats, angle: Floats, south: Floats, height: float) -> Floats:

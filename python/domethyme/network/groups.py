@@ -15,7 +15,7 @@ def offsets(counts: NDArray[Any]) -> Ints:
 def expand(counts: NDArray[Any]) -> tuple[Ints, Ints]:
     """The group of each row, and its position in that, by the counts: [2, 0, 3] -> [0, 0, 2, 2, 2] and [0, 1, 0, 1, 2]."""
     group = np.arange(len(counts)).repeat(counts)
-    return group, np.arange(len(group)) - (counts.cumsum(dtype=np.int64) - counts)[group]
+    return group, np.arange(len(group)) - (counts.cumsum(dtype=np.int64) - counts).repeat(counts)
 
 
 def first_of_equal(*columns: NDArray[Any]) -> Ints:

@@ -1,17 +1,20 @@
-"""The geometry of a leg, in arrays: the points of its arcs, their weights, seconds and metres, and their bearings."""
+"""The legs of a route in arrays: the arcs, their weights, seconds, metres and points, and their bearings."""
 import functools
 import itertools
-from collections.abc import Iterator
-from typing import TypedDict
+from collections.abc import Iterator, Sequence
+from typing import NamedTuple
 
 import numpy as np
 
+from .column_file import Column
 from .geo import bearing
-from .groups import Ints, expand
+from .grid import concat_ranges
+from .groups import Ints, expand, offsets
 from .indexes import wrapped_difference
 from .legs import Leg
 from .net_file import UNITS
 from .network import Floats
+from .parallel import differs_from_previous
 from .snapping import RoadIndex, SnappedPoint
 from .sphere import great_circle_metres, unit_vectors
 
@@ -20,126 +23,225 @@ MICRODEGREES = 1_000_000
 UNITS_PER_OUTPUT_UNIT = {"duration": 1000, "distance": 100}
 
 
-class Figures(TypedDict):
-    """Totals of a route or a part of it: weight in the unit of answers, seconds, None if the network has none, and metres."""
-
-    weight: float
-    duration: float | None
-    distance: float
+# The weight of a leg in the unit of answers, its seconds, None if the network has none, and its metres.
+LegTotals = tuple[float, float | None, float]
 
 
-class LegGeometry:
-    """The points of arc k of the leg are points[begins[k]:begins[k + 1]], in 1/UNITS degrees. There is at least one arc. The line that
-    is shown has six digits, no repeated points, and the leg's two snapped points as its ends."""
+class Totals(NamedTuple):
+    """Totals of some parts of a route: weights in the unit of answers, seconds, None if the network has none, and metres."""
 
-    def __init__(self, roads: RoadIndex, leg: Leg, start: SnappedPoint, end: SnappedPoint) -> None:
-        self.roads, self.leg, self.arcs = roads, leg, np.array(leg.arcs, dtype=np.int64)
-        self.ends = start, end
-        self.begins, points = roads.arrays.arc_lines(self.arcs)
-        self.points: Ints = points.astype(np.int64)
-        # (of the first and the last arc the leg may have only a part)
-        last = len(self.arcs) - 1
-        parts = [(last, 0.0, leg.end), (0, leg.begin, 1.0)] if last else [(0, leg.begin, leg.end)]
-        for arc_index, low_share, high_share in parts:
-            if (low_share, high_share) != (0.0, 1.0):
-                line = roads.line(leg.arcs[arc_index], low_share, high_share)
-                units = np.array([(round(lon * UNITS), round(lat * UNITS)) for lon, lat in line])
-                low, high = self.begins[arc_index : arc_index + 2].tolist()
-                self.points = np.concatenate((self.points[:low], units, self.points[high:]))
-                self.begins[arc_index + 1 :] += len(line) - (high - low)
+    weights: Floats
+    seconds: Floats | None
+    metres: Floats
+
+    @property
+    def rows(self) -> Iterator[LegTotals]:
+        """The three numbers of each part."""
+        seconds: list[float] | list[None] = [None] * len(self.weights) if self.seconds is None else self.seconds.tolist()
+        return zip(self.weights.tolist(), seconds, self.metres.tolist())
+
+
+class Segments(NamedTuple):
+    """The segments of the lines that are shown, in the order of legs: where each leg's begin, and last where they end; and for
+    each segment the part of the route that it belongs to, its share of that part's figures, and the parts' totals. The shares of a
+    part are those of metres, or equal if it has no length."""
+
+    begins: Ints
+    parts: Ints
+    shares: Floats
+    totals: Totals
+
+
+class RouteGeometry:
+    """The legs of a route. What is computed of their points is computed where it is asked for.
+
+    arcs     the arcs of all legs; those of leg k are arcs[first[k]:first[k + 1]], none if it stays at its point
+    first    as that says
+    """
+
+    def __init__(self, roads: RoadIndex, legs: Sequence[Leg], ends: Sequence[SnappedPoint]) -> None:
+        """`ends` are the points between which the legs lead, one more than legs."""
+        self.roads, self.legs, self._ends = roads, legs, ends
+        self.arcs: Ints = np.concatenate([leg.arcs for leg in legs])
+        self.first = offsets(np.array([len(leg.arcs) for leg in legs]))
+        self._driven = np.flatnonzero(np.diff(self.first))
 
     @functools.cached_property
-    def _shown(self) -> tuple[list[list[float]], Ints]:
-        """The points of the line that is shown, and the index of each of the leg's points among these."""
-        shown = (self.points + UNITS // MICRODEGREES // 2) // (UNITS // MICRODEGREES)
-        shown[[0, -1]] = [[round(each.lon * MICRODEGREES), round(each.lat * MICRODEGREES)] for each in self.ends]
-        is_other = np.append(True, (shown[1:] != shown[:-1]).any(axis=1))
-        return (shown[is_other] / MICRODEGREES).tolist(), is_other.cumsum() - 1
+    def _weights(self) -> Ints:
+        """The weight before each arc, and in total."""
+        return offsets(np.concatenate([leg.weights for leg in self.legs]))
 
     @functools.cached_property
-    def shown_arcs(self) -> tuple[list[int], list[int]]:
-        """The indices of the first and of the last point of each arc in the line that is shown."""
-        _, index = self._shown
-        return index[self.begins[:-1]].tolist(), index[self.begins[1:] - 1].tolist()
+    def _shares(self) -> Floats:
+        """The share of each arc that is driven: of a leg's first and last one there may be a part."""
+        shares, legs = np.ones(len(self.arcs)), [self.legs[number] for number in self._driven.tolist()]
+        shares[self.first[self._driven + 1] - 1] = [leg.end for leg in legs]
+        shares[self.first[self._driven]] -= [leg.begin for leg in legs]
+        return shares
 
-    def line(self, first: int, last: int) -> list[list[float]]:
-        """The points of arcs first:last in the line that is shown; at least two."""
-        (points, _), (begins, ends) = self._shown, self.shown_arcs
-        found = points[begins[first] : ends[last - 1] + 1]
-        return found if len(found) > 1 else found * 2
+    @functools.cached_property
+    def _seconds(self) -> Floats:
+        """The seconds before each arc, and in total."""
+        return np.concatenate(([0.0], (self.roads.arrays.arc_seconds[self.arcs] * self._shares).cumsum()))
 
-    def segments(self) -> Iterator[tuple[Figures, list[float]]]:
-        """The segments of the line that is shown, in parts, one behind the other: the totals of one or more arcs, and the metres of each
-        segment of these; equal ones above 0 if the part has no length."""
-        (_, index), (begins, ends) = self._shown, self.shown_arcs
-        arc, _ = expand(np.diff(self.begins))
+    @functools.cached_property
+    def _metres(self) -> Floats:
+        return np.concatenate(([0.0], (self.roads.arrays.arc_metres[self.arcs] * self._shares).cumsum()))
+
+    def totals(self, begins: Ints, ends: Ints) -> Totals:
+        """The totals of arcs begins[k]:ends[k]. Seconds or metres follow from the weight if weights are these."""
+        unit = self.roads.unit
+        weights = (self._weights[ends] - self._weights[begins]) / UNITS_PER_OUTPUT_UNIT.get(unit, 1)
+        metres = weights if unit == "distance" else self._metres[ends] - self._metres[begins]
+        if not self.roads.has_seconds:
+            return Totals(weights, None, metres.round(2))
+        seconds = weights if unit == "duration" else self._seconds[ends] - self._seconds[begins]
+        return Totals(weights, seconds.round(3), metres.round(2))
+
+    @functools.cached_property
+    def point_count(self) -> int:
+        """How many points the arcs have."""
+        edges = self.roads.arrays.arc_edge[self.arcs]
+        return int((self.roads.arrays.edge_begin[edges + 1] - self.roads.arrays.edge_begin[edges]).sum())
+
+    @functools.cached_property
+    def _lines(self) -> tuple[Ints, Ints]:
+        """The points of arc a are points[begins[a]:begins[a + 1]], in 1/UNITS degrees: the begins, and the points."""
+        begins, points = self.roads.arrays.arc_lines(self.arcs)
+        counts, pieces, done = np.diff(begins), [], 0
+        for arc, low, high in self._driven_parts():
+            line = self.roads.line(int(self.arcs[arc]), low, high)
+            units = [(round(lon * UNITS), round(lat * UNITS)) for lon, lat in line]
+            pieces += [points[done : begins[arc]], np.array(units, np.int32)]
+            counts[arc], done = len(line), int(begins[arc + 1])
+        return offsets(counts), np.concatenate([*pieces, points[done:]])
+
+    def _driven_parts(self) -> Iterator[tuple[int, float, float]]:
+        """The arcs of which a leg has only a part, and the shares between which that is."""
+        for number in self._driven.tolist():
+            leg, (first, behind) = self.legs[number], self.first[number : number + 2].tolist()
+            is_one = behind - first == 1
+            if leg.begin != 0.0 or is_one and leg.end != 1.0:
+                yield first, leg.begin, leg.end if is_one else 1.0
+            if leg.end != 1.0 and not is_one:
+                yield behind - 1, 0.0, leg.end
+
+    @functools.cached_property
+    def _shown(self) -> tuple[Ints, Ints]:
+        """The points of the lines that are shown, in microdegrees, and the index of each of the arcs' points among these. A leg's line
+        has its two snapped points as its ends, and no repeated points."""
+        begins, points = self._lines
+        shown = (points + UNITS // MICRODEGREES // 2) // (UNITS // MICRODEGREES)
+        firsts, lasts = begins[self.first[self._driven]], begins[self.first[self._driven + 1]] - 1
+        ends = microdegrees(self._ends)
+        shown[firsts], shown[lasts] = ends[self._driven], ends[self._driven + 1]
+        is_new = differs_from_previous(shown[:, 0]) | differs_from_previous(shown[:, 1])
+        is_new[firsts] = True
+        return shown[is_new], is_new.cumsum() - 1
+
+    @functools.cached_property
+    def _shown_arcs(self) -> tuple[Ints, Ints]:
+        """The indices of the first and of the last point of each arc among those that are shown."""
+        (begins, _), (_, index) = self._lines, self._shown
+        return index[begins[:-1]], index[begins[1:] - 1]
+
+    @property
+    def shown(self) -> Ints:
+        """The points of the lines that are shown, in microdegrees, of shape (points, 2)."""
+        return self._shown[0]
+
+    def slices(self, begins: Ints, ends: Ints) -> tuple[Ints, Ints]:
+        """The slices of `shown` that are the lines of arcs begins[k]:ends[k]; of one point, if they have no length."""
+        return self._shown_arcs[0][begins], self._shown_arcs[1][ends - 1] + 1
+
+    @functools.cached_property
+    def line_begins(self) -> Ints:
+        """Where the line of each leg begins in `shown`, and last where all end; a leg that stays at its point has none."""
+        counts = np.zeros(len(self.legs), np.int64)
+        begins, ends = self.slices(self.first[self._driven], self.first[self._driven + 1])
+        counts[self._driven] = ends - begins
+        return offsets(counts)
+
+    def lines(self) -> list[Ints]:
+        """The line of each leg, in microdegrees; at least two points."""
+        ends, begins = microdegrees(self._ends), self.line_begins.tolist()
+        lines = [self.shown[low:high] for low, high in itertools.pairwise(begins)]
+        return [line if len(line) > 1 else ends[leg : leg + 2] for leg, line in enumerate(lines)]
+
+    def segments(self) -> Segments:
+        """The segments of the lines that are shown. An arc that is shown as one point adds to the part before it, the first ones of a
+        leg to its first part."""
+        begins, ends = self._shown_arcs
+        legs = np.repeat(np.arange(len(self.legs)), np.diff(self.first))
+        firsts = np.flatnonzero(ends > begins)
+        is_leg_first, is_leg_last = (differs_from_previous(legs[firsts][::way])[::way] for way in (1, -1))
+        behind = self.first[legs[firsts] + 1]
+        part_ends = np.where(is_leg_last, behind, np.append(firsts[1:], 0)[: len(firsts)])
+        part_begins = np.where(is_leg_first, self.first[legs[firsts]], firsts)
+        last = np.where(is_leg_last, ends[behind - 1], ends[firsts])
+        first = np.where(is_leg_first, begins[self.first[legs[firsts]]], np.append(0, last[:-1])[: len(firsts)])
+        parts, segments = concat_ranges(first, last - first)
+        metres = self._segment_metres()[segments]
+        sums = np.bincount(parts, metres, len(firsts))
+        metres[sums[parts] == 0] = 1.0
+        shares = metres / np.where(sums == 0, last - first, sums)[parts]
+        counts = np.bincount(legs[firsts], last - first, len(self.legs)).astype(np.int64)
+        return Segments(offsets(counts), parts, shares, self.totals(part_begins, part_ends))
+
+    def _segment_metres(self) -> Floats:
+        """The metres from each point that is shown to the next, along the arcs' points between."""
+        (begins, points), (_, index), (first, last) = self._lines, self._shown, self._shown_arcs
+        arc, _ = expand(np.diff(begins))
         steps = np.flatnonzero(arc[1:] == arc[:-1])
-        sphere = unit_vectors(*(self.points / UNITS).T)
-        segment = np.minimum(index[steps], np.array(ends)[arc[steps]] - 1)
-        is_shown = segment >= np.array(begins)[arc[steps]]
-        step_metres = great_circle_metres(sphere[steps], sphere[steps + 1])
-        metres: list[float] = np.bincount(segment[is_shown], step_metres[is_shown], ends[-1]).tolist()
-        # (an arc that is shown as one point adds to the part before it, the first ones to the first)
-        firsts = [number for number in range(len(ends)) if ends[number] > begins[number]]
-        arcs, bounds = [0, *firsts[1:], len(ends)], [0, *(ends[number] for number in firsts[:-1]), ends[-1]]
-        for (low, high), (first, behind) in zip(itertools.pairwise(arcs), itertools.pairwise(bounds)):
-            part = metres[first:behind]
-            yield self.figures(low, high), part if sum(part) else [1.0] * len(part)
+        sphere = unit_vectors(*(points / UNITS).T)
+        segment = np.minimum(index[steps], last[arc[steps]] - 1)
+        is_shown = segment >= first[arc[steps]]
+        metres = great_circle_metres(sphere[steps], sphere[steps + 1])
+        return np.bincount(segment[is_shown], metres[is_shown], len(self.shown))
+
+    def shown_nodes(self) -> tuple[Ints, Ints]:
+        """The nodes, counted from 1, at points that are shown, and the indices of these; the first of those of one point is its own."""
+        arrays, (first, last) = self.roads.arrays, self._shown_arcs
+        legs = [self.legs[number] for number in self._driven]
+        is_at_node = np.ones(len(self.arcs), dtype=bool)
+        is_at_node[self.first[self._driven]] = [leg.begin == 0.0 for leg in legs]
+        ended = self.first[self._driven + 1][[leg.end == 1.0 for leg in legs]] - 1
+        nodes = np.concatenate((arrays.arc_from[self.arcs[is_at_node]], arrays.arc_to[self.arcs[ended]]))
+        return nodes, np.concatenate((first[is_at_node], last[ended]))
 
     @functools.cached_property
     def bearings(self) -> tuple[Ints, Ints]:
         """The bearings of each arc at its start and at its end, in degrees."""
-        begins = np.concatenate((self.begins[:-1], self.begins[1:] - 2))
-        places = self.points[begins]
-        east, north = (self.points[begins + 1] - places).T
+        arc_begins, points = self._lines
+        begins = np.concatenate((arc_begins[:-1], arc_begins[1:] - 2))
+        places = points[begins].astype(np.int64)
+        east, north = (points[begins + 1] - places).T
         ways = wrapped_difference(east) * np.cos(np.radians(places[:, 1] / UNITS))
         found = (np.rint(np.degrees(np.arctan2(ways, north))) % 360).astype(np.int64)
         # (where the segment has no length, the next point that is another one tells)
         for index in np.flatnonzero((east == 0) & (north == 0)).tolist():
             arc_index, step = index % len(self.arcs), 1 if index < len(self.arcs) else -1
-            points = self.points[self.begins[arc_index] : self.begins[arc_index + 1]][::step] / UNITS
-            here, *others = [(lon, lat) for lon, lat in points.tolist()]
+            line = points[arc_begins[arc_index] : arc_begins[arc_index + 1]][::step] / UNITS
+            here, *others = [(lon, lat) for lon, lat in line.tolist()]
             found[index] = bearing(*(here, next((other for other in others if other != here), here))[::step])
         return found[: len(self.arcs)], found[len(self.arcs) :]
 
-    @functools.cached_property
-    def prefix_sums(self) -> tuple[list[int], list[float], list[float]]:
-        """The weight, seconds and metres before each arc, and in total."""
-        weights = list(itertools.accumulate(self.leg.weights, initial=0))
-        seconds, metres = ([0.0, *values.cumsum().tolist()] for values in driven_parts(self.roads, self.leg, self.arcs))
-        return weights, seconds, metres
 
-    def figures(self, first: int, last: int) -> Figures:
-        weights, seconds, metres = self.prefix_sums
-        weight, duration = weights[last] - weights[first], seconds[last] - seconds[first]
-        return make_totals(self.roads, weight, duration, metres[last] - metres[first])
+def leg_totals(roads: RoadIndex, leg: Leg) -> LegTotals:
+    """The totals of a leg. Seconds or metres follow from the weight if weights are these."""
+    weight = leg.weight / UNITS_PER_OUTPUT_UNIT.get(roads.unit, 1)
+    metres = weight if roads.unit == "distance" else driven_sum(roads.arrays.arc_metres, leg)
+    if not roads.has_seconds:
+        return weight, None, round(metres, 2)
+    seconds = weight if roads.unit == "duration" else driven_sum(roads.arrays.arc_seconds, leg)
+    return weight, round(seconds, 3), round(metres, 2)
 
 
-def make_totals(roads: RoadIndex, weight: int, seconds: float, metres: float) -> Figures:
-    """The totals in the units of answers. Seconds or metres follow from the weight if weights are these."""
-    unit = UNITS_PER_OUTPUT_UNIT.get(roads.unit, 1)
-    return {
-        "weight": weight / unit,
-        "duration": round(weight / unit if roads.unit == "duration" else seconds, 3) if roads.has_seconds else None,
-        "distance": round(weight / unit if roads.unit == "distance" else metres, 2),
-    }
+def driven_sum(column: Column, leg: Leg) -> float:
+    """The sum of a leg's seconds or metres. Of its first and last arc there may be a part."""
+    values = column[leg.arcs]
+    return float(values.sum() - leg.begin * values[0] - (1.0 - leg.end) * values[-1]) if len(values) else 0.0
 
 
-def leg_geometry(roads: RoadIndex, leg: Leg, start: SnappedPoint, end: SnappedPoint) -> LegGeometry | None:
-    """The geometry of a leg between two points; None if it stays at a node."""
-    return LegGeometry(roads, leg, start, end) if leg.arcs else None
-
-
-def leg_totals(roads: RoadIndex, leg: Leg) -> Figures:
-    if not leg.arcs:
-        return make_totals(roads, leg.weight, 0.0, 0.0)
-    seconds, metres = (float(values.cumsum()[-1]) for values in driven_parts(roads, leg, np.array(leg.arcs)))
-    return make_totals(roads, leg.weight, seconds, metres)
-
-
-def driven_parts(roads: RoadIndex, leg: Leg, arcs: Ints) -> tuple[Floats, Floats]:
-    """The seconds and metres of each arc of a leg, of the first and the last one of the part that is driven."""
-    shares: Floats = np.ones(len(arcs))
-    shares[-1] = leg.end
-    shares[0] -= leg.begin
-    return roads.arrays.arc_seconds[arcs] * shares, roads.arrays.arc_metres[arcs] * shares
+def microdegrees(points: Sequence[SnappedPoint]) -> Ints:
+    return np.array([(round(each.lon * MICRODEGREES), round(each.lat * MICRODEGREES)) for each in points], np.int64)

@@ -7,8 +7,11 @@ shortest in the graph with the split arcs.
 from collections.abc import Callable
 from typing import NamedTuple
 
+import numpy as np
+
 from ..errors import NetworkError
 from ..protocol import RouteReply
+from .groups import Ints
 from .snapping import NO_ARC, RoadIndex, SnappedPoint
 
 # Candidate nodes of a snapped point, from 0: node -> (weight, arc) of the part of the arc between.
@@ -21,13 +24,13 @@ class Leg(NamedTuple):
     """The path between two points: weight, arcs, the weights driven on these, the first from `begin` and the last to `end`."""
 
     weight: int
-    arcs: list[int]
-    weights: list[int]
+    arcs: Ints
+    weights: Ints
     begin: float
     end: float
 
 
-EMPTY_LEG = Leg(0, [], [], 0.0, 1.0)
+EMPTY_LEG = Leg(0, np.empty(0, np.int64), np.empty(0, np.int64), 0.0, 1.0)
 
 
 def find_leg(ask: Between, roads: RoadIndex, start: SnappedPoint, end: SnappedPoint) -> Leg | None:
@@ -60,24 +63,21 @@ def leg_without_nodes(roads: RoadIndex, start: SnappedPoint, end: SnappedPoint) 
         begin, stop = roads.arc_fraction(arc, start.fraction), roads.arc_fraction(arc, end.fraction)
         if begin <= stop:
             weight = roads.weight_before(arc, end.fraction) - roads.weight_before(arc, start.fraction)
-            found.append(Leg(weight, [number], [weight], begin, stop))
+            found.append(Leg(weight, np.array([number]), np.array([weight]), begin, stop))
     return min(found, key=lambda leg: leg.weight) if found else None
 
 
 def leg_via_route(roads: RoadIndex, start: SnappedPoint, end: SnappedPoint, route: RouteReply) -> Leg:
     """The leg of a route between the points' nodes. Raises NetworkError if the network isn't the hierarchy's."""
-    first, last = start.exits[route.source - 1], end.entries[route.target - 1]
+    (before, first), (behind, last) = start.exits[route.source - 1], end.entries[route.target - 1]
     arcs = roads.lightest(route.nodes)
-    if NO_ARC in arcs:
+    if (arcs == NO_ARC).any():
         raise NetworkError("lacks an arc of the hierarchy's graph", roads.arrays.path)
-    weights: list[int] = roads.arrays.arc_weight[arcs].tolist() if arcs else []
-    begin, stop = 0.0, 1.0
-    if first[1] != NO_ARC:
-        arcs, weights = [first[1], *arcs], [first[0], *weights]
-        begin = roads.arc_fraction(roads.edge(start.edge).arcs[first[1]], start.fraction)
-    if last[1] != NO_ARC:
-        arcs, weights = [*arcs, last[1]], [*weights, last[0]]
-        stop = roads.arc_fraction(roads.edge(end.edge).arcs[last[1]], end.fraction)
-    if sum(weights) != route.length:
+    weights = np.concatenate(([before], roads.arrays.arc_weight[arcs], [behind]))
+    arcs = np.concatenate(([first], arcs, [last]))
+    is_arc = arcs != NO_ARC
+    begin = 0.0 if first == NO_ARC else roads.arc_fraction(roads.edge(start.edge).arcs[first], start.fraction)
+    stop = 1.0 if last == NO_ARC else roads.arc_fraction(roads.edge(end.edge).arcs[last], end.fraction)
+    if int(weights.sum()) != route.length:
         raise NetworkError("has other weights than the hierarchy's graph", roads.arrays.path)
-    return Leg(route.length, arcs, weights, begin, stop)
+    return Leg(route.length, arcs[is_arc], weights[is_arc], begin, stop)

@@ -29,7 +29,7 @@ from .column_file import ArraySpec, Column, MappedFile
 from .geo import Point, parse_linestring
 from .grid import Grid, concat_ranges
 from .groups import Ints, expand, first_of_equal, offsets
-from .parallel import differs_from_previous, map_slices
+from .parallel import map_slices
 from .tables import (
     ARC_COLUMNS, ENDS, NODE_COLUMNS, Arc, Files, Nodes, has_columns, iter_arc_rows, need_nodes, read_attribution,
     read_node_table
@@ -463,10 +463,9 @@ class MappedNetwork:
         counts = self.out_begin[starts] - begins
         pair, rows = concat_ranges(begins, counts)
         arcs = self.out_arcs[rows]
-        hits = np.flatnonzero(self.arc_to[arcs] == ends[pair])
-        hits = hits[differs_from_previous(pair[hits])]  # (pairs rise, and the first hit of each is its lightest)
+        hits = np.flatnonzero(self.arc_to[arcs] == ends.repeat(counts))[::-1]
         found = np.full(len(starts), -1, dtype=np.int64)
-        found[pair[hits]] = arcs[hits]
+        found[pair[hits]] = arcs[hits]  # (the last that is assigned, the first of a pair, is its lightest)
         return found
 
     def arc_lines(self, arcs: Ints) -> tuple[Ints, NDArray[np.int32]]:

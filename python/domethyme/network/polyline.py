@@ -1,26 +1,21 @@
 """Encodes and decodes polylines (Google's encoded polyline algorithm format)."""
 import itertools
-from collections.abc import Iterable, Sequence
+from collections.abc import Sequence
 
 import numpy as np
+from numpy.typing import ArrayLike
 
 from .geo import Point
-from .network import Floats
 
-# Points (lon, lat), as lists.
-Line = list[list[float]]
 # The shifts of a number's groups of five bits: a difference of 360 degrees to seven digits has 33 bits.
 SHIFTS = np.arange(0, 40, 5)
 
 
-def points_array(points: Iterable[list[float]]) -> Floats:
-    """Points as an array of shape (count, 2)."""
-    return np.fromiter(itertools.chain.from_iterable(points), np.float64).reshape(-1, 2)
-
-
-def encode_polylines(lines: Sequence[Line], digits: int) -> list[str]:
-    """The polylines of lines with so many decimal digits. Many short lines take little longer than one of all points."""
-    whole = np.rint(points_array(itertools.chain.from_iterable(lines))[:, ::-1] * 10**digits).astype(np.int64)
+def encode_polylines(lines: Sequence[ArrayLike], digits: int) -> list[str]:
+    """The polylines of lines (lon, lat), of shape (points, 2), with so many decimal digits. Many short lines take little longer than one
+    of all points."""
+    lines = [np.asarray(line, np.float64) for line in lines]
+    whole = np.rint(np.concatenate(lines)[:, ::-1] * 10**digits).astype(np.int64)
     counts = [len(line) for line in lines]
     ends = np.cumsum(counts)
     begins = ends - counts

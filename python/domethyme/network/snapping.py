@@ -9,7 +9,7 @@ import functools
 import itertools
 import math
 from collections.abc import Callable, Iterator, Sequence
-from typing import NamedTuple
+from typing import Any, NamedTuple
 
 import numpy as np
 from numpy.typing import NDArray
@@ -108,16 +108,16 @@ class RoadIndex:
         self.edge = functools.lru_cache(EDGE_CACHE_SIZE)(self._edge)
         self.places = NodeIndex(self.arrays)
 
-    def osm_id(self, node: int) -> int:
-        """The OpenStreetMap id of a node; 0 if it has none."""
-        found = int(self.arrays.node_osm[node - 1])
-        return 0 if found == NO_OSM else found
+    def osm_ids(self, nodes: NDArray[Any]) -> Ints:
+        """The OpenStreetMap ids of nodes; 0 for one that has none."""
+        found = self.arrays.node_osm[nodes - 1]
+        return np.where(found == NO_OSM, 0, found)
 
-    def lightest(self, nodes: tuple[int, ...]) -> list[int]:
+    def lightest(self, nodes: Sequence[int]) -> Ints:
         """The lightest arc from each node of a route to the next; NO_ARC if there is none."""
         self.arrays.file.check_unchanged()
         line = np.array(nodes, dtype=np.int64)
-        return list(self.arrays.lightest(line[:-1], line[1:]).tolist())
+        return self.arrays.lightest(line[:-1], line[1:])
 
     @functools.cached_property
     def roundabout_texts(self) -> Ints:
@@ -199,10 +199,13 @@ class RoadIndex:
             return {}
         ways = self.project(np.array(places)[which], edges)
         place = which[ways.which]
-        order = np.lexsort((ways.rows, ways.metres, place))  # (rows are in the order of edges)
-        for best in order[differs_from_previous(place[order])].tolist():
-            if ways.metres[best] <= grid.initial_radius:
-                found[int(place[best])] = self._snap_on_segment(int(edges[ways.which[best]]), ways, best)
+        firsts = np.flatnonzero(differs_from_previous(place))
+        least = np.minimum.reduceat(ways.metres, firsts)
+        least[least > grid.initial_radius] = -1
+        nearest = np.flatnonzero(ways.metres == least.repeat(np.diff(np.append(firsts, len(place)))))
+        nearest = nearest[np.lexsort((ways.rows[nearest], place[nearest]))]  # (rows are in the order of edges)
+        for best in nearest[differs_from_previous(place[nearest])].tolist():
+            found[int(place[best])] = self._snap_on_segment(int(edges[ways.which[best]]), ways, best)
         return found
 
     def project(self, places: Floats, edges: Ints) -> SegmentProjections:
