@@ -263,7 +263,7 @@ def test_frames_keys_and_attribution(data: Any) -> None:
 
 def check_frames(made: Drawn, network: Any) -> None:
     nodes, arcs = network.nodes_frame(), network.arcs_frame()
-    keys = [int(node.key) if node.key in ("7", "-1") else node.key for node in made.tables.nodes]
+    keys = [node.key for node in made.tables.nodes]  # (texts all, since one is no number)
     assert list(network.keys()) == keys if hasattr(network.keys(), "__iter__") else network.keys().key(0) == keys[0]
     assert nodes["key"].tolist() == keys and nodes["ends"].tolist() == [node.ends for node in made.tables.nodes]
     osm = [None if str(value) in ("nan", "<NA>") else int(value) for value in nodes["osm"].tolist()]
