@@ -142,7 +142,8 @@ def listen_unix(path: str) -> str:
     try:
         if pathlib.Path(path).is_socket():
             with socket.socket(socket.AF_UNIX) as asking:
-                if asking.connect_ex(path) == 0:
+                asking.setblocking(False)
+                if asking.connect_ex(path) in (0, errno.EAGAIN):
                     raise StartupError(f"can't listen at unix:{path}: another service does")
             os.unlink(path)
         return listen(socket.AF_UNIX, path)
@@ -173,10 +174,7 @@ def main(words: Sequence[str] | None = None) -> None:
     for line in lines:
         print(f"domethyme-serve: {line}", file=sys.stderr)
     args = argument_parser().parse_args(current)
-    # (other lines than the access log's go where gunicorn's do)
     access_log = logging.getLogger("domethyme_service.access")
-    access_log.addHandler(logging.StreamHandler())
-    access_log.propagate = False
     access_log.setLevel(logging.INFO if args.access_log or args.log_places else logging.WARNING)
     logging.getLogger("domethyme_service").setLevel(logging.INFO)
     if args.workers < MIN_WORKERS:

@@ -1,81 +1,61 @@
-"""The table of endpoints: the method, path and parameters of each. Requests are parsed by it, and docs/SERVICE.md has what
-`python3 -m domethyme_service.endpoints` prints. A parameter is added here alone, with a kind of `parameters`."""
+"""The table of endpoints: what each is asked by, what answers it, its limits and what it costs. Requests are dispatched by it, counted
+by it, and docs/SERVICE.md has what `python3 -m domethyme_service.endpoints` prints, as docs/openapi.json has what `openapi`
+makes of it. An endpoint is added here alone, and its parameters in `parameters`."""
+import enum
 import re
-from collections.abc import Mapping
+from collections.abc import Callable, Iterator, Mapping
 from typing import Any, NamedTuple
 
+from . import costs, handlers, isochrone, osrm, osrm_tables
+from .access import BATCH_TYPES
+from .costs import Formula, Work, formula
 from .errors import RequestError, invalid_query
 from .parameters import (
-    INDEX, METRES, Context, Parameter, Values, annotations, any_text, choice, contours, node, number_range,
-    parse_alternatives, parse_bearing, parse_colors, parse_continue_straight, parse_indices, parse_number, parse_radius,
-    per_place, unsupported
+    ALTERNATIVES, ANNOTATIONS, BEARINGS, COMMON, CONTINUE_STRAIGHT, CONTOURS_COLORS, CONTOURS_METERS, CONTOURS_MINUTES, DENOISE,
+    DESTINATIONS, FALLBACK_COORDINATE, FALLBACK_SPEED, FROM, FROM_KEY, GENERALIZE, GEOMETRIES, NUMBER, OVERVIEW, POLYGONS,
+    RADIUSES, SCALE_FACTOR, SOURCES, STEPS, TABLE_ANNOTATIONS, TO, TO_KEY, Context, Parameter, Values, any_text, choice,
+    unsupported
 )
 from .static import PAGE_FILES
 
-UNSUPPORTED_VALUES = "snapping=any and flatbuffers aren't supported"
-RADIUSES = Parameter(
-    "radiuses", "for each place metres, `unlimited`, or nothing for that of `--radius`",
-    per_place(parse_radius, "there has to be a radius for each place"), "are metres, or unlimited", "",
-)
-BEARINGS = Parameter(
-    "bearings", "for each place `DEGREES,RANGE`, from north, clockwise, to 360 and 180, or nothing",
-    per_place(parse_bearing, "there has to be a bearing for each place, or nothing between semicolons"),
-    "are DEGREES,RANGE, from 0 to 360 and from 0 to 180", "",
-)
-FALLBACK_SPEED, SCALE_FACTOR = [
-    Parameter(name, "a number above 0", parse_number(METRES, float, lambda number: number > 0), "is a number above 0")
-    for name in ("fallback_speed", "scale_factor")
-]
-FALLBACK_COORDINATE = choice("fallback_coordinate", "input", "snapped")
-GENERATE_HINTS, SKIP_WAYPOINTS = choice("generate_hints", "true", "false"), choice("skip_waypoints", "false", "true")
-OVERVIEW = choice("overview", "simplified", "full", "false")
-GEOMETRIES = choice("geometries", "polyline", "polyline6", "geojson")
-STEPS, POLYGONS = choice("steps", "false", "true"), choice("polygons", "false", "true")
-ANNOTATIONS = annotations(("duration", "weight", "distance", "datasources", "speed", "nodes"), "false")
-TABLE_ANNOTATIONS = annotations(("duration", "distance", "weight"), "duration", is_list_only=True)
-NUMBER = Parameter(
-    "number", "1 to 100; 1 without it", parse_number(INDEX, int, lambda number: 1 <= number <= 100), "is from 1 to 100", "1"
-)
-SOURCES, DESTINATIONS = [
-    Parameter(name, "`all`, or numbers of places, from 0", parse_indices, "are numbers of places, from 0", "all")
-    for name in ("sources", "destinations")
-]
-ALTERNATIVES = Parameter(
-    "alternatives", "`false`, `true` or a number; the answer has one route always", parse_alternatives,
-    "is true, false or a number",
-)
-CONTINUE_STRAIGHT = Parameter(
-    "continue_straight", "`default`, `false`, and `true` for two places", parse_continue_straight,
-    "is default, true or false", rejected="`true` for more",
-)
-CONTOURS_MINUTES = contours("contours_minutes", 600, ", if weights are times")
-CONTOURS_METERS = contours("contours_meters", 1_000_000, ", if weights are lengths")
-CONTOURS_COLORS = Parameter(
-    "contours_colors", "six hexadecimal digits for each contour; without it four that differ for the colour-blind",
-    parse_colors, "are six hexadecimal digits each",
-)
-GENERALIZE = number_range("generalize", 1e6, "metres by which contours are simplified")
-DENOISE = number_range("denoise", 1, "0 to 1: parts and holes smaller than this share of the largest part go")
-FROM, TO, FROM_KEY, TO_KEY = node("from"), node("to"), any_text("from_key", ""), any_text("to_key", "")
+Handler = Callable[[handlers.Call], handlers.Response]
 
-# The parameters of all of OSRM's services.
-COMMON: tuple[Parameter[Any], ...] = (
-    RADIUSES, any_text("hints"), GENERATE_HINTS, SKIP_WAYPOINTS, BEARINGS, unsupported("approaches", "unrestricted"),
-    unsupported("exclude"), choice("snapping", "default", rejected=["any"], message=UNSUPPORTED_VALUES),
-    choice("format", "json", rejected=["flatbuffers"], message=UNSUPPORTED_VALUES),
-)
+
+class Kind(enum.Enum):
+    """What a path has: nothing that varies, the name of a file, a tile's numbers, places, or a body of lines."""
+
+    FIXED, FILE, TILE, PLACES, LINES = range(5)
 
 
 class Endpoint(NamedTuple):
-    """name: of its counters, and of its handler in wsgi; path: as documented, "" for none; answer: what it answers;
-    parameters: None if all are ignored; unknown: the message for other parameters."""
+    """An endpoint.
+
+    name        of its counters
+    path        as documented, with words in capitals for what varies; "" for a service of OSRM's that isn't there
+    answer      what it answers, for the documents
+    handler     what answers it
+    kind        of its path
+    places      how many places it may have
+    parameters  those that it takes; None if all are ignored
+    cost        the text of the formula of its cost; "" if that is nearly nothing
+    schema      the name of its answer's shape (openapi), "" for text; of a batch that of each line
+    media       the type of its answer
+    method      of HTTP
+    unknown     the message for another parameter
+    """
 
     name: str
     path: str
     answer: str
+    handler: Handler
+    kind: Kind = Kind.FIXED
+    places: range = range(0)
     parameters: tuple[Parameter[Any], ...] | None = ()
-    unknown: str = "there is no parameter {!r}"
+    cost: str = ""
+    schema: str = ""
+    media: str = "application/json"
     method: str = "GET"
+    unknown: str = "there is no parameter {!r}"
 
     def values(self, query: Mapping[str, str], context: Context = Context()) -> Values:
         """The values of its parameters. Raises RequestError for an unknown parameter, and for an invalid value."""
@@ -88,43 +68,72 @@ class Endpoint(NamedTuple):
         texts = ((parameter, query.get(parameter.name, parameter.default)) for parameter in self.parameters)
         return {parameter: parameter.value(text, context) for parameter, text in texts if text is not None}
 
+    @property
+    def has_lines(self) -> bool:
+        """Whether it answers the lines of a body, in blocks."""
+        return self.kind is Kind.LINES
 
-def osrm_endpoint(service: str, path: str, answer: str, *parameters: Parameter[Any]) -> Endpoint:
-    return Endpoint(f"/{service}", path, answer, (*COMMON, *parameters), f"{service} has no parameter {{!r}}")
+    @property
+    def formula(self) -> Formula:
+        """The cost of a request by its variables."""
+        return FORMULAS[self.cost]
 
 
+def osrm_endpoint(
+    service: str, answer: str, handler: Handler, places: range, cost: str, schema: str, *parameters: Parameter[Any]
+) -> Endpoint:
+    path = f"/{service}/v1/PROFILE/{'PLACE' if len(places) == 1 else 'PLACES'}" if answer else ""
+    taken, unknown = (*COMMON, *parameters), f"{service} has no parameter {{!r}}"
+    return Endpoint(f"/{service}", path, answer, handler, Kind.PLACES, places, taken, cost, schema, unknown=unknown)
+
+
+NOWHERE = "there is no such parameter"
+NO_PARAMETERS = "this path has no parameters"
+ENDS = (FROM, TO, FROM_KEY, TO_KEY)
+# (the roads that are looked at for a bearing are some thousand)
+SNAPPING = "PLACE*P + 10000*ROAD*B"
 ENDPOINTS = (
-    Endpoint("/", "/", "the page", None),
-    Endpoint("/map/files", "/map/FILE", "its files", None),
+    Endpoint("/", "/", "the page", handlers.page_file, parameters=None, media="text/html"),
+    Endpoint("/map/files", "/map/FILE", "its files", handlers.page_file, Kind.FILE, parameters=None, media="*/*"),
     Endpoint("/map/about", "/map/about", "the box of the roads, the attribution, and a number that changes with the network",
-             unknown="there is no such parameter"),
+             handlers.about, schema="MapAbout", unknown=NOWHERE),
     Endpoint("/map/roads", "/map/roads/ZOOM/X/Y", "the roads in a square tile, as maps of the web number them, to zoom 16",
-             (any_text("v"),), "there is no such parameter"),
-    osrm_endpoint("route", "/route/v1/PROFILE/PLACES", "a route by two places or more, to 500, a leg for each two",
+             handlers.tile, Kind.TILE, parameters=(any_text("v"),), cost="TILE", schema="MapTile", unknown=NOWHERE),
+    osrm_endpoint("route", "a route by two places or more, to 500, a leg for each two", handlers.places(osrm.route),
+                  range(2, 501), f"{SNAPPING} + PAIR*G + NODE*W + POINT*V", "Routes",
                   ALTERNATIVES, CONTINUE_STRAIGHT, unsupported("waypoints"), ANNOTATIONS, OVERVIEW, GEOMETRIES, STEPS),
-    osrm_endpoint("nearest", "/nearest/v1/PROFILE/PLACE", "the nearest points of roads", NUMBER),
-    osrm_endpoint("table", "/table/v1/PROFILE/PLACES", "durations, distances and weights, by up to 2,000 places",
+    osrm_endpoint("nearest", "the nearest points of roads", handlers.places(osrm.nearest), range(1, 2),
+                  f"{SNAPPING} + PLACE*K", "Nearest", NUMBER),
+    osrm_endpoint("table", "durations, distances and weights, by up to 2,000 places", handlers.places(osrm_tables.table),
+                  range(1, 2001), f"{SNAPPING} + ROW*M*(1 + L/10000) + (CELL + 10*BYTE)*Z + PAIR*G + NODE*W", "Table",
                   FALLBACK_SPEED, FALLBACK_COORDINATE, SCALE_FACTOR, TABLE_ANNOTATIONS, SOURCES, DESTINATIONS),
     Endpoint("/isochrone", "/isochrone/v1/PROFILE/PLACE", "what is reached within minutes or metres, as GeoJSON",
+             handlers.places(isochrone.answer), Kind.PLACES, range(1, 2),
              (CONTOURS_MINUTES, CONTOURS_METERS, CONTOURS_COLORS, POLYGONS, GENERALIZE, DENOISE, RADIUSES, BEARINGS,
               any_text("access_token"), choice("reverse", "false", rejected=["true"], message="reverse=true isn't supported"),
-              unsupported("exclude"), unsupported("depart_at")), "isochrone has no parameter {!r}"),
-    *(osrm_endpoint(service, "", "") for service in ("match", "trip", "tile")),
-    Endpoint("/nodes/route", "/nodes/route", "a route between nodes by their numbers, from 1", (FROM, TO, FROM_KEY, TO_KEY)),
-    Endpoint("/nodes/length", "/nodes/length", "its length alone; null if there is no path", (FROM, TO, FROM_KEY, TO_KEY)),
-    Endpoint("/nodes/routes", "/nodes/routes", "a route for each line of the body, as a line of JSON", (),
-             "this path has no parameters", "POST"),
-    Endpoint("/nodes/lengths", "/nodes/lengths", "a length for each line of the body, as a line of JSON", (),
-             "this path has no parameters", "POST"),
-    Endpoint("/health", "/health", "200, and the numbers of nodes and links", None),
-    Endpoint("/metrics", "/metrics", "the text format 0.0.4 of Prometheus", None),
+              unsupported("exclude"), unsupported("depart_at")), f"{SNAPPING} + REACH*N + CONTOUR*C + DRAWN*R",
+             "FeatureCollection", unknown="isochrone has no parameter {!r}"),
+    *(osrm_endpoint(service, "", handlers.unsupported, range(0), "", "") for service in ("match", "trip", "tile")),
+    Endpoint("/nodes/route", "/nodes/route", "a route between nodes by their numbers, from 1", handlers.route, parameters=ENDS,
+             cost="PAIR + NODE*W", schema="NodeRoute"),
+    Endpoint("/nodes/length", "/nodes/length", "its length alone; null if there is no path", handlers.length, parameters=ENDS,
+             cost="PAIR", schema="NodeLength"),
+    Endpoint("/nodes/routes", "/nodes/routes", "a route for each line of the body, as a line of JSON", handlers.routes, Kind.LINES,
+             cost="T*(LINE + PAIR) + NODE*W", schema="NodeRoutes", media=BATCH_TYPES[0], method="POST", unknown=NO_PARAMETERS),
+    Endpoint("/nodes/lengths", "/nodes/lengths", "a length for each line of the body, as a line of JSON", handlers.lengths,
+             Kind.LINES, cost="T*(LINE + PAIR)", schema="NodeLengths", media=BATCH_TYPES[0], method="POST", unknown=NO_PARAMETERS),
+    Endpoint("/health", "/health", "200, and the numbers of nodes and links", handlers.health, parameters=None,
+             schema="Health"),
+    Endpoint("/metrics", "/metrics", "the text format 0.0.4 of Prometheus", handlers.metrics, parameters=None,
+             media="text/plain"),
 )
 BY_NAME = {endpoint.name: endpoint for endpoint in ENDPOINTS}
-# The names of the endpoints whose paths have places.
-WITH_PLACES = {endpoint.name for endpoint in ENDPOINTS if RADIUSES in (endpoint.parameters or ())}
-BY_PATH = dict.fromkeys(PAGE_FILES, BY_NAME["/map/files"])
-BY_PATH |= {endpoint.path: endpoint for endpoint in ENDPOINTS if endpoint.path == endpoint.name}
-TILE = re.compile(r"/map/roads/([0-9]{1,2})/([0-9]{1,6})/([0-9]{1,6})")
+FORMULAS = {endpoint.cost: formula(endpoint.cost or "0") for endpoint in ENDPOINTS}
+BY_PATH = {endpoint.path: endpoint for endpoint in ENDPOINTS if endpoint.kind in (Kind.FIXED, Kind.LINES)}
+BY_PATH |= {path: endpoint for endpoint in ENDPOINTS if endpoint.kind is Kind.FILE for path in PAGE_FILES if path != "/"}
+# Those whose paths have places, by the first word of these; and those of tiles, by what their paths begin with.
+BY_WORD = {endpoint.name: endpoint for endpoint in ENDPOINTS if endpoint.kind is Kind.PLACES}
+TILE = re.compile(r"(/map/roads)/[0-9]{1,2}/[0-9]{1,6}/[0-9]{1,6}")
 
 
 def find_endpoint(path: str) -> Endpoint:
@@ -132,10 +141,10 @@ def find_endpoint(path: str) -> Endpoint:
     if found := BY_PATH.get(path):
         return found
     words = path.split("/", 2)
-    if len(words) == 3 and f"/{words[1]}" in WITH_PLACES:
-        return BY_NAME[f"/{words[1]}"]
-    if TILE.fullmatch(path):
-        return BY_NAME["/map/roads"]
+    if len(words) == 3 and (found := BY_WORD.get(f"/{words[1]}")):
+        return found
+    if tile := TILE.fullmatch(path):
+        return BY_NAME[tile[1]]
     raise RequestError(404, "InvalidUrl", "there is no such path")
 
 
@@ -143,6 +152,19 @@ def endpoint_list() -> list[str]:
     """The lines of the list of endpoints in docs/SERVICE.md."""
     shown = [(each, "?from=NODE&to=NODE" if FROM in (each.parameters or ()) else "") for each in ENDPOINTS if each.path]
     return [f"- `{endpoint.method} {endpoint.path}{query}`: {endpoint.answer}" for endpoint, query in shown]
+
+
+def cost_tables() -> list[str]:
+    """The lines of the tables of costs in docs/SERVICE.md: of endpoints, variables and prices."""
+    rows = ["| Request | Its cost, in units |", "|---|---|"]
+    rows += [f"| `{each.name}` | {shown(each.cost)} |" for each in ENDPOINTS if each.cost]
+    rows += ["", "| Price | of |", "|---|---|", *(f"| `{work.name}` {work.units:,g} | {work.text} |" for work in Work)]
+    return [*rows, "", "| Number | of |", "|---|---|", *(f"| {name} | {text} |" for name, text in costs.VARIABLES.items())]
+
+
+def shown(text: str) -> str:
+    """A formula as the documents show it."""
+    return f"`{text.replace('*', ' ')}`"
 
 
 def parameter_list() -> list[str]:
@@ -159,5 +181,10 @@ def parameter_line(parameter: Parameter[Any]) -> str:
     return f"  - `{parameter.name}`: {parameter.accepted}{refused}" if parameter.accepted else f"  - `{parameter.name}`: refused"
 
 
+def tables() -> Iterator[list[str]]:
+    """The parts of docs/SERVICE.md that this module makes."""
+    yield from (endpoint_list(), parameter_list(), cost_tables())
+
+
 if __name__ == "__main__":
-    print("\n".join([*endpoint_list(), "", *parameter_list()]))
+    print("\n\n".join("\n".join(lines) for lines in tables()))

@@ -12,19 +12,22 @@ import select
 import signal
 import socket
 import time
-from typing import NoReturn
+from typing import Any, NoReturn
 
 import gunicorn
 import gunicorn.arbiter
 from gunicorn.app.base import BaseApplication
+from gunicorn.sock import close_sockets
 
 from domethyme import DomethymeError
 
 from . import VERSION
 from .dataset import DatasetPaths, end_with_parent, open_dataset
 from .errors import StartupError
+from .log_stream import keep_from_blocking
 from .metrics import SharedMetrics
-from .worker import END_SIGNALS, Slots, Worker
+from .slots import Slots
+from .worker import END_SIGNALS, Worker
 from .wsgi import Options, Service
 
 # Seconds after which gunicorn kills a worker that doesn't report, more than an answer may take; and for the service to end.
@@ -35,7 +38,7 @@ M_ARENA_MAX = -8  # (malloc.h)
 FIXED_SETTINGS = {
     "worker_class": "domethyme_service.worker.Worker", "preload_app": True, "threads": 1, "timeout": TIMEOUT,
     "daemon": False, "reload": False, "limit_request_line": 0, "limit_request_fields": 100,
-    "limit_request_field_size": 8190, "max_requests": 0, "reuse_port": False,
+    "limit_request_field_size": 8190, "max_requests": 0, "reuse_port": False, "secure_scheme_headers": {},
 }
 log = logging.getLogger("domethyme_service")
 
@@ -54,7 +57,7 @@ class Application(BaseApplication):  # type: ignore[misc] # (gunicorn has no typ
         self.workers, self.has_probe, self.log_places = workers + has_probe, has_probe, log_places
         versions = {"version": VERSION, "python": platform.python_version(), "gunicorn": gunicorn.__version__}
         self.metrics = SharedMetrics(1 + MAX_GENERATIONS * self.workers, versions)
-        self.slots = Slots(workers // 2)
+        self.slots = Slots(workers)
         self.generation = 0
         # (gunicorn would block on a socket that nobody reads)
         self.notify_socket = os.environ.pop("NOTIFY_SOCKET", "")
@@ -68,9 +71,7 @@ class Application(BaseApplication):  # type: ignore[misc] # (gunicorn has no typ
         for name, value in vars(self.cfg.parser().parse_args(self.cfg.get_cmd_args_from_env())).items():
             if value is not None and name != "args":
                 self.cfg.set(name, value)
-        # (gunicorn's default of pre_request logs the path)
-        hooks = {"pre_request": lambda _worker, _request: None, "post_request": Worker.record}
-        hooks |= {hook.__name__: hook for hook in (pre_fork, child_exit, when_ready)}
+        hooks = {hook.__name__: hook for hook in (pre_fork, child_exit, when_ready)}
         for name, value in {**FIXED_SETTINGS, **hooks, "bind": self.bind, "workers": self.workers}.items():
             self.cfg.set(name, value)
         # (a request reads some twenty: as attributes they take a tenth of the time)
@@ -82,8 +83,16 @@ class Application(BaseApplication):  # type: ignore[misc] # (gunicorn has no typ
 
     def run(self) -> None:
         """Runs the service; ends the process. Raises StartupError or a DomethymeError if it can't start."""
+        if stream := keep_from_blocking():
+            stream.on_lost = self.count_lost
         log.parent = logging.getLogger("gunicorn.error")
+        access_log = logging.getLogger("domethyme_service.access")
+        access_log.addHandler(logging.StreamHandler())
+        access_log.propagate = False
         Arbiter(self).run()
+
+    def count_lost(self, lines: int) -> None:
+        self.metrics.own.log_lines_lost_total += lines
 
 
 class Arbiter(gunicorn.arbiter.Arbiter):  # type: ignore[misc] # (gunicorn has no types)
@@ -92,9 +101,10 @@ class Arbiter(gunicorn.arbiter.Arbiter):  # type: ignore[misc] # (gunicorn has n
     app: Application
     # The pipe to which a child that opens the files writes `ready STAMP`, or the error.
     trial: int | None = None
-    wants_reload = is_opening = False
+    wants_reload = is_opening = has_failed = False
     # Unfinished reloads, and the workers of replaced files: a reload is finished when none of these accepts connections.
     pending_reloads, old_workers = 0, list[Worker]()
+    LISTENERS: list[Any]
 
     def setup(self, app: Application) -> None:
         """Prepares the memory for the fork, too: returns what is free, collects none of it, and has one arena of malloc."""
@@ -114,15 +124,29 @@ class Arbiter(gunicorn.arbiter.Arbiter):  # type: ignore[misc] # (gunicorn has n
             raise LoadInterrupted
 
     def handle_hup(self) -> None:
-        """Has a child open the files. A signal that comes meanwhile repeats that afterwards."""
+        """Has the files opened. A signal that comes meanwhile repeats that afterwards."""
         log.info("reload: the files are read again%s", "" if self.trial is None else " once the reload under way has ended")
-        if self.trial is not None:
+        if self.trial is None:
+            self.start_trial()
+        else:
             self.wants_reload = True
-            return
-        self.trial, writes = os.pipe()
-        if not os.fork():
-            run_trial(self.app, writes)
-        os.close(writes)
+
+    def start_trial(self) -> None:
+        """Has a child open the files; tries again in a second if the kernel refuses one."""
+        try:
+            self.trial, writes = os.pipe()
+            with contextlib.closing(os.fdopen(writes, "wb", buffering=0)):
+                if not os.fork():
+                    run_trial(self.app, writes)
+        except OSError as error:
+            if self.trial is not None:
+                os.close(self.trial)
+            self.trial = None
+            if not self.wants_reload:
+                self.refuse_reload(f"{error.strerror}: it is tried again")
+            self.wants_reload = True
+        else:
+            self.wants_reload = False
 
     def handle_ttou(self) -> None:
         """Ends a worker, but not the last one that isn't for probes."""
@@ -133,10 +157,17 @@ class Arbiter(gunicorn.arbiter.Arbiter):  # type: ignore[misc] # (gunicorn has n
         log.error("SIGUSR2 is not supported: SIGHUP reads the files again, and a restart takes another version")
 
     def manage_workers(self) -> None:
-        """Checks on the workers, a trial, and an unfinished reload."""
+        """Checks on the workers, a trial, and an unfinished reload. Each worker of the files that are served now is there, or is tried
+        again at the next call."""
         if self.trial is not None and select.select([self.trial], [], [], 0)[0]:
             self.end_trial(self.trial)
-        super().manage_workers()
+        if self.trial is None and self.wants_reload:
+            self.start_trial()
+        current = sum(worker.generation == self.app.generation for worker in self.WORKERS.values())
+        while current < self.num_workers and self.spawn_worker():
+            current += 1
+        if current >= self.num_workers:
+            super().manage_workers()
         self.old_workers = [worker for worker in self.old_workers if worker.pid in self.WORKERS]
         if self.pending_reloads and not any(worker.row.workers for worker in self.old_workers):
             self.app.metrics.own.reloads_total += self.pending_reloads
@@ -152,9 +183,6 @@ class Arbiter(gunicorn.arbiter.Arbiter):  # type: ignore[misc] # (gunicorn has n
             self.reload_files(report)
         else:
             self.refuse_reload(report or "the process that opens the files has ended")
-        if self.wants_reload:
-            self.wants_reload = False
-            self.handle_hup()
 
     def reload_files(self, report: str) -> None:
         """Opens the files, which a child has checked against the graph, and replaces the workers."""
@@ -186,12 +214,39 @@ class Arbiter(gunicorn.arbiter.Arbiter):  # type: ignore[misc] # (gunicorn has n
         self.app.metrics.own.last_reload_failed = 1
 
     def spawn_worker(self) -> int:
-        """Forks a worker. Until it handles signals itself those to end it wait: it would take them for the arbiter's."""
+        """Forks a worker; 0 if the kernel refuses one. Until it handles signals itself those to end it wait: it would take them for the
+        arbiter's."""
         signal.pthread_sigmask(signal.SIG_BLOCK, END_SIGNALS)
         try:
-            return int(super().spawn_worker())
+            self.has_failed, pid = False, int(super().spawn_worker())
+            return pid
+        except OSError as error:
+            if not self.has_failed:
+                log.error("can't start a worker: %s: it is tried again", error.strerror)
+            self.has_failed = True
+            return 0
         finally:
             signal.pthread_sigmask(signal.SIG_UNBLOCK, END_SIGNALS)
+
+    def murder_workers(self) -> None:
+        """Ends workers that don't report, by a clock that nobody sets."""
+        for pid, worker in list(self.WORKERS.items()):
+            if time.monotonic() - worker.row.reported > self.timeout:
+                if not worker.aborted:
+                    log.critical("WORKER TIMEOUT (pid:%s)", pid)
+                self.kill_worker(pid, signal.SIGKILL if worker.aborted else signal.SIGABRT)
+                worker.aborted = True
+
+    def stop(self, graceful: bool = True) -> None:
+        """Ends the workers. The path of a unix socket stays, since it may be another service's by now; a start replaces that of a service
+        that has ended."""
+        close_sockets(self.LISTENERS, unlink=False)
+        self.LISTENERS = []
+        self.kill_workers(signal.SIGTERM if graceful else signal.SIGQUIT)
+        end = time.monotonic() + self.cfg.graceful_timeout
+        while self.WORKERS and time.monotonic() < end:
+            time.sleep(0.1)
+        self.kill_workers(signal.SIGKILL)
 
     def kill_worker(self, pid: int, sig: int) -> None:
         """Sends a signal to a worker, to end it; SIGABRT if it doesn't report."""
@@ -208,6 +263,7 @@ def pre_fork(arbiter: Arbiter, worker: Worker) -> None:
     used = {id(other.row) for other in others}
     worker.row = next((row for row in app.metrics.rows[1:] if id(row) not in used), app.metrics.rows[-1])
     worker.slots, worker.log_places, worker.generation = app.slots, app.log_places, app.generation
+    worker.row.reported = time.monotonic()
     if app.has_probe:
         worker.is_probe = not any(other.is_probe and other.generation == app.generation for other in others)
         worker.sockets = [arbiter.LISTENERS[worker.is_probe]]
@@ -215,7 +271,7 @@ def pre_fork(arbiter: Arbiter, worker: Worker) -> None:
 
 def child_exit(arbiter: Arbiter, worker: Worker) -> None:
     """Counts a worker that ended by itself, which the arbiter replaces."""
-    worker.row.process = worker.row.workers = 0
+    worker.row.process = worker.row.workers = worker.row.requests_waiting = 0
     if not worker.is_stopping:
         arbiter.app.metrics.own.worker_restarts_total += 1
         log.error("worker %s has ended: another one is started", worker.pid)

@@ -8,12 +8,12 @@ import numpy as np
 from domethyme.network.groups import Ints
 from domethyme.network.isochrones import METRICS, Shape, Style, features, limits, reach_from
 
-from .endpoints import CONTOURS_COLORS, CONTOURS_METERS, CONTOURS_MINUTES, DENOISE, GENERALIZE, POLYGONS
+from .costs import Work
 from .errors import invalid_query, invalid_value, not_implemented, too_big
 from .json_text import to_json
 from .osrm import Engine, snap_places
 from .osrm_request import Request
-from .parameters import Values
+from .parameters import CONTOURS_COLORS, CONTOURS_METERS, CONTOURS_MINUTES, DENOISE, GENERALIZE, POLYGONS, Values
 
 # Nodes that may be reached. To draw four contours of a million took up to 140 MB and 5 seconds (bench/contours.py).
 MAX_REACHED = 4_000_000
@@ -30,9 +30,11 @@ def answer(engine: Engine, request: Request) -> str:
         found = engine.queries.reach(starts, limit)
         if np.count_nonzero(found >= 0) > MAX_REACHED:
             raise too_big(f"more than {MAX_REACHED:,} nodes are reached: ask for less")
+        engine.meter.spend(Work.CONTOUR, len(weight_limits))
+        engine.meter.spend(Work.DRAWN, sum(np.count_nonzero((0 <= found) & (found <= each)) for each in weight_limits))
         return found
 
-    reach = reach_from(roads, snap_places(roads, request), weight_limits, lengths)
+    reach = reach_from(roads, snap_places(engine, request), weight_limits, lengths)
     shape: Shape = "polygons" if values[POLYGONS] == "true" else "lines"
     style = Style(shape, values[GENERALIZE], values[DENOISE], colors, roads.texts[0])
     return to_json(features(reach, contours, METRICS[roads.unit][0], style))

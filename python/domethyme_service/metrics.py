@@ -14,7 +14,7 @@ import numpy as np
 from .endpoints import ENDPOINTS
 
 BUCKETS = (0.001, 0.0025, 0.005, 0.01, 0.025, 0.05, 0.1, 0.25, 0.5, 1.0, 2.5, 5.0, 10.0, 30.0)
-STATUSES = (200, 204, 400, 403, 404, 405, 408, 413, 415, 421, 500, 503, 504, 505)
+STATUSES = (200, 204, 400, 403, 404, 405, 408, 411, 413, 415, 421, 500, 503, 504, 505)
 ENDPOINT_NAMES = (*(endpoint.name for endpoint in ENDPOINTS), "other")
 PAGE_SIZE = os.sysconf("SC_PAGE_SIZE")
 
@@ -42,15 +42,18 @@ METRICS = (
     Metric(
         "requests_cancelled_total", "counter", "Requests that were ended since they took too long.", "work_stopped_total"
     ),
+    Metric("requests_waiting", "gauge", "Requests that wait for slots."),
+    Metric("log_lines_lost_total", "counter", "Lines for standard error that were lost since nobody read it."),
     Metric("long_requests_refused_total", "counter", "Long requests that were refused since too many were under way."),
 )
 
 
 class Row(ctypes.Structure):
-    """The metrics of one process; and by endpoint its answers by status, by bucket of times, and the sum of times."""
+    """The metrics of one process, its number, and when it reported that it is alive (time.monotonic); and by endpoint its answers by
+    status, by bucket of times, and the sum of times."""
 
     _fields_ = [
-        *((name, ctypes.c_double) for name in ("process", *(metric.name for metric in METRICS))),
+        *((name, ctypes.c_double) for name in ("process", "reported", *(metric.name for metric in METRICS))),
         ("requests", ctypes.c_double * len(STATUSES) * len(ENDPOINT_NAMES)),
         ("buckets", ctypes.c_double * (len(BUCKETS) + 1) * len(ENDPOINT_NAMES)),
         ("seconds", ctypes.c_double * len(ENDPOINT_NAMES)),

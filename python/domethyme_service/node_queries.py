@@ -7,6 +7,7 @@ from collections.abc import Iterator, Sequence
 
 from domethyme.protocol import NO_PATH, RouteReply
 
+from .costs import Work
 from .errors import RequestError, invalid_query, invalid_value, too_big
 from .parameters import Parameter, Values, parse_node
 from .queries import Pair, Queries
@@ -58,6 +59,9 @@ def batch_answer(queries: Queries, has_routes: bool, body: bytes) -> Iterator[by
     """The answers to lines `{"from": S, "to": T}`, in order, a part for each block; too many errors end them."""
     first, errors = 1, 0
     for lines in split_blocks(body):
+        if first > 1:
+            queries.meter.next_block()
+        queries.meter.spend(Work.LINE, len(lines))
         rows: Sequence[Pair | RequestError] | None = parse_pairs_fast(lines, queries.nodes)
         rows = rows or [parse_pair(line, queries) for line in lines]
         error_rows = [row for row, pair in enumerate(rows) if isinstance(pair, RequestError)]

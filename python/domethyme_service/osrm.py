@@ -8,16 +8,18 @@ from typing import NamedTuple
 import numpy as np
 
 from domethyme.network.bearings import BearingRange, nearest_with_bearing
+from domethyme.network.geo import Point
 from domethyme.network.leg_geometry import LegTotals, RouteGeometry, leg_totals
 from domethyme.network.legs import Leg, find_leg
 from domethyme.network.snapping import RoadIndex, SnappedPoint
 
-from .endpoints import ANNOTATIONS, BEARINGS, GENERATE_HINTS, GEOMETRIES, NUMBER, OVERVIEW, RADIUSES, SKIP_WAYPOINTS, STEPS
+from .costs import Meter, Work, things
 from .errors import RequestError
 from .json_text import Json, figure_json, join_array, join_object, string_json, to_json
 from .osrm_geometry import Budget, annotations_json, join_lines, line_json, simplify_lines
 from .osrm_request import Request
 from .osrm_steps import LegSteps, build_steps
+from .parameters import ANNOTATIONS, BEARINGS, GENERATE_HINTS, GEOMETRIES, NUMBER, OVERVIEW, RADIUSES, SKIP_WAYPOINTS, STEPS
 from .queries import Queries
 
 # A place is near the network if it is within this many degrees of the bounding box of its roads.
@@ -27,17 +29,18 @@ SNAP_BATCH = 16
 
 
 class Engine(NamedTuple):
-    """What answers requests. `max_cells` is the limit of a table's cells."""
+    """What answers requests, and counts what they cost. `max_cells` is the limit of a table's cells."""
 
     queries: Queries
     roads: RoadIndex
     max_cells: int
+    meter: Meter
 
 
 def nearest(engine: Engine, request: Request) -> str:
     """The nearest points of roads, with the OpenStreetMap ids of the nodes at the ends of their edges; 0 is none."""
     roads = engine.roads
-    points = snap_candidates(roads, request, 0, request.values[NUMBER])
+    points = snap_candidates(engine, request, 0, request.values[NUMBER])
     if not points:
         raise no_segment_error(roads, request, 0)
     arcs = [next(iter(roads.edge(snapped.edge).arcs.values())) for snapped in points]
@@ -46,31 +49,35 @@ def nearest(engine: Engine, request: Request) -> str:
     return to_json({"code": "Ok", "waypoints": found})
 
 
-def snap_candidates(roads: RoadIndex, request: Request, number: int, count: int) -> list[SnappedPoint]:
+def snap_candidates(engine: Engine, request: Request, number: int, count: int) -> list[SnappedPoint]:
     """The nearest points of roads to a place, within its radius and its bearing."""
     place, radius, bearing = request.places[number], request.values[RADIUSES][number], request.values[BEARINGS][number]
+    engine.meter.spend(Work.PLACE, count)
     if bearing is None:
-        snapped_points = roads.nearest(place, count)
-    else:
-        snapped_points = nearest_with_bearing(roads, place, count, BearingRange(*bearing), radius)
-    return [snapped for snapped in snapped_points if snapped.metres <= radius]
+        return engine.roads.nearest(place, count, within=radius)
+    return nearest_with_bearing(engine.roads, place, count, BearingRange(*bearing), radius)
 
 
-def snap_places(roads: RoadIndex, request: Request) -> list[SnappedPoint]:
+def snap_places(engine: Engine, request: Request) -> list[SnappedPoint]:
     """The nearest point of a road to each place. Raises RequestError if there is none within a place's radius."""
-    places, radiuses, bearings = request.places, request.values[RADIUSES], request.values[BEARINGS]
+    places, radiuses = request.places, request.values[RADIUSES]
     points: Iterable[SnappedPoint | None]
-    if any(bearings):
-        points = (next(iter(snap_candidates(roads, request, number, 1)), None) for number in range(len(places)))
+    if any(request.values[BEARINGS]):
+        points = (next(iter(snap_candidates(engine, request, number, 1)), None) for number in range(len(places)))
     else:
-        parts = (places[begin : begin + SNAP_BATCH] for begin in range(0, len(places), SNAP_BATCH))
-        points = itertools.chain.from_iterable(map(roads.nearest_batch, parts))
+        parts = (slice(begin, begin + SNAP_BATCH) for begin in range(0, len(places), SNAP_BATCH))
+        points = itertools.chain.from_iterable(snap_part(engine, places[part], radiuses[part]) for part in parts)
     found: list[SnappedPoint] = []
-    for snapped, radius in zip(points, radiuses):
-        if snapped is None or snapped.metres > radius:
-            raise no_segment_error(roads, request, len(found))
+    for snapped in points:
+        if snapped is None:
+            raise no_segment_error(engine.roads, request, len(found))
         found.append(snapped)
     return found
+
+
+def snap_part(engine: Engine, places: Sequence[Point], radiuses: Sequence[float]) -> Iterable[SnappedPoint | None]:
+    engine.meter.spend(Work.PLACE, len(places))
+    return engine.roads.nearest_within(places, radiuses)
 
 
 def no_segment_error(roads: RoadIndex, request: Request, number: int) -> RequestError:
@@ -107,7 +114,8 @@ def waypoints(request: Request, **points: Sequence[SnappedPoint]) -> dict[str, s
 
 def route(engine: Engine, request: Request) -> str:
     """The route by all places in order, a leg between each two. Raises RequestError if a leg has no path."""
-    roads, points, budget, legs = engine.roads, snap_places(engine.roads, request), Budget(), list[Leg]()
+    roads, points, legs = engine.roads, snap_places(engine, request), list[Leg]()
+    budget = Budget(engine.meter, things(request.values))
     for start, end in itertools.pairwise(points):
         leg = find_leg(engine.queries.between, roads, start, end)
         if leg is None:

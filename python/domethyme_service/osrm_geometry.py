@@ -13,6 +13,7 @@ from domethyme.network.leg_geometry import MICRODEGREES, RouteGeometry
 from domethyme.network.parallel import differs_from_previous
 from domethyme.network.polyline import encode_polylines
 
+from .costs import Meter, Work
 from .errors import too_big
 from .json_text import Texts, decimal_texts, join_object, number_texts, point_texts, string_json
 
@@ -29,11 +30,14 @@ DECIMALS = 3
 class Budget:
     """What is left of the points of an answer, so that none is larger than a process can hold."""
 
-    def __init__(self) -> None:
+    def __init__(self, meter: Meter, things: int) -> None:
+        """`things` are what is made of each point (costs)."""
         self.points, self.examined, self.examined_by_geos = MAX_POINTS, MAX_EXAMINED, MAX_GEOS_EXAMINED
+        self.meter, self.things = meter, things
 
     def spend(self, points: int) -> None:
         """Subtracts points of the answer. Raises RequestError if fewer are left."""
+        self.meter.spend(Work.POINT, points * self.things)
         self.points -= points
         if self.points < 0:
             raise too_big(f"the answer has more than {MAX_POINTS} points: ask for fewer places, or overview=false")

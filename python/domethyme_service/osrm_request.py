@@ -3,20 +3,20 @@ unsupported parameter that would change the answer is an error, never ignored.""
 import re
 import urllib.parse
 from collections.abc import Mapping, Sequence
-from typing import NamedTuple
+from typing import TYPE_CHECKING, NamedTuple
 
 from domethyme.network.geo import Point
 from domethyme.network.polyline import decode_polyline
 
-from .endpoints import BY_NAME
 from .errors import RequestError, invalid_query, invalid_value, too_big
 from .parameters import Context, Values
+
+if TYPE_CHECKING:
+    from .endpoints import Endpoint
 
 DEGREES = re.compile(r"[-+]?(?:[0-9]{1,3}(?:\.[0-9]{0,20})?|\.[0-9]{1,20})(?:[eE][-+]?[0-9]{1,2})?")
 PROFILE = re.compile("[A-Za-z0-9_.-]{1,64}")
 POLYLINE = re.compile(r"polyline(6?)\((.*)\)", re.DOTALL)
-# Places of a request of each service.
-MAX_PLACES = {"route": 500, "nearest": 1, "table": 2000, "isochrone": 1}
 
 
 class Request(NamedTuple):
@@ -27,13 +27,13 @@ class Request(NamedTuple):
     values: Values
 
 
-def parse_request(path: str, query: Mapping[str, str], default_radius: float, profiles: Sequence[str] = ()) -> Request:
+def parse_request(
+    endpoint: "Endpoint", path: str, query: Mapping[str, str], default_radius: float, profiles: Sequence[str] = ()
+) -> Request:
     """The request of a path `/SERVICE/v1/PROFILE/PLACES`, percent-encoded, where an isochrone's PROFILE may have two
     words, with the metres to a road of a place without a radius. The last word is one of `profiles`, if there are any. Raises
     RequestError."""
-    service = path.split("/")[1]
-    if service not in MAX_PLACES:
-        raise RequestError(400, "InvalidService", f"the service {service} isn't supported")
+    service = endpoint.name[1:]
     is_isochrone = service == "isochrone"
     words = path.split("/", -1 if is_isochrone else 4)
     form = "/isochrone/v1/PROFILE/PLACE" if is_isochrone else "/SERVICE/v1/PROFILE/PLACES"
@@ -44,18 +44,18 @@ def parse_request(path: str, query: Mapping[str, str], default_radius: float, pr
         raise RequestError(400, "InvalidUrl", f"the path is {form}{hint}")
     if profiles and words[-2] not in profiles:
         raise invalid_value(f"PROFILE has to be one of {', '.join(profiles)}")
-    places = parse_coordinates(words[-1], service)
-    return Request(service, places, BY_NAME[f"/{service}"].values(query, Context(len(places), default_radius)))
+    places = parse_coordinates(words[-1], endpoint.places)
+    return Request(service, places, endpoint.values(query, Context(len(places), default_radius)))
 
 
-def parse_coordinates(text: str, service: str) -> list[Point]:
-    """The places of `LON,LAT;..`, `polyline(..)` or `polyline6(..)`. Raises RequestError."""
+def parse_coordinates(text: str, counts: range) -> list[Point]:
+    """The places of `LON,LAT;..`, `polyline(..)` or `polyline6(..)`, of which there may be so many. Raises RequestError."""
     try:
         decoded = urllib.parse.unquote(text, errors="strict").removesuffix(".json")
         if found := POLYLINE.fullmatch(decoded):
             places = decode_polyline(found[2], 6 if found[1] else 5)
         else:
-            places = [parse_coordinate(word) for word in decoded.split(";")[: MAX_PLACES["table"] + 1]]
+            places = [parse_coordinate(word) for word in decoded.split(";", counts.stop)[: counts.stop]]
     except ValueError:
         raise invalid_query("places are LON,LAT;LON,LAT;.. or polyline(..)") from None
     for number, (lon, lat) in enumerate(places):
@@ -63,9 +63,9 @@ def parse_coordinates(text: str, service: str) -> list[Point]:
             hint = "; is it LAT,LON?" if abs(lon) <= 90 and abs(lat) <= 180 else ""
             order = "longitude first, from -180 to 180, then latitude, from -90 to 90"
             raise invalid_value(f"place {number} is {lon:g},{lat:g}: {order}{hint}")
-    if 1 < MAX_PLACES[service] < len(places):
-        raise too_big(f"there may be {MAX_PLACES[service]} places")
-    if MAX_PLACES[service] == 1 and len(places) != 1 or service == "route" and len(places) < 2 or not places:
+    if len(counts) > 1 and len(places) >= counts.stop:
+        raise too_big(f"there may be {counts.stop - 1} places")
+    if len(places) not in counts:
         raise invalid_query("nearest and isochrone have one place, route two or more, table one or more")
     return places
 

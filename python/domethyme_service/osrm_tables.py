@@ -1,5 +1,6 @@
 """Tables of durations and distances between points on roads. Weights come of the library's tables, which are proved
 (domethyme.network.leg_tables); other values are sums along routes, with a query for each cell."""
+import collections
 from collections.abc import Iterator, Sequence
 
 import numpy as np
@@ -12,11 +13,12 @@ from domethyme.network.snapping import SnappedPoint
 from domethyme.network.sphere import great_circle_metres, unit_vectors
 from domethyme.protocol import NO_PATH
 
-from .endpoints import DESTINATIONS, FALLBACK_COORDINATE, FALLBACK_SPEED, SCALE_FACTOR, SOURCES, TABLE_ANNOTATIONS
+from .costs import Work
 from .errors import not_implemented, too_big
 from .json_text import decimal_texts, join_array, join_object, to_json
 from .osrm import Engine, snap_places, waypoints
 from .osrm_request import Request
+from .parameters import DESTINATIONS, FALLBACK_COORDINATE, FALLBACK_SPEED, SCALE_FACTOR, SOURCES, TABLE_ANNOTATIONS
 
 # Cells of a table that needs routes.
 MAX_ROUTED_CELLS = 10_000
@@ -41,11 +43,13 @@ def table(engine: Engine, request: Request) -> str:
     if needs_routes and cells > MAX_ROUTED_CELLS:
         why = f"unless it is of annotations={roads.unit} or weight alone"
         raise too_big(f"a table may have {MAX_ROUTED_CELLS} cells, {why}")
-    points = snap_places(roads, request)
-    starts, ends = ([points[number] for number in side] for side in (sources, destinations))
+    points = snap_places(engine, request)
+    # (what is named twice is computed once)
+    starts, ends = ([points[number] for number in dict.fromkeys(side)] for side in (sources, destinations))
     rows = (routed_rows if needs_routes else rows_of_weights)(engine, names, starts, ends)
-    members = table_members(request, roads.unit, points, rows)
-    return join_object({"code": '"Ok"', **members, **waypoints(request, sources=starts, destinations=ends)})
+    members = table_members(engine, request, points, rows)
+    sides = {name: [points[number] for number in values[side]] for name, side in (("sources", SOURCES), ("destinations", DESTINATIONS))}
+    return join_object({"code": '"Ok"', **members, **waypoints(request, **sides)})
 
 
 def rows_of_weights(
@@ -69,27 +73,40 @@ def routed_rows(
         yield {name: columns[name].reshape(1, -1) for name in names}
 
 
-def table_members(request: Request, unit: str, points: list[SnappedPoint], rows: Iterator[Rows]) -> dict[str, str]:
-    """The members of the answer, from the rows of the values by name."""
-    values = request.values
-    sources, scale, speed = values[SOURCES], values.get(SCALE_FACTOR), values.get(FALLBACK_SPEED)
+def table_members(engine: Engine, request: Request, points: list[SnappedPoint], rows: Iterator[Rows]) -> dict[str, str]:
+    """The members of the answer, from the rows of the values by name, of each source and to each destination once."""
+    values, unit = request.values, engine.roads.unit
+    sources, destinations, scale, speed = values[SOURCES], values[DESTINATIONS], values.get(SCALE_FACTOR), values.get(FALLBACK_SPEED)
+    origins, times = [*dict.fromkeys(sources)], collections.Counter[int](sources)
+    row_of = {number: row for row, number in enumerate(origins)}
+    column_of = {number: column for column, number in enumerate(dict.fromkeys(destinations))}
+    columns = [column_of[number] for number in destinations]
     is_snapped = values[FALLBACK_COORDINATE] == "snapped"
     places = np.array([(point.lon, point.lat) for point in points] if is_snapped else request.places)
     texts: dict[str, list[str]] = {name: [] for name in values[TABLE_ANNOTATIONS]}
-    fallback_cells, done = list[tuple[int, int]](), 0
-    for some in rows:
-        count = len(next(iter(some.values())))
+    fallback_columns, done = collections.defaultdict[int, list[int]](list), 0
+    for part in rows:
+        count = len(next(iter(part.values())))
+        froms = origins[done : done + count]
+        engine.meter.spend(Work.CELL, count * len(columns))
+        some = {name: each[:, columns] for name, each in part.items()}
         if speed is not None:
-            cells = fill_fallback(some, unit, speed, places[sources[done : done + count]], places[values[DESTINATIONS]])
-            fallback_cells += [(done + row, column) for row, column in cells]
+            for row, column in fill_fallback(some, unit, speed, places[froms], places[destinations]):
+                fallback_columns[froms[row]].append(column)
         if scale is not None and "duration" in some:
             some["duration"] *= scale
         for name, each in some.items():
             found = decimal_texts(each.ravel(), DIGITS[unit if name == "weight" else name])
-            texts[name] += [found.array(begin, begin + each.shape[1]) for begin in range(0, each.size, each.shape[1])]
+            shown = [found.array(begin, begin + each.shape[1]) for begin in range(0, each.size, each.shape[1])]
+            engine.meter.spend(Work.BYTE, sum(len(text) * times[source] for text, source in zip(shown, froms)))
+            texts[name] += shown
         done += count
-    members = {f"{name}s": join_array(texts[name]) for name in ("duration", "distance", "weight") if name in texts}
-    return members if speed is None else {**members, "fallback_speed_cells": to_json(fallback_cells)}
+    members = {
+        f"{name}s": join_array(texts[name][row_of[source]] for source in sources)
+        for name in ("duration", "distance", "weight") if name in texts
+    }
+    cells = [(number, column) for number, source in enumerate(sources) for column in fallback_columns[source]]
+    return members if speed is None else {**members, "fallback_speed_cells": to_json(cells)}
 
 
 def fill_fallback(rows: Rows, unit: str, speed: float, starts: Floats, ends: Floats) -> list[tuple[int, int]]:

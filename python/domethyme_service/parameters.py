@@ -1,4 +1,5 @@
-"""Kinds of parameters: how the text of each becomes a value, what is rejected, and how the documents describe it."""
+"""The parameters of requests: how the text of each becomes a value, what is rejected, and how the documents describe it. First
+their kinds, and then the parameters themselves, which the table of endpoints lists (endpoints)."""
 import itertools
 import re
 from collections.abc import Callable, Mapping, Sequence
@@ -12,7 +13,7 @@ BEARING = re.compile(r"([0-9]{1,3}),([0-9]{1,3})")
 INDEX = re.compile("[0-9]{1,4}")
 NODE = re.compile("[0-9]{1,10}")
 COUNT = re.compile("[0-9]{1,3}")
-NUMBER = re.compile(r"[0-9]{1,9}(?:\.[0-9]{1,20})?")
+DECIMAL = re.compile(r"[0-9]{1,9}(?:\.[0-9]{1,20})?")
 COLOR = re.compile("[0-9A-Fa-f]{6}")
 MAX_CONTOURS = 4
 
@@ -31,12 +32,14 @@ Parse = Callable[[str, Context], T]
 
 class Parameter(Generic[T]):
     """A parameter. `invalid` is the message for an invalid text, after the name; `default` the text of a missing one.
-    `accepted` and `rejected` are its line in docs/SERVICE.md; rejected values are those of OSRM that get NotImplemented."""
+    `accepted` and `rejected` are its line in docs/SERVICE.md; rejected values are those of OSRM that get NotImplemented. `words` are
+    all texts that it may have, () for any number."""
 
     def __init__(
-        self, name: str, accepted: str, parse: Parse[T], invalid: str = "", default: str | None = None, rejected: str = ""
+        self, name: str, accepted: str, parse: Parse[T], invalid: str = "", default: str | None = None, rejected: str = "",
+        words: Sequence[str] = ()
     ) -> None:
-        self.name, self.accepted, self.rejected = name, accepted, rejected
+        self.name, self.accepted, self.rejected, self.words = name, accepted, rejected, words
         self.parse, self.invalid, self.default = parse, invalid, default
 
     def value(self, text: str, context: Context) -> T:
@@ -60,7 +63,8 @@ def choice(name: str, *words: str, rejected: Sequence[str] = (), message: str = 
         return text
 
     lists = [", ".join(f"`{word}`" for word in some) for some in (words, rejected)]
-    return Parameter(name, lists[0], parse, f"has to be one of {', '.join((*words, *rejected))}", words[0], lists[1])
+    invalid = f"has to be one of {', '.join((*words, *rejected))}"
+    return Parameter(name, lists[0], parse, invalid, words[0], lists[1], words)
 
 
 def any_text(name: str, accepted: str = "any, not used") -> Parameter[str]:
@@ -78,7 +82,7 @@ def unsupported(name: str, allowed: str = "") -> Parameter[None]:
 
 def number_range(name: str, high: float, accepted: str) -> Parameter[float]:
     """A number from 0 to `high`, 0 without the parameter."""
-    parse = parse_number(NUMBER, float, lambda number: number <= high)
+    parse = parse_number(DECIMAL, float, lambda number: number <= high)
     return Parameter(name, f"{accepted}; 0 without it", parse, f"is a number from 0 to {high:,g}", "0")
 
 
@@ -86,7 +90,7 @@ def contours(name: str, high: int, condition: str) -> Parameter[list[float]]:
     """Numbers above 0 to `high` that rise."""
     def parse(text: str, _context: Context) -> list[float]:
         words = text.split(",")
-        require(len(words) <= MAX_CONTOURS and all(map(NUMBER.fullmatch, words)))
+        require(len(words) <= MAX_CONTOURS and all(map(DECIMAL.fullmatch, words)))
         values = [float(word) for word in words]
         require(values[-1] <= high and all(low < value for low, value in itertools.pairwise([0.0, *values])))
         return [int(value) if value.is_integer() else value for value in values]
@@ -189,3 +193,57 @@ def parse_node(text: object, name: str, nodes: int) -> int:
     if not NODE.fullmatch(digits) or not 1 <= int(digits) <= nodes:
         raise invalid_value(f"{name} has to be a node from 1 to {nodes}")
     return int(digits)
+
+
+UNSUPPORTED_VALUES = "snapping=any and flatbuffers aren't supported"
+RADIUSES = Parameter(
+    "radiuses", "for each place metres, `unlimited`, or nothing for that of `--radius`",
+    per_place(parse_radius, "there has to be a radius for each place"), "are metres, or unlimited", "",
+)
+BEARINGS = Parameter(
+    "bearings", "for each place `DEGREES,RANGE`, from north, clockwise, to 360 and 180, or nothing",
+    per_place(parse_bearing, "there has to be a bearing for each place, or nothing between semicolons"),
+    "are DEGREES,RANGE, from 0 to 360 and from 0 to 180", "",
+)
+FALLBACK_SPEED, SCALE_FACTOR = [
+    Parameter(name, "a number above 0", parse_number(METRES, float, lambda number: number > 0), "is a number above 0")
+    for name in ("fallback_speed", "scale_factor")
+]
+FALLBACK_COORDINATE = choice("fallback_coordinate", "input", "snapped")
+GENERATE_HINTS, SKIP_WAYPOINTS = choice("generate_hints", "true", "false"), choice("skip_waypoints", "false", "true")
+OVERVIEW = choice("overview", "simplified", "full", "false")
+GEOMETRIES = choice("geometries", "polyline", "polyline6", "geojson")
+STEPS, POLYGONS = choice("steps", "false", "true"), choice("polygons", "false", "true")
+ANNOTATIONS = annotations(("duration", "weight", "distance", "datasources", "speed", "nodes"), "false")
+TABLE_ANNOTATIONS = annotations(("duration", "distance", "weight"), "duration", is_list_only=True)
+NUMBER = Parameter(
+    "number", "1 to 100; 1 without it", parse_number(INDEX, int, lambda number: 1 <= number <= 100), "is from 1 to 100", "1"
+)
+SOURCES, DESTINATIONS = [
+    Parameter(name, "`all`, or numbers of places, from 0", parse_indices, "are numbers of places, from 0", "all")
+    for name in ("sources", "destinations")
+]
+ALTERNATIVES = Parameter(
+    "alternatives", "`false`, `true` or a number; the answer has one route always", parse_alternatives,
+    "is true, false or a number",
+)
+CONTINUE_STRAIGHT = Parameter(
+    "continue_straight", "`default`, `false`, and `true` for two places", parse_continue_straight,
+    "is default, true or false", rejected="`true` for more",
+)
+CONTOURS_MINUTES = contours("contours_minutes", 600, ", if weights are times")
+CONTOURS_METERS = contours("contours_meters", 1_000_000, ", if weights are lengths")
+CONTOURS_COLORS = Parameter(
+    "contours_colors", "six hexadecimal digits for each contour; without it four that differ for the colour-blind",
+    parse_colors, "are six hexadecimal digits each",
+)
+GENERALIZE = number_range("generalize", 1e6, "metres by which contours are simplified")
+DENOISE = number_range("denoise", 1, "0 to 1: parts and holes smaller than this share of the largest part go")
+FROM, TO, FROM_KEY, TO_KEY = node("from"), node("to"), any_text("from_key", ""), any_text("to_key", "")
+
+# The parameters of all of OSRM's services.
+COMMON: tuple[Parameter[Any], ...] = (
+    RADIUSES, any_text("hints"), GENERATE_HINTS, SKIP_WAYPOINTS, BEARINGS, unsupported("approaches", "unrestricted"),
+    unsupported("exclude"), choice("snapping", "default", rejected=["any"], message=UNSUPPORTED_VALUES),
+    choice("format", "json", rejected=["flatbuffers"], message=UNSUPPORTED_VALUES),
+)

@@ -2,6 +2,7 @@
 import functools
 import json
 from collections.abc import Sequence
+from typing import TYPE_CHECKING
 
 import numpy as np
 
@@ -12,8 +13,11 @@ from domethyme.network.net_file import MappedNetwork
 from domethyme.protocol import RouteReply
 from domethyme.router import Router
 
+from .costs import Meter, Work, selected_links
 from .errors import invalid_value, not_implemented
-from .metrics import SharedMetrics
+
+if TYPE_CHECKING:
+    from .metrics import SharedMetrics
 
 Pair = tuple[int, int]
 # Keys whose JSON is kept.
@@ -48,14 +52,23 @@ class NodeKeys:
 
 
 class Queries:
-    """A router whose queries are counted. All methods raise OutOfMemory, and HierarchyError if the file is of no graph."""
+    """A router whose queries are counted, and what they cost. All methods raise OutOfMemory, HierarchyError if the file is of no
+    graph, and what the meter raises."""
 
-    def __init__(self, router: Router, links: int, metrics: SharedMetrics, keys: NodeKeys = NodeKeys()) -> None:
+    def __init__(
+        self, router: Router, links: int, metrics: "SharedMetrics", meter: Meter, keys: NodeKeys = NodeKeys()
+    ) -> None:
         self.router, self.nodes, self.links, self._metrics, self.keys = router, router.nodes, links, metrics, keys
+        self.meter = meter
+
+    def _count(self, queries: int, work: Work, count: float) -> None:
+        """Counts queries, and what they are about to cost."""
+        self._metrics.own.queries_total += queries
+        self.meter.spend(work, count)
 
     def length(self, source: int, target: int) -> int | None:
         """The length of a shortest path, None if there is no path."""
-        self._metrics.own.queries_total += 1
+        self._count(1, Work.PAIR, 1)
         return self.router.length(source - 1, target - 1)
 
     def route(self, source: int, target: int) -> RouteReply | None:
@@ -65,16 +78,17 @@ class Queries:
     def between(self, exits: SnapEnds, entries: SnapEnds) -> RouteReply | None:
         """A shortest path from one of several nodes to one of several, with the weights of both ends added; or None. The nodes
         that are given count from 0."""
-        self._metrics.own.queries_total += 1
+        self._count(1, Work.PAIR, 1)
         sides = [[(node, side[node][0]) for node in sorted(side)] for side in (exits, entries)]
         found = self.router.between(sides[0], sides[1])
         if found is None:
             return None
+        self.meter.spend(Work.NODE, len(found.nodes))
         return RouteReply(found.source + 1, found.target + 1, found.length, tuple([node + 1 for node in found.nodes]))
 
     def reach(self, starts: Sequence[tuple[int, int]], limit: int) -> Ints:
         """The least length of each node from the nearest of several, from 0, each with what is added there; or NO_PATH."""
-        self._metrics.own.queries_total += 1
+        self._count(1, Work.REACH, self.nodes)
         try:
             return batch.reach(self.router, starts, limit)
         except LibraryNotFound as error:
@@ -82,16 +96,16 @@ class Queries:
 
     def lengths(self, pairs: Sequence[Pair]) -> list[int]:
         """The length of a shortest path of each pair, NO_PATH if there is none."""
+        self._count(len(pairs), Work.PAIR, len(pairs))
         found: list[int] = batch.lengths(self.router, np.array(pairs, np.int64).reshape(-1, 2) - 1).tolist()
-        self._metrics.own.queries_total += len(pairs)
         return found
 
     def table(self, sources: Ints, targets: Ints) -> Ints:
         """The length of a shortest path from each source to each target, NO_PATH if there is none: a new array with a row
         for each source. Here nodes are numbered from 0. More rows to the same targets take less time. A row is a query."""
+        self._count(len(sources), Work.ROW, len(sources) * (1 + selected_links(self.nodes, self.links, len(targets)) / 10_000))
         rows, columns = (np.ascontiguousarray(nodes, np.uint32) for nodes in (sources, targets))
         out = np.empty((len(rows), len(columns)), np.int64)
         with self.router.searcher() as searcher:
             searcher.table(rows, columns, out)
-        self._metrics.own.queries_total += len(sources)
         return out

@@ -27,12 +27,15 @@ NAME_COLUMN = TEXTS.index("name")
 class Tiles:
     def __init__(self, arrays: MappedNetwork) -> None:
         self.arrays = arrays
+        # (made once: a file that is written in place would show in it)
+        self.about_json = json.dumps({**self.about, "unit": arrays.unit}, ensure_ascii=False).encode("utf-8", "replace")
         self.tile = functools.lru_cache(TILE_CACHE_SIZE)(self._tile)
 
     @functools.cached_property
     def about(self) -> dict[str, Any]:
         """The bounding box of the roads, whose east may be beyond 180 degrees; the attribution that the data's licence
-        requires; the greatest zoom and the extent of tiles; and a version that changes with the network."""
+        requires; the greatest zoom and the extent of tiles; and a version that changes with the network. `about_json` is the
+        same as JSON, with the unit of weights."""
         return {
             "box": self.arrays.box,
             "attribution": self.arrays.texts[0],
@@ -40,11 +43,6 @@ class Tiles:
             "grid": EXTENT,
             "version": f"{self.arrays.file.sum:08x}",
         }
-
-    @property
-    def about_json(self) -> bytes:
-        """The same as JSON, with the unit of weights."""
-        return json.dumps({**self.about, "unit": self.arrays.unit}, ensure_ascii=False).encode("utf-8", "replace")
 
     def read(self, path: str) -> bytes:
         """The tile of a path `/map/roads/ZOOM/X/Y` as JSON. Raises RequestError."""

@@ -1,14 +1,15 @@
-"""A sync worker of gunicorn that doesn't block on slow clients: it reads a request once its head has arrived, and answers a long
-one once a slot is free. It ends an answer that takes too long, counts and logs requests, and reports HTTP errors as JSON."""
-import collections
+"""A sync worker of gunicorn that doesn't block on slow clients: it reads a request once its head has arrived, and answers it once the
+slots that it needs are free. It ends an answer that takes too long, counts and logs requests, and reports HTTP errors as JSON."""
 import contextlib
+import dataclasses
 import datetime
 import enum
-import fcntl
 import json
 import logging
+import math
 import os
 import re
+import resource
 import select
 import signal
 import socket
@@ -16,28 +17,31 @@ import time
 from collections.abc import Iterable, Iterator
 from typing import Any, NamedTuple
 
-from gunicorn.http import RequestParser
+from gunicorn.http import RequestParser, wsgi
 from gunicorn.http.errors import NoMoreData
 from gunicorn.workers.sync import SyncWorker
 
+from .costs import NeedsSlot
 from .dataset import end_with_parent
 from .errors import RequestError, malformed
+from .handlers import JSON, Environ
 from .metrics import Row
-from .wsgi import JSON, STATUS_LINES, Environ, Service, StartResponse
+from .slots import Client, Slots, client_of
+from .wsgi import STATUS_LINES, Service, StartResponse
 
-# Seconds for a head and a short body to arrive, for an answer, and for the answer to a long request or a block of a batch.
+# Seconds for a head and a short body to arrive. Those for an answer, for one to a long request, or for a block of a batch, are a net: an
+# answer ends by what it costs (costs) long before.
 HEAD_SECONDS, ANSWER_SECONDS, LONG_SECONDS = 10.0, 10.0, 25.0
-# Seconds for which a long request waits for a slot, and between two tries.
-SLOT_SECONDS, SLOT_POLL_SECONDS = 5.0, 0.05
+# Seconds for which a request waits for slots, and between two tries.
+SLOT_SECONDS, SLOT_POLL_SECONDS = 5.0, 0.01
 # Seconds for connections to send their heads when the worker ends, and to close after an answer.
 DRAIN_SECONDS, LINGER_SECONDS = 1.0, 2.0
 # Seconds to wait for the head of a new connection before others are served.
 FIRST_WAIT_SECONDS = 0.002
-# Bytes of a head and of its first line; and of a body, a path (25 places have some 500) and a target of a request that isn't
-# a long one.
-MAX_HEAD, MAX_LINE, SHORT_BODY, SHORT_PATH, SHORT_TARGET = 1 << 17, 65_600, 2048, 512, 4096
-# Connections of a worker that may wait for their heads.
-MAX_WAITING = 500
+# Bytes of a head and of its first line; and of a body that is read with its head.
+MAX_HEAD, MAX_LINE, SHORT_BODY = 1 << 17, 65_600, 2048
+# Connections of a worker that may wait for their heads; and requests that may wait for slots, half of them of one client.
+MAX_WAITING, MAX_QUEUE = min(500, resource.getrlimit(resource.RLIMIT_NOFILE)[0] // 4), 64
 # The control characters that a head may not contain.
 CONTROL_CHARACTERS = bytes([*range(9), 11, 12, *range(14, 32), 127])
 END_SIGNALS = (signal.SIGTERM, signal.SIGINT, signal.SIGQUIT)
@@ -56,14 +60,31 @@ class HeadState(enum.Enum):
     WHOLE, PARTIAL, CLOSED, MALFORMED = range(4)
 
 
-class Connection(NamedTuple):
-    """A socket, the client's address, until when it may wait, its request once it was read, whether that is a long one."""
+class Answer(NamedTuple):
+    """An answer that is written: gunicorn's response, WSGI's environ, the blocks of the body that are left, and whether each of these is
+    written in a turn of its own."""
+
+    response: Any
+    environ: Environ
+    blocks: Iterator[bytes]
+    is_in_blocks: bool
+
+
+@dataclasses.dataclass(eq=False)
+class Connection:
+    """A socket, the address of its other end, and until when it may wait. Once its request was read: that, whose it is, and whether it is
+    a long one. Once it is answered: when that began, WSGI's environ, the answer, and when its next block may be written."""
 
     client: socket.socket
     address: Any
     deadline: float
     request: Any = None
+    owner: Client = Client()
     is_long: bool = False
+    started: float = 0.0
+    environ: Environ = dataclasses.field(default_factory=dict)
+    answer: Answer | None = None
+    earliest: float = 0.0
 
 
 class BufferedHead:
@@ -90,26 +111,6 @@ class BufferedHead:
             self._client.sendall(self._head)
 
 
-class Slots:
-    """N slots for long requests, shared with the processes that are forked after it was made. A slot is a kernel lock on
-    a byte of a file in memory, so the slot of a process that ends, however it ends, is free again."""
-
-    def __init__(self, count: int) -> None:
-        self.count, self._file = count, os.memfd_create("slots")
-
-    def acquire(self) -> bool:
-        """Takes a slot for this process, which may have one; returns whether one was free."""
-        for slot in range(self.count):
-            with contextlib.suppress(OSError):
-                fcntl.lockf(self._file, fcntl.LOCK_EX | fcntl.LOCK_NB, 1, slot)
-                return True
-        return False
-
-    def release(self) -> None:
-        """Frees the slot of this process, if it has one."""
-        fcntl.lockf(self._file, fcntl.LOCK_UN)
-
-
 class Worker(SyncWorker):  # type: ignore[misc] # (gunicorn has no types)
     """A worker. Before the fork the arbiter sets its metrics, the slots of all, and whether the access log has paths."""
 
@@ -129,13 +130,15 @@ class Worker(SyncWorker):  # type: ignore[misc] # (gunicorn has no types)
         self._age = number
 
     def init_process(self) -> None:
-        """In the new process: has it end with the arbiter, and count in its own row."""
+        """In the new process: has it end with the arbiter, and count in its own row. (If the kernel refuses what it needs it is replaced:
+        gunicorn would end the whole service for one that can't boot.)"""
+        self.booted = True
         end_with_parent(signal.SIGTERM)
         self.row.process, self.app.metrics.own = os.getpid(), self.row
         self.awaiting_head: dict[int, Connection] = {}
         self.lingering: dict[int, Connection] = {}
-        self.queue: collections.deque[Connection] = collections.deque()
-        self.seconds = self.started = 0.0
+        self.queue: list[Connection] = []
+        self.seconds = 0.0
         super().init_process()
 
     def init_signals(self) -> None:
@@ -149,7 +152,7 @@ class Worker(SyncWorker):  # type: ignore[misc] # (gunicorn has no types)
 
     def load_wsgi(self) -> None:
         self.service: Service = self.app.wsgi()
-        self.wsgi = self.answer
+        self.service.meter.tick = self.tick
 
     def run(self) -> None:
         """Answers requests until a signal to end, and then those of open connections."""
@@ -159,18 +162,15 @@ class Worker(SyncWorker):  # type: ignore[misc] # (gunicorn has no types)
         listener.setblocking(False)
         self.row.workers = 1
         while self.alive and self.is_parent_alive():
-            self.notify()
-            self.check_deadlines()
+            has_served = self.take_turn()
             has_accepted = self.accept(listener)
             if self.awaiting_head or self.lingering or not has_accepted:
-                self.poll(0.0 if has_accepted else 1.0)
+                self.poll(0.0 if has_accepted or has_served else 1.0)
         self.row.workers = 0
         self.epoll.unregister(listener)
         end = time.monotonic() + DRAIN_SECONDS
         while self.queue or (self.awaiting_head or self.lingering) and time.monotonic() < end:
-            self.notify()
-            self.check_deadlines()
-            self.poll(SLOT_POLL_SECONDS)
+            self.poll(0.0 if self.take_turn() else SLOT_POLL_SECONDS)
 
     def accept(self, listener: Any) -> bool:
         """Accepts a connection; returns whether there was one."""
@@ -186,7 +186,8 @@ class Worker(SyncWorker):  # type: ignore[misc] # (gunicorn has no types)
             time.sleep(1.0)
             return False
         connection = Connection(client, address, time.monotonic() + HEAD_SECONDS)
-        client.settimeout(FIRST_WAIT_SECONDS)
+        # (of many at once none is waited for)
+        client.settimeout(0.0 if self.awaiting_head else FIRST_WAIT_SECONDS)
         head = peek_head(client)
         client.setblocking(True)
         if head is HeadState.PARTIAL:
@@ -212,22 +213,39 @@ class Worker(SyncWorker):  # type: ignore[misc] # (gunicorn has no types)
         self.epoll.unregister(number)
         return self.awaiting_head.pop(number)
 
-    def check_deadlines(self) -> None:
-        """Rejects heads that are late, and answers long requests if slots are free."""
+    def notify(self) -> None:
+        self.row.reported = time.monotonic()
+
+    def take_turn(self) -> bool:
+        """Reports that the worker is alive, rejects what is late, and answers one request that has waited, or a block of it, if its
+        slots are free; returns whether there was one."""
+        self.tick()
         now = time.monotonic()
         while self.awaiting_head and (first := next(iter(self.awaiting_head.items())))[1].deadline < now:
             late = self.stop_waiting(first[0])
             self.reject(late, RequestError(408, "Timeout", "the request's head has not come whole"))
         while self.lingering and (first := next(iter(self.lingering.items())))[1].deadline < now:
             self.lingering.pop(first[0]).client.close()
-        while self.queue:
-            if self.slots.acquire():
-                self.serve(self.queue.popleft())
-            elif self.queue[0].deadline < time.monotonic():
-                self.row.long_requests_refused_total += 1
-                self.reject(self.queue.popleft(), RequestError(503, "Overloaded", "too many long requests at once"))
-            else:
-                return
+        has_begun, refused = any(each.answer for each in self.queue), set[tuple[Client, bool]]()
+        for connection in self.queue:
+            needs = connection.owner, connection.is_long
+            # (of batches one is under way at once)
+            is_next = connection.answer or not has_begun or connection.request.method != "POST"
+            if is_next and needs not in refused and connection.earliest <= now:
+                if self.slots.acquire(*needs):
+                    self.queue.remove(connection)
+                    self.serve(connection)
+                    return True
+                refused.add(needs)
+        return False
+
+    def tick(self) -> None:
+        """Reports that the worker is alive, and rejects requests that have waited too long: also while it answers another one."""
+        self.notify()
+        now = time.monotonic()
+        for late in [each for each in self.queue if each.deadline < now]:
+            self.queue.remove(late)
+            self.refuse(late)
 
     def read_request(self, connection: Connection, head: HeadState) -> None:
         """Reads the head of a request, and answers or queues it."""
@@ -241,34 +259,90 @@ class Worker(SyncWorker):  # type: ignore[misc] # (gunicorn has no types)
             return self.reject(connection, malformed())
         # (as nginx does: gunicorn takes SCRIPT_NAME, and X_Y for X-Y)
         request.headers = [(name, value) for name, value in request.headers if "_" not in name]
-        until = time.monotonic() + SLOT_SECONDS
-        connection = Connection(connection.client, connection.address, until, request, is_long(request))
-        if connection.is_long and (self.queue or not self.slots.acquire()):
-            self.queue.append(connection)
-        else:
+        connection.request, connection.deadline = request, time.monotonic() + SLOT_SECONDS
+        connection.owner = Client() if self.is_probe else client_of(connection.address, request.headers)
+        self.serve_or_queue(connection)
+
+    def serve_or_queue(self, connection: Connection) -> None:
+        """Answers a request if its slots are free, and no other one waits for the same. Else it waits, or is refused if too many do."""
+        waiting = [each for each in self.queue if each.answer is None]
+        is_first = not any((each.owner, each.is_long) == (connection.owner, connection.is_long) for each in waiting)
+        if is_first and self.slots.acquire(connection.owner, connection.is_long):
             self.serve(connection)
+        elif len(waiting) >= MAX_QUEUE or sum(each.owner == connection.owner for each in waiting) >= MAX_QUEUE // 2:
+            self.refuse(connection)
+        else:
+            self.queue.append(connection)
+            self.row.requests_waiting = len(waiting) + 1
+
+    def refuse(self, connection: Connection) -> None:
+        """Rejects a request that has waited too long, or among too many."""
+        self.row.long_requests_refused_total += 1
+        kind = "long requests" if connection.is_long else "requests"
+        self.reject(connection, RequestError(503, "Overloaded", f"too many {kind} at once"))
 
     def serve(self, connection: Connection) -> None:
-        """Answers a request, and frees its slot."""
-        client, request = connection.client, connection.request
-        self.started = time.monotonic()
-        is_slow = connection.is_long or request.path.startswith(("/table/", "/nodes/routes", "/nodes/lengths"))
-        self.set_alarm(LONG_SECONDS if is_slow else ANSWER_SECONDS)
+        """Answers a request that has its slots, or one block of it, and frees them. If it turns out to be a long one it waits for
+        a slot, as for the next block."""
+        self.row.requests_waiting = sum(each.answer is None for each in self.queue)
+        self.set_alarm(LONG_SECONDS if connection.is_long else ANSWER_SECONDS)
+        needs_slot, is_over = False, True
         try:
-            sender = BufferedHead(client)
-            self.handle_request(self.sockets[0], request, sender, connection.address)
-            sender.flush()
-        except (StopIteration, OSError):  # (the client has gone)
+            connection.answer = connection.answer or self.begin(connection)
+            is_over = self.write(connection.answer)
+        except NeedsSlot:
+            needs_slot, is_over = True, False
+        except OSError:  # (the client has gone)
             pass
         except AnswerTimeout:
             self.end_after_alarm()
-        except Exception:  # (nothing was sent)
+        except Exception:
             log.exception("error while answering")
-            send_error(client, RequestError(500, "InternalError", "an error inside"))
+            if connection.answer is None or not connection.answer.response.headers_sent:
+                send_error(connection.client, RequestError(500, "InternalError", "an error inside"))
         finally:
             self.set_alarm(0.0)
             self.slots.release()
-            client.close() if request.method in ("GET", "HEAD") and not connection.is_long else self.linger(connection)
+            if is_over:
+                self.end(connection)
+        if needs_slot:
+            connection.is_long = True
+            self.serve_or_queue(connection)
+        elif not is_over:
+            is_asked_for = any(row.requests_waiting for row in self.app.metrics.rows)
+            connection.deadline = math.inf
+            connection.earliest = time.monotonic() + 2 * SLOT_POLL_SECONDS if is_asked_for else 0.0
+            self.queue.append(connection)
+
+    def begin(self, connection: Connection) -> Answer:
+        """Begins to answer a request. Raises NeedsSlot if it needs a slot and has none."""
+        sender = BufferedHead(connection.client)
+        if connection.environ:
+            response = wsgi.Response(connection.request, sender, self.cfg)
+        else:
+            local, connection.started = self.sockets[0].getsockname(), time.monotonic()
+            response, connection.environ = wsgi.create(connection.request, sender, connection.address, local, self.cfg)
+        response.force_close()
+        connection.environ["domethyme.has_slot"] = connection.is_long
+        blocks = self.answer(connection.environ, response.start_response)
+        return Answer(response, connection.environ, iter(blocks), not isinstance(blocks, list))
+
+    def write(self, answer: Answer) -> bool:
+        """Writes an answer, or the next block of one in blocks; returns whether it is whole."""
+        for block in answer.blocks:
+            answer.response.write(block)
+            if answer.is_in_blocks:
+                return False
+        answer.response.close()
+        answer.response.sock.flush()
+        return True
+
+    def end(self, connection: Connection) -> None:
+        """Counts and logs an answer, and closes its connection."""
+        response = None if connection.answer is None else connection.answer.response
+        self.record(connection, response)
+        is_plain = connection.request.method in ("GET", "HEAD") and not connection.is_long
+        connection.client.close() if is_plain else self.linger(connection)
 
     def answer(self, environ: Environ, start_response: StartResponse) -> Iterable[bytes]:
         """The WSGI application. An answer that takes too long is 504, and ends the worker: resources may be lost."""
@@ -280,14 +354,7 @@ class Worker(SyncWorker):  # type: ignore[misc] # (gunicorn has no types)
             error = RequestError(504, "Timeout", f"the answer took more than {self.seconds:g} s")
             blocks = self.service.error_response(environ, lambda *head: heads.append(head), error)
         start_response(*heads[-1])
-        return blocks if isinstance(blocks, list) else self.restart_alarm_per_block(blocks)
-
-    def restart_alarm_per_block(self, blocks: Iterable[bytes]) -> Iterator[bytes]:
-        """The blocks of an answer, each with the time limit of an answer."""
-        for block in blocks:
-            self.notify()
-            self.set_alarm(self.seconds)
-            yield block
+        return blocks
 
     def set_alarm(self, seconds: float) -> None:
         """Sets the time limit of an answer; 0 for none."""
@@ -309,15 +376,19 @@ class Worker(SyncWorker):  # type: ignore[misc] # (gunicorn has no types)
         """Closes a connection after its client has, or some seconds later: with unread data it would be reset."""
         try:
             connection.client.shutdown(socket.SHUT_WR)
-            self.lingering[connection.client.fileno()] = connection._replace(deadline=time.monotonic() + LINGER_SECONDS)
+            connection.deadline, connection.answer = time.monotonic() + LINGER_SECONDS, None
+            self.lingering[connection.client.fileno()] = connection
             self.epoll.register(connection.client, select.EPOLLIN | select.EPOLLRDHUP)
         except OSError:
             connection.client.close()
 
-    def record(self, _request: object, environ: Environ, response: Any) -> None:
-        """In gunicorn's hook post_request: counts and logs an answer that was written, or broken off."""
-        seconds, endpoint = time.monotonic() - self.started, environ.get("domethyme.endpoint", "other")
-        status = response.status_code if response is not None and response.status else 500
+    def record(self, connection: Connection, response: Any) -> None:
+        """Counts and logs an answer that was written, or broken off."""
+        environ, seconds = connection.environ, time.monotonic() - connection.started
+        endpoint, status = environ.get("domethyme.endpoint", "other"), 500
+        if response is not None:
+            status = response.status_code
+            self.log.access(response, connection.request, environ, datetime.timedelta(seconds=seconds))
         self.row.count(endpoint, status, seconds)
         if not access_log.isEnabledFor(logging.INFO):
             return
@@ -363,14 +434,6 @@ def classify_head(received: bytes) -> HeadState:
     # (one with several lengths is refused by gunicorn)
     has_other_length = b"\ntransfer-encoding" in lowered or lowered.count(b"\ncontent-length") > 1
     return HeadState.WHOLE if has_other_length else HeadState.PARTIAL
-
-
-def is_long(request: Any) -> bool:
-    """Whether a request may take seconds: for contours, with many places, or a body that is long or of unknown length."""
-    if len(request.path) > SHORT_PATH or len(request.uri) > SHORT_TARGET or request.path.startswith("/isochrone/"):
-        return True
-    lengths = [value for name, value in request.headers if name in ("CONTENT-LENGTH", "TRANSFER-ENCODING")]
-    return any(not value.isdecimal() or int(value[:9]) > SHORT_BODY for value in lengths)
 
 
 def send_error(client: socket.socket, error: RequestError) -> None:

@@ -46,8 +46,9 @@ class ServiceCase(ToolCase):
         domethyme.prepare(self.folder / "v.gr", self.folder / "v.rch", workers=1).close()
         self.graph = read_graph(self.folder / "v.gr")
 
-    def serve(self, *words, descriptors=()):
-        """Starts the service, and returns its process, the arbiter's, once it listens at `self.port`."""
+    def serve(self, *words, descriptors=(), reads_log=True):
+        """Starts the service, and returns its process, the arbiter's, once it listens at `self.port`. What it says then is read on,
+        or left."""
         where = () if "--bind" in words else ("--port", "0")
         given = [*self.command, self.folder / "v.rch", *where, "--allowed-host", "x", *words]
         process = subprocess.Popen(list(map(str, given)), stderr=subprocess.PIPE, text=True, pass_fds=descriptors)
@@ -57,7 +58,8 @@ class ServiceCase(ToolCase):
             self.said.append(line)
             if found := re.search(r"listens at (?:http://127\.0\.0\.1:(\d+)/|unix:)", line):
                 self.port = int(found[1] or 0)
-                threading.Thread(target=read_rest, args=(process.stderr, self.said), daemon=True).start()
+                if reads_log:
+                    threading.Thread(target=read_rest, args=(process.stderr, self.said), daemon=True).start()
                 self.wait_for(lambda: len(workers_of(process)) >= 4)
                 return process
         self.fail(f"the service didn't start: {self.said}")

@@ -1,5 +1,6 @@
 """The table of endpoints: docs/SERVICE.md has it, each endpoint is answered, and its parameters are those that are
 parsed."""
+import json
 import re
 import subprocess
 import sys
@@ -8,7 +9,7 @@ import unittest
 from service_case import ServiceCase
 from tool_case import TOOLS
 
-from domethyme_service import endpoints, metrics, wsgi
+from domethyme_service import endpoints, metrics, openapi
 
 PAGE = TOOLS.parent / "docs/SERVICE.md"
 
@@ -16,14 +17,14 @@ PAGE = TOOLS.parent / "docs/SERVICE.md"
 class TableTests(unittest.TestCase):
     def test_the_page_has_the_tables(self):
         lines = PAGE.read_text(encoding="utf-8")
-        for table in (endpoints.endpoint_list(), endpoints.parameter_list()):
+        for table in endpoints.tables():
             text = "\n".join(table)
             self.assertIn(f"\n\n{text}\n\n", lines, f"docs/SERVICE.md has another table than this:\n{text}")
 
     def test_the_command_prints_them(self):
         words = [sys.executable, "-m", "domethyme_service.endpoints"]
         printed = subprocess.run(words, cwd=TOOLS.parent / "python", capture_output=True, text=True, check=True).stdout
-        self.assertEqual(printed.splitlines(), [*endpoints.endpoint_list(), "", *endpoints.parameter_list()])
+        self.assertEqual(printed, "\n\n".join("\n".join(table) for table in endpoints.tables()) + "\n")
 
     def test_statuses_are_counted(self):
         """Each status of the package has a counter."""
@@ -32,8 +33,7 @@ class TableTests(unittest.TestCase):
         self.assertGreater(len(found), 9)
         self.assertLessEqual(found, {*metrics.STATUSES})
 
-    def test_each_is_answered(self):
-        self.assertEqual(wsgi.HANDLERS.keys(), {endpoint.name for endpoint in endpoints.ENDPOINTS})
+    def test_names_differ(self):
         self.assertEqual(len(endpoints.BY_NAME), len(endpoints.ENDPOINTS))
 
 
@@ -61,6 +61,67 @@ class EndpointTests(ServiceCase):
                     self.assertEqual(status, 200 if endpoint.parameters is None else 400)
                     if status == 400:
                         self.assertEqual(found, {"code": "InvalidQuery", "message": endpoint.unknown.format("colour")})
+
+
+    def test_answers_have_the_shapes_of_openapi(self):
+        """docs/openapi.json is what the table makes, and answers of all endpoints are as it says."""
+        described = json.loads((PAGE.parent / "openapi.json").read_text(encoding="utf-8"))
+        self.assertEqual(described, json.loads(json.dumps(openapi.document())), "python3 -m domethyme_service.openapi prints another one")
+        self.serve("--network", self.folder / "v")
+        place, far = "0.0003,0.00001", "0.0077,-0.00002"
+        every = "steps=true&annotations=true&overview=full"
+        asked = {
+            "/": [""], "/map/{FILE}": ["/map/main.js"], "/map/about": [""], "/map/roads/{ZOOM}/{X}/{Y}": ["/map/roads/16/32768/32767"],
+            "/route/v1/{PROFILE}/{PLACES}": [f"/route/v1/car/{place};{far}{query}" for query in ("", f"?{every}", f"?{every}&geometries=geojson")],
+            "/nearest/v1/{PROFILE}/{PLACE}": [f"/nearest/v1/car/{place}?number=3"],
+            "/table/v1/{PROFILE}/{PLACES}": [f"/table/v1/car/{place};{far}?annotations=duration,distance,weight&fallback_speed=1"],
+            "/isochrone/v1/{PROFILE}/{PLACE}": [f"/isochrone/v1/car/{place}?contours_minutes=1&polygons={each}" for each in ("true", "false")],
+            "/nodes/route": ["?from=1&to=7", "?from=1&to=99"], "/nodes/length": ["?from=1&to=7"], "/nodes/routes": [""], "/nodes/lengths": [""],
+            "/health": [""], "/metrics": [""],
+        }
+        self.assertEqual(asked.keys(), described["paths"].keys())
+        body = b'{"from": 1, "to": 7}\n{"from": 1}\n'
+        for path, operations in described["paths"].items():
+            (method, operation), = operations.items()
+            for more in asked[path]:
+                status, found = self.ask(f"{path}{more}" if more[:1] in ("", "?") else more, method.upper(), body if method == "post" else None)
+                ((media, content),) = operation["responses"]["200" if status == 200 else "default"]["content"].items()
+                self.assertIn(self.headers["Content-Type"].partition(";")[0], (media, "text/javascript"))
+                values = map(json.loads, found.splitlines()) if method == "post" else [found]
+                for value in values:
+                    self.assertEqual([*problems(value, content["schema"], described["components"]["schemas"])], [], path)
+        with self.subTest("other shapes are found"):
+            shape = {"$ref": "#/components/schemas/Health"}
+            for value in ({"status": "ok", "nodes": 1}, {"status": "ok", "nodes": "1", "links": 1}, {"status": "ok", "nodes": 1, "links": 1, "x": 1}):
+                self.assertTrue([*problems(value, shape, described["components"]["schemas"])])
+
+
+KINDS = {"string": str, "number": (int, float), "integer": int, "boolean": bool, "object": dict, "array": list}
+
+
+def problems(value, schema, shapes):
+    """Where a value isn't as a schema of OpenAPI says, by the words that this document has."""
+    schema = shapes[schema["$ref"].rpartition("/")[2]] if "$ref" in schema else schema
+    if "oneOf" in schema:
+        if all([*problems(value, each, shapes)] for each in schema["oneOf"]):
+            yield f"{value!r:.80} is none of {schema['oneOf']}"
+        return
+    if value is None and schema.get("nullable"):
+        return
+    is_kind = isinstance(value, KINDS[schema["type"]]) and (schema["type"] == "boolean" or not isinstance(value, bool))
+    if not is_kind or value not in schema.get("enum", [value]):
+        yield f"{value!r:.80} isn't {schema}"
+    elif isinstance(value, list):
+        if not schema.get("minItems", 0) <= len(value) <= schema.get("maxItems", len(value)):
+            yield f"{value!r:.80} has another length than {schema}"
+        for each in value:
+            yield from problems(each, schema["items"], shapes)
+    elif isinstance(value, dict):
+        known = schema.get("properties", {})
+        names = set(schema.get("required", ())) - value.keys() | (value.keys() - known.keys() if "additionalProperties" in schema else set())
+        yield from (f"{name} is missing, or isn't known" for name in sorted(names))
+        for name in value.keys() & known.keys():
+            yield from problems(value[name], known[name], shapes)
 
 
 if __name__ == "__main__":

@@ -11,7 +11,8 @@ from shapely.geometry import shape
 from domethyme.network import net_file
 from domethyme.network.isochrones import Style, features, limits
 from domethyme.network.reach import Reach
-from domethyme_service import isochrone, osrm_request
+from domethyme_service import endpoints, isochrone, osrm_request
+from domethyme_service.costs import Meter
 from domethyme_service.errors import RequestError
 from domethyme_service.metrics import SharedMetrics
 from domethyme_service.osrm import Engine
@@ -92,8 +93,9 @@ def test_nodes_that_may_be_reached(tmp_path, most, is_refused):
     """Two are, of three."""
     roads = [Road(0, 1, 1000, 1000), Road(1, 2, 90_000, 90_000)]
     with prepared([(0, 0), (0.001, 0), (0.002, 0)], roads, tmp_path / "row") as row:
-        engine = Engine(Queries(row._router, row.links, SharedMetrics()), row.network.roads, 0)
-        request = osrm_request.parse_request("/isochrone/v1/car/0,0", {"contours_minutes": "1", "polygons": "true"}, 1000)
+        meter = Meter()
+        engine = Engine(Queries(row._router, row.links, SharedMetrics(), meter), row.network.roads, 0, meter)
+        request = osrm_request.parse_request(endpoints.BY_NAME["/isochrone"], "/isochrone/v1/car/0,0", {"contours_minutes": "1", "polygons": "true"}, 1000)
         with unittest.mock.patch.object(isochrone, "MAX_REACHED", most):
             if is_refused:
                 with pytest.raises(RequestError, match="more than 1 nodes are reached") as refused:

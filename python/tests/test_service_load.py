@@ -147,25 +147,6 @@ class AttackTests(LoadCase):
             for _ in range(2200):
                 self.connect(stack)
 
-    def test_bodies_in_parts_of_one_byte(self):
-        self.begin()
-        parts = b"".join(b"1\r\n%c\r\n" % byte for byte in LINE * 3000) + b"0\r\n\r\n"
-        head = post(0, "/nodes/lengths").replace(b"Content-Length: 0", b"Transfer-Encoding: chunked")
-
-        def client():
-            while True:
-                with socket.create_connection(("127.0.0.1", self.port), SECONDS) as stream, stream.makefile("rb") as file:
-                    with contextlib.suppress(ConnectionError):
-                        stream.sendall(head + parts)
-                    answer = read_answer(file)
-                if answer.status == 200:
-                    return self.assertEqual(answer.body.count(b"length"), 3000)
-                self.assertEqual(answer.status, 503)
-                time.sleep(1)
-
-        with self.under_attack():
-            self.run_all([client] * 12)
-
     def test_slow_readers_of_batches(self):
         """Clients that request more than the kernel buffers, and read little of it."""
         self.begin()
@@ -376,7 +357,7 @@ class NginxTests(NginxCase, LoadCase):
     def test_connections(self):
         """A public address has 100 connections, and others aren't kept from theirs."""
         self.serve_behind_nginx()
-        ask = "POST /nodes/lengths HTTP/1.1\r\nHost: x\r\nX-Test-Address: 203.0.113.9\r\nContent-Length: 9\r\n\r\n"
+        ask = "POST /nothing HTTP/1.1\r\nHost: x\r\nX-Test-Address: 203.0.113.9\r\nContent-Length: 9\r\n\r\n"
         with contextlib.ExitStack() as opened:
             for _ in range(100):
                 stream = opened.enter_context(socket.create_connection(("127.0.0.1", self.port), SECONDS))

@@ -114,13 +114,10 @@ def with_length(_draw: Draw, text: str) -> bytes:
 
 
 def in_lines(draw: Draw, line: str) -> bytes:
-    """A batch of a line, or of others before it that aren't all good, with its length or chunked, of an accepted type."""
+    """A batch of a line, or of others before it that aren't all good, of an accepted type."""
     body, head = line.encode("latin-1").replace(b"\n", b""), draw.fill("POST $batch HTTP/1.1\r\nHost: x\r\nContent-Type: $type\r\n")
     body = b"\n".join([body] * draw.randint(1, 4))
-    if draw.random() < 0.7:
-        return f"{head}Content-Length: {len(body)}\r\n\r\n".encode() + body
-    parts = [*(body[begin : begin + 50] for begin in range(0, len(body), 50)), b""]
-    return f"{head}Transfer-Encoding: chunked\r\n\r\n".encode() + b"".join(b"%x\r\n%b\r\n" % (len(part), part) for part in parts)
+    return f"{head}Content-Length: {len(body)}\r\n\r\n".encode() + body
 
 
 class Kind(NamedTuple):
@@ -233,8 +230,6 @@ GOING_ON = (
         "0", "-1", "$above", "1.5", "1.0", "1e0", "1e999", "NaN", "-Infinity", "true", "[1]", '{"a": 1}', '"one"', '""', '"1.0"', '"\\\\u0661"',
         '" 1"', '"\\\\u0000"', "9" * 200, '"%s"' % ("1" * 240)) for one, other in ((value, "$node"), ("$node", value))), in_lines),
 )
-PART = Kind(400, "InvalidUrl", "a part that is none", tuple(f"{POST}{CHUNKED}\n5\nhello\n{part}\nhello\n0\n\n$text" for part in (
-    "x", "-1", "0x5", " ", "", "\0", "g" * 9, "f" * 17, "${upper}Z")), whole)
 # After these the connection is closed: a body that is too long, another version of HTTP, and what isn't HTTP.
 ENDING = (
     Kind(413, "TooBig", "a body that is too long", (f"{POST}Content-Length: $too_large\n\n",), whole),
@@ -250,7 +245,7 @@ ENDING = (
     Kind(400, "InvalidUrl", "an end of a line that is none", (
         "GET $get HTTP/1.1${lf}Host: x${lf}X-A: $text$lf$lf", "GET $get HTTP/1.1${lf}Host: x\nX-A: $text\n\n",
         "GET $get HTTP/1.1\nHost: x${lf}X-A: $text\n\n", f"${{lf}}{HEAD}X-A: $text\n\n", f"{HEAD}X-A:\n $text\n\n", f"{HEAD}X-A: b\n\t$text\n\n",
-        f"{HEAD} X-A: $text\n\n", f"{POST}X: $text\n{CHUNKED}\n5${{lf}}hello\n0\n\n", f"{POST}X: $text\n{CHUNKED}\n5\nhello${{lf}}0\n\n"), whole),
+        f"{HEAD} X-A: $text\n\n"), whole),
     Kind(400, "InvalidUrl", "a host that is missing", tuple(f"GET $get HTTP/1.1\n{hosts}\n" for hosts in (
         "", "Host: x\nHost: x\n", "Host: x\nHost: $text\n", "Hos: x\n")), whole),
     Kind(421, "InvalidHost", "a host that isn't allowed", ("GET http://$text.example$get HTTP/1.1\nHost: x\n\n", *(
@@ -262,7 +257,8 @@ ENDING = (
     Kind(400, "InvalidUrl", "two lengths", (
         f"{POST}X: $text\nContent-Length: 1$few\nContent-Length: 2$few\n\n", f"{POST}X: $text\nContent-Length: 1$few\n{CHUNKED}\n",
         f"{POST}X: $text\n{CHUNKED}Content-Length: 1$few\n\n"), whole),
-    PART,
+    Kind(411, "LengthRequired", "a body in parts", tuple(f"{POST}{CHUNKED}\n5\nhello\n{part}\nhello\n0\n\n$text" for part in (
+        "5", "x", "-1", "0x5", " ", "", "\0", "g" * 9, "f" * 17, "${upper}Z")), whole),
     Kind(400, "InvalidUrl", "a coding that is none", tuple(
         f"{POST}X-A: $text\nTransfer-Encoding: {coding}\n\n5\nhello\n0\n\n" for coding in (
             "$text", "gzip", "chunked, identity", "chunked, gzip", "identity", "chunke", "chunked;q=1", "xchunked")), whole),
@@ -339,8 +335,7 @@ class MalformedTests(ServiceCase):
 
         def some() -> None:
             for case in itertools.islice(cases, len(GOING_ON) + len(ENDING)):
-                if case.kind is not PART:  # (the service waits for the rest of it)
-                    self.look_at(case, self.ask_one(case.request))
+                self.look_at(case, self.ask_one(case.request))
 
         self.assert_level(process, some)
         self.assertEqual((self.value("worker_restarts_total"), self.value("requests_cancelled_total")), (0, 0))

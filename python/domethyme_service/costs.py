@@ -1,0 +1,165 @@
+"""What requests cost. A request's cost is computed from its parameters before any work: a sum of numbers of things, such as roads
+that are looked at or calls of the library, each with a price in units, which are some microseconds of a processor. The same prices
+are counted while it is answered (Meter). So what a request may do depends on no clock, and how long its path is decides nothing.
+
+    up to SHORT   it is answered at once
+    up to MOST    it is a long request, which needs a slot (worker.Slots); so is one that passes SHORT while it is answered
+    beyond        it is refused as TooBig, before or while it is answered
+"""
+import collections
+import enum
+import itertools
+import math
+from collections.abc import Callable, Sequence
+from typing import NamedTuple
+
+from domethyme.network.geo import Point
+
+from .errors import too_big
+from .parameters import (
+    ANNOTATIONS, BEARINGS, CONTOURS_METERS, CONTOURS_MINUTES, DESTINATIONS, NUMBER, OVERVIEW, SOURCES, STEPS,
+    TABLE_ANNOTATIONS, Values
+)
+
+SHORT, MOST = 250_000, 10_000_000
+# Units between two calls of a meter's `tick`.
+TICK = 20_000
+
+
+class Work(enum.Enum):
+    """What is counted, by its price in units and what it is."""
+
+    PLACE = 400, "a place, or a point of a road that is found for it"
+    ROAD = 1.5, "a road that is looked at: how far it is from a place, or its direction"
+    PAIR = 300, "a call of the library for the path of a pair of nodes"
+    NODE = 1.5, "a node of a path"
+    ROW = 10, "a row of a table of the library, and as much for each 10,000 links of its selection"
+    REACH = 0.1, "a node of the hierarchy, where what is reached is computed"
+    CONTOUR = 200_000, "a contour that is drawn"
+    DRAWN = 4, "a node that is reached, for each contour that is drawn of it"
+    CELL = 1, "a cell of a table"
+    POINT = 2, "a point of a leg's line, and as much for each thing that is written of it"
+    LINE = 5, "a line of a batch"
+    TILE = 50_000, "a tile of the map"
+    BYTE = 0.01, "a byte of a table"
+
+    def __init__(self, units: float, text: str) -> None:
+        self.units, self.text = units, text
+
+
+class NeedsSlot(Exception):
+    """The request is a long one, or has become one, and has no slot."""
+
+
+class Size(NamedTuple):
+    """How large the served files are: the nodes and links of the hierarchy, and of the network the points of its lines for each
+    node and the degrees from one end of its bounding box to the other."""
+
+    nodes: int
+    links: int
+    points: float = 0.0
+    degrees: float = 0.0
+
+
+# Degrees that are driven in a minute at 130 km/h, and those of a metre.
+DEGREES_A_MINUTE, DEGREES_A_METRE = 0.0195, 9e-6
+# The cost of a request in units, by the names of Work and of VARIABLES.
+Formula = Callable[[dict[str, float]], float]
+VARIABLES = {
+    "P": "places",
+    "B": "places with a bearing",
+    "K": "points that are asked for (`number`)",
+    "G": "legs: one for each two places, or for each cell of a table that needs routes",
+    "W": "nodes of all legs, of each 2 √N or less by the distance of its places",
+    "V": "points of all legs, by W, and as many more for each annotation, for steps and for the overview",
+    "M": "rows of a table that needs no routes: two for each different source",
+    "L": "links of a table's selection: those of the hierarchy, or 20 √N for each different destination, if these are fewer",
+    "Z": "cells of a table",
+    "C": "contours",
+    "N": "nodes of the hierarchy",
+    "R": "nodes that are reached, of all contours, by the area that can be reached at 130 km/h",
+    "T": "lines of the body, one for each 20 bytes",
+}
+
+
+def formula(text: str) -> Formula:
+    """A formula by its text, which is Python's and has only names of Work and of VARIABLES."""
+    code = compile(text, "a cost", "eval")
+    prices = {work.name: work.units for work in Work}
+    assert {*code.co_names} <= prices.keys() | VARIABLES.keys(), text
+    return lambda variables: float(eval(code, {"__builtins__": {}}, {**prices, **variables}))
+
+
+class Meter:
+    """Counts what a request costs while it is answered. `tick` is called every TICK units: it may be what reports that the process is
+    alive. `counts` are those of the request, by Work."""
+
+    def __init__(self) -> None:
+        self.tick: Callable[[], object] = lambda: None
+        self.begin(0, True)
+
+    def begin(self, cost: float, has_slot: bool, is_in_blocks: bool = False) -> None:
+        """A request of this cost begins, which has a slot or not. Raises NeedsSlot for a long one without, and RequestError for one
+        beyond MOST, unless it is answered in blocks."""
+        self.counts = collections.Counter[Work]()
+        self.spent, self._next_tick, self._has_slot = 0.0, float(TICK), has_slot
+        self._allowed = MOST if has_slot else SHORT
+        if cost > MOST and not is_in_blocks:
+            raise too_big(f"the request would cost {cost:,.0f} units, and may cost {MOST:,}: ask for less at once")
+        if cost > SHORT and not has_slot:
+            raise NeedsSlot
+
+    def next_block(self) -> None:
+        """The next block of an answer in blocks begins, of which each may cost MOST."""
+        self.spent, self._next_tick, self._has_slot, self._allowed = 0.0, float(TICK), True, MOST
+
+    def spend(self, work: Work, count: float = 1) -> None:
+        """Adds what was done, or is about to be. Raises as `begin` does, once it is more than is allowed."""
+        self.counts[work] += count  # type: ignore[assignment] # (a count of Counter may be a fraction)
+        self.spent += work.units * count
+        if self.spent > self._allowed:
+            if not self._has_slot:
+                raise NeedsSlot
+            raise too_big(f"the answer costs more than {MOST:,} units: ask for less at once")
+        if self.spent > self._next_tick:
+            self._next_tick = self.spent + TICK
+            self.tick()
+
+
+def expected(size: Size, places: Sequence[Point], values: Values, unit: str) -> dict[str, float]:
+    """The variables of a request with places; `unit` is that of the network's weights."""
+    found = {"P": len(places), "B": sum(map(bool, values[BEARINGS])), "K": values.get(NUMBER, 1), "N": size.nodes}
+    legs, rows, cells = [math.dist(*ends) for ends in itertools.pairwise(places)], 0, 0
+    if SOURCES in values:
+        sources, destinations = values[SOURCES], values[DESTINATIONS]
+        different = len({*sources}), len({*destinations})
+        needs_routes = not {unit, "weight"}.issuperset(values[TABLE_ANNOTATIONS])
+        # (two places of a square are 0.37 of its diagonal apart)
+        extent = 0.37 * math.dist(*([ends(side) for side in zip(*places)] for ends in (min, max)))
+        legs, rows = ([extent] * (different[0] * different[1]), 0) if needs_routes else ([], 2 * different[0])
+        cells = len(sources) * len(destinations)
+        found["L"] = selected_links(size.nodes, size.links, 2 * different[1])
+    nodes = sum(path_nodes(size, degrees) for degrees in legs)
+    found |= {"G": len(legs), "W": nodes, "V": nodes * size.points * things(values), "M": rows, "Z": cells}
+    minutes, metres = values.get(CONTOURS_MINUTES) or (), values.get(CONTOURS_METERS) or ()
+    circles = [*(DEGREES_A_MINUTE * each for each in minutes), *(DEGREES_A_METRE * each for each in metres)]
+    # (a box that is as high as wide has half the square of its diagonal)
+    shares = (min(1.0, 2 * math.pi * (radius / (size.degrees or 1.0)) ** 2) for radius in circles)
+    return {**found, "C": len(circles), "R": size.nodes * sum(shares)}
+
+
+def things(values: Values) -> int:
+    """How many things are made of each point of a leg: its line, the overview, steps, and annotations."""
+    is_asked: list[bool] = [values.get(STEPS) == "true", values.get(OVERVIEW, "false") != "false"]
+    names: list[str] = values.get(ANNOTATIONS, [])
+    return 1 + len(names) + sum(is_asked)
+
+
+def path_nodes(size: Size, degrees: float = math.inf) -> float:
+    """The nodes of a path between places that are so far apart, as they are expected."""
+    return 2 * math.sqrt(size.nodes) * min(1.0, degrees / (size.degrees or 1.0))
+
+
+def selected_links(nodes: int, links: int, targets: int) -> float:
+    """The links of a table's selection, those from which a way leads up to its targets, as they are expected."""
+    return min(links, 10 * math.sqrt(nodes) * targets)

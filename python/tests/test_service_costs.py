@@ -1,0 +1,389 @@
+"""What requests cost, by counts; who gets slots, and what a worker does with requests that wait, by a clock of the test's own."""
+import contextlib
+import itertools
+import math
+import os
+import random
+import re
+import signal
+import socket
+import sys
+import time
+from unittest import mock
+
+import pytest
+from dearest import Climber
+from nginx_case import NginxCase
+from service_case import ServiceCase, workers_of
+from test_generated_service import ask, open_service
+from test_service_attack import IMPORT
+from tool_case import ROOT, SECONDS
+
+from domethyme_service import endpoints, slots, worker
+from domethyme_service.costs import MOST, SHORT, Meter, NeedsSlot, Size, Work, expected
+from domethyme_service.errors import RequestError
+from domethyme_service.log_stream import LossyWriter
+from domethyme_service.metrics import SharedMetrics
+from domethyme_service.osrm_request import parse_request
+from domethyme_service.slots import Client, Slots
+
+# A map of half a million nodes, and places on it.
+BIG = Size(534_105, 2_600_000, 4.03, 1.58)
+A, B, OTHER = Client("203.0.113.9", True), Client("203.0.113.10", True), Client("10.0.0.1", False)
+DRAW = random.Random(1)
+FAR = [f"{DRAW.uniform(8.36, 9.64):.3f},{DRAW.uniform(46.55, 47.45):.3f}" for _ in range(1000)]
+
+
+def cost(service, count, query):
+    """The cost of a request by the first of these places on that map, in units."""
+    path = f"/{service}/v1/car/{';'.join(FAR[:count])}"
+    endpoint = endpoints.find_endpoint(path)
+    request = parse_request(endpoint, path, dict(word.split("=") for word in query.split("&") if word), 1000.0)
+    return endpoint.formula(expected(BIG, request.places, request.values, "duration"))
+
+
+ALL = "steps=true&annotations=true&overview=full"
+TWICE = "sources=" + "0;" * 99 + "0&destinations=" + "1;" * 99 + "1"
+
+
+@pytest.mark.parametrize("service, count, query, low, high", [
+    ("route", 2, "", 0, SHORT), ("route", 2, ALL, 0, SHORT), ("route", 500, "overview=false", SHORT, MOST),
+    # (as a polyline these are of 570 bytes: how long a path is decides nothing)
+    ("route", 60, ALL, SHORT, MOST), ("route", 500, ALL, MOST, math.inf),
+    ("table", 110, "bearings=" + "45,0;" * 109 + "45,0", SHORT, MOST), ("table", 2, f"annotations=distance&{TWICE}", 0, SHORT),
+    ("table", 100, "annotations=distance", SHORT, MOST), ("table", 25, "", 0, SHORT), ("table", 1000, "", SHORT, MOST),
+    ("isochrone", 1, "contours_minutes=5", SHORT, MOST), ("isochrone", 1, "contours_minutes=600", SHORT, MOST),
+    ("nearest", 1, "number=100", 0, SHORT),
+], ids=itertools.count())
+def test_costs_on_a_map_of_half_a_million_nodes(service, count, query, low, high):
+    assert low < cost(service, count, query) <= high
+
+
+def test_a_meter_ends_what_costs_too_much():
+    """By units alone: SHORT without a slot, which it then needs, and MOST with one; and it calls `tick` meanwhile."""
+    meter, ticks = Meter(), []
+    meter.tick = lambda: ticks.append(meter.spent)
+    meter.begin(1000, False)
+    with pytest.raises(NeedsSlot):
+        for _ in range(MOST):
+            meter.spend(Work.PAIR)
+    assert SHORT < meter.spent <= SHORT + Work.PAIR.units and len(ticks) > 5
+    with pytest.raises(NeedsSlot):
+        meter.begin(SHORT + 1, False)
+    meter.begin(SHORT + 1, True)
+    with pytest.raises(RequestError, match="costs more than") as raised:
+        for _ in range(MOST):
+            meter.spend(Work.ROAD, 1000)
+    assert raised.value.code == "TooBig" and MOST < meter.spent <= MOST + 1000 * Work.ROAD.units
+    assert max(later - now for now, later in itertools.pairwise(ticks)) < 50_000
+    with pytest.raises(RequestError, match="would cost"):
+        meter.begin(MOST + 1, True)
+    meter.begin(100 * MOST, True, True)
+
+
+def test_slots_are_shared_fairly():
+    """Each set of slots stands for a process: a client has half of the long ones, and a public one is answered by half of the workers."""
+    found = Slots(8)
+
+    def in_process(client, is_long):
+        """Whether a process gets its slots, which it keeps until the test ends."""
+        reads, writes = os.pipe()
+        if not (child := os.fork()):
+            os.close(ends[1])
+            os.write(writes, b"%d" % found.acquire(client, is_long))
+            os.read(ends[0], 1)
+            os._exit(0)
+        children.append(child)
+        return os.read(reads, 1) == b"1"
+
+    children, ends = [], os.pipe()
+    try:
+        assert [in_process(A, True) for _ in range(3)] == [True, True, False]
+        assert [in_process(A, False) for _ in range(3)] == [True, True, False]
+        assert [in_process(OTHER, True) for _ in range(3)] == [True, True, False]
+        assert [in_process(OTHER, False) for _ in range(9)] == [True] * 9
+        assert [in_process(B, True), in_process(B, False)] == [False, True]
+        os.kill(children[0], signal.SIGKILL)
+        os.waitpid(children.pop(0), 0)
+        assert in_process(B, True)
+    finally:
+        os.close(ends[1])
+        for child in children:
+            os.waitpid(child, 0)
+
+
+@pytest.mark.parametrize("address, network, is_public", [
+    ("203.0.113.9", "203.0.113.9", True), ("10.1.2.3", "10.1.2.3", False), ("::ffff:203.0.113.9", "203.0.113.9", True),
+    ("2001:db8:1:2:3::4", "2001:db8:1:2::/64", True), ("2001:db8:1:2:ffff::", "2001:db8:1:2::/64", True), ("fd00::1", "fd00::/64", False),
+    ("", "", False), ("unix:", "", False), ("fe80::1%eth0", "fe80::/64", False),
+])
+def test_clients(address, network, is_public):
+    assert slots.client_at(address) == (network, is_public)
+    assert slots.client_of("", [("X-REAL-IP", address)]) == (network, is_public)
+    assert slots.client_of(("127.0.0.1", 1), [("X-REAL-IP", address)]) == ("127.0.0.1", False)
+
+
+def test_private_addresses_are_those_of_nginx():
+    text = (ROOT / "packaging/nginx/domethyme.conf").read_text()
+    listed = re.findall(r"([0-9a-f:.]+/\d+) 1;", text)
+    assert [*map(str, slots.PRIVATE)] == listed
+
+
+class Waiting:
+    """A worker without sockets, whose clock goes on while it answers: `seconds` for each request, or block of it, in parts of a tenth
+    of a second between which it is called as a meter does."""
+
+    def __init__(self, seconds, count=1):
+        self.now, self.seconds, self.blocks, self.served, self.refused = 0.0, seconds, {}, [], []
+        self.worker = worker.Worker.__new__(worker.Worker)
+        metrics = SharedMetrics(2)
+        self.worker.app, self.worker.row, self.worker.is_probe = mock.Mock(metrics=metrics), metrics.rows[0], False
+        self.worker.queue, self.worker.awaiting_head, self.worker.lingering = [], {}, {}
+        self.worker.slots, self.worker.seconds, self.silent = Slots(4), 0.0, 0.0
+        self.worker.begin, self.worker.write, self.worker.end = self.begin, self.write, self.served.append
+        self.worker.reject, self.worker.set_alarm = lambda connection, error: self.refused.append(connection), lambda seconds: None
+        self.other = metrics.rows[1]
+
+    def connection(self, owner=A, is_long=True, blocks=0, method="GET"):
+        found = worker.Connection(None, "", self.now + worker.SLOT_SECONDS, mock.Mock(method=method), owner, is_long, self.now)
+        self.blocks[found] = blocks
+        return found
+
+    def begin(self, connection):
+        self.work()
+        return connection
+
+    def write(self, connection):
+        if connection.answer and self.blocks[connection]:
+            self.work()
+        self.blocks[connection] -= 1
+        return self.blocks[connection] < 0
+
+    def work(self):
+        for _ in range(round(10 * self.seconds)):
+            self.now += 0.1
+            before = len(self.refused)
+            self.worker.tick()
+            for late in self.refused[before:]:
+                assert late.deadline <= self.now < late.deadline + 0.2, "nobody waits longer than its limit"
+
+    @contextlib.contextmanager
+    def clock(self):
+        with mock.patch.object(worker.time, "monotonic", lambda: self.now):
+            yield
+
+
+def test_nobody_waits_longer_than_its_limit():
+    """Ten requests of nine seconds each: others wait for five seconds and are refused, though the worker is at work; and it reports."""
+    case = Waiting(9.0)
+    with case.clock():
+        for _ in range(10):
+            case.worker.serve_or_queue(case.connection())
+        while case.worker.queue:
+            case.worker.take_turn()
+            case.now += 0.01
+    assert (len(case.served), len(case.refused)) == (1, 9) or len(case.served) + len(case.refused) == 10
+    assert case.worker.row.long_requests_refused_total == len(case.refused)
+
+
+def test_one_waiting_request_for_each_turn():
+    case = Waiting(0.1)
+    with case.clock():
+        case.worker.queue += [case.connection() for _ in range(5)]
+        for left in range(4, -1, -1):
+            assert case.worker.take_turn() and len(case.worker.queue) == left
+
+
+def test_the_queue_is_bounded():
+    """64 wait, 32 of one client; others are refused at once."""
+    case = Waiting(0.1)
+    with case.clock():
+        case.worker.slots = mock.Mock(acquire=lambda *needs: False)
+        for owner, count in ((A, 100), (B, 100), (OTHER, 100)):
+            for _ in range(count):
+                case.worker.serve_or_queue(case.connection(owner))
+    assert (len(case.worker.queue), len(case.refused)) == (64, 236)
+    assert [sum(each.owner == owner for each in case.worker.queue) for owner in (A, B, OTHER)] == [32, 32, 0]
+
+
+def test_a_batch_frees_its_slot_between_blocks():
+    """Others are answered between its blocks; and it waits a moment if other workers have requests that wait."""
+    case = Waiting(0.3)
+    with case.clock():
+        batch, other = case.connection(A, True, 20, "POST"), case.connection(B)
+        case.worker.serve_or_queue(batch)
+        assert case.worker.queue == [batch] and case.worker.slots.acquire(B, True)
+        case.worker.slots.release()
+        case.worker.queue.append(other)
+        case.worker.take_turn()
+        case.worker.take_turn()
+        assert case.served == [other] and case.worker.queue == [batch]
+        second = case.connection(B, True, 1, "POST")
+        case.worker.queue.append(second)
+        case.other.requests_waiting = 1
+        assert case.worker.take_turn() and case.worker.queue == [second, batch] and not case.worker.take_turn()
+        case.other.requests_waiting = 0
+        while batch in case.worker.queue:
+            case.worker.take_turn()
+            case.now += 0.02
+    assert case.served == [other, batch] or case.refused == [second]
+
+
+def test_standard_error_that_nobody_reads():
+    """Lines are lost and counted, and the next one that is written begins a line of its own."""
+    reads, writes = os.pipe()
+    os.set_blocking(writes, False)
+    lost, writer = [], LossyWriter(lambda data: os.write(writes, data))
+    writer.on_lost = lost.append
+    line = b"x" * 99 + b"\n"
+    for _ in range(2000):
+        assert writer.write(line) == 100
+    kept = os.read(reads, 1 << 20)
+    assert len(kept) // 100 + sum(lost) == 2000 and sum(lost) > 1000
+    writer.write(b"y\n")
+    assert os.read(reads, 100).strip() == b"y"
+    os.close(reads)
+    writer.write(line)  # (a broken pipe is no error)
+    os.close(writes)
+
+
+def refusing(folder, name):
+    """A command whose kernel refuses `os.NAME` while a file is there."""
+    script = f"import os, pathlib\nown, flag = os.{name}, pathlib.Path({str(folder / 'refuse')!r})\n"
+    script += f"def refuse(*words):\n if flag.exists():\n  raise OSError(11, os.strerror(11))\n return own(*words)\nos.{name} = refuse\n"
+    return sys.executable, "-c", f"{IMPORT}{script}command.main()"
+
+
+class ArbiterTests(ServiceCase):
+    """The service outlives what the kernel refuses, and leaves to others what is theirs."""
+
+    def says(self, text):
+        return sum(text in line for line in self.said)
+
+    def test_the_dearest_requests(self):
+        """Whatever is asked, and however it is changed to cost more, it ends by its units: it is answered, refused as TooBig, or needs a
+        slot. What is named twice, and what is far away, costs nearly nothing."""
+        service = open_service(self.folder / "v")
+        climber = Climber(service, random.Random(7))
+        with mock.patch.multiple("domethyme_service.costs", SHORT=20_000, MOST=60_000):
+            climber.climb(120)
+        assert climber.most <= 60_000 + 5_000 and climber.ends["answered"] > 10 and climber.ends["needs a slot"] > 3, climber.ends
+        twice = f"/table/v1/car/0.0003,0;0.0077,0?annotations=distance&{TWICE}"
+        assert ask(service, twice)[0] == 200 and service.meter.counts[Work.PAIR] == 1 and service.meter.counts[Work.PLACE] == 2
+        assert ask(service, "/nearest/v1/car/-179.99,0.01")[1]["code"] == "NoSegment" and not service.meter.counts[Work.ROAD]
+        assert ask(service, "/nearest/v1/car/-179.99,0.01?radiuses=unlimited")[0] == 200 and service.meter.counts[Work.ROAD] > 10
+
+    def test_a_network_that_is_written_in_place(self):
+        """An answer while it is being written is right, or an error inside: about the map, the nearest road, and a route."""
+        service, path = open_service(self.folder / "v"), self.folder / "v.net"
+        asked = ("/map/about", "/nearest/v1/car/0.0003,0.00001", "/route/v1/car/0.0003,0;0.0077,0", "/map/roads/16/32768/32767")
+        right, whole = {each: ask(service, each) for each in asked}, path.read_bytes()
+        for begin in range(0, len(whole), len(whole) // 7):
+            with open(path, "r+b") as file:
+                file.seek(begin)
+                file.write(bytes(len(whole) // 7))
+            for each in asked:
+                status, found = ask(service, each)
+                self.assertTrue((status, found) == right[each] or status == 500, (each, found))
+            path.write_bytes(whole)
+
+    def test_processes_that_the_kernel_refuses(self):
+        """At a reload, and for a worker that has ended: the old ones stay, and it is tried again."""
+        for name in ("fork", "pipe"):
+            with self.subTest(name=name):
+                self.command = refusing(self.folder, name)
+                process = self.serve()
+                (self.folder / "refuse").touch()
+                process.send_signal(signal.SIGHUP)
+                self.wait_for(lambda: self.says("it is tried again"))
+                os.kill(workers_of(process)[0], signal.SIGKILL)
+                self.wait_for(lambda: self.says("has ended"))
+                self.assertEqual((self.ask("/health")[0], self.value("last_reload_failed")), (200, 1))
+                (self.folder / "refuse").unlink()
+                self.wait_for(lambda: self.value("reloads_total") == 1 and self.value("workers") == 4)
+                self.assertEqual((self.value("last_reload_failed"), self.value("reload_failures_total")), (0, 1))
+                process.send_signal(signal.SIGTERM)
+                self.assertEqual(process.wait(SECONDS), 0)
+
+    def test_two_services_at_one_path(self):
+        """The second one begins when the path of the first one is gone, whose end leaves it alone."""
+        path = self.folder / "serve.sock"
+        first = self.serve("--bind", f"unix:{path}")
+        for each in (path, self.folder / "serve.sock.probe"):
+            each.unlink()
+        self.serve("--bind", f"unix:{path}")
+        first.send_signal(signal.SIGTERM)
+        self.assertEqual(first.wait(SECONDS), 0)
+        with socket.socket(socket.AF_UNIX) as stream:
+            stream.connect(str(path))
+            stream.sendall(b"GET /health HTTP/1.1\r\nHost: x\r\n\r\n")
+            self.assertIn(b" 200 ", stream.makefile("rb").readline())
+
+    def test_a_step_of_the_clock(self):
+        """By an hour, to either side, as the arbiter and its workers see it: no worker is taken for a silent one."""
+        step = self.folder / "step"
+        step.write_text("0")
+        script = f"import pathlib, time\nown, step = time.time, pathlib.Path({str(step)!r})\ntime.time = lambda: own() + int(step.read_text() or 0)\n"
+        self.command = sys.executable, "-c", f"{IMPORT}{script}command.main()"
+        process = self.serve()
+        before = workers_of(process)
+        for seconds in (3600, -3600):
+            step.write_text(str(seconds))
+            time.sleep(2.5)  # (the arbiter looks each second)
+            self.assertEqual((workers_of(process), self.says("WORKER TIMEOUT")), (before, 0))
+        process.send_signal(signal.SIGTERM)
+        self.assertEqual(process.wait(SECONDS), 0)
+
+    def test_a_log_that_nobody_reads(self):
+        """Requests are answered while nobody reads standard error, a pipe that is soon full; and the service ends."""
+        process = self.serve("--access-log", reads_log=False)
+        for _ in range(1000):
+            self.assertEqual(self.ask("/health")[0], 200)
+        self.assertGreater(self.value("log_lines_lost_total"), 0)
+        process.send_signal(signal.SIGTERM)
+        self.assertEqual(process.wait(SECONDS), 0)
+
+
+class FairTests(NginxCase):
+    """One public client, and others, through nginx."""
+
+    def test_one_client_leaves_workers_to_others(self):
+        """Eight requests of one public client that don't end hold two of the four workers; another one's are answered."""
+        script = "import os, time\nfrom domethyme_service import node_queries, worker\nworker.ANSWER_SECONDS, arbiter = 1e6, os.getpid()\n"
+        script += "own = node_queries.length_answer\ndef busy(queries, source, target):\n if source != 2:\n  return own(queries, source, target)\n"
+        script += f" os.mkfifo(f'{self.folder}/busy-{{os.getpid()}}')\n while os.getppid() == arbiter:\n  time.sleep(0.1)\n os._exit(0)\n"
+        script += "node_queries.length_answer = busy\n"
+        self.command = sys.executable, "-c", f"{IMPORT}{script}command.main()"
+        self.serve_behind_nginx()
+        with contextlib.ExitStack() as stack:
+            for _ in range(8):
+                stream = stack.enter_context(socket.create_connection(("127.0.0.1", self.port), SECONDS))
+                stream.sendall(b"GET /nodes/length?from=2&to=1 HTTP/1.1\r\nHost: x\r\nX-Test-Address: 203.0.113.9\r\n\r\n")
+            self.wait_for(lambda: len([*self.folder.glob("busy-*")]) == 2)
+            for address in ("203.0.113.10", "10.0.0.1"):
+                for _ in range(10):
+                    self.assertEqual(self.ask("/nodes/length?from=1&to=7", headers={"X-Test-Address": address})[0], 200)
+            self.assertEqual(len([*self.folder.glob("busy-*")]), 2)
+
+    def test_a_client_of_ipv6_is_its_network(self):
+        """Requests from as many addresses of one /64 have the rate of one client, here of one more in a minute; another /64 has its own."""
+        self.serve_behind_nginx(instead={"rate=100r/s": "rate=1r/m"})
+        statuses = {}
+        for network in ("2001:db8:1:2:", "2001:db8:1::", "2001:db8:1:3:"):
+            statuses[network] = [
+                self.ask("/nothing", headers={"X-Test-Address": f"{network}{number:x}" + (":1:1:1" if network[-2] != ":" else "")})[0]
+                for number in range(1, 231)
+            ]
+        for network, found in statuses.items():
+            self.assertEqual((found[:201], 429 in found), ([404] * 201, True), network)
+
+    def test_connections_for_what_is_long(self):
+        """A public client has four of them; its other requests, and those of others, are answered."""
+        self.serve_behind_nginx()
+        with contextlib.ExitStack() as stack:
+            for _ in range(4):
+                stream = stack.enter_context(socket.create_connection(("127.0.0.1", self.port), SECONDS))
+                stream.sendall(b"POST /nodes/lengths HTTP/1.1\r\nHost: x\r\nX-Test-Address: 203.0.113.9\r\nContent-Length: 9\r\n\r\n")
+            mine, other = {"X-Test-Address": "203.0.113.9"}, {"X-Test-Address": "203.0.113.10"}
+            self.wait_for(lambda: self.ask("/table/v1/car/0,0", headers=mine)[0] == 429)
+            self.assertEqual([self.ask("/table/v1/car/0,0", headers=other)[0], self.ask("/health", headers=mine)[0]], [200, 200])
