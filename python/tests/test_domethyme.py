@@ -120,7 +120,7 @@ print(domethyme.Hierarchy("--help").length(0, 2))
             (domethyme.HierarchyError, f"{self.folder}: Is a directory", 7, lambda: domethyme.Hierarchy(self.folder)),
             (domethyme.HierarchyNotFound, f"{file}: No such file or directory: `routecli prepare --order balanced {graph} {file}` makes it", 7,
              lambda: domethyme.Hierarchy(file)),
-            (FileNotFoundError, "no.rch: No such file or directory", 7, lambda: domethyme.Hierarchy("no.rch")),
+            (FileNotFoundError, "no: No such file or directory", 7, lambda: domethyme.Hierarchy("no")),
             (domethyme.ProgramNotFound, "no: is no program that can be run", 1,
              lambda: domethyme.prepare(graph, file, program="no")),
         ]:
