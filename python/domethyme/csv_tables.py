@@ -116,7 +116,7 @@ def need_columns(path: StrPath, columns: list[str], needed: Iterable[str]) -> No
     found = ", ".join(columns[:MAX_COLUMNS]) + ", ..." * (len(columns) > MAX_COLUMNS)
     doubt = ""
     if len(columns) == 1 and (";" in columns[0] or "\t" in columns[0]):
-        doubt = ": fields have to be separated by commas (to_network has --delimiter)"
+        doubt = ": fields have to be separated by commas"
     elif blank := next((name for name in missing if name in map(str.strip, columns)), None):
         doubt = f": there is a blank beside {blank}"
     elif near := [f"{other} for {name}" for name in missing if (other := alike(name, columns)) is not None]:

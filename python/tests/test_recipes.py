@@ -1,7 +1,11 @@
 """docs/RECIPES.md: its scripts and its lines for nginx do what the page says, in a folder in place of the machine's own."""
+import fcntl
+import hashlib
 import os
 import pathlib
 import re
+import shutil
+import signal
 import subprocess
 import sys
 import unittest.mock
@@ -19,9 +23,7 @@ from readme_session import blocks  # noqa: E402
 
 PAGE = (ROOT / "docs" / "RECIPES.md").read_text(encoding="utf-8")
 PLACE = "/route/v1/{}/0.001,0;0.012,0?overview=false&generate_hints=false"
-# Lines of the unit that packaging/build-deb writes for the package.
-PACKAGED = {"Environment": "EnvironmentFile=/etc/default/domethyme-serve",
-            "ExecStart": "ExecStart=/usr/bin/domethyme-serve --bind unix:/run/domethyme/serve.sock $HIERARCHY $OPTIONS"}
+REFRESH = ROOT / "packaging/container/refresh"
 
 
 class RecipeTests(NginxCase):
@@ -47,11 +49,8 @@ class RecipeTests(NginxCase):
             (self.folder / name).mkdir(parents=True)
         default = (ROOT / "packaging/domethyme-serve.default").read_text(encoding="utf-8")
         (self.folder / "etc/default/domethyme-serve").write_text(default, encoding="utf-8")
-        unit = (ROOT / "packaging/domethyme-serve.service").read_text(encoding="utf-8")
-        for name, line in PACKAGED.items():
-            unit, count = re.subn(rf"(?m)^{name}=.*", lambda _, line=line: line, unit)
-            self.assertEqual(count, 1)
-        (self.folder / "lib/systemd/system/domethyme-serve.service").write_text(unit, encoding="utf-8")
+        for unit in ("domethyme-serve.service", "domethyme-serve.socket"):
+            shutil.copy(ROOT / "packaging" / unit, self.folder / "lib/systemd/system")
 
     def test_several_vehicles(self):
         self.machine()
@@ -63,11 +62,11 @@ class RecipeTests(NginxCase):
         default = (self.folder / "etc/default/domethyme-bicycle").read_text()
         self.assertIn("\nHIERARCHY=/var/lib/domethyme/bicycle.rch\n", default)
         self.assertIn('\nOPTIONS="--network /var/lib/domethyme/bicycle"\n', default)
-        unit = (self.folder / "etc/systemd/system/domethyme-bicycle.service").read_text()
-        self.assertIn("\nRuntimeDirectory=domethyme-bicycle\n", unit)
-        self.assertIn("\nEnvironmentFile=/etc/default/domethyme-bicycle\n", unit)
-        self.assertRegex(unit, r"\nExecStart=.* --bind unix:/run/domethyme-bicycle/serve\.sock ")
-        self.assertNotIn("/run/domethyme/", unit)
+        unit, sockets = ((self.folder / f"etc/systemd/system/domethyme-bicycle.{kind}").read_text() for kind in ("service", "socket"))
+        for line in ("Requires=domethyme-bicycle.socket", "Also=domethyme-bicycle.socket", "EnvironmentFile=/etc/default/domethyme-bicycle"):
+            self.assertIn(f"\n{line}\n", unit)
+        self.assertIn("\nListenStream=/run/domethyme-bicycle/serve.sock\n", sockets)
+        self.assertNotIn("/run/domethyme/", unit + sockets)
 
         self.serve_both(self.folder / "var/lib/domethyme/bicycle")
         times = {}
@@ -111,23 +110,31 @@ class RecipeTests(NginxCase):
         process = self.serve_network(served / "network")
         before = self.ask("/health")[1]["nodes"]
         write_map(self.folder / "village.osm.pbf", VILLAGE)
-        fetched = f"echo \"$*\" > {self.folder}/fetched\ncp {self.folder}/village.osm.pbf new.osm.pbf"
-        environment = self.commands(curl=fetched, systemctl=f'test "$*" = "reload domethyme-serve" && kill -HUP {process.pid}')
-        (script,) = blocks(PAGE, "#!/bin/sh\nset -eu\n")
-        night = self.write("night", self.here(script))
-        self.run_program(["sh", night], environment=environment)
-        self.assertIn("-fsSLo new.osm.pbf https://", (self.folder / "fetched").read_text())
+        checksum, environment = hashlib.md5((self.folder / "village.osm.pbf").read_bytes()).hexdigest(), self.commands()
+        night = ["sh", REFRESH, f"file://{self.folder}/village.osm.pbf", served / "network"]
+        self.write("village.osm.pbf.md5", f"{checksum}  village.osm.pbf\n")
+        self.run_program(night, environment={**environment, "SHRINK": "0.3"})
+        process.send_signal(signal.SIGHUP)
         self.wait_for(lambda: self.value("reloads_total") == 1)
         nodes = read_graph(served / "network.gr").nodes
         self.assertNotEqual(nodes, before)
         self.assertEqual(self.ask("/health")[1]["nodes"], nodes)
 
-        # a step that fails, here the check, leaves what is served
-        (self.folder / "bin/routecli").write_text('#!/bin/sh\n[ "$1" = prepare ] && : > new.rch || exit 10\n')
-        held = {path: path.read_bytes() for path in served.glob("network.*")}
-        self.run_program(["sh", night], status=10, environment=environment)
-        self.assertEqual({path: path.read_bytes() for path in served.glob("network.*")}, held)
-        self.assertEqual(self.value("reloads_total"), 1)
+        # the map of the last run, another run, a step that fails, here the check, and maps that are damaged or lose too much
+        held = {path: path.read_bytes() for path in served.glob("network.*") if path.suffix not in (".md5", ".lock")}
+        self.run_program(night, status=3, environment=environment)
+        with open(served / "network.lock", "w", encoding="utf-8") as lock:
+            fcntl.flock(lock, fcntl.LOCK_EX)
+            self.assertIn("another run", self.run_program(night, status=3, environment=environment).stderr)
+        self.write("village.osm.pbf.md5", f"{'0' * 32}  village.osm.pbf\n")
+        self.assertIn("did NOT match", self.run_program(night, status=1, environment=environment).stderr)
+        self.write("village.osm.pbf.md5", f"{checksum}  village.osm.pbf\n")
+        (served / "network.md5").unlink()
+        for words, says in (({"AT_LEAST": "1"}, "of 38 nodes reach one another, less than 100%"), ({"SHRINK": "2"}, "less than 2 of them")):
+            self.assertIn(says, self.run_program(night, status=1, environment={**environment, **words}).stderr)
+        (self.folder / "bin/routecli").write_text('#!/bin/sh\n[ "$1" = prepare ] && : > "$5" || exit 10\n')
+        self.run_program(night, status=10, environment=environment)
+        self.assertEqual({path: path.read_bytes() for path in held}, held)
 
     def serve_network(self, network):
         """A service of these files at a port, as `serve` starts that of the village."""
