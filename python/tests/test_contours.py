@@ -16,7 +16,7 @@ from domethyme.network import contour_shapes, isochrones, net_file
 from domethyme.network.contours import contours, meshes_of
 from domethyme.network.indexes import UNITS
 from domethyme.network.isochrones import Style, features
-from domethyme.network.reach import DECIMALS, METRES_OF_DEGREE, Reach
+from domethyme.network.reach import DECIMALS, METRES_OF_DEGREE, Reach, Zone
 
 BENCH = pathlib.Path(__file__).resolve().parents[2] / "bench"
 
@@ -142,6 +142,21 @@ def test_chunks_change_nothing(made_town, monkeypatch, form):
         monkeypatch.setattr("domethyme.network.reach.CHUNK", size)
         shapes.append(features(Reach(net, found, [10_000, 60_000, 120_000]), [1, 2, 3], "time", Style(form)))
     assert shapes[0] == shapes[1]
+
+
+def test_roads_far_from_what_is_reached_change_nothing(made_roads, monkeypatch):
+    """Also where a long road, a ferry say, is reached up to a place that is far from any node."""
+    nodes = [(0, 0), (0.5, 0), (0.2, 0.0005), (0.21, 0.0005), (0.001, 0.001)]
+    roads = [Road(0, 1, 500_000, 500_000), Road(2, 3, 10_000, 10_000), Road(0, 4, 1000, 1000)]
+    ferry = network(nodes, roads)
+    for net, start, limits in ((made_roads, 9000, [200_000]), (made_roads, 100, [100_000, 400_000]), (ferry, 0, [500, 205_000])):
+        reach = Reach(net, lengths(net, {start: 0}), limits)
+        found = [MultiPolygon(contour.polygons).wkt for contour in contours(reach)]
+        with monkeypatch.context() as patched:
+            everywhere = Zone.over(reach.boxes[-1].grown(5000))
+            everywhere.squares[:] = True
+            patched.setattr(Reach, "zone", lambda *_: everywhere)
+            assert found == [MultiPolygon(contour.polygons).wkt for contour in contours(reach)]
 
 
 def has_both(box, ends):

@@ -15,10 +15,11 @@ its points are inside: all four if all of its nodes are reached, none if none is
 bridge. So the line passes within 0.7 steps of each node that is on its wrong side, whatever the roads are.
 
 How contours nest. The field of a greater limit is nowhere less. A line passes between two points of the field at least a
-unit of the last decimal away from both. So rounded lines cross neither themselves nor one another. If contours differ
-much in size each has a grid: in the box of a lesser one all are drawn on its grid.
+unit of the last decimal away from both. So rounded lines cross neither themselves nor one another. If contours differ in
+size each has a grid, unless the finest has few points: in the box of a lesser one all are drawn on its grid.
 """
 import itertools
+import math
 from collections.abc import Iterator, Sequence
 from typing import NamedTuple
 
@@ -31,8 +32,7 @@ from shapely.ops import unary_union
 
 from .contour_shapes import parts_of, rounded
 from .grid import Ints
-from .groups import expand
-from .reach import DECIMALS, Box, Levels, Plane, Reach
+from .reach import DECIMALS, Box, Levels, Plane, Reach, Zone
 from .sphere import Floats
 
 # The allowance: the share of the extent, and its limits in metres and in steps.
@@ -42,6 +42,8 @@ STEPS = 205
 MIN_STEP = 0.5
 # The points of a grid; with the rim of one within another there are up to a third more.
 MAX_POINTS = 2_700_000
+# The points up to which a grid also serves limits whose own grids are coarser.
+MAX_SHARED = 1_250_000
 # How many times as coarse as a grid the next one is at most.
 RATIO = 16
 # The rim of a grid within another one, for roads there that are near: at most the allowance, and this share of the extent.
@@ -103,8 +105,13 @@ def contours(reach: Reach) -> list[Contour]:
     found: list[list[list[Polygon]]] = [[] for _ in reach.boxes]
     steps: list[float | None] = [None for _ in reach.boxes]
     drawn: Box | None = None
-    for mesh in meshes_of(reach):
-        field = Field(reach, mesh)
+    meshes = meshes_of(reach)
+    allowance = max((allowance_of(box) for box in reach.boxes if box is not None), default=0.0)
+    zone = reach.zone(2 * (allowance + meshes[-1].step)) if meshes else None
+    for mesh in meshes:
+        assert zone is not None
+        # (what is drawn already needs no roads, but those near its sides)
+        field = Field(reach, mesh, zone if drawn is None else zone.without(drawn.grown(-allowance - 3 * mesh.step)), drawn)
         for limit in range(mesh.first, len(reach.boxes)):
             box = reach.boxes[limit]
             assert box is not None  # (the first limit of a grid has one, and then all that follow)
@@ -134,18 +141,19 @@ def step_of(box: Box) -> float:
 
 
 def meshes_of(reach: Reach) -> list[Mesh]:
-    """The grids, the finest first, each for as many limits as it has points for, and at most RATIO times as coarse as
-    the last."""
+    """The grids, the finest first, each for the limits that have its step, or for which it has few points, and at most RATIO times as
+    coarse as the last."""
     served: list[tuple[float, int, Box]] = []
     rim = 0.0
     for limit, reached in enumerate(reach.boxes):
         if reached is not None:
             rim = allowance_of(reached)
             box = reached.grown(rim)
-            if served and Mesh.over(box, served[-1][0]).points <= MAX_POINTS:
+            step = step_of(reached)
+            if served and (served[-1][0] >= step or Mesh.over(box, served[-1][0]).points <= MAX_SHARED):
                 served[-1] = served[-1][0], served[-1][1], box
             else:
-                served.append((step_of(reached), limit, box))
+                served.append((step, limit, box))
     found: list[Mesh] = []
     for (step, first, shown), (next_step, behind, _) in itertools.pairwise(served):
         while step < next_step:
@@ -188,19 +196,18 @@ class Field:
     away    the square of the distance to that road, in half steps; 0 in squares with nodes
     """
 
-    def __init__(self, reach: Reach, mesh: Mesh) -> None:
-        self.mesh, self._half = mesh, mesh.step / 2
+    def __init__(self, reach: Reach, mesh: Mesh, zone: Zone, drawn: Box | None) -> None:
+        """`zone` has all roads and nodes within twice the allowance of what is reached: beyond, nothing is inside. What is within
+        the box that is drawn already isn't known."""
+        self.mesh, self._half, self._drawn = mesh, mesh.step / 2, drawn
         least = np.full(mesh.points, NONE, np.uint8)
         west, east = np.full(mesh.points // 4, NONE, np.uint8), np.zeros(mesh.points // 4, np.uint8)
         # (of shorter edges both ends are points enough)
-        for edges in reach.edges_near(mesh.box, self._half):
-            vertices = reach.vertices(edges)
-            parts = np.maximum(1, np.ceil(vertices.metres / self._half)).astype(np.int64)
-            rows, number = expand(parts + 1)
-            shares = number / parts[rows]
-            numbers, is_on = mesh.nearest(vertices.at(rows, shares))
+        for edges in reach.edges_near(mesh.box, self._half, zone):
+            rows, shares, points = reach.vertices(edges).spaced(self._half)
+            numbers, is_on = mesh.nearest(points)
             extend(np.minimum, least, numbers, reach.shares(edges).levels(rows[is_on], shares[is_on]))
-        for points, levels in reach.nodes_near(mesh.box):
+        for points, levels in reach.nodes_near(mesh.box, zone):
             numbers, is_on = mesh.nearest(points)
             squares = numbers // (2 * mesh.width) * (mesh.width // 2) + numbers % mesh.width // 2
             extend(np.minimum, least, numbers, levels[is_on])
@@ -221,6 +228,12 @@ class Field:
     def polygons(self, limit: int, allowance: float) -> Iterator[list[Floats]]:
         """The polygons of a limit in the plane, each by its rings, the outer one first."""
         is_inside = (self.level <= limit) & (self.away <= (allowance / self._half) ** 2)
+        shown = self.mesh.shown
+        if self._drawn is not None:  # (so that no lines are drawn there)
+            is_inside[self._slices(self._drawn.grown(-self.mesh.step))] = True
+        if shown is not None and is_inside[self._slices(shown.grown(self.mesh.step))].all():
+            yield [shown.ring]
+            return
         rows, columns = (np.flatnonzero(is_inside.any(axis=axis)) for axis in (1, 0))
         if not len(rows):
             return
@@ -235,6 +248,15 @@ class Field:
             # (one of both is a whole number, but for last bits)
             places = (points.round(9) + corner) * self._half
             yield [places[begin:end] for begin, end in zip(offsets, offsets[1:])]
+
+
+    def _slices(self, box: Box) -> tuple[slice, slice]:
+        """The rows and columns of the points in a box."""
+        (west, east), (south, north) = (
+            (max(0, math.ceil(low / self._half - 0.5) - first), max(0, math.floor(high / self._half + 0.5) - first))
+            for low, high, first in ((box.west, box.east, self.mesh.left), (box.south, box.north, self.mesh.bottom))
+        )
+        return slice(south, north), slice(west, east)
 
 
 def extend(choose: np.ufunc, found: Levels, numbers: Ints, levels: Levels) -> None:

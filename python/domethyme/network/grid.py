@@ -10,6 +10,7 @@ in a part of a band are one slice.
     things   whole numbers
 """
 import functools
+import itertools
 import math
 from collections.abc import Callable, Iterator, Sequence
 from typing import Any, NamedTuple
@@ -60,6 +61,29 @@ class Grid(NamedTuple):
         first, last = np.searchsorted(keys, lows), np.searchsorted(keys, highs)
         is_some = first < last
         return which[is_some], self.begins[first[is_some]], self.begins[last[is_some]]
+
+    def cells_near(self, lon: Floats, lat: Floats, reach: Floats) -> Ints:
+        """The cells, by their rows, with all things within some metres of places, and others; each once for each place."""
+        _, lows, highs = self._key_ranges(lon, lat, (reach + self.margin) / EARTH_RADIUS)
+        keys = self.keys[:]
+        first, last = np.searchsorted(keys, lows), np.searchsorted(keys, highs)
+        return concat_ranges(first, last - first)[1]
+
+    def middles(self, cells: Ints) -> Floats:
+        """The middles of cells in degrees, of shape (cells, 2), lon and lat."""
+        keys = self.keys[cells]
+        bands, columns = keys >> BAND_SHIFT, keys & (1 << BAND_SHIFT) - 1
+        lon = (columns + 0.5) * 360 / columns_per_band(self.height)[bands] - 180
+        return np.column_stack((lon, (bands + 0.5) * self.height - 90))
+
+    @property
+    def cell_metres(self) -> float:
+        """How far a thing of a cell lies at most from its middle, but near the poles."""
+        return self.margin + 1.2 * math.hypot(0.5, 1.0) * math.radians(self.height) * EARTH_RADIUS
+
+    def things_in(self, cells: Ints) -> NDArray[Any]:
+        begins = self.begins[cells]
+        return np.asarray(self.things[concat_ranges(begins, self.begins[cells + 1] - begins)[1]])
 
     def _key_ranges(self, lon: Floats, lat: Floats, angle: Floats) -> tuple[Ints, Ints, Ints]:
         """The keys between which the cells in circles are: the number of the circle, the first key, and the one behind the last."""
@@ -149,22 +173,20 @@ class Grid(NamedTuple):
 
     def candidates_of_each(self, places: Sequence[tuple[float, float]], reach: float) -> tuple[Ints, Ints]:
         """The number of a place, and a thing within `reach` metres, or another. Places with very many are left out."""
-        cells, counts, slices = list[int](), [0] * len(places), list[tuple[int, int, int]]()
-        for number, place in enumerate(places):
+        cells, counts = list[int](), list[int]()
+        for place in places:
             some = self._small_key_ranges(*place, (reach + self.margin) / EARTH_RADIUS)
-            if some is None:
-                slices += [(number, *each) for each in self._slices_around(place, reach)]
-            else:
-                cells += some
-                counts[number] = len(some) // 2
-        which, begins, ends = np.array(slices, dtype=np.int64).reshape(-1, 3).T
-        bounds = self.begins[np.searchsorted(self.keys[:], cells)]
-        which = np.concatenate((which, np.arange(len(places)).repeat(counts)))
-        begins, lengths = np.concatenate((begins, bounds[::2])), np.concatenate((ends - begins, bounds[1::2] - bounds[::2]))
-        if len(lengths) and (is_much := np.bincount(which, lengths, len(places)) > MAX_CANDIDATES).any():
-            which, begins, lengths = (column[~is_much[which]] for column in (which, begins, lengths))
-        pairs, rows = concat_ranges(begins, lengths)
-        return which[pairs], self.things[rows]
+            counts.append(-1 if some is None else len(some) // 2)
+            cells += some or ()
+        bounds = iter(self.begins[np.searchsorted(self.keys[:], np.array(cells, np.int64))].tolist())
+        pairs = zip(bounds, bounds)
+        found, sizes = list[NDArray[Any]](), list[int]()
+        for place, count in zip(places, counts):
+            slices = self._slices_around(place, reach) if count < 0 else [*itertools.islice(pairs, count)]
+            is_few = size_of(slices) <= MAX_CANDIDATES
+            found += (self.things[begin:end] for begin, end in slices if is_few)
+            sizes.append(size_of(slices) if is_few else 0)
+        return np.arange(len(places)).repeat(sizes), np.concatenate(found) if found else np.empty(0, np.int32)
 
     def candidates(self, place: tuple[float, float], reach: float) -> Iterator[NDArray[Any]]:
         """The things within `reach` metres of a place, and others, about CHUNK_SIZE at a time; one may come several times."""

@@ -13,6 +13,7 @@ from typing import NamedTuple, TypeVar
 
 import numpy as np
 from numpy.typing import NDArray
+from scipy.ndimage import maximum_filter
 
 from .from_tables import FARTHEST_END
 from .geo import EARTH_RADIUS, Point, split_at_antimeridian
@@ -28,6 +29,11 @@ CHUNK = 1 << 17
 # An edge is short beside a box if its metres are less than this part of the box's lesser side: two fifths of a grid's step
 # at most.
 SHORT = 1024
+# The metres of a zone's squares, at least, and how many squares are along its longer side at most. Beyond this latitude all roads of a
+# box are looked at.
+ZONE_STEP, ZONE_SQUARES, MAX_ZONE_LAT = 128.0, 1024, 85.0
+# Edges of more metres may lead far from the nodes from which they are reached.
+LONG = 256.0
 # Roads are shown to so many decimals of a degree, 11 cm.
 DECIMALS = 6
 
@@ -86,6 +92,12 @@ class Box(NamedTuple):
         return Box(min(self.west, west), min(self.south, south), max(self.east, east), max(self.north, north))
 
     @property
+    def ring(self) -> Floats:
+        """Its corners, counterclockwise, the first one twice."""
+        west, south, east, north = self
+        return np.array([(west, south), (east, south), (east, north), (west, north), (west, south)])
+
+    @property
     def sides(self) -> tuple[float, float]:
         """Width and height."""
         return self.east - self.west, self.north - self.south
@@ -94,6 +106,51 @@ class Box(NamedTuple):
         x, y = points.T
         found: NDArray[np.bool_] = (self.west <= x) & (x <= self.east) & (self.south <= y) & (y <= self.north)
         return found
+
+
+class Zone(NamedTuple):
+    """Where something may be that matters: squares of the plane, row by row; `left` and `bottom` are those of the first one, in steps."""
+
+    step: float
+    left: int
+    bottom: int
+    squares: NDArray[np.bool_]
+
+    @classmethod
+    def over(cls, box: Box) -> "Zone":
+        """The squares of a box, without any."""
+        step = max(ZONE_STEP, max(box.sides) / ZONE_SQUARES)
+        west, south, east, north = (int(np.floor(side / step)) for side in box)
+        return cls(step, west, south, np.zeros((north - south + 1, east - west + 1), dtype=bool))
+
+    def _rows(self, points: Floats) -> tuple[Ints, Ints, NDArray[np.bool_]]:
+        columns, rows = (np.floor(axis / self.step).astype(np.int64) for axis in points.T)
+        columns, rows = columns - self.left, rows - self.bottom
+        height, width = self.squares.shape
+        return rows, columns, (0 <= rows) & (rows < height) & (0 <= columns) & (columns < width)
+
+    def add(self, points: Floats) -> None:
+        rows, columns, is_in = self._rows(points)
+        self.squares[rows[is_in], columns[is_in]] = True
+
+    def has(self, points: Floats) -> NDArray[np.bool_]:
+        rows, columns, is_in = self._rows(points)
+        is_in[is_in] = self.squares[rows[is_in], columns[is_in]]
+        return is_in
+
+    def without(self, box: Box) -> "Zone":
+        """The squares but those within a box, if it has an extent."""
+        squares = self.squares.copy()
+        first = np.array((self.left, self.bottom))
+        (west, south), (east, north) = np.ceil(np.array(box[:2]) / self.step) - first, np.floor(np.array(box[2:]) / self.step) - first
+        squares[max(0, int(south)) : max(0, int(north)), max(0, int(west)) : max(0, int(east))] = False
+        return self._replace(squares=squares)
+
+    def grown(self, metres: float) -> "Zone":
+        """The squares with points within some metres of these, and others."""
+        more = int(np.ceil(metres / self.step))
+        squares = maximum_filter(np.pad(self.squares, more), 2 * more + 1, mode="constant")
+        return Zone(self.step, self.left - more, self.bottom - more, squares)
 
 
 class Vertices(NamedTuple):
@@ -115,6 +172,26 @@ class Vertices(NamedTuple):
         part = np.where(long > 0, (shares - self.shares[step]) / np.where(long > 0, long, 1.0), 0.0)
         found: Floats = self.points[step] + (self.points[step + 1] - self.points[step]) * part[:, None]
         return found
+
+
+    def spaced(self, metres: float) -> tuple[Ints, Floats, Floats]:
+        """Points of the edges, so many metres apart at most, and their first and last points: the rows, the shares and the points."""
+        parts = np.maximum(1, np.ceil(self.metres / metres))
+        # (of each step the first point at its beginning or behind, by its number on the edge, and the points before the next step)
+        steps = np.flatnonzero(~self.is_last)
+        rows, begins, ends = self.rows[steps], self.shares[steps], self.shares[steps + 1]
+        whole = parts[rows]
+        first, behind = np.ceil(begins * whole), np.where(self.is_last[steps + 1], whole + 1, np.ceil(ends * whole))
+        counts = np.maximum(behind - first, 0).astype(np.int64)
+        number = np.arange(int(counts.sum())) - (counts.cumsum() - counts - first).repeat(counts)
+        shares = number / whole.repeat(counts)
+        long = np.where(ends > begins, ends - begins, 1.0)
+        slopes = (self.points[steps + 1] - self.points[steps]) / (long * whole)[:, None]
+        starts = self.points[steps] - slopes * (begins * whole)[:, None]
+        points = np.empty((len(number), 2))
+        for axis in range(2):
+            points[:, axis] = slopes[:, axis].repeat(counts) * number + starts[:, axis].repeat(counts)
+        return rows.repeat(counts), shares, points
 
 
 class Shares(NamedTuple):
@@ -192,35 +269,55 @@ class Reach:
         self._parts = [part for place in self._places for part in self._parts_at(place)]
         self.plane = Plane(0, METRES_OF_DEGREE)
         self.boxes: list[Box | None] = [None] * len(self.limits)
-        reached = np.flatnonzero((self._lengths >= 0) & (self._lengths <= self.limits[-1]))
-        if len(reached) or self._places:
-            self.plane = self._plane_of(reached)
-            self._set_boxes(reached)
+        self._reached = np.flatnonzero((self._lengths >= 0) & (self._lengths <= self.limits[-1]))
+        if len(self._reached) or self._places:
+            self.plane = self._plane_of_reached()
+            self._set_boxes()
 
-    def _plane_of(self, reached: Ints) -> Plane:
+    def _plane_of_reached(self) -> Plane:
         """The plane about the middle of the reached nodes and the places, which may lie on both sides of the 180th meridian."""
         network = self.network
         lons, lats = network.points[network.edge_begin[self._edges_of_places]].T
-        lons, lats = np.append(network.node_lon[reached], lons), np.append(network.node_lat[reached], lats)
+        lons, lats = np.append(network.node_lon[self._reached], lons), np.append(network.node_lat[self._reached], lats)
         away = wrapped_difference(lons.astype(np.int64) - int(lons[0]))
         middle = int(lons[0]) + (int(away.min()) + int(away.max())) // 2
         lat = (int(lats.min()) + int(lats.max())) / 2 / UNITS
         east = METRES_OF_DEGREE * max(float(np.cos(np.radians(lat))), 0.01)
         return Plane(int(wrapped_difference(np.array([middle]))[0]), east)
 
-    def _set_boxes(self, reached: Ints) -> None:
+    def _set_boxes(self) -> None:
         """Sets the boxes: around nodes and places, and what is reached of edges near by that aren't too short for a grid."""
         fractions = np.array([place.fraction for place in self._places])
-        here = self.vertices(self._edges_of_places).at(np.arange(len(fractions)), fractions)
-        boxes = [Box.around(here) for _ in self.limits]
-        for nodes in chunks_of(reached):
+        self._here = self.vertices(self._edges_of_places).at(np.arange(len(fractions)), fractions)
+        boxes = [Box.around(self._here) for _ in self.limits]
+        for nodes in chunks_of(self._reached):
             points, levels = self._points_of(nodes), self._levels_by_length(nodes)
             boxes = [box.with_(Box.around(points[levels == limit])) for limit, box in enumerate(boxes)]
-        for limit, box in enumerate(itertools.accumulate(boxes, Box.with_)):
+        boxes = [*itertools.accumulate(boxes, Box.with_)]
+        zone = self._zone_of_nodes(boxes[-1])
+        for limit, box in enumerate(boxes):
             if box.west < np.inf:
-                for edges in self.edges_near(box.grown(FARTHEST_END), min(box.sides) / SHORT):
+                for edges in self.edges_near(box.grown(FARTHEST_END), min(box.sides) / SHORT, zone):
                     box = box.with_(self._box_of(edges, limit, box))
                 self.boxes[limit] = box
+
+    def zone(self, metres: float) -> Zone:
+        """Where all is that lies within some metres of what is reached within the greatest limit."""
+        box = self.boxes[-1]
+        assert box is not None
+        found = self._zone_of_nodes(box)
+        for edges in [*self.edges_near(box, LONG, found)]:
+            rows, shares, points = self.vertices(edges).spaced(LONG)
+            found.add(points[self.shares(edges).levels(rows, shares) < len(self.limits)])
+        return found.grown(LONG + metres)
+
+    def _zone_of_nodes(self, box: Box) -> Zone:
+        """The squares of a box with reached nodes, and with places."""
+        found = Zone.over(box)
+        found.add(self._here)
+        for nodes in chunks_of(self._reached):
+            found.add(self._points_of(nodes))
+        return found
 
     def _box_of(self, edges: Ints, limit: int, known: Box) -> Box:
         """The box of what is reached within a limit of those edges that aren't within a box."""
@@ -236,31 +333,34 @@ class Reach:
         """The points of nodes in the plane."""
         return self.plane.of(np.column_stack((self.network.node_lon[nodes], self.network.node_lat[nodes])))
 
-    def edges_near(self, box: Box, metres: float = -1.0) -> Iterator[Ints]:
-        """The edges in a box that are longer than so many metres, and others near it, which rise, some at a time."""
+    def edges_near(self, box: Box, metres: float = -1.0, zone: Zone | None = None) -> Iterator[Ints]:
+        """The edges in a box, and in a zone, that are longer than so many metres, and others near there, which rise, some at a time."""
         network = self.network
-        for edges in chunks_of(self._near(network.edge_grid, len(network.edge_begin) - 1, box)):
+        for edges in chunks_of(self._near(network.edge_grid, len(network.edge_begin) - 1, box, zone)):
             # (all arcs of an edge have its metres)
             arcs = network.edge_arcs[np.minimum(network.edge_first[edges], len(network.edge_arcs) - 1)]
             yield edges[network.arc_metres[arcs] > metres]
 
-    def nodes_near(self, box: Box) -> Iterator[tuple[Floats, Levels]]:
-        """The nodes in a box, and others near it, some at a time: their points in the plane, and their levels."""
-        nodes = self._near(self.network.node_grid, len(self.network.node_lon), box)
+    def nodes_near(self, box: Box, zone: Zone | None = None) -> Iterator[tuple[Floats, Levels]]:
+        """The nodes in a box, and in a zone, and others near there, some at a time: their points in the plane, and their levels."""
+        nodes = self._near(self.network.node_grid, len(self.network.node_lon), box, zone)
         return zip(map(self._points_of, chunks_of(nodes)), chunks_of(self.node_levels(nodes)))
 
-    def _near(self, grid: Grid, count: int, box: Box) -> Ints:
-        """The things of a grid with so many that lie in the circle around a box."""
+    def _near(self, grid: Grid, count: int, box: Box, zone: Zone | None) -> Ints:
+        """The things of a grid with so many in a box, and in a zone, and others near there."""
         middle = self.plane.degrees(np.array([[(box.west + box.east) / 2, (box.south + box.north) / 2]]))
         lon, lat = (middle[:, 0] + 180) % 360 - 180, np.clip(middle[:, 1], -90, 90)
         corners = self.plane.degrees(np.array([(x, y) for x in (box.west, box.east) for y in (box.south, box.north)]))
         far = great_circle_metres(unit_vectors(corners[:, 0], np.clip(corners[:, 1], -90, 90)), unit_vectors(lon, lat))
-        _, begins, ends = grid.candidate_slices(lon, lat, far.max(keepdims=True) + 1.0)
+        cells = grid.cells_near(lon, lat, far.max(keepdims=True) + 1.0)
+        if np.abs(corners[:, 1]).max() < MAX_ZONE_LAT:
+            middles = self.plane.of(np.rint(grid.middles(cells) * UNITS).astype(np.int64))
+            is_in = box.grown(grid.cell_metres).has(middles)
+            if zone is not None:
+                is_in &= zone.grown(grid.cell_metres).has(middles)
+            cells = cells[is_in]
         is_near = np.zeros(count, dtype=bool)
-        low, high = (int(begins.min()), int(ends.max())) if len(begins) else (0, 0)
-        things = grid.things[low:high]
-        for begin, end in zip((begins - low).tolist(), (ends - low).tolist()):
-            is_near[things[begin:end]] = True
+        is_near[grid.things_in(cells)] = True
         return np.flatnonzero(is_near)
 
     def node_levels(self, nodes: Ints) -> Levels:
@@ -337,7 +437,7 @@ class Reach:
     def roads(self, limit: int) -> list[list[Point]]:
         """The lines that are reached within the limit of this number, with DECIMALS. None crosses the 180th meridian."""
         box = self.boxes[limit]
-        chunks = self.edges_near(box.grown(FARTHEST_END)) if box else ()
+        chunks = self.edges_near(box.grown(FARTHEST_END), zone=self._zone_of_nodes(box)) if box else ()
         return [line for edges in chunks for line in self._lines(edges, limit)]
 
     def _lines(self, edges: Ints, limit: int) -> Iterator[list[Point]]:
