@@ -10,6 +10,7 @@ from numpy.typing import NDArray
 from domethyme.network.groups import Ints, offsets
 from domethyme.network.sphere import Floats
 
+encode_string: Any = vars(json.encoder)["encode_basestring"]
 Json = dict[str, Any]
 # (no value contains itself)
 ENCODER = json.JSONEncoder(separators=(",", ":"), allow_nan=False, ensure_ascii=False, check_circular=False)
@@ -27,7 +28,8 @@ def to_json(value: object) -> str:
 
 def string_json(text: str) -> str:
     """What `to_json` returns, sooner."""
-    return json.encoder.encode_basestring(text)
+    found: str = encode_string(text)
+    return found
 
 
 def figure_json(value: float | None) -> str:

@@ -25,7 +25,7 @@ from .queries import Queries
 # A place is near the network if it is within this many degrees of the bounding box of its roads.
 NEAR_DEGREES = 0.2
 # Places that are snapped at once.
-SNAP_BATCH = 16
+SNAP_BATCH = 128
 
 
 class Engine(NamedTuple):
@@ -53,6 +53,8 @@ def snap_candidates(engine: Engine, request: Request, number: int, count: int) -
     """The nearest points of roads to a place, within its radius and its bearing."""
     place, radius, bearing = request.places[number], request.values[RADIUSES][number], request.values[BEARINGS][number]
     engine.meter.spend(Work.PLACE, count)
+    if bearing is None and count == 1:
+        return [snapped for snapped in engine.roads.nearest_within([place], [radius]) if snapped is not None]
     if bearing is None:
         return engine.roads.nearest(place, count, within=radius)
     return nearest_with_bearing(engine.roads, place, count, BearingRange(*bearing), radius)

@@ -73,8 +73,8 @@ def leg_via_route(roads: RoadIndex, start: SnappedPoint, end: SnappedPoint, rout
     arcs = roads.lightest(route.nodes)
     if (arcs == NO_ARC).any():
         raise NetworkError("lacks an arc of the hierarchy's graph", roads.arrays.path)
-    weights = np.concatenate(([before], roads.arrays.arc_weight[arcs], [behind]))
-    arcs = np.concatenate(([first], arcs, [last]))
+    weights: Ints = np.hstack((before, roads.arrays.arc_weight[arcs], behind))
+    arcs = np.hstack((first, arcs, last))
     is_arc = arcs != NO_ARC
     begin = 0.0 if first == NO_ARC else roads.arc_fraction(roads.edge(start.edge).arcs[first], start.fraction)
     stop = 1.0 if last == NO_ARC else roads.arc_fraction(roads.edge(end.edge).arcs[last], end.fraction)

@@ -14,9 +14,9 @@ SHIFTS = np.arange(0, 40, 5)
 def encode_polylines(lines: Sequence[ArrayLike], digits: int) -> list[str]:
     """The polylines of lines (lon, lat), of shape (points, 2), with so many decimal digits. Many short lines take little longer than one
     of all points."""
-    lines = [np.asarray(line, np.float64) for line in lines]
-    whole = np.rint(np.concatenate(lines)[:, ::-1] * 10**digits).astype(np.int64)
-    counts = [len(line) for line in lines]
+    arrays = [np.asarray(line, np.float64) for line in lines]
+    whole = np.rint(np.concatenate(arrays)[:, ::-1] * 10**digits).astype(np.int64)
+    counts = [len(line) for line in arrays]
     ends = np.cumsum(counts)
     begins = ends - counts
     steps = np.diff(whole, axis=0, prepend=0)

@@ -199,13 +199,10 @@ class RoadIndex:
             return {}
         ways = self.project(np.array(places)[which], edges)
         place = which[ways.which]
-        firsts = np.flatnonzero(differs_from_previous(place))
-        least = np.minimum.reduceat(ways.metres, firsts)
-        least[least > grid.initial_radius] = -1
-        nearest = np.flatnonzero(ways.metres == least.repeat(np.diff(np.append(firsts, len(place)))))
-        nearest = nearest[np.lexsort((ways.rows[nearest], place[nearest]))]  # (rows are in the order of edges)
-        for best in nearest[differs_from_previous(place[nearest])].tolist():
-            found[int(place[best])] = self._snap_on_segment(int(edges[ways.which[best]]), ways, best)
+        order = np.lexsort((ways.rows, ways.metres, place))  # (rows are in the order of edges)
+        for best in order[differs_from_previous(place[order])].tolist():
+            if ways.metres[best] <= grid.initial_radius:
+                found[int(place[best])] = self._snap_on_segment(int(edges[ways.which[best]]), ways, best)
         return found
 
     def project(self, places: Floats, edges: Ints) -> SegmentProjections:

@@ -1,0 +1,71 @@
+"""What the service computes in arrays: lines that are simplified by GEOS and level by level, and numbers as JSON."""
+import json
+
+import numpy as np
+import pytest
+
+from domethyme_service.costs import Meter
+from domethyme_service.errors import RequestError
+from domethyme_service.json_text import decimal_texts, number_texts, point_texts
+from domethyme_service.osrm_geometry import MAX_GEOS_POINTS, Budget, simplified
+
+
+def budget(by_geos=10**9, examined=10**9):
+    found = Budget(Meter(), 1)
+    found.examined_by_geos, found.examined = by_geos, examined
+    return found
+
+
+def walk(count, seed=1):
+    """A random line in microdegrees, across the 180th meridian."""
+    steps = np.random.default_rng(seed).integers(-2000, 2000, (count, 2))
+    line = steps.cumsum(axis=0) + (179_999_000, 47_000_000)
+    line[:, 0] = (line[:, 0] + 180_000_000) % 360_000_000 - 180_000_000
+    return line
+
+
+@pytest.mark.parametrize("line", [
+    *(walk(count) for count in (2, 3, 10, 500, MAX_GEOS_POINTS)), np.zeros((2, 2), int), np.zeros((9, 2), int),
+    np.concatenate((walk(50), walk(50)[::-1])), np.concatenate((walk(9), walk(9)[:1])),
+])
+@pytest.mark.parametrize("tolerance", [0.0, 700.0, 20_000.0, 1e7])
+def test_both_ways_keep_the_same_points(line, tolerance):
+    by_geos, by_levels = (simplified(line, tolerance, budget(most)).tolist() for most in (10**9, -1))
+    assert by_geos[0] == 0 and by_geos[-1] == len(line) - 1 and len(by_geos) >= 2
+    if tolerance:  # (without one GEOS drops points of straight lines by other last digits)
+        assert by_geos == by_levels
+
+
+def test_a_zigzag_whose_points_lie_ever_nearer():
+    """Each point is a level of its own: as many as there are crash GEOS, which takes the square of them, and so the budget ends it."""
+    count = 60_000
+    line = np.column_stack((np.arange(count), np.where(np.arange(count) % 2, 1, -1) * np.arange(count, 0, -1) * 100))
+    with pytest.raises(RequestError, match="takes too long to simplify"):
+        simplified(line, 1.0, budget(examined=1_000_000))
+    assert len(simplified(line[: MAX_GEOS_POINTS], 1.0, budget())) == MAX_GEOS_POINTS
+
+
+@pytest.mark.parametrize("digits", [0, 1, 2, 3, 6])
+@pytest.mark.parametrize("most", [1, 10, 999, 10**6, 18 * 10**7, 10**12, 10**15])
+def test_numbers_are_those_of_std(digits, most):
+    draw = np.random.default_rng(most)
+    values = np.append(draw.integers(-most, most, 300), (0, most, -most, 1, -1))
+    wanted = [value / 10**digits if digits else value for value in values.tolist()]
+    is_null = draw.random(len(values)) < 0.2
+    assert number_texts(values, digits).array(0, len(values)) == "[" + ",".join(plain(value) for value in wanted) + "]"
+    found = json.loads(number_texts(values, digits, is_null).array(0, len(values)))
+    assert found == [None if is_none else value for value, is_none in zip(wanted, is_null)]
+    points = point_texts(values[:304].reshape(-1, 2), digits)
+    assert [json.loads(points.row(row)) for row in range(152)] == np.reshape(wanted[:304], (-1, 2)).tolist()
+
+
+def plain(value):
+    """The shortest decimals of a number, without an exponent."""
+    return np.format_float_positional(value, trim="0") if isinstance(value, float) else str(value)
+
+
+@pytest.mark.parametrize("values, text", [
+    ([0.0005, -1.0, np.nan, 2.25], "[0.0,-1.0,null,2.25]"), ([1e300, np.nan, 1.5], "[1e+300,null,1.5]"), ([], "[]"),
+])
+def test_decimals(values, text):
+    assert decimal_texts(np.array(values, float), 3).array(0, len(values)) == text
