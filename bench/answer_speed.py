@@ -22,7 +22,7 @@ import subprocess
 import sys
 import tempfile
 import time
-from collections.abc import Iterator
+from collections.abc import Iterator, Sequence
 from typing import Any, NamedTuple
 
 from kit import counted
@@ -115,12 +115,20 @@ class Network:
 
         found = net_file.read(f"{self.prefix}.net")
         self.nodes, self.arcs = len(found.node_lon), len(found.arc_from)
-        self.places = list(zip((found.node_lon[:] / net_file.UNITS).tolist(), (found.node_lat[:] / net_file.UNITS).tolist()))
-        west, south, east, north = found.box
-        self.middle, self.size = ((west + east) / 2, (south + north) / 2), min(east - west, north - south)
+        places = (found.node_lon[:] / net_file.UNITS).tolist(), (found.node_lat[:] / net_file.UNITS).tolist()
+        self.requests = Requests([*zip(*places)], found.box)
 
-    def requests(self, kind: str) -> list[str]:
-        """The targets of a kind, always the same ones."""
+
+class Requests:
+    """What is asked on a map, by its nodes' places and its bounding box."""
+
+    def __init__(self, places: Sequence[tuple[float, float]], box: Sequence[float]) -> None:
+        west, south, east, north = box
+        self.places, self.size = places, min(east - west, north - south)
+        self.middle = (west + east) / 2, (south + north) / 2
+
+    def targets(self, kind: str) -> list[str]:
+        """The requests of a kind, always the same ones."""
         service, count, query = KINDS[kind]
         draw = random.Random(SEED)
         where = (self.drawn(draw, service, count) for _ in range(COUNTS.get(service, ROUTES)))
@@ -128,16 +136,17 @@ class Network:
 
     def drawn(self, draw: random.Random, service: str, count: int) -> str:
         """Places near nodes: those of isochrones in the middle of the map, others anywhere."""
-        some = [self.places[draw.randrange(self.nodes)] for _ in range(count)]
+        some = [draw.choice(self.places) for _ in range(count)]
         if service == "isochrone":
-            some = [tuple(side + draw.uniform(-0.05, 0.05) * self.size for side in self.middle)]
+            lon, lat = (side + draw.uniform(-0.05, 0.05) * self.size for side in self.middle)
+            some = [(lon, lat)]
         return ";".join(f"{lon + draw.gauss(0, 0.0002):.6f},{lat + draw.gauss(0, 0.0002):.6f}" for lon, lat in some)
 
 
 def measure(network: Network, commits: list[Commit], rounds: int, kinds: list[str]) -> Iterator[list[str]]:
     """The rows of the table."""
     for kind in kinds:
-        targets, took, same = network.requests(kind), [list[list[float]](), list[list[float]]()], 0
+        targets, took, same = network.requests.targets(kind), [list[list[float]](), list[list[float]]()], 0
         for number in range(rounds + 1):
             answers = [[commit.ask(target) for target in targets] for commit in commits]
             if number:

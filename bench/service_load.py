@@ -1,14 +1,15 @@
 #!/usr/bin/python3
 """Measures the service over HTTP: pairs of nodes, routes with geometry and steps, and tables with single requests beside them.
 
-    service_load.py HIERARCHY NETWORK [--direct] [--workers N] [--connections N] [--seconds S] [--rounds N]
+    service_load.py HIERARCHY NETWORK [--answers] [--direct] [--workers N] [--connections N] [--seconds S] [--rounds N]
 
 NETWORK is the beginning of the names of a network's files, as bench/make_roads.py writes them. Near pairs are those whose numbers
 are at most 3,000 apart, which in such networks are some 90 arcs. It needs Debian's wrk, and asks through nginx, with the configuration
 that ships and its processor time counted, or with --direct the service's own port. Each line has the requests in a second,
 the median and the 99th percentile in ms, and the processor time of the service and of wrk for each request, since
 other work on the machine makes the former smaller and not the latter. Each is the median of the rounds. Beside tables single
-requests are asked one after the other, each on a connection of its own, after as many without tables.
+requests are asked one after the other, each on a connection of its own, after as many without tables. With --answers the
+requests are those of answer_speed.py, and a line has the bytes of an answer with gzip and without.
 """
 import concurrent.futures
 import getpass
@@ -29,6 +30,7 @@ import threading
 import time
 
 from kit.counted import parser  # (finds domethyme too)
+import answer_speed
 
 from domethyme.network import net_file
 
@@ -113,6 +115,14 @@ class Service:
         connection.close()
         return found
 
+    def size(self, path, coding):
+        """The bytes of an answer's body."""
+        connection = http.client.HTTPConnection("127.0.0.1", self.port, timeout=60)
+        connection.request("GET", path, headers={"Accept-Encoding": coding})
+        found = len(connection.getresponse().read())
+        connection.close()
+        return found
+
     def end(self):
         for process in filter(None, (self.nginx, self.process)):
             process.send_signal(signal.SIGTERM)
@@ -133,7 +143,7 @@ class Places:
     def __init__(self, network):
         arrays = net_file.load_network(network)
         self.lon, self.lat = arrays.node_lon[:] / net_file.UNITS, arrays.node_lat[:] / net_file.UNITS
-        self.count = len(self.lon)
+        self.count, self.box = len(self.lon), arrays.box
 
     def pair(self, draw, is_near):
         one = draw.randint(1, self.count)
@@ -166,6 +176,15 @@ def one_load(service, script, given):
     after = service.seconds(), seconds_of_children()
     each = (1e6 * (now - then) / max(1, requests) for now, then in zip(after, before))
     return 1e6 * requests / duration, median / 1000, late / 1000, *each, wrong
+
+
+def answers(service, places, given):
+    """Loads of each kind of answer, and the bytes of the first one."""
+    requests = answer_speed.Requests([*zip(places.lon.tolist(), places.lat.tolist())], places.box)
+    for kind in answer_speed.KINDS:
+        paths = requests.targets(kind)
+        plain, packed = (service.size(paths[0], coding) for coding in ("identity", "gzip"))
+        load(service, f"{kind} ({plain:,} bytes, {packed:,} by gzip)", paths, given)
 
 
 def seconds_of_children():
@@ -210,6 +229,7 @@ def main():
     words = parser(__doc__)
     words.add_argument("hierarchy", metavar="HIERARCHY")
     words.add_argument("network", metavar="NETWORK")
+    words.add_argument("--answers", action="store_true")
     words.add_argument("--direct", action="store_true")
     words.add_argument("--workers", type=int, default=4)
     words.add_argument("--connections", type=int, default=16)
@@ -222,6 +242,8 @@ def main():
         loads = " ".join(pathlib.Path("/proc/loadavg").read_text().split()[:2])
         print(f"{given.workers} workers, {given.connections} connections, {places.count:,} nodes, {os.cpu_count()} processors, load {loads}")
         print(f"ready after {service.seconds_to_begin:.1f} s")
+        if given.answers:
+            return answers(service, places, given)
         for is_near, name in ((True, "near"), (False, "random")):
             pairs = [places.pair(draw, is_near) for _ in range(PATHS)]
             load(service, f"{name} pairs of nodes", [f"/nodes/route?from={one}&to={two}" for one, two in pairs], given)
