@@ -25,6 +25,8 @@ import domethyme
 from domethyme.maps import turn_restrictions
 
 UNITS = 10**7
+# The classes of ways, by their numbers: the place of each is the kind that maps have.
+HIGHWAYS = ("trunk", "primary_link", "secondary", "tertiary", "residential", "track")
 # Where networks lie: a town, both sides of the 180th meridian, near a pole, and where both degrees change their signs.
 ORIGINS = [(9.5, 47.1), (179.9995, -17.0), (30.0, 89.95), (0.0, 0.0)]
 # What weights are, and whether arcs have seconds.
@@ -64,8 +66,10 @@ def networks(draw: Any, kinds: Sequence[str] = KINDS, most: int = 8, origins: Se
         key = f"node {number}" if has_keys else str(number + 1)
         nodes.append(Node(point[0], point[1], key, draw(st.sampled_from([None, 40 + number]))))
     arcs: list[Arc] = []
+    end = draw(st.integers(0, count - 1))
     for way in range(draw(st.integers(1, 2 * most))):
-        start, end = (draw(st.integers(0, count - 1)) for _ in range(2))
+        start = end if draw(st.booleans()) else draw(st.integers(0, count - 1))
+        end = draw(st.integers(0, count - 1))
         inner = [draw(points_near(origin, scale)) for _ in range(draw(st.sampled_from([0, 0, 1, 2, 4])))]
         line = (nodes[start].place, *inner, nodes[end].place)
         texts = way + 1, *(draw(st.sampled_from(some)) for some in (NAMES, REFS, REFS, JUNCTIONS))
@@ -149,10 +153,11 @@ def write_tables(drawn: Drawn, folder: pathlib.Path) -> None:
         )
     with open(folder / "arcs.csv", "w", newline="") as file:
         rows = csv.writer(file)
-        rows.writerow(("from", "to", "weight", "seconds", "metres", "WKT", "osm", "name", "ref", "destination", "junction"))
+        rows.writerow(("from", "to", "weight", "seconds", "metres", "WKT", "osm", *Arc._fields[7:], "highway"))
         for arc in arcs:
             line = ", ".join(f"{lon:.7f} {lat:.7f}" for lon, lat in arc.line)
-            rows.writerow((names[arc.start], names[arc.end], *arc[2:5], f"LINESTRING ({line})", *arc[6:]))
+            highway = HIGHWAYS[arc.way % len(HIGHWAYS)]
+            rows.writerow((names[arc.start], names[arc.end], *arc[2:5], f"LINESTRING ({line})", *arc[6:], highway))
 
 
 def model_of(prefix: pathlib.Path) -> Network:

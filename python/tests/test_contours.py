@@ -132,18 +132,6 @@ def test_limits_that_differ_much(made_roads):
     assert np.count_nonzero(counts) > 2
 
 
-@pytest.mark.parametrize("form", ["polygons", "roads"])
-def test_chunks_change_nothing(made_town, monkeypatch, form):
-    """Nodes and edges are worked on in chunks, which are smaller than a town here."""
-    net, _ = made_town
-    found = lengths(net, {430: 0})
-    shapes = []
-    for size in (1 << 17, 50):
-        monkeypatch.setattr("domethyme.network.reach.CHUNK", size)
-        shapes.append(features(Reach(net, found, [10_000, 60_000, 120_000]), [1, 2, 3], "time", Style(form)))
-    assert shapes[0] == shapes[1]
-
-
 def test_roads_far_from_what_is_reached_change_nothing(made_roads, monkeypatch):
     """Also where a long road, a ferry say, is reached up to a place that is far from any node."""
     nodes = [(0, 0), (0.5, 0), (0.2, 0.0005), (0.21, 0.0005), (0.001, 0.001)]

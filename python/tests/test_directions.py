@@ -10,7 +10,7 @@ from typing import Any
 import numpy as np
 import pandas
 import pytest
-from comparing import Near, difference, is_same_line
+from comparing import difference, is_same_line
 from draws import drawn, networks, places, write_network
 from hypothesis import given
 from hypothesis import strategies as st

@@ -1,6 +1,8 @@
 """Requests to the service on drawn networks: the whole answer is the model's, or the error has its code."""
 import io
+import itertools
 import json
+import math
 import pathlib
 import tempfile
 import urllib.parse
@@ -8,9 +10,9 @@ from collections.abc import Mapping, Sequence
 from typing import Any
 
 from draws import (
-    KNOWN, LIMITS, ORIGINS, WORDS, WRONG, Drawn, directions, drawn, networks, places, texts_of, write_network
+    HIGHWAYS, KNOWN, LIMITS, ORIGINS, WORDS, WRONG, Drawn, directions, drawn, networks, places, texts_of, write_network
 )
-from hypothesis import given
+from hypothesis import assume, given
 from hypothesis import strategies as st
 from model import answers
 from model.answers import Refused
@@ -125,6 +127,41 @@ def words_of(codes: Mapping[str, Sequence[str]]) -> list[tuple[str, str]]:
     """Words for two places."""
     rows = [(f"{word};", code) for word, code in rows_of(codes) if word not in ("0", "10", "360,90")]
     return [*rows, *((f";{word}", code) for word, code in rows if code), (";;", "InvalidQuery"), (codes[""][0], "InvalidQuery")]
+
+
+@drawn(90)
+@given(st.data())
+def test_tiles(data: Any) -> None:
+    """Each step of each road is in the tile that has its middle, to the grid, with its kind, and from zoom 14 its name; below that once."""
+    made = data.draw(networks(most=data.draw(st.sampled_from([3, 8])), origins=[ORIGINS[0], ORIGINS[3]]))
+    zoom = data.draw(st.sampled_from([16, 15, 14, 13, 9]))
+    wide, wanted = 1024 << zoom, []
+    for edge in made.tables.edges:
+        arc = made.tables.arcs[min(edge.arcs)]
+        line = [(round((lon / 360 + 0.5) * wide), round((0.5 - math.asinh(math.tan(math.radians(lat))) / math.tau) * wide)) for lon, lat in edge.line]
+        wanted += [(arc.way % len(HIGHWAYS), arc.name, *sorted(step)) for step in itertools.pairwise(line)]
+    columns, rows = (sorted(place[side] // 1024 for step in wanted for place in step[2:]) for side in (0, 1))
+    assume((columns[-1] - columns[0]) * (rows[-1] - rows[0]) < 40)
+    found = []
+    with tempfile.TemporaryDirectory() as folder:
+        service = serve(made, pathlib.Path(folder))
+        for x, y in itertools.product(range(columns[0] - 1, columns[-1] + 2), range(rows[0] - 1, rows[-1] + 2)):
+            for road in ask(service, f"/map/roads/{zoom}/{x}/{y}")[1]["roads"]:
+                names = [road["names"][number] for number in road["name"]] if zoom >= 14 else [""] * len(road["lines"])
+                for line, name in zip(road["lines"], names, strict=True):
+                    places = [*zip(*(itertools.accumulate(line[side::2], initial=start * 1024) for side, start in ((0, x), (1, y))))][1:]
+                    steps = [sorted(step) for step in itertools.pairwise(places)]
+                    assert all(abs((a[side] + b[side]) / 2048 - 0.5 - start) <= 0.502 for a, b in steps for side, start in ((0, x), (1, y)))
+                    found += [(road["kind"], name, *step) for step in steps]
+
+    def is_near(one: Any, other: Any) -> bool:
+        ends = [one[2:], one[:1:-1]]
+        is_there = any(max(abs(a - b) for pair in zip(each, other[2:]) for a, b in zip(*pair)) <= 1 for each in ends)
+        return one[0] == other[0] and (zoom < 14 or one[1] == other[1]) and is_there
+
+    assert all(any(is_near(step, other) for other in wanted) for step in found)
+    assert all(any(is_near(step, other) for other in found) for step in wanted if math.dist(*step[2:]) > 2)
+    assert len(set(found)) == len(found) if zoom < 14 else len(wanted) >= len(found)
 
 
 def check_nodes(made: Drawn, service: Service, pairs: list[tuple[int, int]]) -> None:

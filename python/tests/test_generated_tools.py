@@ -202,10 +202,15 @@ def test_reach(data: Any) -> None:
         path = pathlib.Path(folder)
         write_network(made, path / "net", "--attribution", "© the town")
         write_rows(path / "places.csv", ["lon", "lat"], where)
-        words = f"--{option}", ",".join(map(str, limits)), "--shape", shape, "-o", path / "out"
+        style: dict[str, Any] = data.draw(st.fixed_dictionaries({}, optional={
+            "generalize": st.sampled_from([5, 20]), "denoise": st.sampled_from([0.1, 0.5]), "colors": st.just(["ff0000", "00ff00"]),
+            "radius": st.sampled_from([950, 2000])}))
+        options = {name: ",".join(value) if name == "colors" else value for name, value in style.items()}
+        words = f"--{option}", ",".join(map(str, limits)), "--shape", shape, "-o", path / "out", *itertools.chain(
+            *((f"--{name}", value) for name, value in options.items()))
         run_tool("reach", path / "net", path / "net.rch", path / "places.csv", *words)
         hierarchy = domethyme.Hierarchy(path / "net.rch", network=path / "net")
-        expected = hierarchy.within(where, shape=shape, **{option: limits})
+        expected = hierarchy.within(where, shape=shape, **style, **{option: limits})
         assert json.loads((path / "out").read_text()) == json.loads(json.dumps(expected))
         assert expected["attribution"] == "© the town"
 

@@ -35,10 +35,10 @@ class LauncherTests(ToolCase):
 
 class FolderTests(ServiceCase):
     def test_no_module_of_the_working_folder_is_taken(self):
-        for name in ("domethyme", "domethyme_tools", "numpy", "gunicorn", "json"):
+        for name in ("domethyme", "domethyme_service", "domethyme_tools", "numpy", "gunicorn", "json"):
             self.write(f"{name}.py", TAKEN)
         self.addCleanup(os.chdir, os.getcwd())
         os.chdir(self.folder)
         self.assertEqual(subprocess.run([TOOLS / "nearest", "--help"], stdout=subprocess.DEVNULL).returncode, 0)
-        self.serve("--fronts", "2")
+        self.serve("--fronts", "2", "--network", self.folder / "v")
         self.assertEqual(self.ask("/health")[0], 200)

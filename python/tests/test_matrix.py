@@ -55,12 +55,6 @@ def test_rows_of_a_call(rows, columns, processors, at_a_time):
         assert batch.rows_at_a_time(rows, columns) == at_a_time
 
 
-def test_the_same_node_twice(network):
-    hierarchy, _ = network
-    which = np.array([0, 1, 0, 0] * 20)
-    np.testing.assert_array_equal(hierarchy.matrix(np.array([5, 9])[which]), hierarchy.matrix([5, 9])[which][:, which])
-
-
 def test_no_sources_or_no_targets(network):
     for sources, targets in ([], []), ([1, 2], []), ([], [1, 2, 3]):
         assert network[0].matrix(sources, targets).shape == (len(sources), len(targets))

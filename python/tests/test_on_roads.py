@@ -1,7 +1,13 @@
 """Tests of what nearest and to_geojson refuse of places on roads."""
+import contextlib
+import unittest.mock
+
+from draws import run_tool
 from service_case import ServiceCase
 
 from domethyme import find_program
+from domethyme_tools import on_roads
+from domethyme_tools.cli import ToolError
 
 TRIPS = """\
 trip,from_lon,from_lat,to_lon,to_lat
@@ -21,6 +27,11 @@ class OnRoadsTests(ServiceCase):
         for word in ("--matrix", "--skip-far"):
             self.run_tool("nearest", "v", "trips.csv", "--on-roads", word, status=2)
         self.run_tool("to_geojson", "v", "replies", "--on-roads", status=2)
+        words = ("nearest", self.folder / "v", self.write("one.csv", "from_lon,from_lat,to_lon,to_lat\n0,0,0.0077,0\n"), "--on-roads")
+        for most in (2, 1):  # (from one node to two)
+            with unittest.mock.patch.object(on_roads, "MAX_SEEDS", most):
+                with self.assertRaisesRegex(ToolError, "more than 1 nodes") if most < 2 else contextlib.nullcontext():
+                    run_tool(*words)
         lines = self.run_tool("nearest", "v", "trips.csv", "--on-roads").stdout
         replies = self.run_program([find_program(), "serve", "v.rch"], given=lines).stdout.splitlines(keepends=True)
         self.assertEqual((lines.count("\n"), len(replies)), (5, 6))

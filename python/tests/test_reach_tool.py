@@ -22,24 +22,16 @@ class ReachCase(ToolCase):
         self.addCleanup(self.hierarchy.close)
         self.write("places.csv", PLACES)
 
-    def reach(self, *words, given=None):
-        return json.loads(self.run_tool("reach", "town", "town.rch", *words, given=given).stdout)
-
 
 class ReachToolTests(ReachCase):
-    def test_what_within_returns(self):
-        """Of a file and of standard input, in each shape, with all options."""
+    def test_forms(self):
+        """Of standard input, in the shape of roads; and a file, which has a feature on each line."""
         place = (9.004, 47.004)
-        self.assertEqual(self.reach("places.csv", "--minutes", "1,1.5"), self.hierarchy.within(place, [1, 1.5]))
-        words = ("--minutes", "1", "--shape", "roads", "--radius", "500")
-        self.assertEqual(self.reach("-", *words, given=PLACES), self.hierarchy.within(place, [1], shape="roads"))
-        words = ("--minutes", "1,2", "--generalize", "20", "--denoise", "0.1", "--colors", "ff0000,00ff00", "--shape", "lines")
-        style = {"generalize": 20, "denoise": 0.1, "colors": ["ff0000", "00ff00"], "shape": "lines"}
-        self.assertEqual(self.reach("places.csv", *words), self.hierarchy.within(place, [1, 2], **style))
+        found = json.loads(self.run_tool("reach", "town", "town.rch", "-", "--minutes", "1", "--shape", "roads", given=PLACES).stdout)
+        self.assertEqual(found, self.hierarchy.within(place, [1], shape="roads"))
         self.run_tool("reach", "town", "town.rch", "places.csv", "-o", "out")
         text = (self.folder / "out").read_text()
-        self.assertEqual(json.loads(text), self.hierarchy.within(place))
-        self.assertEqual(len(text.splitlines()), 5)  # (a feature on each line)
+        self.assertEqual((json.loads(text), len(text.splitlines())), (self.hierarchy.within(place), 5))
 
     def test_metres(self):
         prepared([(0, 0), (0.01, 0)], [Road(0, 1, 111_195, 111_195)], self.folder / "road").close()

@@ -182,11 +182,6 @@ class RouterTests(ToolCase):
         with self.ring()._router.searcher() as seat:
             self.assertEqual(seat.length(0, 1), 1)
 
-    def test_another_file_of_its_name_changes_nothing(self):
-        hierarchy = self.ring()
-        (self.folder / "ring.rch").write_bytes(b"none")
-        self.assertEqual(hierarchy.length(0, 59), 59)
-
     def test_bytes_that_are_refused(self):
         self.ring()
         whole = (self.folder / "ring.rch").read_bytes()

@@ -253,7 +253,8 @@ ENDING = (
             "$text.example", "", "127.0.0.2", "x.example", "x@127.0.0.1", "127.0.0.1.example", "127.0.0.1:5:5", "[::1]", "0x7f000001",
             "2130706433", "x y", "localhost.example"))), whole),
     Kind(400, "InvalidUrl", "a length that is none", tuple(f"{POST}X-A: $text\nContent-Length: {length}\n\n" for length in (
-        "-1", "+1", "1x", "0x10", "1e3", "1.0", "", "one", "1 2", "1,1", "NaN", "9" * 99, "\xb2", "-$node", "1;2", "'1'")), whole),
+        "-1", "+1", "1x", "0x10", "1e3", "1.0", "", "one", "1 2", "1,1", "NaN", "9" * 99, "\xb2", "-$node", "1;2", "'1'", "4_0", "4, 4",
+        " 4 4", "\x0b4")), whole),
     Kind(400, "InvalidUrl", "two lengths", (
         f"{POST}X: $text\nContent-Length: 1$few\nContent-Length: 2$few\n\n", f"{POST}X: $text\nContent-Length: 1$few\n{CHUNKED}\n",
         f"{POST}X: $text\n{CHUNKED}Content-Length: 1$few\n\n"), whole),
@@ -261,7 +262,8 @@ ENDING = (
         "5", "x", "-1", "0x5", " ", "", "\0", "g" * 9, "f" * 17, "${upper}Z")), whole),
     Kind(400, "InvalidUrl", "a coding that is none", tuple(
         f"{POST}X-A: $text\nTransfer-Encoding: {coding}\n\n5\nhello\n0\n\n" for coding in (
-            "$text", "gzip", "chunked, identity", "chunked, gzip", "identity", "chunke", "chunked;q=1", "xchunked")), whole),
+            "$text", "gzip", "chunked, identity", "chunked, gzip", "identity", "chunke", "chunked;q=1", "xchunked", "identity, chunked",
+            "\x0bchunked", "chunked\nTransfer-Encoding: chunked")), whole),
     Kind(400, "InvalidUrl", "a head that is too long", (
         "GET /$text$long HTTP/1.1\nHost: x\n\n", "GET /route/v1/car/$many_places;$many_places HTTP/1.1\nHost: x\n\n",
         "GET /route/v1/$text/$places?hints=$long HTTP/1.1\nHost: x\n\n", "GET /health HTTP/1.1\nHost: x\nX-$text: $long\n\n",

@@ -16,12 +16,13 @@ from domethyme_service import command
 class NodesTests(ServiceCase):
     def test_faults_in_lines_of_a_batch(self):
         self.serve()
+        line = '{"from": 1, "to": 1'
         lines = ['{"from": 1, "to": 1}', "", "[1, 2]", '{"from": 1}', '{"from": true, "to": 1}', '{"from": 1.5, "to": 1}',
                  '{"from": 1, "to": 1, "x": "' + "x" * 300 + '"}', "[" * 200, '{"from": "1", "to": 1}',
-                 '{"from": 1, "from": 2, "to": 3}', '{"from_key": "a", "to_key": "b"}']
+                 '{"from": 1, "from": 2, "to": 3}', '{"from_key": "a", "to_key": "b"}', *(line.ljust(count) + "}" for count in (255, 256))]
         status, text = self.ask("/nodes/lengths", "POST", "\n".join(lines))
         found = [json.loads(line) for line in text.splitlines()]
-        self.assertEqual((status, [each.get("line") for each in found]), (200, [None, 2, 3, 4, 5, 6, 7, 8, None, 10, 11]))
+        self.assertEqual((status, [each.get("line") for each in found]), (200, [None, 2, 3, 4, 5, 6, 7, 8, None, 10, 11, None, 13]))
         self.assertEqual(found[9]["message"], "a name is there twice")
         self.assertEqual(self.ask("/nodes/lengths", "POST", ""), (200, ""))
 

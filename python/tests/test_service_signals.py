@@ -81,20 +81,6 @@ class SignalTests(ServiceCase):
             self.assertLessEqual(set(lengths), {old, 2 * old, 3 * old})
         self.wait_for(lambda: self.value("reloads_total") == 2)
 
-    def test_a_file_that_is_refused_leaves_the_old_one(self):
-        process = self.serve("--network", self.folder / "v")
-        old = self.ask(PATH)
-        # (messages name both files as the user did)
-        other = f"reload refused: {self.folder}/v.rch: is the hierarchy of another network than {self.folder}/v.net: "
-        for text, says in ((b"none", "v.rch: is no file that `routecli prepare` wrote"), (None, other)):
-            path = self.folder / "v.rch"
-            path.unlink()
-            path.write_bytes(text) if text else self.prepare(2)
-            self.said.clear()
-            process.send_signal(signal.SIGHUP)
-            self.wait_for(lambda: any("reload refused: " in line and says in line for line in self.said))
-        self.assertEqual(self.ask(PATH), old)
-
     def test_a_file_that_changes_behind_its_trial(self):
         """A file that takes the hierarchy's name between the child's trial and the arbiter's opening is refused, though it is right;
         the next reload tries it, and the failed one is over."""

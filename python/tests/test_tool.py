@@ -295,14 +295,3 @@ class Program(SharedCase):
         path = str(self.folder / "text")
         self.assert_fault(f"{path}: is no program that can be run", self.find, path)
         self.assert_fault("/none: is no program that can be run", lambda: self.find(ROUTECLI="/none"))
-
-
-class Earth(SharedCase):
-    def test_distances(self):
-        # a degree of a circle of radius 6371008.8 m; at 60 degrees north half of that
-        self.assertAlmostEqual(geo.metres_between(0, 0, 1, 0), 111195.080, 3)
-        self.assertAlmostEqual(geo.metres_between(7, -3, 7, -4), 111195.080, 3)
-        self.assertAlmostEqual(geo.metres_between(0, 60, 0.001, 60), 55.59754, 4)
-        self.assertAlmostEqual(geo.metres_between(179.5, 0, -179.5, 0), 111195.080, 3)
-        self.assertAlmostEqual(geo.metres_between(0, 90, 0, -90), 20015114.4, 0)
-        self.assertEqual(geo.metres_between(5, 5, 5, 5), 0)
