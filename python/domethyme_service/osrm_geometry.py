@@ -71,7 +71,7 @@ def simplify_lines(lines: Sequence[Ints], budget: Budget) -> list[Ints]:
     return [line[simplified(line, tolerance, budget)] for line in lines]
 
 
-def simplified(points: NDArray[np.integer], tolerance: float, budget: Budget) -> Ints:
+def simplified(points: Ints, tolerance: float, budget: Budget) -> Ints:
     """The indices of the points that are left of a line without points within `tolerance`, in microdegrees of latitude, of what is left
     (Douglas, Peucker 1973)."""
     east = np.unwrap(points[:, 0], period=360 * MICRODEGREES) * math.cos(math.radians(points[0, 1] / MICRODEGREES))

@@ -197,7 +197,7 @@ class RouteGeometry:
         segment = np.minimum(index[steps], last[arc[steps]] - 1)
         is_shown = segment >= first[arc[steps]]
         metres = great_circle_metres(sphere[steps], sphere[steps + 1])
-        return np.bincount(segment[is_shown], metres[is_shown], len(self.shown))
+        return np.asarray(np.bincount(segment[is_shown], metres[is_shown], len(self.shown)), float)
 
     def shown_nodes(self) -> tuple[Ints, Ints]:
         """The nodes, counted from 1, at points that are shown, and the indices of these; the first of those of one point is its own."""
