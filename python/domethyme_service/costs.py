@@ -17,7 +17,7 @@ from domethyme.network.geo import Point
 
 from .errors import too_big
 from .parameters import (
-    ANNOTATIONS, BEARINGS, CONTOURS_METERS, CONTOURS_MINUTES, DESTINATIONS, NUMBER, OVERVIEW, SOURCES, STEPS,
+    ANNOTATIONS, BEARINGS, CONTOURS_METERS, CONTOURS_MINUTES, DESTINATIONS, NUMBER, OVERVIEW, ROUNDTRIP, SOURCES, STEPS,
     TABLE_ANNOTATIONS, Values
 )
 
@@ -38,6 +38,7 @@ class Work(enum.Enum):
     CONTOUR = 200_000, "a contour that is drawn"
     DRAWN = 4, "a node that is reached, for each contour that is drawn of it"
     CELL = 1, "a cell of a table"
+    STOP = 10_000, "a place of a trip, whose order is searched for"
     POINT = 2, "a point of a leg's line, and as much for each thing that is written of it"
     LINE = 5, "a line of a batch"
     TILE = 50_000, "a tile of the map"
@@ -72,7 +73,7 @@ VARIABLES = {
     "G": "legs: one for each two places, or for each cell of a table that needs routes",
     "W": "nodes of all legs, of each 2 √N or less by the distance of its places",
     "V": "points of all legs, by W, and as many more for each annotation, for steps and for the overview",
-    "M": "rows of a table that needs no routes: two for each different source",
+    "M": "rows of a table that needs no routes: two for each different source, or place of a trip",
     "L": "links of a table's selection: those of the hierarchy, or 20 √N for each different destination, if these are fewer",
     "Z": "cells of a table",
     "C": "contours",
@@ -134,11 +135,12 @@ def expected(size: Size, places: Sequence[Point], values: Values, unit: str) -> 
         sources, destinations = values[SOURCES], values[DESTINATIONS]
         different = len({*sources}), len({*destinations})
         needs_routes = not {unit, "weight"}.issuperset(values[TABLE_ANNOTATIONS])
-        # (two places of a square are 0.37 of its diagonal apart)
-        extent = 0.37 * math.dist(*([ends(side) for side in zip(*places)] for ends in (min, max)))
-        legs, rows = ([extent] * (different[0] * different[1]), 0) if needs_routes else ([], 2 * different[0])
+        legs, rows = ([between_two(places)] * (different[0] * different[1]), 0) if needs_routes else ([], 2 * different[0])
         cells = len(sources) * len(destinations)
         found["L"] = selected_links(size.nodes, size.links, 2 * different[1])
+    if ROUNDTRIP in values:
+        legs, rows, cells = [between_two(places)] * len(places), 2 * len(places), len(places) ** 2
+        found["L"] = selected_links(size.nodes, size.links, 2 * len(places))
     nodes = sum(path_nodes(size, degrees) for degrees in legs)
     found |= {"G": len(legs), "W": nodes, "V": nodes * size.points * things(values), "M": rows, "Z": cells}
     minutes, metres = values.get(CONTOURS_MINUTES) or (), values.get(CONTOURS_METERS) or ()
@@ -146,6 +148,11 @@ def expected(size: Size, places: Sequence[Point], values: Values, unit: str) -> 
     # (a box that is as high as wide has half the square of its diagonal)
     shares = (min(1.0, 2 * math.pi * (radius / (size.degrees or 1.0)) ** 2) for radius in circles)
     return {**found, "C": len(circles), "R": size.nodes * sum(shares)}
+
+
+def between_two(places: Sequence[Point]) -> float:
+    """The degrees between two of some places: in a square those are 0.37 of its diagonal."""
+    return 0.37 * math.dist(*([ends(side) for side in zip(*places)] for ends in (min, max)))
 
 
 def things(values: Values) -> int:

@@ -6,14 +6,14 @@ import re
 from collections.abc import Callable, Iterator, Mapping
 from typing import Any, NamedTuple
 
-from . import costs, handlers, isochrone, osrm, osrm_tables
+from . import costs, handlers, isochrone, osrm, osrm_tables, osrm_trip
 from .access import BATCH_TYPES
 from .costs import Formula, Work, formula
 from .errors import RequestError, invalid_query
 from .parameters import (
     ALTERNATIVES, ANNOTATIONS, BEARINGS, COMMON, CONTINUE_STRAIGHT, CONTOURS_COLORS, CONTOURS_METERS, CONTOURS_MINUTES, DENOISE,
-    DESTINATIONS, FALLBACK_COORDINATE, FALLBACK_SPEED, FROM, FROM_KEY, GENERALIZE, GEOMETRIES, NUMBER, OVERVIEW, POLYGONS,
-    RADIUSES, SCALE_FACTOR, SOURCES, STEPS, TABLE_ANNOTATIONS, TO, TO_KEY, Context, Parameter, Values, any_text, choice,
+    DESTINATION, DESTINATIONS, FALLBACK_COORDINATE, FALLBACK_SPEED, FROM, FROM_KEY, GENERALIZE, GEOMETRIES, NUMBER, OVERVIEW, POLYGONS,
+    RADIUSES, ROUNDTRIP, SCALE_FACTOR, SOURCE, SOURCES, STEPS, TABLE_ANNOTATIONS, TO, TO_KEY, Context, Parameter, Values, any_text, choice,
     unsupported
 )
 from .static import PAGE_FILES
@@ -107,13 +107,16 @@ ENDPOINTS = (
     osrm_endpoint("table", "durations, distances and weights, by up to 2,000 places", handlers.places(osrm_tables.table),
                   range(1, 2001), f"{SNAPPING} + ROW*M*(1 + L/10000) + (CELL + 10*BYTE)*Z + PAIR*G + NODE*W", "Table",
                   FALLBACK_SPEED, FALLBACK_COORDINATE, SCALE_FACTOR, TABLE_ANNOTATIONS, SOURCES, DESTINATIONS),
+    osrm_endpoint("trip", "a round trip by two places or more, to 500, in an order of little weight", handlers.places(osrm_trip.trip),
+                  range(2, 501), f"{SNAPPING} + ROW*M*(1 + L/10000) + CELL*Z + STOP*P + PAIR*G + NODE*W + POINT*V", "Trips",
+                  ROUNDTRIP, SOURCE, DESTINATION, ANNOTATIONS, OVERVIEW, GEOMETRIES, STEPS),
     Endpoint("/isochrone", "/isochrone/v1/PROFILE/PLACE", "what is reached within minutes or metres, as GeoJSON",
              handlers.places(isochrone.answer), Kind.PLACES, range(1, 2),
              (CONTOURS_MINUTES, CONTOURS_METERS, CONTOURS_COLORS, POLYGONS, GENERALIZE, DENOISE, RADIUSES, BEARINGS,
               any_text("access_token"), choice("reverse", "false", rejected=["true"], message="reverse=true isn't supported"),
               unsupported("exclude"), unsupported("depart_at")), f"{SNAPPING} + REACH*N + CONTOUR*C + DRAWN*R",
              "FeatureCollection", unknown="isochrone has no parameter {!r}"),
-    *(osrm_endpoint(service, "", handlers.unsupported, range(0), "", "") for service in ("match", "trip", "tile")),
+    *(osrm_endpoint(service, "", handlers.unsupported, range(0), "", "") for service in ("match", "tile")),
     Endpoint("/nodes/route", "/nodes/route", "a route between nodes by their numbers, from 1", handlers.route, parameters=ENDS,
              cost="PAIR + NODE*W", schema="NodeRoute"),
     Endpoint("/nodes/length", "/nodes/length", "its length alone; null if there is no path", handlers.length, parameters=ENDS,
@@ -170,7 +173,7 @@ def shown(text: str) -> str:
 def parameter_list() -> list[str]:
     """The lines of the list of the parameters of OSRM's API and Mapbox's in docs/SERVICE.md."""
     lines = ["- OSRM's API", *map(parameter_line, COMMON)]
-    for name in ("route", "nearest", "table"):
+    for name in ("route", "nearest", "table", "trip"):
         lines += [f"- `{name}` also", *map(parameter_line, (BY_NAME[f"/{name}"].parameters or ())[len(COMMON) :])]
     own = [each for each in BY_NAME["/isochrone"].parameters or () if each not in COMMON]
     return [*lines, "- `isochrone`, with `radiuses` and `bearings` of OSRM's", *map(parameter_line, own)]

@@ -48,7 +48,7 @@ NODES = array(INTEGER)
 KEYS = {"from_key": TEXT, "to_key": TEXT}
 SCHEMAS: dict[str, Schema] = {
     "Error": record({"line": INTEGER}, code=TEXT, message=TEXT),
-    "Waypoint": record({"hint": TEXT, "nodes": NODES}, name=TEXT, location=POSITION, distance=NUMBER),
+    "Waypoint": record({"hint": TEXT, "nodes": NODES, "trips_index": INTEGER, "waypoint_index": INTEGER}, name=TEXT, location=POSITION, distance=NUMBER),
     "LineString": record(type=word("LineString"), coordinates=array(POSITION)),
     "Line": {"oneOf": [TEXT, ref("LineString")]},
     "Maneuver": record(
@@ -65,6 +65,7 @@ SCHEMAS: dict[str, Schema] = {
     "Leg": record({"annotation": ref("Annotation")}, summary=TEXT, steps=array(ref("Step")), **FIGURES),
     "Route": record({"geometry": ref("Line")}, legs=array(ref("Leg")), weight_name=TEXT, **FIGURES),
     "Routes": record({"waypoints": WAYPOINTS}, code=word("Ok"), routes=array(ref("Route"))),
+    "Trips": record({"waypoints": WAYPOINTS}, code=word("Ok"), trips=array(ref("Route"))),
     "Nearest": record(code=word("Ok"), waypoints=WAYPOINTS),
     "Table": record(
         {"durations": ROWS, "distances": ROWS, "weights": ROWS, "fallback_speed_cells": array(NODES), "sources": WAYPOINTS,

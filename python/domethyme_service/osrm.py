@@ -116,8 +116,14 @@ def waypoints(request: Request, **points: Sequence[SnappedPoint]) -> dict[str, s
 
 def route(engine: Engine, request: Request) -> str:
     """The route by all places in order, a leg between each two. Raises RequestError if a leg has no path."""
-    roads, points, legs = engine.roads, snap_places(engine, request), list[Leg]()
-    budget = Budget(engine.meter, things(request.values))
+    points = snap_places(engine, request)
+    found = route_by(engine, request, points)
+    return join_object({"code": '"Ok"', "routes": join_array([found]), **waypoints(request, waypoints=points)})
+
+
+def route_by(engine: Engine, request: Request, points: Sequence[SnappedPoint]) -> str:
+    """The OSRM route by some points in order. Raises RequestError if a leg has no path."""
+    roads, legs, budget = engine.roads, list[Leg](), Budget(engine.meter, things(request.values))
     for start, end in itertools.pairwise(points):
         leg = find_leg(engine.queries.between, roads, start, end)
         if leg is None:
@@ -137,7 +143,7 @@ def route(engine: Engine, request: Request) -> str:
         lines = geometry.lines()
         line = join_lines(simplify_lines(lines, budget) if request.values[OVERVIEW] == "simplified" else lines)
         whole["geometry"] = line_json(line, request.values[GEOMETRIES])
-    return join_object({"code": '"Ok"', "routes": join_array([join_object(whole)]), **waypoints(request, waypoints=points)})
+    return join_object(whole)
 
 
 def needs_points(request: Request) -> bool:

@@ -227,6 +227,8 @@ ALTERNATIVES = Parameter(
     "alternatives", "`false`, `true` or a number; the answer has one route always", parse_alternatives,
     "is true, false or a number",
 )
+ROUNDTRIP, SOURCE = choice("roundtrip", "true", "false"), choice("source", "any", "first")
+DESTINATION = choice("destination", "any", "last")
 CONTINUE_STRAIGHT = Parameter(
     "continue_straight", "`default`, `false`, and `true` for two places", parse_continue_straight,
     "is default, true or false", rejected="`true` for more",

@@ -17,12 +17,14 @@ TEXTS = {
     "geometries": ["geojson", "polyline", "polyline6"], "skip_waypoints": ["true"], "number": ["1", "10", "100"],
     "contours_minutes": ["1", "5,10", "15,30,60,600", "600", "597,598,599,600"], "polygons": ["true", "false"],
     "generalize": ["0", "1000"], "denoise": ["0", "0.000001", "1"], "scale_factor": ["2"], "fallback_speed": ["1"],
+    "roundtrip": ["true", "false"], "source": ["any", "first"], "destination": ["any", "last"],
 }
 NAMES = {
     "route": ["annotations", "steps", "overview", "geometries", "skip_waypoints"], "nearest": ["number"],
+    "trip": ["annotations", "steps", "overview", "geometries", "skip_waypoints", "roundtrip", "source", "destination"],
     "table": ["annotations", "scale_factor", "fallback_speed"], "isochrone": ["contours_minutes", "polygons", "generalize", "denoise"],
 }
-MOST_PLACES = {"route": 500, "nearest": 1, "table": 2000, "isochrone": 1}
+MOST_PLACES = {"route": 500, "nearest": 1, "table": 2000, "trip": 500, "isochrone": 1}
 TABLE_TEXTS = ["duration", "distance", "duration,distance,weight"]
 
 

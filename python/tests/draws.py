@@ -260,6 +260,11 @@ KNOWN: dict[str, dict[str, dict[str, Sequence[str]]]] = {
         "geometries": invalid(["polyline", "polyline6", "geojson"], "wkt", "polyline7", "geojson6", ""),
         "annotations": YES_NO,
     },
+    "trip": {
+        "roundtrip": YES_NO, "source": invalid(["any", "first"], "last", "0", "", "first;"), "steps": YES_NO,
+        "destination": invalid(["any", "last"], "first", "", "last "), "overview": invalid(["simplified", "full", "false"], "x", ""),
+        "geometries": invalid(["polyline", "polyline6", "geojson"], "wkt"), "annotations": YES_NO,
+    },
     "nearest": {"number": invalid(["1", "2", "5", "100"], "0", "101", "1.0", "9999", *WRONG)},
     "table": {
         "fallback_speed": invalid(["10", "0.5"], "0", "0.0", *WRONG), "fallback_coordinate": invalid(["input", "snapped"], "x", ""),
@@ -298,10 +303,11 @@ def texts_of(service: str, count: int, directions: Sequence[int], is_wrong: bool
     found = {name: any_of(texts) for name, texts in known.items()}
     found["radiuses"] = of_places(any_of(WORDS["radiuses"]))
     found["bearings"] = of_places(st.one_of(bearings, bearings, any_of(WORDS["bearings"])))
-    annotations = ["duration", "distance", "weight", *(ANNOTATIONS[3:] if is_wrong or service == "route" else ())]
+    annotations = ["duration", "distance", "weight", *(ANNOTATIONS[3:] if is_wrong or service in ("route", "trip") else ())]
     some = st.lists(st.sampled_from(annotations), min_size=1, max_size=4, unique=not is_wrong)
-    if service == "route":
+    if service in ("route", "trip"):
         found["annotations"] = st.one_of(some.map(lambda words: of_words(words, ANNOTATIONS)), found["annotations"])
+    if service == "route":
         straight = coded("default", "false", *(() if count > 2 else ("true",)), NotImplemented=["true"] if count > 2 else [])
         found["continue_straight"] = any_of(straight)
     if service == "table":

@@ -27,7 +27,7 @@ from domethyme_service.wsgi import Options, Service
 
 REQUESTS = 6
 # How many places a request of each service has, at most: the small numbers are likelier.
-COUNTS = {"route": [2, 2, 2, 3, 4, 12], "nearest": [1], "table": [1, 2, 3, 6], "isochrone": [1]}
+COUNTS = {"route": [2, 2, 2, 3, 4, 12], "nearest": [1], "table": [1, 2, 3, 6], "trip": [2, 3, 3, 4], "isochrone": [1]}
 
 
 def serve(drawn: Drawn, folder: pathlib.Path) -> Service:
@@ -74,12 +74,12 @@ def target(request: Request) -> str:
 
 @drawn(300)
 @given(st.data())
-def test_routes_nearest_and_tables(data: Any) -> None:
+def test_routes_nearest_tables_and_trips(data: Any) -> None:
     made = data.draw(networks())
     with tempfile.TemporaryDirectory() as folder:
         service = serve(made, pathlib.Path(folder))
         for _ in range(REQUESTS):
-            drawn_request = data.draw(requests(made, data.draw(st.sampled_from(["route", "route", "nearest", "table"]))))
+            drawn_request = data.draw(requests(made, data.draw(st.sampled_from(["route", "route", "nearest", "table", "trip"]))))
             check(made, service, *drawn_request)
         nodes = st.integers(0, len(made.tables.nodes) - 1)
         check_nodes(made, service, data.draw(st.lists(st.tuples(nodes, nodes), min_size=1, max_size=3)))
@@ -110,8 +110,8 @@ def test_each_text_of_a_parameter(tmp_path: pathlib.Path) -> None:
     rows += [("isochrone", "contours_minutes", text, "InvalidValue") for text in (*LIMITS, *WRONG)]
     rows += [("isochrone", "contours_meters", text, "InvalidValue") for text in (*LIMITS[:-1], *WRONG)]
     for what, name, text, code in [*rows, *(("route", name, *row) for name in WORDS for row in words_of(WORDS[name]))]:
-        for endpoint in ["route", "nearest", "table"] if what == "osrm" else [what]:
-            where = [(0.0003, 0.0), (0.0007, 0.00001)] if endpoint in ("route", "table") else [(0.0003, 0.0)]
+        for endpoint in ["route", "nearest", "table", "trip"] if what == "osrm" else [what]:
+            where = [(0.0003, 0.0), (0.0007, 0.00001)] if endpoint in ("route", "table", "trip") else [(0.0003, 0.0)]
             minutes = ",".join("1234"[: 1 + text.count(",") * (name == "contours_colors")])
             limits = {"contours_minutes": minutes} if endpoint == "isochrone" and name != "contours_meters" else {}
             status, found = ask(service, target(Request(endpoint, where, {**limits, name: text})))

@@ -75,6 +75,7 @@ class EndpointTests(ServiceCase):
             "/route/v1/{PROFILE}/{PLACES}": [f"/route/v1/car/{place};{far}{query}" for query in ("", f"?{every}", f"?{every}&geometries=geojson")],
             "/nearest/v1/{PROFILE}/{PLACE}": [f"/nearest/v1/car/{place}?number=3"],
             "/table/v1/{PROFILE}/{PLACES}": [f"/table/v1/car/{place};{far}?annotations=duration,distance,weight&fallback_speed=1"],
+            "/trip/v1/{PROFILE}/{PLACES}": [f"/trip/v1/car/{place};{far}?{every}"],
             "/isochrone/v1/{PROFILE}/{PLACE}": [f"/isochrone/v1/car/{place}?contours_minutes=1&polygons={each}" for each in ("true", "false")],
             "/nodes/route": ["?from=1&to=7", "?from=1&to=99"], "/nodes/length": ["?from=1&to=7"], "/nodes/routes": [""], "/nodes/lengths": [""],
             "/health": [""], "/metrics": [""],

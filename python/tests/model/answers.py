@@ -79,6 +79,35 @@ def route(network: Network, request: Request) -> Any:
     return AnyOf([route_along(network, request, points, legs) for legs in itertools.product(*options)])
 
 
+def trip(network: Network, request: Request) -> Any:
+    """The route by all places in an order for which it weighs least: any of those orders, with any of the shortest legs."""
+    points, last = places_on_roads(network, request), len(request.places) - 1
+    is_round = request.value("roundtrip", "true") == "true"
+    legs = {pair: network.legs(*(points[place] for place in pair)) for pair in itertools.permutations(range(last + 1), 2)}
+    found: dict[tuple[int, ...], int] = {}
+    for order in itertools.permutations(range(last + 1)):
+        ways = [legs[step] for step in itertools.pairwise([*order, *(order[:1] if is_round else [])])]
+        is_asked = order[0] in ((0,) if request.value("source") == "first" else order)
+        if is_asked and order[-1] in ((last,) if request.value("destination") == "last" else order) and all(ways):
+            found[order] = sum(part[3] for way in ways for part in way[0])
+    if not found:
+        raise Refused("NoTrips")
+    answers = []
+    for order in (each for each, weight in found.items() if weight == min(found.values())):
+        stops = [*order, *(order[:1] if is_round else [])]
+        options = [legs[step] for step in itertools.pairwise(stops)]
+        if math.prod(map(len, options)) * len(found) > MOST:
+            raise Ambiguous
+        index = {place: at for at, place in enumerate(order)}
+        shown = waypoints(network, request, waypoints=points)
+        for number, each in enumerate(shown.get("waypoints", [])):
+            each |= {"trips_index": 0, "waypoint_index": index[number]}
+        for some in itertools.product(*options):
+            (whole,) = route_along(network, request, [points[place] for place in stops], some)["routes"]
+            answers.append({"code": "Ok", "trips": [whole], **shown})
+    return AnyOf(answers)
+
+
 def route_along(
     network: Network, request: Request, points: Sequence[SnappedPoint], legs: Sequence[Sequence[Part]]
 ) -> dict[str, Any]:
