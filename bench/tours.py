@@ -80,11 +80,13 @@ def main():
         domethyme.prepare(f"{folder}/n.gr", f"{folder}/n.rch").close()
         hierarchy, draw = domethyme.Hierarchy(f"{folder}/n.rch", network=f"{folder}/n"), np.random.default_rng(1)
         network, above, seconds = hierarchy.network, [], []
-        for _ in range(options.draws):
+        while len(above) < options.draws:
             nodes = draw.choice(len(network.lon), options.places, replace=False)
             places = np.column_stack((network.lon[nodes], network.lat[nodes]))
             begun = time.process_time()
             tour = hierarchy.tour(places)
+            if tour is None:
+                continue  # (a place is at the end of a one-way street)
             seconds.append(time.process_time() - begun)
             above.append(100 * (tour.directions.weight / lower_bound(hierarchy.table(places)) - 1))
     print(f"load {os.getloadavg()[0]:.1f}, {os.cpu_count()} processors")
