@@ -12,19 +12,14 @@ use crate::disposal::Disposal;
 use crate::good_options::GoodOptions;
 use crate::run::Worked;
 use crate::trouble::Trouble;
+use crate::workplace::Swept;
 use ch_contract::{Board, FinishError, Ledger, Receipt, Site};
+use ch_overlay::Overlay;
 use ch_rowbook::Blank;
 use std::alloc::Global;
 use std::marker::Brand;
 use std::sync::Wait;
 use std::thread::Threads;
-
-/// A ledger whose nodes are all contracted, and the receipts of those that were left for the sweep.
-#[derive(Drop)]
-struct Swept {
-    ledger: Ledger,
-    receipts: Vec<Receipt>,
-}
 
 /// Contracts what the workers left, and makes the hierarchy, with no index. The rows are dropped beside what comes next. The
 /// queue is put in when it is closed.
@@ -38,20 +33,35 @@ pub(crate) fn finish<R: Threads + Wait>(
     ensures built { IfOk result (IsBuilt worked.ledger.graph (vec_len worked.receipts + 1)) }
     ensures queue { IfOk result (λ b. b.queue ≡ None) }
 {
-    let Worked {
-        ledger,
-        mut receipts,
-    } = worked;
+    let Worked { ledger, receipts } = worked;
+    let swept = sweep(rt, alloc, ledger, good, disposal)?;
+    let (built, rows) = built_of_swept(alloc, swept, receipts)?;
+    disposal.take_last(rt, rows);
+    Ok(built)
+}
+
+/// Makes the hierarchy, with no index, if the receipts of the workers and of the sweep account for the log. The rows are
+/// returned too, which are needed no longer.
+pub(crate) fn built_of_swept(
+    alloc: Global,
+    swept: Swept,
+    receipts: Vec<Vec<Receipt>>,
+) -> Result<(Built, Overlay), Trouble>
+    requires over { IsOver (state_of swept.ledger.overlay) }
+    ensures built { IfOk result (λ made. IsBuilt swept.ledger.graph (vec_len receipts + 1) made.0) }
+    ensures queue { IfOk result (λ made. made.0.queue ≡ None) }
+{
     let Swept {
         ledger,
-        receipts: swept,
-    } = sweep(rt, alloc, ledger, good, disposal)?;
+        receipts: last,
+    } = swept;
+    let mut receipts = receipts;
     receipts.reserve(1)?;
-    receipts.push_reserved(swept);
+    receipts.push_reserved(last);
     if !is_account(alloc, ledger.log(), receipts.as_slice())? {
         return Err(Trouble::Mixed);
     }
-    built_of(rt, ledger, receipts, disposal)
+    built_of(ledger, receipts)
 }
 
 /// Contracts each node that is left, by a board whose book is new. There is none where no node is left.
@@ -101,29 +111,25 @@ fn sweep_named<S: Site + Send + Sync + 'static, R: Threads + Wait>(
     Ok(Swept { ledger, receipts })
 }
 
-/// The hierarchy and the log of a ledger whose nodes are all contracted, beside the receipts that account for the log.
-fn built_of<R: Threads>(
-    rt: &R,
-    ledger: Ledger,
-    receipts: Vec<Vec<Receipt>>,
-    disposal: &mut Disposal,
-) -> Result<Built, Trouble>
+/// The hierarchy and the log of a ledger whose nodes are all contracted, beside the receipts that account for the log; and
+/// its rows.
+fn built_of(ledger: Ledger, receipts: Vec<Vec<Receipt>>) -> Result<(Built, Overlay), Trouble>
     requires holds { IsLedger ledger }
     requires over { IsOver (state_of ledger.overlay) }
     requires account { IsAccount ledger.log (map (λ v. v.items) receipts.items) }
-    ensures built { IfOk result (IsBuilt ledger.graph (vec_len receipts)) }
-    ensures queue { IfOk result (λ b. b.queue ≡ None) }
+    ensures built { IfOk result (λ made. IsBuilt ledger.graph (vec_len receipts) made.0) }
+    ensures queue { IfOk result (λ made. made.0.queue ≡ None) }
 {
     let finished = match ledger.finish() {
         Ok(finished) => finished,
         Err((_, FinishError::OutOfMemory)) => return Err(Trouble::OutOfMemory),
         Err((_, FinishError::NodesLeft)) => unreachable!(),
     };
-    disposal.take_last(rt, finished.rows);
-    Ok(Built {
+    let built = Built {
         hierarchy: finished.hierarchy,
         receipts,
         log: finished.log,
         queue: None,
-    })
+    };
+    Ok((built, finished.rows))
 }

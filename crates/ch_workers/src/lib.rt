@@ -4,7 +4,8 @@
 //! nodes, on `ch_multiqueue` for the nodes that wait, and on `crossbeam_utils` for pauses and cache lines. Each worker
 //! takes the node of the least key that it finds, proposes its contraction, and commits it where no row that the
 //! proposal rests on has changed. They work in shifts, each by a book of its own, so that no old row is kept for longer.
-//! What they leave is contracted by a sweep.
+//! What they leave is contracted by a sweep. A worker's turns are one body over a [`Workplace`]: [`build_alone`] takes those of one
+//! worker on the calling thread, at a workplace that it has alone.
 //! [`Options`] says how they work, a [`Gate`] sees where they are, and [`is_account`] tests whether the receipts that
 //! they received account for the log of their board. The promise of the layer is the contract of [`build`]: whatever
 //! threads and estimators do, the log leads to the hierarchy, which is right for the graph.
@@ -22,6 +23,8 @@
 #![tactic(auto)]
 
 mod account;
+mod alone;
+mod at_board;
 mod boxed;
 mod building;
 mod built;
@@ -39,11 +42,15 @@ mod shared;
 mod shift;
 mod trouble;
 mod worker;
+mod workplace;
 
 pub use account::is_account;
+pub use alone::build_alone;
 pub use building::{build, build_plain};
 pub use built::Built;
 pub use disposal::Disposal;
 pub use error::BuildError;
 pub use gate::{Gate, OpenGate, Point};
+pub use listener::Listener;
 pub use options::Options;
+pub use workplace::{OwnWorkplace, Swept, Workplace};

@@ -7,7 +7,7 @@ use std::alloc::AllocError;
 
 /// An estimator of a worker, and how many entries of the log it received.
 #[derive(Drop)]
-pub(crate) struct Listener<E: Estimator> {
+pub struct Listener<E: Estimator> {
     estimator: E,
     told: u32,
     ghost told_is: { told ≡ length (E.heard estimator) },
@@ -22,8 +22,8 @@ impl<E: Estimator> Listener<E> {
         Listener { estimator, told: 0 }
     }
 
-    /// How many entries it received: the rank of the next.
-    pub(crate) fn told(&self) -> u32
+    /// Returns how many entries it received: the rank of the next.
+    pub fn told(&self) -> u32
         ensures { result ≡ self.now.told }
     {
         self.told
@@ -38,7 +38,7 @@ impl<E: Estimator> Listener<E> {
     }
 
     /// Gives it the next entry of the log. Fails where memory runs out; it is then as it was.
-    pub(crate) fn tell(&mut self, entry: &Contraction) -> Result<(), AllocError>
+    pub fn tell(&mut self, entry: &Contraction) -> Result<(), AllocError>
         requires rank { entry.now.rank ≡ self.old.told }
         requires few { entry.now.rank < 2 ^ 25 }
         requires rising { AllPairs (λ x y. x < y) entry.now.neighbours }

@@ -30,11 +30,11 @@ pub(crate) struct Waiting {
     passes: Vec<Pass>,
 }
 
-/// What is left of workers: their passes and their receipts.
+/// What is left of workers: their queue and their receipts.
 #[derive(Drop)]
-struct Left {
-    passes: Vec<Pass>,
-    receipts: Vec<Vec<Receipt>>,
+pub(crate) struct Left {
+    pub(crate) waiting: Waiting,
+    pub(crate) receipts: Vec<Vec<Receipt>>,
 }
 
 /// Lets workers contract nodes of a ledger, as many workers as there are lists of estimators, which are dropped. Returns
@@ -71,9 +71,8 @@ pub(crate) fn contract<E: Estimator + Send, G: Gate, R: Threads + Wait + Sync>(
         queue,
         workers,
     } = go_on(rt, alloc, work, crew, gate, disposal)?;
-    let Left { passes, receipts } = take_apart(alloc, workers)?;
-    let waiting = Some(Waiting { queue, passes });
-    Ok((Worked { ledger, receipts }, waiting))
+    let Left { waiting, receipts } = take_apart(alloc, queue, workers)?;
+    Ok((Worked { ledger, receipts }, Some(waiting)))
 }
 
 /// Lets workers go on shift after shift, until each has ended or a shift contracts no node.
@@ -109,9 +108,14 @@ fn have_ended<E: Estimator>(workers: &[Worker<E>]) -> bool {
     workers.iter().all(|worker| worker.has_ended)
 }
 
-/// Takes the workers apart, and drops the estimators that they have left.
-fn take_apart<E: Estimator>(alloc: Global, workers: Vec<Worker<E>>) -> Result<Left, AllocError>
+/// Takes the workers apart, whose queue this is, and drops the estimators that they have left.
+pub(crate) fn take_apart<E: Estimator>(
+    alloc: Global,
+    queue: MultiQueue,
+    workers: Vec<Worker<E>>,
+) -> Result<Left, AllocError>
     ensures lists { IfOk result (λ left. vec_len left.receipts ≡ vec_len workers) }
+    ensures queue { IfOk result (λ left. left.waiting.queue ≡ queue) }
 {
     let mut passes = Vec::new(alloc);
     let mut lists = Vec::new(alloc);
@@ -121,7 +125,7 @@ fn take_apart<E: Estimator>(alloc: Global, workers: Vec<Worker<E>>) -> Result<Le
         lists.push(receipts)?;
     }
     Ok(Left {
-        passes,
+        waiting: Waiting { queue, passes },
         receipts: lists,
     })
 }

@@ -1,12 +1,13 @@
 ghost use Rattle.std.specs.Prelude.{◌≡◌, ◌<◌, ◌≤◌, IfOk, length, vec_len};
 ghost use Rattle.ch_rowbook.specs.Blanks.{name_of};
 
+use crate::at_board::work_at;
 use crate::disposal::Disposal;
 use crate::gate::Gate;
 use crate::good_options::CrewOptions;
 use crate::shared::Shared;
 use crate::trouble::Trouble;
-use crate::worker::{Worker, work};
+use crate::worker::Worker;
 use ch_contract::{Board, Ledger, Site};
 use ch_estimate::Estimator;
 use ch_multiqueue::MultiQueue;
@@ -141,7 +142,7 @@ fn run_all<
     thread::scope(thread::scope_env(), rt, |scope| {
         'workers: for one in on_shift.iter_mut() {
             if !one.worker.has_ended {
-                let _ = scope.spawn(move || work(
+                let _ = scope.spawn(move || work_at(
                     rt,
                     shared,
                     gate,

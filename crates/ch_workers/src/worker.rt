@@ -1,18 +1,12 @@
 ghost use Rattle.std.specs.Prelude.{◌≡◌, ◌<◌, All, IfOk, IfSome};
-ghost use Rattle.ch_rowbook.specs.Books.{IsOfBook};
-ghost use Rattle.ch_contract.specs.Ready.{IsReadyFor};
 
 use crate::gate::{Gate, Point};
+use crate::good_options::CrewOptions;
 use crate::listeners::Listeners;
-use crate::shared::{Shared, weight};
-use ch_contract::{
-    CommitError, Contraction, Proposal, ProposeError, Ready, Receipt, Scratch, Site, make_ready,
-    propose_with,
-};
+use crate::workplace::Workplace;
+use ch_contract::{CommitError, Contraction, Facts, Proposal, ProposeError, Receipt, Scratch};
 use ch_estimate::Estimator;
-use ch_multiqueue::{Item, Pass};
-use ch_overlay::SeeError;
-use ch_rowbook::Reader;
+use ch_multiqueue::{Item, MultiQueue, Pass};
 use std::alloc::AllocError;
 use std::sync::Wait;
 
@@ -38,10 +32,19 @@ enum Shift {
 /// How a turn went.
 #[derive(Drop)]
 enum Turn {
-    /// An item was taken. The rows that were replaced weigh this much.
-    Taken(u64),
+    /// An item was taken. If its node was contracted, these are the counts of the proposal.
+    Taken(Option<Facts>),
     /// No item was found.
     NoItem,
+}
+
+/// What a worker finds at each workplace: the runtime, the queue of the nodes that wait, the gate, and the options.
+#[derive(Drop)]
+pub(crate) struct Hall<'a, G: Gate, R: Wait> {
+    pub(crate) rt: &'a R,
+    pub(crate) queue: &'a MultiQueue,
+    pub(crate) gate: &'a G,
+    pub(crate) crew: CrewOptions,
 }
 
 /// What a worker has of its own, in the builder's list.
@@ -64,40 +67,36 @@ pub(crate) struct Worker<E: Estimator> {
 
 /// Lets a worker that hasn't ended go on until the shift is over or it ends. Where it ends, it drops its estimators and
 /// passes the gate.
-pub(crate) fn work<S: Site, E: Estimator, G: Gate, R: Wait>(
-    rt: &R,
-    shared: &Shared<S>,
-    gate: &G,
+pub(crate) fn work<P: Workplace, E: Estimator, G: Gate, R: Wait>(
+    hall: &Hall<'_, G, R>,
+    place: &mut P,
     worker: &mut Worker<E>,
-    reader: &mut Reader<S>,
 ) {
-    if let Ok(Shift::GoesOn) = worker.go_on(rt, shared, gate, reader) {
+    if let Ok(Shift::GoesOn) = worker.go_on(hall, place) {
         return;
     }
     worker.has_ended = true;
     worker.listeners.clear();
-    gate.pass(worker.number, Point::Done);
+    hall.gate.pass(worker.number, Point::Done);
 }
 
 impl<E: Estimator> Worker<E> {
     /// Puts its nodes into the queue, if it hasn't yet, and takes turns until the shift is over.
-    fn go_on<S: Site, G: Gate, R: Wait>(
+    fn go_on<P: Workplace, G: Gate, R: Wait>(
         &mut self,
-        rt: &R,
-        shared: &Shared<S>,
-        gate: &G,
-        reader: &mut Reader<S>,
+        hall: &Hall<'_, G, R>,
+        place: &mut P,
     ) -> Result<Shift, Refused> {
         if !self.is_ready {
-            self.put_all(rt, shared, reader)?;
+            self.put_all(hall, place)?;
             self.is_ready = true;
         }
         let turns = self.turns;
         'turns: for turn in 0..turns {
-            let Turn::Taken(weight) = self.turn(rt, shared, gate, reader)? else {
+            let Turn::Taken(contracted) = self.turn(hall, place)? else {
                 return Ok(Shift::Ended);
             };
-            if shared.is_over_with(weight) {
+            if place.is_over_with(contracted) {
                 self.turns = turns - turn - 1;
                 return Ok(Shift::GoesOn);
             }
@@ -106,91 +105,82 @@ impl<E: Estimator> Worker<E> {
     }
 
     /// Puts each node that is its own, by the remainder of its number, into the queue.
-    fn put_all<S: Site, R: Wait>(
+    fn put_all<P: Workplace, G: Gate, R: Wait>(
         &mut self,
-        rt: &R,
-        shared: &Shared<S>,
-        reader: &mut Reader<S>,
+        hall: &Hall<'_, G, R>,
+        place: &mut P,
     ) -> Result<(), Refused> {
-        let workers = shared.crew.options.workers;
-        'nodes: for node in 0..shared.nodes {
+        let workers = hall.crew.options.workers;
+        let nodes = place.nodes();
+        'nodes: for node in 0..nodes {
             if node % workers == self.number {
-                self.put(rt, shared, reader, node)?;
+                self.put(hall, place, node)?;
             }
         }
         Ok(())
     }
 
     /// Puts a node into the queue, with the key that its estimator gives it. A contracted node is left out.
-    fn put<S: Site, R: Wait>(
+    fn put<P: Workplace, G: Gate, R: Wait>(
         &mut self,
-        rt: &R,
-        shared: &Shared<S>,
-        reader: &mut Reader<S>,
+        hall: &Hall<'_, G, R>,
+        place: &mut P,
         node: u32,
     ) -> Result<(), Refused> {
-        let Some(proposal) = self.propose(shared, reader, node)? else {
+        let Some(proposal) = self.propose(hall, place, node)? else {
             return Ok(());
         };
         let key = self.key(&proposal);
         self.scratch.keep(proposal);
-        self.push(rt, shared, Item { key, node })
+        self.push(hall, Item { key, node })
     }
 
     /// Takes an item, if there is one, and commits the contraction of its node or puts it back.
-    fn turn<S: Site, G: Gate, R: Wait>(
+    fn turn<P: Workplace, G: Gate, R: Wait>(
         &mut self,
-        rt: &R,
-        shared: &Shared<S>,
-        gate: &G,
-        reader: &mut Reader<S>,
+        hall: &Hall<'_, G, R>,
+        place: &mut P,
     ) -> Result<Turn, Refused> {
-        let Some(item) = shared.queue.pop(rt, &mut self.pass)? else {
+        let Some(item) = hall.queue.pop(hall.rt, &mut self.pass)? else {
             return Ok(Turn::NoItem);
         };
-        gate.pass(self.number, Point::Took);
-        let Some(proposal) = self.propose(shared, reader, item.node)? else {
-            return Ok(Turn::Taken(0));
+        hall.gate.pass(self.number, Point::Took);
+        let Some(proposal) = self.propose(hall, place, item.node)? else {
+            return Ok(Turn::Taken(None));
         };
-        self.hear(rt, shared)?;
+        self.hear(place)?;
         let key = self.key(&proposal);
-        if self.put_back(rt, shared, item, key)? {
+        if self.put_back(hall, item, key)? {
             self.scratch.keep(proposal);
-            return Ok(Turn::Taken(0));
+            return Ok(Turn::Taken(None));
         }
-        gate.pass(self.number, Point::Proposed);
-        let weight = weight(proposal.facts(), shared.room);
-        let committed = self.commit(rt, shared, gate, reader, item, &proposal)?;
+        hall.gate.pass(self.number, Point::Proposed);
+        let facts = proposal.facts();
+        let committed = self.commit(hall, place, item, &proposal)?;
         self.scratch.keep(proposal);
-        Ok(Turn::Taken(if committed { weight } else { 0 }))
+        Ok(Turn::Taken(if committed { Some(facts) } else { None }))
     }
 
     /// Puts an item into the queue.
-    fn push<S: Site, R: Wait>(
-        &mut self,
-        rt: &R,
-        shared: &Shared<S>,
-        item: Item,
-    ) -> Result<(), Refused> {
-        match shared.queue.push(rt, &mut self.pass, item) {
+    fn push<G: Gate, R: Wait>(&mut self, hall: &Hall<'_, G, R>, item: Item) -> Result<(), Refused> {
+        match hall.queue.push(hall.rt, &mut self.pass, item) {
             Ok(()) => Ok(()),
             Err(_item) => Err(Refused),
         }
     }
 
-    /// Works out the contraction of a node by the rows that a reader answers, or returns `None` where it is contracted
+    /// Works out the contraction of a node by the rows that its workplace shows, or returns `None` where it is contracted
     /// already. It takes no lock.
-    fn propose<S: Site>(
+    fn propose<P: Workplace, G: Gate, R: Wait>(
         &mut self,
-        shared: &Shared<S>,
-        reader: &mut Reader<S>,
+        hall: &Hall<'_, G, R>,
+        place: &mut P,
         node: u32,
     ) -> Result<Option<Proposal>, Refused>
-        ensures of_book { IfOk result (λ found. IfSome found (λ p. All (IsOfBook S.book) p.rests_on)) }
-        ensures bound { IfOk result (λ found. IfSome found (λ p. p.bound ≡ S.book.bound)) }
+        ensures { IfOk result (λ found. IfSome found (P.fits place.new)) }
     {
-        let settle = shared.crew.options.settle;
-        match propose_with(shared.alloc, reader, &mut self.scratch, node, settle) {
+        let settle = hall.crew.options.settle;
+        match place.propose(&mut self.scratch, node, settle) {
             Ok(proposal) => Ok(Some(proposal)),
             Err(ProposeError::OutOfMemory) => Err(Refused),
             Err(ProposeError::Unseen | ProposeError::Contracted) => Ok(None),
@@ -198,9 +188,9 @@ impl<E: Estimator> Worker<E> {
     }
 
     /// Gives its current estimator, if it has one, what it hasn't received of the log.
-    fn hear<S: Site, R: Wait>(&mut self, rt: &R, shared: &Shared<S>) -> Result<(), Refused> {
+    fn hear<P: Workplace>(&mut self, place: &P) -> Result<(), Refused> {
         if let Some(listener) = self.listeners.current() {
-            shared.tell_all(rt, &mut self.entry, listener)?;
+            place.tell_all(&mut self.entry, listener)?;
         }
         Ok(())
     }
@@ -215,69 +205,48 @@ impl<E: Estimator> Worker<E> {
 
     /// Puts an item back with the key that its node has now, where that is greater and the worker hasn't put back as
     /// many items as it may since its last commit. Returns whether it did.
-    fn put_back<S: Site, R: Wait>(
+    fn put_back<G: Gate, R: Wait>(
         &mut self,
-        rt: &R,
-        shared: &Shared<S>,
+        hall: &Hall<'_, G, R>,
         item: Item,
         key: u64,
     ) -> Result<bool, Refused> {
-        if key <= item.key || self.deferred >= shared.crew.options.defer {
+        if key <= item.key || self.deferred >= hall.crew.options.defer {
             return Ok(false);
         }
         self.deferred += 1;
         let node = item.node;
-        self.push(rt, shared, Item { key, node })?;
+        self.push(hall, Item { key, node })?;
         Ok(true)
     }
 
-    /// Commits a proposal, whose new rows are made first, and keeps the receipt, or puts the item back where a row has
-    /// changed. Returns whether it was committed. Where that ends the stint of its estimator, it goes on with the next.
-    fn commit<S: Site, G: Gate, R: Wait>(
+    /// Commits a proposal and keeps the receipt, or puts the item back where a row has changed. Returns whether it was
+    /// committed. Where that ends the stint of its estimator, it goes on with the next.
+    fn commit<P: Workplace, G: Gate, R: Wait>(
         &mut self,
-        rt: &R,
-        shared: &Shared<S>,
-        gate: &G,
-        reader: &mut Reader<S>,
+        hall: &Hall<'_, G, R>,
+        place: &mut P,
         item: Item,
         proposal: &Proposal,
     ) -> Result<bool, Refused>
-        requires of_book { All (IsOfBook S.book) proposal.now.rests_on }
-        requires bound { proposal.now.bound ≡ S.book.bound }
+        requires { P.fits place.old proposal.now }
     {
         self.receipts.reserve(1)?;
-        let ready = ready_for(shared, reader, proposal)?;
-        match shared.commit(rt, proposal, ready, reader) {
+        match place.commit(proposal) {
             Ok(receipt) => {
                 self.receipts.push_reserved(receipt);
                 self.deferred = 0;
-                gate.pass(self.number, Point::Committed);
-                self.listeners.committed(shared.crew.options.stint);
+                hall.gate.pass(self.number, Point::Committed);
+                self.listeners.committed(hall.crew.options.stint);
                 Ok(true)
             }
             Err(CommitError::Stale { .. }) => {
-                self.push(rt, shared, item)?;
-                gate.pass(self.number, Point::Refused);
+                self.push(hall, item)?;
+                hall.gate.pass(self.number, Point::Refused);
                 Ok(false)
             }
             Err(CommitError::Contracted) => Ok(false),
             Err(CommitError::OutOfMemory | CommitError::Slot) => Err(Refused),
         }
-    }
-}
-
-/// Makes the new rows of a proposal, as far as the reader has the old ones. It takes no lock.
-fn ready_for<S: Site>(
-    shared: &Shared<S>,
-    reader: &mut Reader<S>,
-    proposal: &Proposal,
-) -> Result<Option<Ready>, Refused>
-    ensures ready { IfOk result (λ found. IfSome found (IsReadyFor proposal.now)) }
-    ensures beside { IfOk result (λ found. IfSome found (λ r. All (IsOfBook S.book) r.beside)) }
-{
-    match make_ready(shared.alloc, reader, proposal) {
-        Ok(ready) => Ok(Some(ready)),
-        Err(SeeError::OutOfMemory) => Err(Refused),
-        Err(SeeError::Unseen) => Ok(None),
     }
 }

@@ -9,6 +9,8 @@
 #[cfg(test)]
 mod accounts;
 #[cfg(test)]
+mod alone;
+#[cfg(test)]
 mod asked;
 #[cfg(test)]
 mod cliques;

@@ -8,6 +8,7 @@ mod order;
 
 use crate::costs::are_least;
 use crate::kit::{Keys, ONE, TWO, built_by, grid, tie};
+use crate::traces::{Traces, alone_by};
 use ch_graph::Graph;
 use ch_workers::{Built, OpenGate, Options};
 use std::alloc::Global;
@@ -48,6 +49,21 @@ fn build_without_workers(rt: HostRuntime) -> Result<(), Fail> {
 #[test]
 fn build_by_one_worker(rt: HostRuntime) -> Result<(), Fail> {
     assert!(rt; is_least(&rt, rt.alloc(), false, ONE)?);
+    Ok(())
+}
+
+/// Whether what one thread builds of the tie has the costs of the plain search.
+fn is_least_alone<R: Wait>(rt: &R, alloc: Global) -> Result<bool, Fail> {
+    let traces = Traces::new(alloc, 1, 1)?;
+    let keys = Keys::Differences;
+    let built = alone_by(rt, alloc, tie(alloc)?, ONE, keys, &traces, &OpenGate)??;
+    let right = are_least(alloc, &tie(alloc)?, &built.hierarchy)?;
+    Ok(right)
+}
+
+#[test]
+fn build_by_one_thread(rt: HostRuntime) -> Result<(), Fail> {
+    assert!(rt; is_least_alone(&rt, rt.alloc())?);
     Ok(())
 }
 

@@ -4,6 +4,7 @@ use crate::kit::{Keys, Lists};
 use ch_contract::{Contraction, Facts};
 use ch_estimate::{EdgeDifference, Estimator, Lease, Leases, Note};
 use ch_graph::Graph;
+use ch_sequential::build_sequential;
 use ch_workers::{BuildError, Built, Gate, Options, build};
 use std::alloc::{AllocError, Global};
 use std::sync::atomic::{AtomicU64, Ordering};
@@ -157,7 +158,7 @@ fn copy_of(entry: &Contraction) -> Result<Contraction, AllocError> {
 }
 
 /// Whether these are the first entries of a log, whole.
-fn is_prefix(told: &[Contraction], log: &[Contraction]) -> bool {
+pub(crate) fn is_prefix(told: &[Contraction], log: &[Contraction]) -> bool {
     let mut holds = told.len() <= log.len();
     'entries: for (told, entry) in told.iter().zip(log) {
         holds &= (told.node == entry.node) & (told.rank == entry.rank);
@@ -278,4 +279,20 @@ pub(crate) fn built_by<G: Gate, R: Threads + Wait + Sync>(
     let mut leases = Leases::new(alloc)?;
     let lists = traced_lists(alloc, &mut leases, traces, options.workers, keys)?;
     Ok(build(rt, alloc, graph, options, lists, &mut leases, gate))
+}
+
+/// Builds by the calling thread alone, by estimators that give such keys and leave traces.
+pub(crate) fn alone_by<G: Gate, R: Wait>(
+    rt: &R,
+    alloc: Global,
+    graph: Graph,
+    options: Options,
+    keys: Keys,
+    traces: &Arc<Traces>,
+    gate: &G,
+) -> Result<Result<Built, BuildError>, AllocError> {
+    let mut leases = Leases::new(alloc)?;
+    let lists = traced_lists(alloc, &mut leases, traces, 1, keys)?;
+    let built = build_sequential(rt, alloc, graph, options, lists, &mut leases, gate);
+    Ok(built)
 }

@@ -11,7 +11,7 @@ made_by graph log told state h is reached over made =
     subst (λ (l : List Contraction). IsMadeBy graph l h) (sym is) (record { state = state; reached = reached; over = over; made = made })
 
 pub returns : goal.returns
-returns g c =
+returns c =
     record {
       built = record {
         made = made_by c.args.ledger.graph c.args.ledger.log c.in-Ok.finished.log.items (state_of c.args.ledger.overlay) c.in-Ok.finished.hierarchy c.in-Ok.ensures.log c.requires.holds.reached c.requires.over c.in-Ok.ensures.made;
