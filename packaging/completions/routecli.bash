@@ -46,7 +46,7 @@ _routecli() {
         answer | route) options+=' --explain' ;;
         serve | info) most=1 options+=' --explain' ;;
         check) options+=' --progress --explain' ;;
-        prepare) options+=' --workers --seed --order --stint --progress --explain' ;;
+        prepare) options+=' --workers --sequential --seed --order --stint --progress --explain' ;;
         help)
             options=
             ((files > 0)) || words='answer prepare route serve info check help'

@@ -55,7 +55,7 @@ function __routecli_lacks
     __routecli_is $argv[2..]; or return
     set -l words (commandline -opc)
     string match -q -- "--$argv[1]=*" $words; and return 1
-    contains -- $argv[1] progress explain; or set -e words[-1]
+    contains -- $argv[1] sequential progress explain; or set -e words[-1]
     not contains -- --$argv[1] $words
 end
 
@@ -78,6 +78,7 @@ complete -c routecli -n '__routecli_takes_word answer prepare route serve info c
 complete -c routecli -n __routecli_takes_input -a - -d 'With - for both files, standard input has both texts'
 
 complete -c routecli -n '__routecli_lacks workers prepare' -l workers -x -d 'Number of threads that contract nodes, 0 to 64'
+complete -c routecli -n '__routecli_lacks sequential prepare' -l sequential -d 'Contract nodes on one thread, without what threads share'
 complete -c routecli -n '__routecli_lacks seed prepare' -l seed -x -d 'Seed of the random choices of the threads, 0 to 18446744073709551615'
 complete -c routecli -n '__routecli_lacks order prepare' -l order -x -d 'Which nodes are contracted first' \
     -a "(routecli prepare --help 2>/dev/null | string match -r 'possible values: [^]]*' | string replace 'possible values: ' '' | string split ', ')"

@@ -202,7 +202,7 @@ def write_graph(
 def prepare(
     graph: "Graph | StrPath", hierarchy: StrPath, order: Order | None = None, workers: int | None = None,
     seed: int | None = None, program: StrPath | None = None, switch_order_after: int | None = None, *,
-    stint: int | None = None, progress: Progress = False
+    stint: int | None = None, progress: Progress = False, sequential: bool = False
 ) -> Hierarchy:
     """Makes the file of the hierarchy of a Graph, or of a graph's file, by `routecli prepare`. Returns the Hierarchy. At an
     exception its file is as it was before.
@@ -210,6 +210,8 @@ def prepare(
     order               edges, neighbours, depth or balanced: which nodes go first; without it balanced, and with
                         `switch_order_after`, which takes the first three, depth
     workers             threads, 0 to 64; without it 4
+    sequential          one thread in place of workers, which makes the file of one worker in about two thirds of its time and half
+                        of its memory; not beside `workers`
     seed                of the draws of nodes, 0 to 18446744073709551615; without it 1
     switch_order_after  after how many nodes a worker takes the next order, from 1; without it none does. `stint` is its old word
     program             the path of `routecli`, else it is looked for (find_program)
@@ -227,6 +229,7 @@ def prepare(
     library.load_library()  # (the result is a Hierarchy: what it needs is looked for before the work)
     options = {"--order": order, "--workers": workers, "--seed": seed, "--stint": switch_order_after}
     arguments = [str(word) for name, value in options.items() if value is not None for word in (name, value)]
+    arguments += ["--sequential"] * sequential
     with graph_file(graph) as text, reporting(progress) as on_progress:
         files = [text, os.fspath(hierarchy)]
         if progress:

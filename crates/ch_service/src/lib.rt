@@ -33,6 +33,7 @@ mod pairs;
 mod preparing;
 mod refusing;
 mod routing;
+mod sequential;
 
 pub use answering::{answer, answer_joined};
 pub use counted_io::WriteFault;
@@ -45,3 +46,4 @@ pub use laws::{
 pub use outcomes::Cause;
 pub use preparing::{prepare, prepare_beside};
 pub use routing::route;
+pub use sequential::prepare_sequential;

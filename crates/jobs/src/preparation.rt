@@ -12,8 +12,8 @@ pub struct Preparation<'a> {
     pub graph: &'a str,
     /// The file that is made for the hierarchy.
     pub out: &'a str,
-    /// How many workers contract the nodes.
-    pub workers: Workers,
+    /// How many workers contract the nodes. `None`: the calling thread does, by the rules of one worker.
+    pub workers: Option<Workers>,
     /// The seed of the draws by which they choose nodes.
     pub seed: u64,
     /// Which nodes go first.

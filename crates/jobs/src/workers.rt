@@ -30,6 +30,13 @@ impl Workers {
         Workers { count: 0 }
     }
 
+    /// Returns one worker.
+    pub fn one() -> Workers
+        ensures { result.count ≡ 1 }
+    {
+        Workers { count: 1 }
+    }
+
     /// Returns the number of workers.
     pub fn count(self) -> u32
         ensures count { result ≡ self.count }

@@ -9,7 +9,7 @@ use crate::lists::a_list_each;
 use crate::outcome::outcome_of;
 use ch_estimate::key::{Balanced, Depth, EdgeDifference, Neighbours};
 use ch_estimate::{Estimator, Lease, Leases};
-use ch_service::{ServiceError, causes_tell_refusals, prepare_beside};
+use ch_service::{ServiceError, causes_tell_refusals, prepare_beside, prepare_sequential};
 use ch_workers::{Disposal, Gate, Options};
 use jobs::{Order, Preparation, Stint, Workers};
 use outcomes::Outcome;
@@ -53,9 +53,9 @@ pub fn perform_preparation<G: Read, W: Write, P: Gate, R: Threads + Wait + Sync>
     outcome_of(prepared)
 }
 
-/// Prepares a hierarchy of a graph by workers, each with an estimator for each of its orders. What the build needs no longer may
-/// still be dropped after it has returned: `disposal` waits for that. Takes memory for the estimators, and then that of
-/// `prepare_beside`.
+/// Prepares a hierarchy of a graph by workers, each with an estimator for each of its orders, or on the calling thread. What the
+/// build needs no longer may still be dropped after it has returned: `disposal` waits for that. Takes memory for the estimators,
+/// and then that of `prepare_beside` or `prepare_sequential`.
 pub(crate) fn prepare_by<G: Read, W: Write, P: Gate, R: Threads + Wait + Sync>(
     rt: &R,
     alloc: Global,
@@ -68,7 +68,8 @@ pub(crate) fn prepare_by<G: Read, W: Write, P: Gate, R: Threads + Wait + Sync>(
     ensures { TellsPrepared (outcome_of result) (G.remaining graph.old) (W.contents out.old) (W.contents out.new) }
 {
     causes_tell_refusals();
-    let options = options(preparation.workers, preparation.seed, preparation.stint());
+    let workers = preparation.workers.unwrap_or(Workers::one());
+    let options = options(workers, preparation.seed, preparation.stint());
     let mut leases = Leases::new(alloc)?;
     let lists = a_list_each(
         alloc,
@@ -86,15 +87,18 @@ pub(crate) fn prepare_by<G: Read, W: Write, P: Gate, R: Threads + Wait + Sync>(
             }
         },
     )?;
-    prepare_beside(
-        rt,
-        alloc,
-        graph,
-        out,
-        options,
-        lists,
-        &mut leases,
-        gate,
-        disposal,
-    )
+    match preparation.workers {
+        Some(_) => prepare_beside(
+            rt,
+            alloc,
+            graph,
+            out,
+            options,
+            lists,
+            &mut leases,
+            gate,
+            disposal,
+        ),
+        None => prepare_sequential(rt, alloc, graph, out, options, lists, &mut leases, gate),
+    }
 }

@@ -91,7 +91,7 @@ fn preparing() -> Preparation<'static> {
     Preparation {
         graph: "a.gr",
         out: "a.rch",
-        workers: Workers::none(),
+        workers: Some(Workers::none()),
         seed: 1,
         order: Order::Edges,
         stint: None,

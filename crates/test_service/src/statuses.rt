@@ -149,7 +149,7 @@ fn preparing() -> Job<'static> {
     Job::Prepare(Preparation {
         graph: "a.gr",
         out: "a.rch",
-        workers: Workers::none(),
+        workers: Some(Workers::none()),
         seed: 1,
         order: Order::Edges,
         stint: None,

@@ -93,17 +93,17 @@ const NAMED: [Named; 9] = [
 #[derive(Clone, Copy)]
 struct Chosen {
     line: &'static str,
-    workers: u32,
+    workers: Option<u32>,
     seed: u64,
     order: Order,
     stint: Option<u64>,
     progress: bool,
 }
 
-const CHOSEN: [Chosen; 11] = [
+const CHOSEN: [Chosen; 12] = [
     Chosen {
         line: "routecli prepare a.gr a.rch",
-        workers: 4,
+        workers: Some(4),
         seed: 1,
         order: Order::Edges,
         stint: None,
@@ -111,7 +111,7 @@ const CHOSEN: [Chosen; 11] = [
     },
     Chosen {
         line: "routecli prepare --workers 0 --seed 0 --order neighbours a.gr a.rch",
-        workers: 0,
+        workers: Some(0),
         seed: 0,
         order: Order::Neighbours,
         stint: None,
@@ -119,7 +119,7 @@ const CHOSEN: [Chosen; 11] = [
     },
     Chosen {
         line: "routecli prepare a.gr a.rch --order depth --seed 18446744073709551615 --workers 64",
-        workers: 64,
+        workers: Some(64),
         seed: 18_446_744_073_709_551_615,
         order: Order::Depth,
         stint: None,
@@ -127,15 +127,23 @@ const CHOSEN: [Chosen; 11] = [
     },
     Chosen {
         line: "routecli prepare --order=edges a.gr --workers=1 a.rch --seed=7",
-        workers: 1,
+        workers: Some(1),
         seed: 7,
         order: Order::Edges,
         stint: None,
         progress: false,
     },
     Chosen {
+        line: "routecli prepare a.gr --sequential a.rch --seed 3",
+        workers: None,
+        seed: 3,
+        order: Order::Edges,
+        stint: None,
+        progress: false,
+    },
+    Chosen {
         line: "routecli prepare --workers 63 a.gr a.rch",
-        workers: 63,
+        workers: Some(63),
         seed: 1,
         order: Order::Edges,
         stint: None,
@@ -143,7 +151,7 @@ const CHOSEN: [Chosen; 11] = [
     },
     Chosen {
         line: "routecli prepare a.gr --seed 12 a.rch",
-        workers: 4,
+        workers: Some(4),
         seed: 12,
         order: Order::Edges,
         stint: None,
@@ -151,7 +159,7 @@ const CHOSEN: [Chosen; 11] = [
     },
     Chosen {
         line: "routecli prepare a.gr a.rch --order balanced",
-        workers: 4,
+        workers: Some(4),
         seed: 1,
         order: Order::Balanced,
         stint: None,
@@ -159,7 +167,7 @@ const CHOSEN: [Chosen; 11] = [
     },
     Chosen {
         line: "routecli prepare --stint 1 a.gr a.rch",
-        workers: 4,
+        workers: Some(4),
         seed: 1,
         order: Order::Edges,
         stint: Some(1),
@@ -167,7 +175,7 @@ const CHOSEN: [Chosen; 11] = [
     },
     Chosen {
         line: "routecli prepare a.gr --stint=1099511627776 --order neighbours a.rch",
-        workers: 4,
+        workers: Some(4),
         seed: 1,
         order: Order::Neighbours,
         stint: Some(1_099_511_627_776),
@@ -175,7 +183,7 @@ const CHOSEN: [Chosen; 11] = [
     },
     Chosen {
         line: "routecli prepare --workers 2 a.gr a.rch --stint 0001000",
-        workers: 2,
+        workers: Some(2),
         seed: 1,
         order: Order::Edges,
         stint: Some(1_000),
@@ -183,7 +191,7 @@ const CHOSEN: [Chosen; 11] = [
     },
     Chosen {
         line: "routecli prepare --progress a.gr a.rch",
-        workers: 4,
+        workers: Some(4),
         seed: 1,
         order: Order::Edges,
         stint: None,
@@ -197,10 +205,14 @@ fn job_of(chosen: &Chosen) -> Option<Job<'static>> {
         Some(commits) => Some(Stint::new(commits)?),
         None => None,
     };
+    let workers = match chosen.workers {
+        Some(count) => Some(Workers::new(count)?),
+        None => None,
+    };
     Some(Job::Prepare(Preparation {
         graph: "a.gr",
         out: "a.rch",
-        workers: Workers::new(chosen.workers)?,
+        workers,
         seed: chosen.seed,
         order: chosen.order,
         stint,
