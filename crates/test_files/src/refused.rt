@@ -3,6 +3,9 @@
 //!
 //! A call that runs out of memory is made again, and has to give what it gives with ample memory. A growth of what a
 //! test sets up ends the test with that error.
+mod graphs;
+mod routers;
+
 ghost use Rattle.std.specs.Prelude.{◌≡◌, ◌<◌, length, IfOk, IfSome};
 ghost use Rattle.ch_graph.specs.Unfolding.{Joined};
 

@@ -1,5 +1,5 @@
 use Rattle.std.proofs.Common.{refl}
-use Rattle.test_query.proofs.costs.sum.Goals as goal
+use Rattle.test_files.proofs.costs.sum.Goals as goal
 
 pub plus-requires-clause-first : goal.plus-requires-clause-first
 plus-requires-clause-first c = c.if-is_in_limit.ensures.0 refl

@@ -2,8 +2,6 @@
 //! here once for each of its growths.
 ghost use Rattle.std.specs.Prelude.{◌≡◌, IfOk};
 
-mod routers;
-
 use ch_cost::{Cost, NarrowCost};
 use ch_graph::{Graph, Hierarchy, HierarchyError, Link, LinkId, Middle, Road};
 use std::alloc::{AllocError, Global};

@@ -2,7 +2,7 @@ use Rattle.std.proofs.Common.{List, None, get_or}
 use Rattle.std.proofs.lemmas.Option.{slice_get-get_or}
 use Rattle.ch_cost.specs.Cost.{zero_cost}
 use Rattle.ch_graph.specs.declared.link.Link.{Link}
-use Rattle.test_query.proofs.checked.route.Goals as goal
+use Rattle.test_files.proofs.checked.route.Goals as goal
 
 -- a link that was found leaves the node that it was looked for from
 pub unpack-requires-clause-joined : goal.unpack-requires-clause-joined

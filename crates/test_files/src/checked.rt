@@ -30,17 +30,7 @@ const ROW_BY_WEIGHT: &[Given] = &[
     (1, 2, (5, 0), Some(0)),
 ];
 
-/// Nodes 1 to 3, each joined to the next by way of node 0.
-pub const BY_WAY_OF_0: &[Given] = &[
-    (0, 2, (1, 1), None),
-    (0, 3, (1, 1), None),
-    (1, 0, (1, 1), None),
-    (1, 2, (2, 2), Some(0)),
-    (2, 0, (1, 1), None),
-    (2, 3, (2, 2), Some(0)),
-];
-
-/// The same with a link of as many arcs as there are nodes.
+/// Nodes 1 to 3, each joined to the next by way of node 0, and a link of as many arcs as there are nodes.
 const TOO_MANY_ARCS: &[Given] = &[
     (0, 2, (1, 1), None),
     (0, 3, (1, 1), None),
@@ -168,7 +158,6 @@ const WELL_MADE: &[Case<'static>] = &[
     (2, &[0, 1, 2], ROW, (6, 2)),
     (2, &[0, 2, 1], ROW, (5, 2)),
     (2, &[2, 0, 1], &[UP, DOWN], (GREATEST, 2)),
-    (2, &[0, 1, 2, 3], BY_WAY_OF_0, (4, 3)),
     // Links of no weight.
     (
         2,

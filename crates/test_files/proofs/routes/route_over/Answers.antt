@@ -2,7 +2,7 @@ use Rattle.std.proofs.Common.{List, None, get_or, sym, ◌∙◌}
 use Rattle.std.proofs.lemmas.Option.{slice_get-get_or}
 use Rattle.ch_cost.specs.Cost.{zero_cost}
 use Rattle.ch_graph.specs.declared.link.Link.{Link}
-use Rattle.test_query.proofs.routes.route_over.Goals as goal
+use Rattle.test_files.proofs.routes.route_over.Goals as goal
 
 -- links that were found leave the nodes that they were looked for from, and the second leaves where the first ends
 pub unpack-requires-clause-joined : goal.unpack-requires-clause-joined

@@ -10,7 +10,7 @@ use std::test::Fail;
 const HEAVY: u32 = 4294967295;
 
 /// An arc: its two nodes, and its weight.
-type Arc = (u32, u32, u32);
+pub type Arc = (u32, u32, u32);
 
 /// An arc, and then another.
 const ROW: &[Arc] = &[(1, 0, 2), (0, 2, 3)];
@@ -32,7 +32,7 @@ const AROUND: &[Arc] = &[
 const TIED: &[Arc] = &[(0, 1, 0), (1, 2, 0), (2, 3, 5), (0, 3, 5), (0, 2, 0)];
 
 /// The arcs of the graph that is drawn at [`Graph::least`].
-const DRAWN: &[Arc] = &[
+pub const DRAWN: &[Arc] = &[
     (0, 1, 2),
     (1, 2, 3),
     (1, 4, 1),
@@ -61,7 +61,7 @@ fn roads_of(alloc: Global, arcs: &[Arc]) -> Result<Vec<Road>, AllocError> {
 }
 
 /// The graph of these arcs.
-fn graph_of(alloc: Global, nodes: u32, arcs: &[Arc]) -> Result<Graph, Fail>
+pub fn graph_of(alloc: Global, nodes: u32, arcs: &[Arc]) -> Result<Graph, Fail>
     ensures { IfOk result (λ g. g.nodes ≡ nodes) }
 {
     let graph = Graph::checked(nodes, roads_of(alloc, arcs)?)?;

@@ -1,6 +1,4 @@
-use crate::checked::{
-    BY_WAY_OF_0, DRAWN, DRAWN_RANKS, ROW, hierarchy_of, is_route, is_too_long, route,
-};
+use crate::checked::{ROW, hierarchy_of, is_route, is_too_long, route};
 use ch_graph::Hierarchy;
 use ch_unpack::{UnpackError, unpack};
 use std::alloc::Global;
@@ -59,22 +57,5 @@ fn by_way_of_a_middle(rt: HostRuntime) -> Result<(), Fail> {
         let hierarchy = three_nodes(rt.alloc(), is_indexed)?;
         assert!(rt; is_route(route(rt.alloc(), &hierarchy, 1, 2), &[1, 0, 2]));
     }
-    Ok(())
-}
-
-/// The only rise-fall walk from 1 to 3 goes over 0 twice, so it has as many arcs as there are nodes.
-#[test]
-fn twice_by_way_of_a_middle(rt: HostRuntime) -> Result<(), Fail> {
-    let hierarchy = hierarchy_of(rt.alloc(), &[0, 1, 2, 3], BY_WAY_OF_0, (4, 3))?;
-    assert!(rt; is_route(route(rt.alloc(), &hierarchy, 1, 2), &[1, 0, 2]));
-    assert!(rt; is_too_long(route_over(rt.alloc(), &hierarchy, (1, 2, 3))));
-    Ok(())
-}
-
-/// The route that is drawn: an arc that rises, and a shortcut by way of 4 that falls.
-#[test]
-fn over_a_top(rt: HostRuntime) -> Result<(), Fail> {
-    let hierarchy = hierarchy_of(rt.alloc(), DRAWN_RANKS, DRAWN, (20, 4))?;
-    assert!(rt; is_route(route_over(rt.alloc(), &hierarchy, (0, 1, 3)), &[0, 1, 4, 3]));
     Ok(())
 }
