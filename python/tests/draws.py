@@ -31,6 +31,7 @@ HIGHWAYS = ("trunk", "primary_link", "secondary", "tertiary", "residential", "tr
 ORIGINS = [(9.5, 47.1), (179.9995, -17.0), (30.0, 89.95), (0.0, 0.0)]
 # What weights are, and whether arcs have seconds.
 KINDS = ("duration", "distance", "weight", "weight alone")
+HEAVY = "weights of which two have more than 32 bits"
 NAMES = ("", "", "High Street", "Mill Lane", "Rue de l'Été; \"Nord\"")
 REFS, JUNCTIONS = ("", "", "B12;E60"), ("", "", "", "roundabout", "circular")
 
@@ -87,8 +88,7 @@ def networks(draw: Any, kinds: Sequence[str] = KINDS, most: int = 8, origins: Se
 def draw_arc(draw: Any, kind: str, start: int, end: int, line: tuple[Point, ...], texts: tuple[Any, ...]) -> Arc:
     number = draw(st.one_of(st.integers(0, 20), st.integers(0, 100_000)))
     metres = round(along(line)[-1], 2)
-    if kind.startswith("weight") and draw(st.integers(0, 9)) == 0:
-        number = (1 << 32) - 1 - number  # (two of these are more than 32 bits)
+    number = (1 << 32) - 1 - number if kind == HEAVY else number
     if kind == "duration":
         return Arc(start, end, number, number / 1000, metres, line, *texts)
     if kind == "distance":

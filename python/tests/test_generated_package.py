@@ -8,7 +8,7 @@ from typing import Any
 import numpy as np
 import pandas
 import pytest
-from draws import Drawn, drawn, networks, places, run_tool, write_network
+from draws import HEAVY, KINDS, Drawn, drawn, networks, places, run_tool, write_network
 from hypothesis import given
 from hypothesis import strategies as st
 from comparing import Near, difference, is_same_line, unwrapped
@@ -47,7 +47,7 @@ class Asked:
 @drawn(110)
 @given(st.data())
 def test_lengths_routes_and_tables(data: Any) -> None:
-    made, kind = data.draw(networks()), data.draw(st.sampled_from(sorted(KEYS)))
+    made, kind = data.draw(networks([*KINDS, HEAVY])), data.draw(st.sampled_from(sorted(KEYS)))
     with tempfile.TemporaryDirectory() as folder:
         asked = Asked(made, pathlib.Path(folder), kind)
         nodes = st.sampled_from(range(len(asked.keys)))
