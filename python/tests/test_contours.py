@@ -187,6 +187,14 @@ def flat(reach, point):
     return Point((point[0] - reach.plane.origin / UNITS) * reach.plane.east, point[1] * METRES_OF_DEGREE)
 
 
+@pytest.mark.parametrize("turn", range(5))
+def test_lines_part_where_rings_do(turn):
+    """Two rings have three points in common, of which both go on at the second, wherever a ring begins."""
+    one, other = ((2, 0), (2, 1), (2, 2), (0, 2), (0, 0)), ((2, 2), (2, 1), (2, 0), (4, 0), (4, 2))
+    found = contour_shapes.split_at_forks([one[turn:] + one[:turn], other])
+    assert {line[0] for lines in found.values() for line in lines} == {(2, 0), (2, 2)}
+
+
 def square(west, south, side, *holes):
     return Polygon([(west, south), (west + side, south), (west + side, south + side), (west, south + side)], holes)
 

@@ -107,7 +107,7 @@ def test_within(made_town, form, kinds):
 
 @pytest.mark.parametrize("place, words, error, says", [
     ((0, 2), {}, domethyme.NoSuchNode, "no road within 1000 m"), ((0, 91), {}, ValueError, "swapped"),
-    ((0, float("nan")), {}, ValueError, "degrees"), ((0, 0, 0), {}, ValueError, "lon, lat"), ([], {}, ValueError, "lon, lat"),
+    ((0, float("nan")), {}, ValueError, "degrees"), ((0, 0, 0), {}, ValueError, "lon, lat"), ([], {}, ValueError, "a place or more"),
     ((0, 0), {"minutes": [5, 3]}, ValueError, "greater than the one before"),
     ((0, 0), {"metres": [5]}, ValueError, "aren't a distance"),
     ((0, 0), {"minutes": [5], "metres": [5]}, ValueError, "one of both"), ((0, 0), {"minutes": [1e300]}, ValueError, "too much"),
