@@ -47,6 +47,8 @@ enum {
     DOMETHYME_TOO_LONG = 6,      /* the route would repeat a node: the file isn't right for any graph */
     DOMETHYME_SEED_COST = 7,     /* a start or an end has a length above 2^57, or more than 2^25 arcs */
     DOMETHYME_BAD_LIMIT = 8,     /* a limit is above 2^62 and isn't DOMETHYME_NO_LENGTH; since 1.1 */
+    DOMETHYME_NUMBER_COUNT = 9,  /* there isn't one number for each link without a middle; since 1.1 */
+    DOMETHYME_NUMBER_GREAT = 10, /* the numbers of the arcs of a link sum to more than 2^36; since 1.1 */
 
     /* Faults of a hierarchy file, as docs/FORMATS.md has them. */
     DOMETHYME_READ = 34,          /* a reader failed, which bytes in memory don't */
@@ -103,6 +105,12 @@ typedef struct domethyme_between_info {
     size_t nodes;
 } domethyme_between_info;
 
+/* The length of a shortest path, and what the numbers of its arcs sum to; DOMETHYME_NO_LENGTH twice where there is no path. */
+typedef struct domethyme_sum_info {
+    uint64_t length;
+    uint64_t sum; /* at most 2^62 */
+} domethyme_sum_info;
+
 /* Reads a hierarchy file that is in memory. The handle is open afterwards if the result is DOMETHYME_OK, and closed otherwise;
  * what it was open for before is closed. The bytes aren't needed any more. Else the result is DOMETHYME_OUT_OF_MEMORY or the
  * first fault of the bytes. */
@@ -151,6 +159,25 @@ uint32_t domethyme_lengths(domethyme *handle, const domethyme_pair *pairs, size_
  * time one is shared. */
 uint32_t domethyme_table(domethyme *handle, const uint32_t *sources, size_t source_count,
                          const uint32_t *targets, size_t target_count, uint64_t *lengths, size_t room);
+
+/* The least length from each source to each target, row by row as domethyme_table has them, each with the sum of numbers of the
+ * caller's along some path of that length: metres, money, or whatever counts for an arc. Lengths rest on no number. Of several
+ * shortest paths the sum is that of one with the fewest arcs (in version 1 of any), which need not be the one of
+ * domethyme_route.
+ *
+ * There is one number for each link of the file without a middle, in the order of the file. Such a link is the lightest arc from
+ * its one node to its other; loops have none.
+ *
+ * The first of these that holds is the result, and nothing is written: DOMETHYME_NO_HANDLE, DOMETHYME_NO_ROOM,
+ * DOMETHYME_NODE_RANGE, DOMETHYME_NUMBER_COUNT, DOMETHYME_NUMBER_GREAT. After DOMETHYME_OUT_OF_MEMORY what was written of the
+ * array isn't known.
+ *
+ * Each cell takes the time of domethyme_length. For other numbers than those of the last call, also those of another handle, it
+ * first sums up those of each link and lays out the links, in the time of a sort of them. The handle keeps that for the next call
+ * with the same numbers: 24 bytes a link, 24 a node, and 4 a number. Since 1.1. */
+uint32_t domethyme_table_sums(domethyme *handle, const uint32_t *numbers, size_t number_count,
+                              const uint32_t *sources, size_t source_count, const uint32_t *targets, size_t target_count,
+                              domethyme_sum_info *cells, size_t room);
 
 /* The least length from a start to each node, with the start's own length added: that of node v is lengths[v]. Where it is
  * above the limit, or where there is no path, it is DOMETHYME_NO_LENGTH. A limit is at most 2^62, and a length that is the

@@ -10,6 +10,7 @@ typedef struct results {
     uint32_t number, nodes[3];
     domethyme_route_info route;
     domethyme_between_info between;
+    domethyme_sum_info sum;
 } results;
 
 static results before(void)
@@ -42,6 +43,7 @@ static void closed(domethyme *handle)
     WANT(domethyme_lengths(handle, &pair, 1, &found.length, 1) == DOMETHYME_NO_HANDLE && is_untouched(&found));
     WANT(domethyme_table(handle, &node, 1, &node, 1, &found.length, 1) == DOMETHYME_NO_HANDLE && is_untouched(&found));
     WANT(domethyme_reach(handle, &seed, 1, UINT64_C(1) << 63, &found.length, 0) == DOMETHYME_NO_HANDLE && is_untouched(&found));
+    WANT(domethyme_table_sums(handle, &node, 1, &node, 1, &node, 1, &found.sum, 1) == DOMETHYME_NO_HANDLE && is_untouched(&found));
     WANT(domethyme_beside(handle, &other) == DOMETHYME_NO_HANDLE && other.router == NULL);
     domethyme_close(handle);
 }
@@ -214,6 +216,8 @@ static const meaning MEANINGS[] = {
     {DOMETHYME_TOO_LONG, "the route would repeat a node: the file isn't right for any graph"},
     {DOMETHYME_SEED_COST, "a start or an end has a length above 2^57, or more than 2^25 arcs"},
     {DOMETHYME_BAD_LIMIT, "a limit is above 2^62 and isn't the number that means none"},
+    {DOMETHYME_NUMBER_COUNT, "there isn't one number for each link without a middle"},
+    {DOMETHYME_NUMBER_GREAT, "the numbers of the arcs of a link sum to more than 2^36"},
     {DOMETHYME_READ, "the file couldn't be read"},
     {DOMETHYME_BAD_MAGIC, "the bytes are no hierarchy file"},
     {DOMETHYME_TRUNCATED, "the bytes end too early"},

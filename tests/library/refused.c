@@ -87,6 +87,13 @@ static void run(const uint8_t *bytes, size_t count)
     while (is_out(domethyme_reach(&handle, &start, 1, 704, reached, 3)))
         WANT(reached[0] == 42 && reached[1] == 42 && reached[2] == 42);
     WANT(reached[0] == 5 && reached[1] == 305 && reached[2] == DOMETHYME_NO_LENGTH);
+    /* sums of 7 for each arc, of which the hierarchy has 3 or 4 */
+    const uint32_t sevens[] = {7, 7, 7, 7};
+    domethyme_sum_info cells[4];
+    size_t arcs = domethyme_table_sums(&handle, sevens, 3, ends, 0, ends, 0, cells, 0) == DOMETHYME_NUMBER_COUNT ? 4 : 3;
+    while (is_out(domethyme_table_sums(&handle, sevens, arcs, ends, 2, ends, 2, cells, 4)))
+        ;
+    WANT(cells[1].length == 700 && cells[1].sum == 14 && cells[2].sum == DOMETHYME_NO_LENGTH);
     domethyme_close(&handle);
     domethyme_close(&other);
 }

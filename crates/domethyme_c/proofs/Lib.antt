@@ -1,3 +1,4 @@
 pub mod Steps
 pub mod Handles
 pub mod Tables
+mod Cells

@@ -1,5 +1,7 @@
 -- The codes of faults of a hierarchy file, which the header has too.
 use Rattle.std.specs.Prelude.{ℕ}
+use Rattle.ch_sums.specs.declared.error.NumbersError.{NumbersError}
+use Rattle.ch_sums.specs.declared.error.NumbersError.TheVariants.{OutOfMemory as NoMemory, Count, TooGreat}
 use Rattle.hierfile.specs.declared.error.HierError.{HierError}
 use Rattle.hierfile.specs.declared.error.HierError.TheVariants.{OutOfMemory, Read, BadMagic, Truncated, TooBig, BoundTooBig, RankRange, RankTwice, LinkEnds, LinkOrder, LinkWeight, MiddleRange, MiddleRank, HalfMissing, HalfSum, Trailing}
 
@@ -20,3 +22,8 @@ fault_code MiddleRank = 45
 fault_code HalfMissing = 46
 fault_code HalfSum = 47
 fault_code Trailing = 48
+
+abbrev pub numbers_code : NumbersError → ℕ
+numbers_code NoMemory = 5
+numbers_code Count = 9
+numbers_code TooGreat = 10

@@ -2,12 +2,16 @@
 use Rattle.std.specs.Prelude.{ℕ, ◌≡◌, ◌<◌, List, length, All, Option, Some, IfSome, [], ◌∷◌, None}
 use Rattle.ch_graph.specs.Hierarchy.{Hierarchy, version_number}
 use Rattle.ch_table.specs.Selection.{Selection, IsSelection}
+use Rattle.domethyme_c.specs.declared.summing.Summing.{Summing}
+use Rattle.domethyme_c.specs.Summing.{IsSumming}
 use Rattle.domethyme_c.specs.declared.code.TheConstants.{NODE_RANGE, OUT_OF_MEMORY}
 use mathlib.Core.Option.{some}
 use lib.ListN.{get_elem?}
 
--- the version is that of the hierarchy, a selection is one of it, and it is the hierarchy that is shared
-pub record IsEngine (h : Hierarchy) (version : ℕ) (kept : Option Selection) (sharing : Option Hierarchy) : Type 0 where
+-- the hierarchy is kept too, the version is its own, a selection is one of it, and it is the hierarchy that is shared
+pub record IsEngine (h shared : Hierarchy) (version : ℕ) (kept : Option Selection) (sharing : Option Hierarchy) (summing : Option Summing) : Type 0 where
+  pub sums : IfSome summing (IsSumming h)
+  pub same : shared ≡ h
   pub same_version : version ≡ version_number h.version
   pub selected : IfSome kept (IsSelection h)
   pub shares : sharing ≡ Some h

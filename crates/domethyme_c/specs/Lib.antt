@@ -2,3 +2,5 @@ pub mod Codes
 pub mod Answers
 pub mod Handles
 pub mod Engines
+pub mod Sums
+pub mod Summing

@@ -1,6 +1,7 @@
 ghost use Rattle.std.specs.Prelude.{◌≡◌};
-ghost use Rattle.domethyme_c.specs.Codes.{fault_code};
+ghost use Rattle.domethyme_c.specs.Codes.{fault_code, numbers_code};
 
+use ch_sums::NumbersError;
 use hierfile::HierError;
 
 /// The call did what it was asked.
@@ -21,6 +22,10 @@ pub const TOO_LONG: u32 = 6;
 pub const SEED_COST: u32 = 7;
 /// A limit is above 2^62 and isn't the number that stands for none.
 pub const BAD_LIMIT: u32 = 8;
+/// There isn't one number for each link without a middle.
+pub const NUMBER_COUNT: u32 = 9;
+/// The numbers of the arcs that a link represents sum to more than 2^36.
+pub const NUMBER_GREAT: u32 = 10;
 
 /// Stands for a length where there is no path.
 pub const NO_LENGTH: u64 = 0xffff_ffff_ffff_ffff;
@@ -46,5 +51,16 @@ pub(crate) fn code_of(error: HierError) -> u32
         HierError::HalfMissing => 46,
         HierError::HalfSum => 47,
         HierError::Trailing => 48,
+    }
+}
+
+/// The code of a refusal of numbers.
+pub(crate) fn numbers_code(error: NumbersError) -> u32
+    ensures { result ≡ numbers_code error }
+{
+    match error {
+        NumbersError::OutOfMemory => OUT_OF_MEMORY,
+        NumbersError::Count => NUMBER_COUNT,
+        NumbersError::TooGreat => NUMBER_GREAT,
     }
 }

@@ -5,6 +5,8 @@ ghost use Rattle.hierfile.specs.Fault.{first_fault};
 ghost use Rattle.hierfile.specs.Spelling.{bytes_of};
 ghost use Rattle.domethyme_c.specs.Answers.{AreNodes, IsBetween, IsLength, IsRoute, IsWrong};
 ghost use Rattle.domethyme_c.specs.Engines.{IsNoSelection};
+ghost use Rattle.domethyme_c.specs.Summing.{IsSumming, IsSummingOf};
+ghost use Rattle.domethyme_c.specs.Sums.{IsNumbersRefusal};
 ghost use Rattle.ch_query.specs.Seeds.{AreSeeds};
 ghost use Rattle.ch_route.specs.Between.{HasTooLongBetween, IsRowLengthFrom, IsRowLengthWithin};
 ghost use Rattle.ch_route.specs.Routes.{HasTooLong, IsRowLength};
@@ -13,23 +15,28 @@ ghost use Rattle.ch_table.specs.Selection.{IsSelection};
 ghost use Rattle.std.specs.Arc.{arc_value};
 ghost use Rattle.ch_unpack.specs.declared.error.UnpackError.TheVariants.{TooLong};
 
-use crate::code::{NODE_RANGE, OUT_OF_MEMORY};
+use crate::code::{NODE_RANGE, OUT_OF_MEMORY, numbers_code};
 use crate::sharing::Sharing;
+use crate::summing::Summing;
 use ch_graph::Hierarchy;
 use ch_route::{Route, RouteBetween, RouterOf, Seed, Selection, UnpackError};
+use ch_sums::Numbers;
 use hierfile::HierError;
 use std::alloc::{AllocError, Global};
 use std::marker::Model;
 use std::sync::Arc;
 
 /// What an open handle has: a router of a hierarchy, which other handles may share, the version of its file, the selection
-/// of the last table, for another table to the same targets, and a share in the last one that any of these handles made.
+/// of the last table, for another table to the same targets, a share in the last one that any of these handles made, and what
+/// makes sums of the last numbers.
 #[derive(Drop)]
 pub(crate) struct Engine {
+    hierarchy: Arc<Hierarchy>,
     router: RouterOf<Arc<Hierarchy>>,
     version: u8,
     kept: Option<Arc<Selection>>,
     sharing: Sharing,
+    summing: Option<Summing>,
 }
 
 impl Model for Engine {
@@ -42,7 +49,7 @@ impl Model for Engine {
 
     ghost view = { λ e. e.router };
 
-    ghost invariant = { λ e. IsEngine e.router e.version (option_map arc_value e.kept) e.sharing };
+    ghost invariant = { λ e. IsEngine e.router (arc_value e.hierarchy) e.version (option_map arc_value e.kept) e.sharing e.summing };
 }
 
 impl Engine {
@@ -56,14 +63,16 @@ impl Engine {
         let hierarchy = hierfile::read(alloc, &mut rest)?;
         let version = hierarchy.version();
         let hierarchy = Arc::new(alloc, hierarchy)?;
-        let router = RouterOf::new(alloc, hierarchy)?;
+        let router = RouterOf::new(alloc, Arc::try_clone(&hierarchy)?)?;
         let _well_made = router.nodes();
         let sharing = Sharing::new(alloc, &router)?;
         Ok(Engine {
+            hierarchy,
             router,
             version,
             kept: None,
             sharing,
+            summing: None,
         })
     }
 
@@ -239,6 +248,44 @@ impl Engine {
         self.router.lengths_from(starts, most, selection, row, 0)
     }
 
+    /// Takes out what makes sums of these numbers, one for each link without a middle, or returns the code that says why there is
+    /// none. What is kept of the last numbers is taken if they are the same.
+    pub(crate) fn take_summing(&mut self, alloc: Global, given: &[u32]) -> Result<Summing, u32>
+        ensures summing { IfOk result (IsSummingOf self.old given.now) }
+        ensures refused { IfErr result (IsNumbersRefusal self.old given.now) }
+        ensures kept { self.new ≡ self.old }
+    {
+        if let Some(summing) = self.summing.take() {
+            if summing.given.as_slice() == given {
+                return Ok(summing);
+            }
+        }
+        self.new_summing(alloc, given)
+    }
+
+    /// Keeps what makes sums of some numbers, for the next call with the same.
+    pub(crate) fn keep_summing(&mut self, summing: Summing)
+        requires { IsSumming self.old summing }
+        ensures { self.new ≡ self.old }
+    {
+        self.summing = Some(summing);
+    }
+
+    // Makes what makes sums of some numbers.
+    fn new_summing(&self, alloc: Global, given: &[u32]) -> Result<Summing, u32>
+        ensures summing { IfOk result (IsSummingOf self.now given.now) }
+        ensures refused { IfErr result (IsNumbersRefusal self.now given.now) }
+    {
+        let numbers = match Numbers::new(alloc, &self.hierarchy, given) {
+            Ok(numbers) => numbers,
+            Err(error) => return Err(numbers_code(error)),
+        };
+        match Summing::new(alloc, &self.hierarchy, given, numbers) {
+            Ok(summing) => Ok(summing),
+            Err(_) => Err(OUT_OF_MEMORY),
+        }
+    }
+
     /// Another engine of the same hierarchy, which shares the kept selection and those that either makes later.
     pub(crate) fn beside(&mut self) -> Result<Engine, AllocError>
         ensures kept { self.new ≡ self.old }
@@ -250,11 +297,14 @@ impl Engine {
         };
         let router = self.router.beside()?;
         let sharing = self.sharing.beside(&self.router)?;
+        let hierarchy = Arc::try_clone(&self.hierarchy)?;
         Ok(Engine {
+            hierarchy,
             router,
             version: self.version,
             kept,
             sharing,
+            summing: None,
         })
     }
 }

@@ -29,6 +29,8 @@ fn meaning_of(code: u32) -> &'static [u8]
         6 => b"the route would repeat a node: the file isn't right for any graph",
         7 => b"a start or an end has a length above 2^57, or more than 2^25 arcs",
         8 => b"a limit is above 2^62 and isn't the number that means none",
+        9 => b"there isn't one number for each link without a middle",
+        10 => b"the numbers of the arcs of a link sum to more than 2^36",
         34 => b"the file couldn't be read",
         35 => b"the bytes are no hierarchy file",
         36 => b"the bytes end too early",

@@ -1,0 +1,99 @@
+ghost use Rattle.std.specs.Prelude.{◌≡◌, ◌*◌, ◌<◌, ◌≤◌, All, length};
+ghost use Rattle.domethyme_c.specs.Answers.{Answers};
+ghost use Rattle.domethyme_c.specs.Summing.{IsSumming};
+ghost use Rattle.domethyme_c.specs.Sums.{IsSumsAnswer};
+
+use crate::code::{NO_HANDLE, NO_ROOM, NODE_RANGE, OK, OUT_OF_MEMORY};
+use crate::engine::Engine;
+use crate::handle::Handle;
+use crate::summing::Summing;
+use std::alloc::Global;
+
+/// How long a shortest path is, and what the numbers along it sum to.
+#[repr(C)]
+#[derive(Clone, Copy)]
+pub struct SumInfo {
+    pub length: u64,
+    pub sum: u64,
+}
+
+/// The least length from each source to each target, row by row, and the sum of the numbers along some path of that length.
+#[unsafe(no_mangle)]
+pub extern "C" fn domethyme_table_sums(
+    alloc: Global,
+    handle: &mut Handle,
+    numbers: &[u32],
+    sources: &[u32],
+    targets: &[u32],
+    cells: &mut [SumInfo],
+) -> u32
+    ensures kept { handle.new.held.hierarchy ≡ handle.old.held.hierarchy }
+    ensures answer { Answers handle.old.held.hierarchy result (cells.new ≡ cells.old) (λ h. IsSumsAnswer h numbers.now sources.now targets.now result cells.old cells.new) }
+{
+    let Some(mut engine) = handle.take(alloc) else {
+        return NO_HANDLE;
+    };
+    let code = answer_sums(alloc, &mut engine, numbers, sources, targets, cells);
+    handle.put(alloc, engine);
+    code
+}
+
+fn answer_sums(
+    alloc: Global,
+    engine: &mut Engine,
+    numbers: &[u32],
+    sources: &[u32],
+    targets: &[u32],
+    cells: &mut [SumInfo],
+) -> u32
+    ensures kept { engine.new ≡ engine.old }
+    ensures answer { IsSumsAnswer engine.old numbers.now sources.now targets.now result cells.old cells.new }
+{
+    let Some(count) = sources.len().checked_mul(targets.len()) else {
+        return NO_ROOM;
+    };
+    if cells.len() < count {
+        return NO_ROOM;
+    }
+    if !engine.has_all(sources) {
+        return NODE_RANGE;
+    }
+    if !engine.has_all(targets) {
+        return NODE_RANGE;
+    }
+    let mut summing = match engine.take_summing(alloc, numbers) {
+        Ok(summing) => summing,
+        Err(code) => return code,
+    };
+    let code = fill_sums(&mut summing, sources, targets, count, cells);
+    engine.keep_summing(summing);
+    code
+}
+
+// Cell by cell.
+fn fill_sums(
+    summing: &mut Summing,
+    sources: &[u32],
+    targets: &[u32],
+    count: usize,
+    cells: &mut [SumInfo],
+) -> u32
+    requires numbers { IsSumming summing.old.search summing.old }
+    requires sources { All (λ v. v < length summing.old.search.ranks) sources.now }
+    requires targets { All (λ v. v < length summing.old.search.ranks) targets.now }
+    requires count { count ≡ length sources.now * length targets.now }
+    requires room { count ≤ length cells.old }
+    ensures search { summing.new.search ≡ summing.old.search }
+    ensures numbers { IsSumming summing.new.search summing.new }
+    ensures answer { IsSumsAnswer summing.old.search summing.old.given.items sources.now targets.now result cells.old cells.new }
+{
+    'places: for place in 0..count {
+        let source = sources[place / targets.len()];
+        let target = targets[place % targets.len()];
+        match summing.cell(source, target) {
+            Ok(cell) => cells[place] = cell,
+            Err(_) => return OUT_OF_MEMORY,
+        }
+    }
+    OK
+}
