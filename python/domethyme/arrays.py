@@ -128,6 +128,11 @@ def filled(table: Numbers, axes: tuple[Any, Any] | None, missing: Any) -> Any:
     return frame
 
 
+def thousandths(sums: Numbers) -> "NDArray[np.float64]":
+    """Sums in thousandths as floats, NO_PATH where they are that."""
+    return np.where(sums < 0, sums, sums / 1000)
+
+
 def by_keys(lengths: Numbers, keys: Keys) -> Any:
     """The length of each node as a Series by the nodes' keys."""
     return series(lengths, load("pandas").Index(keys.of(np.arange(len(lengths))), tupleize_cols=False))

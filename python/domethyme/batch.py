@@ -17,6 +17,8 @@ from .router import Router, Searcher, seed_array
 # for the calls that are under way.
 CHUNK_SIZE = 512
 MAX_ROWS, MAX_CHUNK_CELLS = 256, 1 << 16
+# Cells of a table with sums, each of which is a search, that a thread asks for in one call.
+MAX_SUMMED_CELLS = 1 << 10
 T = TypeVar("T")
 RouteArrays = tuple[NDArray[np.int64], NDArray[np.int64], NDArray[np.int32]]
 
@@ -44,6 +46,25 @@ def table(
                 router, lambda part, seat: seat.table(rows[part], columns, found[part]), len(rows), rows_at_a_time(*found.shape),
                 lambda done: on_progress("matrix", done, len(rows))
             )
+    return found
+
+
+def table_sums(router: Router, numbers: NDArray[np.uint32], sources: NDArray[np.int64], targets: NDArray[np.int64]) -> NDArray[np.int64]:
+    """What the numbers, one for each link without a middle in order, sum to along a shortest path from each source to each target,
+    NO_PATH where there is none. Each thread has sums of its own for all links. Raises OutOfMemory as `table` does."""
+    if len(sources) * len(targets) > MAX_CELLS:
+        size = f"a table of {len(sources)} x {len(targets)} sums has more than {MAX_CELLS}"
+        raise OutOfMemory(f"{router.name}: {size}: ask for fewer sources at a time", 6)
+    rows, columns = (np.ascontiguousarray(nodes, dtype=np.uint32) for nodes in (sources, targets))
+    found = np.empty((len(rows), len(columns)), np.int64)
+
+    def sum_rows(part: slice, seat: Searcher) -> None:
+        cells = np.empty((*found[part].shape, 2), np.int64)
+        seat.table_sums(numbers, rows[part], columns, cells)
+        found[part] = cells[..., 1]
+
+    if found.size:
+        map_chunks(router, sum_rows, len(rows), max(1, MAX_SUMMED_CELLS // len(columns)))
     return found
 
 

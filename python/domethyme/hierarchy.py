@@ -85,6 +85,7 @@ class Hierarchy:
             raise ValueError(f"Hierarchy takes the path of a file, and no {type(path).__name__}")
         self.path, self._name, self._checksum = path, os.fspath(path), checksum
         self._full_path = os.path.abspath(self._name)
+        self._metres: NDArray[np.uint32] | None = None
         with open_hierarchy_file(self._name) as file:
             self.nodes, self.links = read_header(file.fileno(), self._name)
             self._stamp = file_stamp(file.fileno())
@@ -186,8 +187,13 @@ class Hierarchy:
     def matrix(
         self, sources: Any, targets: Any = None, by: By | None = None, *, missing: Any = None, progress: Progress = False
     ) -> Any: ...
+    @overload
     def matrix(
-        self, sources: Any, targets: Any = None, by: By | None = None, *, missing: Any = None, progress: Progress = False
+        self, sources: Any, targets: Any = None, *, missing: Any = None, progress: Progress = False, sums: Sequence[str]
+    ) -> dict[str, Any]: ...
+    def matrix(
+        self, sources: Any, targets: Any = None, by: By | None = None, *, missing: Any = None, progress: Progress = False,
+        sums: Sequence[str] = ()
     ) -> Any:
         """The lengths of shortest paths from each source to each target, an array of int64 of shape (sources, targets), -1
         if there is no path. Without targets they are the sources. If one of the two is a Series or Index of pandas, or a
@@ -197,12 +203,16 @@ class Hierarchy:
         missing   what a cell without a path has instead, as numpy.inf to find the nearest, since -1 is below all lengths
         by        an old argument, which changes nothing any more: leave it out
         progress  True shows a bar of tqdm; a callable receives ("matrix", rows done, rows) as they are answered
+        sums      ["metres"]: the result is a dictionary. `length` has the table, and `metres` one of floats, of the metres along
+                  some shortest path from each source to each target, to the millimetre, NaN if there is no path
 
         The library computes all lengths, row by row, by as many threads as there are processors. Each thread selects what paths to
         the targets take, and keeps that: further rows to the same targets, in this call or in later ones, take less time. A table
-        has 8 bytes a cell, and 2^29 cells at most: ask for some of the sources at a time beyond that.
+        has 8 bytes a cell, and 2^29 cells at most: ask for some of the sources at a time beyond that. Sums are found cell by cell,
+        each in the time of `length`, and need the network. Each thread first sums up all links, and keeps 24 bytes for each.
 
-        Raises NoSuchNode, ValueError, and OutOfMemory for too many cells, before memory is taken.
+        Raises NoSuchNode, ValueError, and OutOfMemory for too many cells, before memory is taken. With sums also WrongHierarchy,
+        if the file was replaced before the first ones, and LibraryNotFound for a library that is older and lacks the call.
         """
         check_by(by)
         need("numpy")
@@ -216,7 +226,14 @@ class Hierarchy:
         starts = arrays.nodes_of("sources", sources, self.keys, self.nodes)
         ends = arrays.nodes_of("targets", targets, self.keys, self.nodes)
         table = batch.table(self._router, starts, ends, progress)
-        return arrays.like_axes(table, sources, targets, self.keys is not None, missing)
+        lengths = arrays.like_axes(table, sources, targets, self.keys is not None, missing)
+        if not sums:
+            return lengths
+        if isinstance(sums, str) or [*sums] != ["metres"]:
+            raise ValueError(f'sums has to be ["metres"], and is {sums!r}')
+        found = batch.table_sums(self._router, self._millimetres(), starts, ends)
+        without = float("nan") if missing is None else missing
+        return {"length": lengths, "metres": arrays.like_axes(arrays.thousandths(found), sources, targets, self.keys is not None, without)}
 
     @overload
     def nearest(
@@ -409,6 +426,17 @@ class Hierarchy:
         from .network import isochrones
 
         return isochrones.limits("duration" if self.network is None else self.network.roads.unit, [minutes])[0]
+
+    def _millimetres(self) -> "NDArray[np.uint32]":
+        """The whole millimetres of the network's lightest arc for each link without a middle, in the order of the file. Raises
+        ValueError where there is no network, and WrongHierarchy where the file was replaced."""
+        network = self._need_network()
+        if self._metres is None:
+            with open_hierarchy_file(self._full_path) as file:
+                if file_stamp(file.fileno()) != self._stamp:
+                    raise WrongHierarchy(f"{self._name}: was replaced since it was read, so its links can't be summed up")
+                self._metres = network.millimetres(file.fileno(), self._name)
+        return self._metres
 
     def _need_network(self) -> "Network":
         if self.network is None:

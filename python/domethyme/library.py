@@ -64,7 +64,10 @@ ARGUMENTS: dict[str, list[type]] = {
 }
 RETURNS: dict[str, type | None] = {"close": None, "text": COUNT}
 # Calls that older libraries lack.
-LATER_ARGUMENTS: dict[str, list[type]] = {"reach": [A_HANDLE, ARRAY, COUNT, ctypes.c_uint64, ARRAY, COUNT]}
+LATER_ARGUMENTS: dict[str, list[type]] = {
+    "reach": [A_HANDLE, ARRAY, COUNT, ctypes.c_uint64, ARRAY, COUNT],
+    "table_sums": [A_HANDLE, ARRAY, COUNT, ARRAY, COUNT, ARRAY, COUNT, ARRAY, COUNT],
+}
 GET_IT = "install libdomethyme1, build it by packaging/build-library, or set DOMETHYME_LIBRARY"
 
 

@@ -45,6 +45,12 @@ class Links(NamedTuple):
             count = min(AT_A_TIME, self.size - begin)
             yield self._checked(pread_all(self.file, self._place(begin), count * self.kind.itemsize))
 
+    def arcs(self, network: "MappedNetwork") -> NDArray[np.int64]:
+        """The network's lightest arc of each link without a middle, in order."""
+        ends = (part[part["middle"] == NO_MIDDLE] for part in self.parts())
+        arcs = [network.lightest(part["start"].astype(np.int64) + 1, part["end"].astype(np.int64) + 1) for part in ends]
+        return np.concatenate([np.empty(0, np.int64), *arcs])
+
     def rows(self, numbers: NDArray[np.int64]) -> NDArray[Any]:
         """The links of these numbers. Raises HierarchyError for one that can't be."""
         return self._checked(b"".join(os.pread(self.file, self.kind.itemsize, self._place(row)) for row in numbers.tolist()))

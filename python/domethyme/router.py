@@ -96,6 +96,13 @@ class Searcher:
         arrays = sources.ctypes.data, len(sources), targets.ctypes.data, len(targets), lengths.ctypes.data, lengths.size
         self._check(self._library.domethyme_table(self._at, *arrays))
 
+    def table_sums(
+        self, numbers: "NDArray[np.uint32]", sources: "NDArray[np.uint32]", targets: "NDArray[np.uint32]", cells: "NDArray[np.int64]"
+    ) -> None:
+        """The same with what the numbers of links without a middle sum to, to cells of two. Raises LibraryNotFound."""
+        arrays = [word for nodes in (numbers, sources, targets) for word in (nodes.ctypes.data, len(nodes))]
+        self._check(load_later_call("table_sums")(self._at, *arrays, cells.ctypes.data, cells.size // 2))
+
     def reach(self, starts: "ctypes.Array[Seed]", limit: int | None, lengths: "NDArray[np.int64]") -> None:
         """The same of each node from the nearest start, with what is added there, up to a limit. Raises LibraryNotFound."""
         arrays = addressof(starts), len(starts), NO_LENGTH if limit is None else limit, lengths.ctypes.data, len(lengths)

@@ -200,6 +200,14 @@ class Network:
         if keys is not None and self._has_arcs and self._arrays.has_keys:
             keys.need_same(self.keys(), self._arrays.path)
 
+    def millimetres(self, file: int, name: str) -> NDArray[np.uint32]:
+        """The whole millimetres of the lightest arc for each link without a middle of the open file of a hierarchy, in order. Raises
+        NetworkError for an arc of more than 4,294 km."""
+        found = np.rint(1000 * self._arrays.arc_metres[Links.of(file, name).arcs(self._arrays)])
+        if found.max(initial=0) >= 1 << 32:
+            raise NetworkError("has an arc of more than 4294967 metres, which can't be summed", self._files.arcs)
+        return found.astype(np.uint32)
+
     @functools.cached_property
     def _has_arcs(self) -> bool:
         return os.path.exists(arcs_file(self.prefix)) or os.path.exists(self._files.binary)
