@@ -23,6 +23,8 @@ MAX_OF_WIDTH, AREA_OPACITY = 0.4, 0.33
 BETWEEN_ARROWS, FROM_ENDS, MAX_WITH_ARROWS = 130, 16, 20
 # The corners of an arrow, ahead and aside of its place.
 ARROW = ((7, 0), (-5, 6), (-5, -6))
+# How many pixels apart the points of routes are, where there are more than have arrows.
+CLOSE_POINTS = 1.5
 # How much wider than a route its white edge is, which parts it from the roads.
 CASING = 2.5
 HALO = f' paint-order="stroke" stroke="{PAPER}" stroke-width="3" stroke-linejoin="round"'
@@ -39,6 +41,7 @@ def picture_of(routes: list[DrawnRoute], roads: list[RoadLines], view: View, att
     legend = legend_for(routes, roads, view)
     height = view.height + (legend.height + MARGIN if legend and legend.top >= view.height else 0)
     lines = [route for route in routes if not route.rings]
+    least = 0.0 if len(lines) <= MAX_WITH_ARROWS else CLOSE_POINTS
     parts = [
         f'<svg xmlns="http://www.w3.org/2000/svg" width="{view.width}" height="{height}" '
         f'viewBox="0 0 {view.width} {height}" font-family="Helvetica, Arial, sans-serif" font-size="14">',
@@ -47,8 +50,8 @@ def picture_of(routes: list[DrawnRoute], roads: list[RoadLines], view: View, att
         '<g clip-path="url(#frame)" fill="none" stroke-linecap="round" stroke-linejoin="round">',
         *(draw_area(route, view) for route in routes if route.rings),
         *draw_roads(roads, view),
-        *(draw_pieces(route, view, "#fff", CASING) for route in lines),
-        *(draw_route(route, view) for route in lines),
+        *(draw_pieces(route, view, "#fff", CASING, least) for route in lines),
+        *(draw_route(route, view, least) for route in lines),
         *(draw_arrows(route.line, route.colour, view) for route in lines if route.line and len(routes) <= MAX_WITH_ARROWS),
         *(draw_ends(in_picture([route.line[0], route.line[-1]], view), route.colour) for route in lines if route.line),
         "</g>",
@@ -91,16 +94,25 @@ def tint(colour: str) -> str:
     return "#" + bytes(round(own * AREA_OPACITY + under * (1 - AREA_OPACITY)) for own, under in pairs).hex()
 
 
-def draw_route(route: DrawnRoute, view: View) -> str:
+def draw_route(route: DrawnRoute, view: View, least: float) -> str:
     """A route, and its streets as what is shown under the pointer."""
     shown = escaped("\n".join([f"{route.label}: {route.figures}", *(f"{name}, {way}" for name, way in route.steps)]))
-    return f"<g><title>{shown}</title>{draw_pieces(route, view, route.colour, 0)}</g>"
+    return f"<g><title>{shown}</title>{draw_pieces(route, view, route.colour, 0, least)}</g>"
 
 
-def draw_pieces(route: DrawnRoute, view: View, colour: str, more: float) -> str:
-    """The pieces of a route, so much wider than they are."""
-    paths = [(width + more, path_of(in_picture(line, view))) for width, line in route.pieces]
+def draw_pieces(route: DrawnRoute, view: View, colour: str, more: float, least: float) -> str:
+    """The pieces of a route, so much wider than they are, by points that are `least` pixels apart or more."""
+    paths = [(width + more, path_of(spaced(in_picture(line, view), least))) for width, line in route.pieces]
     return "".join(f'<path stroke="{colour}" stroke-width="{width:g}" d="{data}"/>' for width, data in paths)
+
+
+def spaced(pixels: list[Point], least: float) -> list[Point]:
+    """A line without the points between its ends that are nearer than `least` to the one before them that stays."""
+    found = pixels[:1]
+    for point in pixels[1:-1]:
+        if max(abs(point[0] - found[-1][0]), abs(point[1] - found[-1][1])) >= least:
+            found.append(point)
+    return [*found, *pixels[1:][-1:]]
 
 
 def draw_arrows(line: list[Point], colour: str, view: View) -> str:

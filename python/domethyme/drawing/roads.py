@@ -1,14 +1,17 @@
 """The roads that are drawn around routes, by their kinds."""
 import itertools
 import math
-from collections.abc import Iterator, Sequence
+from collections.abc import Iterator
 from typing import NamedTuple
 
 import numpy
 
 from ..errors import NetworkError
 from ..network.geo import EARTH_RADIUS, Point, metres_between
+from ..network.groups import Ints, expand, offsets
 from ..network.net_file import TEXTS, UNITS, MappedNetwork
+from ..network.zoom_levels import to_mercator as mercator_of
+from ..progress import OnProgress
 from .geometry import Box, box_of, from_mercator, to_mercator, unwrapped
 from .routes import DrawnRoute
 
@@ -42,41 +45,85 @@ TUNNEL = "tunnel"
 DASHES = "5 4"
 # Edges that are read together, and the share of the world from which on a box has all of them.
 PART, WIDE = 1 << 14, 0.25
+# The points of roads that a picture has room for: some 3 MB of it.
+MAX_POINTS = 200_000
 # The degrees within which a route lies beside the roads, on which it begins and ends, and those within which an area does.
 BESIDE, AREA_BESIDE = 0.001, 0.1
 
 
-def read_roads(arrays: MappedNetwork, box: Box | None) -> list[RoadLines]:
+def read_roads(
+    arrays: MappedNetwork, box: Box | None, most: int | None = None, on_progress: OnProgress = lambda what, done, total: None
+) -> list[RoadLines]:
     """For each style the lines of its roads, and then for each those of its tunnels; a road of two directions comes once,
-    and with a box only those that meet it."""
+    and with a box only those that meet it. With `most` the least important styles are left out that would make more points of all."""
     roads = [RoadLines(style, dashes, []) for dashes in (None, DASHES) for style in ROAD_STYLES]
-    seen = set()
     near = (arrays.about["west"] + arrays.about["east"]) / 2 / UNITS if box is None else from_mercator(box.middle)[0]
-    for edge, highway, structure in edges_in(arrays, box):
-        line = unwrapped(arrays.edge_line(edge), near)
-        if tuple(line) not in seen and (box is None or box_of(to_mercator(line)).meets(box)):
-            seen.add(tuple(line))
-            # (a slip road is as the road that it leads to)
-            style = STYLE_OF.get(highway.removesuffix("_link"), 0) + len(ROAD_STYLES) * (structure == TUNNEL)
-            roads[style].lines.append(line if len(line) > 1 else line * 2)
+    edges = edges_in(arrays, box)
+    styles, counts = styles_of(arrays, edges), arrays.edge_begin[edges + 1] - arrays.edge_begin[edges]
+    if most is not None:
+        of_each = numpy.bincount(styles % len(ROAD_STYLES), counts, len(ROAD_STYLES))
+        has_room = numpy.cumsum(of_each[::-1])[::-1] <= most
+        has_room[-1] |= not has_room.any()
+        edges = edges[has_room[styles % len(ROAD_STYLES)]]
+        styles = styles_of(arrays, edges)
+    seen = set()
+    for low in range(0, len(edges), PART):
+        on_progress("roads", low, len(edges))
+        for line, style in zip(lines_of(arrays, edges[low : low + PART], near, box), styles[low : low + PART].tolist()):
+            if line is not None and tuple(line) not in seen:
+                seen.add(tuple(line))
+                roads[style].lines.append(line if len(line) > 1 else line * 2)
     return roads
 
 
-def edges_in(arrays: MappedNetwork, box: Box | None) -> Iterator[tuple[int, str, str]]:
-    """The edges in a box, and others, or all, in their order, with the classes and structures of their roads."""
-    found: Sequence[int] = range(len(arrays.edge_begin) - 1)
-    if box is not None and box.width < WIDE:
-        lon, lat = from_mercator(box.middle)
-        corners = [from_mercator((x, y)) for x in (box.left, box.right) for y in (box.top, box.bottom)]
-        reach = max(metres_between(lon, lat, *corner) for corner in corners)
-        near = numpy.concatenate([[], *arrays.edge_grid.candidates((wrapped_lon(lon), lat), reach)])
-        found = numpy.unique(near).astype(int).tolist()
-    for low in range(0, len(found), PART):
-        edges = list(found[low : low + PART])
-        arcs = arrays.edge_arcs[numpy.minimum(arrays.edge_first[edges], len(arrays.edge_arcs) - 1)]
-        texts = zip(*(arrays.arc_texts(arcs, TEXTS.index(name)).tolist() for name in ("highway", "structure")))
-        for edge, (highway, structure) in zip(edges, texts):
-            yield edge, arrays.texts[highway], arrays.texts[structure]
+def edges_in(arrays: MappedNetwork, box: Box | None) -> Ints:
+    """The edges in a box, and others, or all, in their order."""
+    if box is None or box.width >= WIDE:
+        return numpy.arange(len(arrays.edge_begin) - 1)
+    lon, lat = from_mercator(box.middle)
+    corners = [from_mercator((x, y)) for x in (box.left, box.right) for y in (box.top, box.bottom)]
+    reach = max(metres_between(lon, lat, *corner) for corner in corners)
+    near = [numpy.empty(0, numpy.int64), *arrays.edge_grid.candidates((wrapped_lon(lon), lat), reach)]
+    found: Ints = numpy.unique(numpy.concatenate(near)).astype(numpy.int64)
+    return found
+
+
+def styles_of(arrays: MappedNetwork, edges: Ints) -> Ints:
+    """The styles of edges in the order of read_roads, by the class and structure of an arc of each."""
+    arcs = arrays.edge_arcs[numpy.minimum(arrays.edge_first[edges], len(arrays.edge_arcs) - 1)]
+    highways, structures = (arrays.arc_texts(arcs, TEXTS.index(name)) for name in ("highway", "structure"))
+    found = numpy.zeros(len(edges), numpy.int64)
+    for text in numpy.unique(highways).tolist():
+        # (a slip road is as the road that it leads to)
+        found[highways == text] = STYLE_OF.get(arrays.texts[text].removesuffix("_link"), 0)
+    for text in numpy.unique(structures).tolist():
+        if arrays.texts[text] == TUNNEL:
+            found[structures == text] += len(ROAD_STYLES)
+    return found
+
+
+def lines_of(arrays: MappedNetwork, edges: Ints, near: float, box: Box | None) -> Iterator[list[Point] | None]:
+    """The line of each edge, whose longitudes go on beyond 180 degrees (unwrapped); None for one that doesn't meet the box."""
+    first, counts = arrays.edge_begin[edges], arrays.edge_begin[edges + 1] - arrays.edge_begin[edges]
+    owner, position = expand(counts)
+    places = arrays.points[first[owner] + position] / UNITS
+    begins = offsets(counts)
+    if box is None:
+        is_near = numpy.ones(len(edges), numpy.bool_)
+    else:
+        plane = mercator_of(places)
+        # (as `unwrapped` takes them: each first point on the box's side of the world, and the others on its own)
+        shift = numpy.round((near - places[begins[:-1], 0]) / 360)[owner] + numpy.round((places[begins[:-1], 0][owner] - places[:, 0]) / 360)
+        plane[:, 0] += shift
+        low, high = numpy.minimum.reduceat(plane, begins[:-1]), numpy.maximum.reduceat(plane, begins[:-1])
+        is_near = ((low <= (box.right, box.bottom)) & (high >= (box.left, box.top))).all(axis=1)
+    listed = [(lon, lat) for lon, lat in places.tolist()] if is_near.all() else None
+    for edge, (is_shown, begin, end) in enumerate(zip(is_near.tolist(), begins[:-1].tolist(), begins[1:].tolist())):
+        if not is_shown:
+            yield None
+            continue
+        line = [(lon, lat) for lon, lat in places[begin:end].tolist()] if listed is None else listed[begin:end]
+        yield unwrapped(line, near)
 
 
 def wrapped_lon(lon: float) -> float:
@@ -101,15 +148,18 @@ def all_places(roads: list[RoadLines]) -> list[Point]:
 
 
 def make_scene(
-    arrays: MappedNetwork, routes: list[DrawnRoute], is_whole: bool, is_picture: bool, path: str
+    arrays: MappedNetwork, routes: list[DrawnRoute], is_whole: bool, is_picture: bool, path: str,
+    on_progress: OnProgress = lambda what, done, total: None
 ) -> tuple[Box, list[RoadLines]]:
-    """The box to show, and its roads. Raises a NetworkError where the routes of the file at the path are another network's."""
+    """The box to show, and its roads, of a picture only those that have room. Raises a NetworkError where the routes of the file at the
+    path are another network's."""
     need_inside(arrays, routes, path)
+    most = MAX_POINTS if is_picture else None
     places = [] if is_whole else list(itertools.chain.from_iterable(route.places for route in routes))
     if places:
         box = box_for(places, is_picture)
-        return box, read_roads(arrays, box)
-    roads = read_roads(arrays, None)
+        return box, read_roads(arrays, box, most, on_progress)
+    roads = read_roads(arrays, None, most, on_progress)
     places = all_places(roads)
     if not places:
         raise NetworkError("has no arcs", arrays.path)

@@ -22,18 +22,22 @@ NOT_BLANK = re.compile(r"\S")
 
 
 class DrawnRoute(NamedTuple):
-    """A route as it is shown: its streets with their ways, its places, or None where there is no route, the names of its
-    streets with a place in the middle of each, and the pieces of its line with their widths. An area has rings in place of
-    a line."""
+    """A route as it is shown: its streets with their ways, as texts, its places, or None where there is no route, its streets with
+    their metres, and the pieces of its line with their widths. An area has rings in place of a line."""
 
     label: str
     figures: str
     colour: str
     steps: list[tuple[str, str]] = []
     line: list[Point] | None = None
-    names: list[tuple[str, Point]] = []
+    streets: list[tuple[str, float]] = []
     pieces: list[tuple[float, list[Point]]] = []
     rings: list[list[Point]] = []
+
+    @property
+    def names(self) -> list[tuple[str, Point]]:
+        """The names of its streets with a place in the middle of each, the longest first."""
+        return names_along(self.line, self.streets) if self.line else []
 
     @property
     def places(self) -> list[Point]:
@@ -69,7 +73,6 @@ def placed(routes: list[DrawnRoute]) -> list[DrawnRoute]:
     return [
         route._replace(
             line=line or None, pieces=[(NARROWEST + STEP_OF_WIDTH * depth, piece) for depth, piece in pieces],
-            names=[(name, unwrapped([place], near)[0]) for name, place in route.names],
             rings=[unwrapped(ring, near) for ring in route.rings],
         )
         for route, line, pieces in zip(routes, lines, overlap_pieces(lines, MAX_NESTED))
@@ -125,7 +128,7 @@ def make_route(feature: Any, place: FeatureRef, label: str | None, colour: str) 
     steps, line = read_steps(properties, place), unwrapped(line, line[0][0])
     line = line if len(line) > 1 else line * 2
     shown = [(street or NO_NAME, way_of(way)) for street, way in steps]
-    return DrawnRoute(name, figures, colour, shown, line, names_along(line, steps))
+    return DrawnRoute(name, figures, colour, shown, line, steps)
 
 
 def make_area(

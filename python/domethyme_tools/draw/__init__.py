@@ -4,7 +4,7 @@ NETWORK is the beginning of the names of the network's files, of which NETWORK.n
 lines, or what `reach` wrote as polygons (`-` is standard input). OUT is a picture (SVG) if its name ends in .svg, and a page
 (HTML) if it ends in .html.
 
-Both show the roads in grey, around the routes or with --full-network all of them; each route in a colour, from a ring to a
+A picture leaves out small roads where there are so many that it has no room for them. Both show the roads in grey, around the routes or with --full-network all of them; each route in a colour, from a ring to a
 dot, with arrows where there are no more than 20; a legend with kilometres and minutes; a scale; and the attribution of
 the network and of ROUTES. Routes that begin or end outside of the network's roads are refused: they are another network's.
 Where routes overlap, earlier ones are drawn wider, so up to four remain visible. Colours repeat after eight routes. Polygons are
@@ -22,6 +22,7 @@ Exit status: 0; 1 for bad input or a failed write, with one line on standard err
 feature; 2 for arguments that are refused.
 """
 import argparse
+import sys
 
 from domethyme.atomic_files import atomic_write
 from domethyme.drawing.geometry import View
@@ -30,6 +31,7 @@ from domethyme.drawing.roads import make_scene
 from domethyme.drawing.routes import read_routes
 from domethyme.network.from_tables import load_network_or_dimacs
 from domethyme.network.tables import paths_of
+from domethyme.progress import reporting
 
 from ..cli import argument_parser, current_arguments, display_name, refuse_overwriting, warn
 from .page import page_of
@@ -79,7 +81,8 @@ def main() -> None:
         warn(f"{display_name(options.routes)} has no route: the roads alone are drawn")
     is_picture = options.output.endswith(PICTURE)
     network = load_network_or_dimacs(options.network)
-    box, roads = make_scene(network, routes, options.full_network, is_picture, options.routes)
+    with reporting(sys.stderr.isatty()) as on_progress:
+        box, roads = make_scene(network, routes, options.full_network, is_picture, options.routes, on_progress)
     of_all = [network.texts[0], *said, options.attribution]
     attribution = ", ".join(dict.fromkeys(filter(None, of_all)))
     if is_picture:
