@@ -49,8 +49,11 @@ def run_explaining(
 
 def run_watched(program: str, arguments: list[str], files: list[str], on_progress: OnProgress) -> "subprocess.CompletedProcess[bytes]":
     """As `run_explaining` without standard output, and reports how many nodes are done. The program shows that at a terminal alone, so it
-    has one, of which this reads the other end."""
-    ours, theirs = os.openpty()
+    has one, of which this reads the other end; where there can be none, nothing is reported."""
+    try:
+        ours, theirs = os.openpty()
+    except OSError:
+        return run_explaining(program, arguments, files, stdout=subprocess.DEVNULL)
     try:
         try:
             tty.setraw(theirs)  # (so that lines come as they were written)

@@ -10,6 +10,7 @@ import subprocess
 import sys
 import unittest.mock
 
+import pytest
 from nginx_case import SHIPPED, NginxCase
 from test_osm_to_gr import write_map
 from tool_case import ROOT, TOOLS, VILLAGE
@@ -24,6 +25,31 @@ from readme_session import blocks  # noqa: E402
 PAGE = (ROOT / "docs" / "RECIPES.md").read_text(encoding="utf-8")
 PLACE = "/route/v1/{}/0.001,0;0.012,0?overview=false&generate_hints=false"
 REFRESH = ROOT / "packaging/container/refresh"
+
+
+TOWN = "<osm version='0.6'>" + "".join(f"<node id='{node}' lon='{node / 1000}' lat='{node % 2 / 1000}'/>" for node in range(1, 5)) + """
+<way id='1'><nd ref='1'/><nd ref='2'/><nd ref='3'/><tag k='highway' v='primary'/><tag k='maxspeed' v='50'/></way>
+<way id='2'><nd ref='2'/><nd ref='4'/><tag k='highway' v='residential'/></way></osm>"""
+
+
+@pytest.mark.parametrize("number", [
+    pytest.param(0, marks=pytest.mark.needs("import:networkx")), pytest.param(1, marks=pytest.mark.needs("import:osmnx")),
+    pytest.param(2, marks=[pytest.mark.needs("import:geopandas"), pytest.mark.needs("import:folium")]),
+])
+def test_python(tmp_path, number):
+    """Each block prints what its comments say; the map is the village, moved to where the page asks."""
+    block = blocks(PAGE, "import domethyme")[number]
+    (tmp_path / "out").mkdir()
+    (tmp_path / "out/town.osm").write_text(TOWN)
+    moved = re.sub(r"(?<=l(on|at))='([^']*)'", lambda at: f"='{float(at[2]) + (9.5215 if at[1] == 'on' else 47.141):.7f}'", VILLAGE.read_text())
+    (tmp_path / "li.osm").write_text(moved)
+    domethyme.from_osm(tmp_path / "li.osm", tmp_path / "out/li").close()
+    environment = {**os.environ, "PYTHONPATH": os.pathsep.join([str(ROOT / "python"), os.environ.get("PYTHONPATH", "")])}
+    code = block.replace("(9.5090, 47.1650)", "(9.5225, 47.1410)")
+    ran = subprocess.run(["/usr/bin/python3", "-c", code], cwd=tmp_path, env=environment, capture_output=True, text=True)
+    assert ran.returncode == 0, ran.stderr
+    assert ran.stdout.splitlines() == re.findall(r"print\(.*\) +# (.*)", block)
+    assert number != 2 or "geojson" in (tmp_path / "out/page.html").read_text().lower() and (tmp_path / "out/routes.gpkg").stat().st_size > 10_000
 
 
 class RecipeTests(NginxCase):

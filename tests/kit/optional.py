@@ -1,5 +1,6 @@
 """What a machine may lack (tests/optional.txt): a test says what it `needs`, and is left out without it."""
 import functools
+import importlib.util
 import pathlib
 import shutil
 import typing
@@ -24,9 +25,10 @@ def packages() -> dict[str, str]:
 
 
 def lacking(program: str) -> str | None:
-    """The package of a program that isn't there. KeyError if the program isn't in the list."""
-    package = packages()[program]
-    return package if shutil.which(program) is None else None
+    """The package of a program, or import:MODULE, that isn't there. KeyError if it isn't in the list."""
+    package, (kind, _, module) = packages()[program], program.partition(":")
+    found = importlib.util.find_spec(module) if kind == "import" else shutil.which(program)
+    return package if found is None else None
 
 
 def needs(program: str) -> typing.Callable[[Function], Function]:
