@@ -58,7 +58,9 @@ end
 
 
 class Service:
-    """The service, with its processes."""
+    """The service, with its processes. `in_http` is added to nginx's settings."""
+
+    in_http = ""
 
     def __init__(self, given):
         self.folder, self.nginx = pathlib.Path(tempfile.mkdtemp(prefix="service-load-")), None
@@ -85,8 +87,9 @@ class Service:
         text = text.replace("/var/log/nginx", str(self.folder)).replace("listen [::]:80;", "").replace("listen 80;", f"listen 127.0.0.1:{self.port};")
         user = f"user {getpass.getuser()};" if os.geteuid() == 0 else ""
         folders = "".join(f"{name}_temp_path {self.folder}/{name};" for name in ("client_body", "proxy", "fastcgi", "uwsgi", "scgi"))
-        head = f"{user} daemon off; worker_processes 2; pid {self.folder}/pid; events {{ worker_connections 4096; }}"
-        (self.folder / "nginx.conf").write_text(f"{head} http {{ {folders}\n{text} }}")
+        many = "worker_rlimit_nofile 40000; events { worker_connections 16384; }"
+        head = f"{user} daemon off; worker_processes 2; pid {self.folder}/pid; {many}"
+        (self.folder / "nginx.conf").write_text(f"{head} http {{ {folders} {self.in_http}\n{text} }}")
         self.nginx = subprocess.Popen(["nginx", "-c", self.folder / "nginx.conf", "-e", self.folder / "nginx.log"])
         time.sleep(1)
 

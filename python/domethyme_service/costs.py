@@ -22,6 +22,8 @@ from .parameters import (
 )
 
 SHORT, MOST = 250_000, 10_000_000
+# Nodes in a contour, from which on one of more takes no longer: it is drawn on a coarser grid.
+MOST_DRAWN = 150_000
 # Units between two calls of a meter's `tick`.
 TICK = 20_000
 
@@ -30,13 +32,14 @@ class Work(enum.Enum):
     """What is counted, by its price in units and what it is."""
 
     PLACE = 400, "a place, or a point of a road that is found for it"
-    ROAD = 1.5, "a road that is looked at: how far it is from a place, or its direction"
-    PAIR = 300, "a call of the library for the path of a pair of nodes"
-    NODE = 1.5, "a node of a path"
-    ROW = 10, "a row of a table of the library, and as much for each 10,000 links of its selection"
+    ROAD = 1.5, "a road that is looked at: how far it is from a place"
+    PAIR = 250, "a call of the library for the path of a pair of nodes"
+    NODE = 1.3, "a node of a path"
+    BEARING = 10_000, "a place with a bearing: the directions of roads around it"
+    ROW = 2, "a row of a table of the library, and as much for each 10,000 links of its selection"
     REACH = 0.1, "a node of the hierarchy, where what is reached is computed"
     CONTOUR = 200_000, "a contour that is drawn"
-    DRAWN = 4, "a node that is reached, for each contour that is drawn of it"
+    DRAWN = 15, f"a node that is reached, for each contour, of {MOST_DRAWN:,} at most"
     CELL = 1, "a cell of a table"
     STOP = 10_000, "a place of a trip, whose order is searched for"
     POINT = 2, "a point of a leg's line, and as much for each thing that is written of it"
@@ -147,7 +150,7 @@ def expected(size: Size, places: Sequence[Point], values: Values, unit: str) -> 
     circles = [*(DEGREES_A_MINUTE * each for each in minutes), *(DEGREES_A_METRE * each for each in metres)]
     # (a box that is as high as wide has half the square of its diagonal)
     shares = (min(1.0, 2 * math.pi * (radius / (size.degrees or 1.0)) ** 2) for radius in circles)
-    return {**found, "C": len(circles), "R": size.nodes * sum(shares)}
+    return {**found, "C": len(circles), "R": sum(min(size.nodes * share, MOST_DRAWN) for share in shares)}
 
 
 def between_two(places: Sequence[Point]) -> float:

@@ -90,8 +90,7 @@ def osrm_endpoint(
 NOWHERE = "there is no such parameter"
 NO_PARAMETERS = "this path has no parameters"
 ENDS = (FROM, TO, FROM_KEY, TO_KEY)
-# (the roads that are looked at for a bearing are some thousand)
-SNAPPING = "PLACE*P + 10000*ROAD*B"
+SNAPPING = "PLACE*P + BEARING*B"
 ENDPOINTS = (
     Endpoint("/", "/", "the page", handlers.page_file, parameters=None, media="text/html"),
     Endpoint("/map/files", "/map/FILE", "its files", handlers.page_file, Kind.FILE, parameters=None, media="*/*"),

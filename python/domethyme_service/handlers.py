@@ -81,7 +81,7 @@ def places(answer: Callable[[Engine, Request], str]) -> Callable[[Call], Respons
         request = parse_request(call.endpoint, call.path, call.query, options.default_radius, options.profiles)
         engine = needed(call.service.engine)
         call.begin(expected(call.service.size, request.places, request.values, engine.roads.unit))
-        return Response(unchanged(call, answer(engine, request)))
+        return Response(unchanged(call, answer(engine, request).encode("utf-8", "replace")))
 
     return handle
 

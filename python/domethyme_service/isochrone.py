@@ -8,7 +8,7 @@ import numpy as np
 from domethyme.network.groups import Ints
 from domethyme.network.isochrones import METRICS, Shape, Style, features, limits, reach_from
 
-from .costs import Work
+from .costs import MOST_DRAWN, Work
 from .errors import invalid_query, invalid_value, not_implemented, too_big
 from .json_text import to_json
 from .osrm import Engine, snap_places
@@ -31,7 +31,8 @@ def answer(engine: Engine, request: Request) -> str:
         if np.count_nonzero(found >= 0) > MAX_REACHED:
             raise too_big(f"more than {MAX_REACHED:,} nodes are reached: ask for less")
         engine.meter.spend(Work.CONTOUR, len(weight_limits))
-        engine.meter.spend(Work.DRAWN, sum(np.count_nonzero((0 <= found) & (found <= each)) for each in weight_limits))
+        drawn = (np.count_nonzero((0 <= found) & (found <= each)) for each in weight_limits)
+        engine.meter.spend(Work.DRAWN, sum(min(count, MOST_DRAWN) for count in drawn))
         return found
 
     reach = reach_from(roads, snap_places(engine, request), weight_limits, lengths)

@@ -57,6 +57,7 @@ def snap_candidates(engine: Engine, request: Request, number: int, count: int) -
         return [snapped for snapped in engine.roads.nearest_within([place], [radius]) if snapped is not None]
     if bearing is None:
         return engine.roads.nearest(place, count, within=radius)
+    engine.meter.spend(Work.BEARING)
     return nearest_with_bearing(engine.roads, place, count, BearingRange(*bearing), radius)
 
 
@@ -117,12 +118,12 @@ def waypoints(request: Request, **points: Sequence[SnappedPoint]) -> dict[str, s
 def route(engine: Engine, request: Request) -> str:
     """The route by all places in order, a leg between each two. Raises RequestError if a leg has no path."""
     points = snap_places(engine, request)
-    found = route_by(engine, request, points)
-    return join_object({"code": '"Ok"', "routes": join_array([found]), **waypoints(request, waypoints=points)})
+    return route_by(engine, request, points, "routes", waypoints(request, waypoints=points))
 
 
-def route_by(engine: Engine, request: Request, points: Sequence[SnappedPoint]) -> str:
-    """The OSRM route by some points in order. Raises RequestError if a leg has no path."""
+def route_by(engine: Engine, request: Request, points: Sequence[SnappedPoint], name: str, more: dict[str, str]) -> str:
+    """The answer whose member of this name has the route by some points in order, and more members. Raises RequestError if a leg has
+    no path."""
     roads, legs, budget = engine.roads, list[Leg](), Budget(engine.meter, things(request.values))
     for start, end in itertools.pairwise(points):
         leg = find_leg(engine.queries.between, roads, start, end)
@@ -135,15 +136,16 @@ def route_by(engine: Engine, request: Request, points: Sequence[SnappedPoint]) -
     if geometry is not None:
         budget.spend(geometry.point_count)
     whole = {
-        "legs": join_array(leg_texts(request, points, totals, geometry)), "weight_name": string_json(roads.unit),
-        "weight": figure_json(weight), "duration": figure_json(duration if roads.has_seconds else None),
-        "distance": figure_json(distance),
+        "weight_name": string_json(roads.unit), "weight": figure_json(weight),
+        "duration": figure_json(duration if roads.has_seconds else None), "distance": figure_json(distance),
     }
     if geometry is not None and request.values[OVERVIEW] != "false":
         lines = geometry.lines()
         line = join_lines(simplify_lines(lines, budget) if request.values[OVERVIEW] == "simplified" else lines)
         whole["geometry"] = line_json(line, request.values[GEOMETRIES])
-    return join_object(whole)
+    # (the legs may be long: they are copied once)
+    legs_text, rest = join_array(leg_texts(request, points, totals, geometry)), join_object(more)[1:]
+    return f'{{"code":"Ok","{name}":[{{"legs":{legs_text},{join_object(whole)[1:]}]{"," if more else ""}{rest}'
 
 
 def needs_points(request: Request) -> bool:

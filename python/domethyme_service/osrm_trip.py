@@ -6,7 +6,7 @@ from domethyme.network.leg_tables import weight_rows
 
 from .costs import Work
 from .errors import RequestError
-from .json_text import join_array, join_object, to_json
+from .json_text import to_json
 from .osrm import Engine, make_waypoint, route_by, snap_places
 from .osrm_request import Request
 from .osrm_tables import NODE_CELLS
@@ -24,11 +24,10 @@ def trip(engine: Engine, request: Request) -> str:
     order = tours.best_order(weights, is_round, values[SOURCE], values[DESTINATION])
     if order is None:
         raise RequestError(400, "NoTrips", "there is no path from each place to the next one in any order that was found")
-    found = route_by(engine, request, [points[place] for place in [*order, *(order[:1] if is_round else [])]])
-    members = {"code": '"Ok"', "trips": join_array([found])}
+    more = {}
     if values[SKIP_WAYPOINTS] != "true":
         index = np.argsort(order).tolist()
-        members["waypoints"] = to_json(
+        more["waypoints"] = to_json(
             [{**make_waypoint(request, point), "trips_index": 0, "waypoint_index": at} for point, at in zip(points, index)]
         )
-    return join_object(members)
+    return route_by(engine, request, [points[place] for place in [*order, *(order[:1] if is_round else [])]], "trips", more)

@@ -1,6 +1,7 @@
 """A sync worker of gunicorn that doesn't block on slow clients: it reads a request once its head has arrived, and answers it once the
 slots that it needs are free. It ends an answer that takes too long, counts and logs requests, and reports HTTP errors as JSON."""
 import contextlib
+import ctypes
 import dataclasses
 import datetime
 import enum
@@ -42,6 +43,9 @@ FIRST_WAIT_SECONDS = 0.002
 MAX_HEAD, MAX_LINE, SHORT_BODY = 1 << 17, 65_600, 2048
 # Connections of a worker that may wait for their heads; and requests that may wait for slots, half of them of one client.
 MAX_WAITING, MAX_QUEUE = min(500, resource.getrlimit(resource.RLIMIT_NOFILE)[0] // 4), 64
+# Bytes of an answer after which memory is returned to the kernel, as it is after a long request.
+LARGE_ANSWER = 8 << 20
+LIBC = ctypes.CDLL(None)
 # The control characters that a head may not contain.
 CONTROL_CHARACTERS = bytes([*range(9), 11, 12, *range(14, 32), 127])
 END_SIGNALS = (signal.SIGTERM, signal.SIGINT, signal.SIGQUIT)
@@ -341,6 +345,9 @@ class Worker(SyncWorker):  # type: ignore[misc] # (gunicorn has no types)
         """Counts and logs an answer, and closes its connection."""
         response = None if connection.answer is None else connection.answer.response
         self.record(connection, response)
+        if connection.is_long or response is not None and response.sent > LARGE_ANSWER:
+            connection.answer, connection.environ = None, {}
+            LIBC.malloc_trim(0)
         is_plain = connection.request.method in ("GET", "HEAD") and not connection.is_long
         connection.client.close() if is_plain else self.linger(connection)
 
