@@ -67,14 +67,20 @@ def simplify_lines(lines: Sequence[Ints], budget: Budget) -> list[Ints]:
     """The lines, each of which begins where the one before ends, simplified with a tolerance of a thousandth of the extent of all."""
     east, north = np.concatenate(lines).T
     shrink = math.cos(math.radians(north[0] / MICRODEGREES))
-    tolerance = float(max(np.ptp(np.unwrap(east, period=360 * MICRODEGREES)) * shrink, np.ptp(north))) / 1000
+    tolerance = float(max(np.ptp(unwrapped(east)) * shrink, np.ptp(north))) / 1000
     return [line[simplified(line, tolerance, budget)] for line in lines]
+
+
+def unwrapped(east: Ints) -> Ints:
+    """Longitudes in microdegrees that go on beyond the 180th meridian."""
+    half = 180 * MICRODEGREES
+    return east if int(east.max()) - int(east.min()) < half else np.unwrap(east, period=2 * half)
 
 
 def simplified(points: Ints, tolerance: float, budget: Budget) -> Ints:
     """The indices of the points that are left of a line without points within `tolerance`, in microdegrees of latitude, of what is left
     (Douglas, Peucker 1973)."""
-    east = np.unwrap(points[:, 0], period=360 * MICRODEGREES) * math.cos(math.radians(points[0, 1] / MICRODEGREES))
+    east = unwrapped(points[:, 0]) * math.cos(math.radians(points[0, 1] / MICRODEGREES))
     north = points[:, 1].astype(float)
     if not budget.may_use_geos(len(points)):
         return kept_by_levels(east + 1j * north, tolerance, budget)

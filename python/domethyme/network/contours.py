@@ -15,8 +15,8 @@ its points are inside: all four if all of its nodes are reached, none if none is
 bridge. So the line passes within 0.7 steps of each node that is on its wrong side, whatever the roads are.
 
 How contours nest. The field of a greater limit is nowhere less. A line passes between two points of the field at least a
-unit of the last decimal away from both. So rounded lines cross neither themselves nor one another. If contours differ in
-size each has a grid, unless the finest has few points: in the box of a lesser one all are drawn on its grid.
+unit of the last decimal away from both. So rounded lines cross neither themselves nor one another. Contours whose steps
+differ have a grid each, unless they are small: in the box of a lesser one all are drawn on its grid.
 """
 import itertools
 import math
@@ -42,8 +42,8 @@ STEPS = 205
 MIN_STEP = 0.5
 # The points of a grid; with the rim of one within another there are up to a third more.
 MAX_POINTS = 2_700_000
-# The points up to which a grid also serves limits whose own grids are coarser.
-MAX_SHARED = 1_250_000
+# Up to this step limits share the finest grid that has points for them: such contours are some hundred metres wide.
+FINE_STEP = 4.0
 # How many times as coarse as a grid the next one is at most.
 RATIO = 16
 # The rim of a grid within another one, for roads there that are near: at most the allowance, and this share of the extent.
@@ -141,8 +141,7 @@ def step_of(box: Box) -> float:
 
 
 def meshes_of(reach: Reach) -> list[Mesh]:
-    """The grids, the finest first, each for the limits that have its step, or for which it has few points, and at most RATIO times as
-    coarse as the last."""
+    """The grids, the finest first, each for the limits that have its step, and at most RATIO times as coarse as the last."""
     served: list[tuple[float, int, Box]] = []
     rim = 0.0
     for limit, reached in enumerate(reach.boxes):
@@ -150,7 +149,7 @@ def meshes_of(reach: Reach) -> list[Mesh]:
             rim = allowance_of(reached)
             box = reached.grown(rim)
             step = step_of(reached)
-            if served and (served[-1][0] >= step or Mesh.over(box, served[-1][0]).points <= MAX_SHARED):
+            if served and (served[-1][0] >= step or step <= FINE_STEP and Mesh.over(box, served[-1][0]).points <= MAX_POINTS):
                 served[-1] = served[-1][0], served[-1][1], box
             else:
                 served.append((step, limit, box))
