@@ -63,9 +63,11 @@ def networks(draw: Any, kinds: Sequence[str] = KINDS, most: int = 8, origins: Se
     points = [draw(points_near(origin, scale)) for _ in range(count)]
     nodes = []
     for number, point in enumerate(points):
-        point = points[draw(st.integers(0, number))] if draw(st.integers(0, 9)) == 0 else point
+        is_there_again = draw(st.integers(0, 9)) == 0  # (two junctions that are split in one place differ by their ids)
+        point = points[draw(st.integers(0, number))] if is_there_again else point
         key = f"node {number}" if has_keys else str(number + 1)
-        nodes.append(Node(point[0], point[1], key, draw(st.sampled_from([None, 40 + number]))))
+        osm = 40 + number if is_there_again else draw(st.sampled_from([None, 40 + number]))
+        nodes.append(Node(point[0], point[1], key, osm))
     arcs: list[Arc] = []
     end = draw(st.integers(0, count - 1))
     for way in range(draw(st.integers(1, 2 * most))):

@@ -116,6 +116,9 @@ def test_each_text_of_a_parameter(tmp_path: pathlib.Path) -> None:
             limits = {"contours_minutes": minutes} if endpoint == "isochrone" and name != "contours_meters" else {}
             status, found = ask(service, target(Request(endpoint, where, {**limits, name: text})))
             assert (status, found.get("code", "Ok")) == ((400, code) if code else (200, "Ok")), (endpoint, name, text, found)
+    for endpoint, what in (("nearest", ""), ("route", ";0.0007,0")):  # (a place on a road is within 0 m)
+        for lat, code in (("0", "Ok"), ("0.00001", "NoSegment")):
+            assert ask(service, f"/{endpoint}/v1/car/0.0003,{lat}{what}?radiuses=0{';' if what else ''}")[1]["code"] == code
 
 
 def rows_of(codes: Mapping[str, Sequence[str]]) -> list[tuple[str, str]]:

@@ -169,7 +169,7 @@ class Tables(SharedCase):
         self.assert_table_fault(", row 1: has no column b; its columns are a,  b: there is a blank beside b", b"a, b\n")
         self.assert_table_fault(", row 1: has two columns a", b"a,b,a\n")
         self.assert_table_fault(", row 3: has 1 fields in place of 2", b"a,b\n1,2\n3\n")
-        self.assert_table_fault(", row 2: isn't UTF-8", b"a,b\n\xff,2\n")
+        self.assert_table_fault(", row 2: isn't UTF-8: save it as CSV UTF-8", b"a,b\n\xff,2\n")
         self.assert_table_fault(", row 2: isn't CSV: unexpected end of data", b'a,b\n"1,2\n')
 
     def test_numbers(self):
