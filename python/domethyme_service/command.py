@@ -178,7 +178,7 @@ def main(words: Sequence[str] | None = None) -> None:
     access_log.setLevel(logging.INFO if args.access_log or args.log_places else logging.WARNING)
     logging.getLogger("domethyme_service").setLevel(logging.INFO)
     if args.workers < MIN_WORKERS:
-        why = f"there are {MIN_WORKERS}, since a long request holds one"
+        why = f"takes {MIN_WORKERS}, the least, since a long request holds one"
         print(f"domethyme-serve: --workers {args.workers}: {why}", file=sys.stderr)
     if args.tables is not None:
         print("domethyme-serve: --tables goes with the next version: leave it out, since all tables are proved", file=sys.stderr)

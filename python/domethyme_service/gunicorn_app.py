@@ -86,6 +86,7 @@ class Application(BaseApplication):  # type: ignore[misc] # (gunicorn has no typ
         if stream := keep_from_blocking():
             stream.on_lost = self.count_lost
         log.parent = logging.getLogger("gunicorn.error")
+        log.parent.addFilter(is_no_end_of_worker)
         access_log = logging.getLogger("domethyme_service.access")
         access_log.addHandler(logging.StreamHandler())
         access_log.propagate = False
@@ -255,6 +256,12 @@ class Arbiter(gunicorn.arbiter.Arbiter):  # type: ignore[misc] # (gunicorn has n
         elif pid in self.WORKERS and sig in (signal.SIGTERM, signal.SIGQUIT):
             self.WORKERS[pid].is_stopping = True
         super().kill_worker(pid, sig)
+
+
+def is_no_end_of_worker(record: logging.LogRecord) -> bool:
+    """Whether a line of gunicorn's isn't its warning that a worker which it has told to end, as at each reload, has ended."""
+    args = record.args if isinstance(record.args, tuple) else ()
+    return not (record.msg.startswith("Worker with pid") and args[1:] == (signal.SIGTERM,)) if isinstance(record.msg, str) else True
 
 
 def pre_fork(arbiter: Arbiter, worker: Worker) -> None:

@@ -121,7 +121,8 @@ def parse_pair(line: bytes, queries: Queries) -> Pair | RequestError:
         if isinstance(fields, dict) and set(fields) == {"from_key", "to_key"}:
             return keys.node(fields["from_key"], "from_key"), keys.node(fields["to_key"], "to_key")
         if not isinstance(fields, dict) or set(fields) != {"from", "to"}:
-            raise invalid_query('a line is {"from": NODE, "to": NODE}')
+            no_array = ", and no array" if isinstance(fields, list) else ""
+            raise invalid_query(f'a line is {{"from": NODE, "to": NODE}}{no_array}')
         return parse_node(fields["from"], "from", nodes), parse_node(fields["to"], "to", nodes)
     except (ValueError, RecursionError):
         return invalid_query("the line isn't JSON in UTF-8")

@@ -66,7 +66,8 @@ def parse_coordinates(text: str, counts: range) -> list[Point]:
     if len(counts) > 1 and len(places) >= counts.stop:
         raise too_big(f"there may be {counts.stop - 1} places")
     if len(places) not in counts:
-        raise invalid_query("nearest and isochrone have one place, route two or more, table one or more")
+        wanted = f"{'two places' if counts.start == 2 else 'one place'}{' or more' if len(counts) > 1 else ''}"
+        raise invalid_query(f"the path has to have {wanted}, and has {len(places)}")
     return places
 
 

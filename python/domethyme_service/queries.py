@@ -7,6 +7,7 @@ from typing import TYPE_CHECKING
 import numpy as np
 
 from domethyme import LibraryNotFound, batch
+from domethyme.csv_tables import excerpt
 from domethyme.network.groups import Ints
 from domethyme.network.legs import SnapEnds
 from domethyme.network.net_file import MappedNetwork
@@ -37,7 +38,7 @@ class NodeKeys:
             raise invalid_value(f"there is no {name}: the nodes have no keys")
         found = self._network.node(key) if isinstance(key, str) else None
         if found is None:
-            raise invalid_value(f"{name} is the key of no node")
+            raise invalid_value(f"{name} {excerpt(str(key))} is the key of no node")
         return found
 
     def add_keys(self, answer: bytes, pair: Pair) -> bytes:

@@ -180,7 +180,7 @@ def test_keys_take_no_memory_of_a_process(tmp_path, is_old):
     tracemalloc.stop()
     assert is_old or peak < 20 * len(names)
     for key in ("", "no", names[0] + "x", "\ud800", "\uffff", 7, None):
-        with pytest.raises(RequestError, match="from_key is the key of no node"):
+        with pytest.raises(RequestError, match="from_key .* is the key of no node"):
             keys.node(key, "from_key")
 
 

@@ -117,7 +117,7 @@ class CommandTests(ServiceCase):
 
     def test_at_least_four_workers(self):
         process = self.serve("--workers", "2")
-        self.assertIn("domethyme-serve: --workers 2: there are 4, since a long request holds one\n", self.said)
+        self.assertIn("domethyme-serve: --workers 2: takes 4, the least, since a long request holds one\n", self.said)
         self.wait_for(lambda: len(workers_of(process)) == 4)
 
     def test_what_can_not_start(self):
