@@ -1,9 +1,12 @@
 """A newcomer's first hour: a map in one call, progress, frames, pictures, and what is said of what nobody can have meant."""
+import importlib.machinery
+import importlib.util
 import json
+import sys
 
 import numpy as np
 import pytest
-from tool_case import TOOLS, VILLAGE
+from tool_case import PYTHON, ROOT, TOOLS, VILLAGE
 
 import domethyme
 from domethyme.network.components import in_largest
@@ -120,3 +123,27 @@ def test_largest_keeps_lines_and_keys(tmp_path, run):
     said = run(TOOLS / "nearest", "n.csv", "out", status=1)
     assert "n.csv: is a table: NETWORK comes first" in said
     assert in_largest(np.zeros(3, np.uint8), np.array([0, 1, 1]), np.array([1, 0, 2])).tolist() == [True, True, False]
+
+
+CONTAINER = ROOT / "packaging/container/domethyme-container"
+
+
+def test_the_container(tmp_path, run, monkeypatch):
+    """Its command prepares a map, says what is wrong, and takes the package's file for nginx, with its own sockets, port and logs."""
+    monkeypatch.setenv("PYTHONPATH", str(PYTHON))
+    monkeypatch.setenv("PYTHONDONTWRITEBYTECODE", "1")
+    command = ["/usr/bin/python3", CONTAINER]
+    said = run(*command, "prepare", VILLAGE, tmp_path / "out/v", status=1)
+    assert "/out: " in said and "No such file or directory" in said
+    said = run(*command, "prepare", VILLAGE, tmp_path / "v", "--profile", "bicycle")
+    assert "domethyme: ways 100 %" in said and "domethyme: files done" in said and "v.rch: " in said
+    assert {path.name for path in tmp_path.iterdir()} == {"v.gr", "v.net", "v.rch"}
+    assert "usage: domethyme-serve" not in run(*command, "true")
+    loader = importlib.machinery.SourceFileLoader("container", str(CONTAINER))
+    module = importlib.util.module_from_spec(importlib.util.spec_from_loader("container", loader))
+    monkeypatch.setattr(sys, "dont_write_bytecode", True)
+    loader.exec_module(module)
+    module.NGINX_FILE = ROOT / "packaging/nginx/domethyme.conf"
+    text = module.nginx_file("/tmp/here")
+    assert "listen 5000;" in text and text.count("unix:/tmp/here/serve.sock") == 3
+    assert not any(place in text for place in ("listen 80;", "/run/domethyme/", "/var/log/"))
