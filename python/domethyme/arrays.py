@@ -110,7 +110,7 @@ def series(lengths: Numbers, index: Any) -> Any:
     return load("pandas").Series(with_missing(lengths), index=index, name="length")
 
 
-def like_axes(table: Numbers, sources: Any, targets: Any, has_keys: bool, missing: Any) -> Any:
+def like_axes(table: NDArray[Any], sources: Any, targets: Any, has_keys: bool, missing: Any) -> Any:
     """The table as a DataFrame if the places came as pandas' objects, or as lists of keys, else as an array. If there is no path
     it has `missing`, and without that a frame of Int64 has missing values and an array NO_PATH."""
     is_frame = any(is_pandas(side) or has_keys and not hasattr(side, "__array__") for side in (sources, targets))

@@ -145,7 +145,8 @@ def check_table(asked: Asked, sources: list[int], targets: list[int], form: str,
         table = np.asarray(domethyme.unscaled(found), float).tolist()
         assert table == [[asked.lengths[source].get(target, math.inf) for target in targets] for source in sources]
     summed = asked.hierarchy.matrix(rows, columns, sums=["metres"])
-    assert np.asarray(domethyme.unscaled(summed["length"]), float).tolist() == [[asked.lengths[source].get(target, math.inf) for target in targets] for source in sources]
+    lengths = [[asked.lengths[source].get(target, math.inf) for target in targets] for source in sources]
+    assert np.asarray(domethyme.unscaled(summed["length"]), float).tolist() == lengths
     for (row, column), metres in np.ndenumerate(np.asarray(summed["metres"], float)):
         ways = millimetres(asked.net, asked.net.search({sources[row]: 0}), targets[column])
         assert round(1000 * metres) in ways if ways else math.isnan(metres)

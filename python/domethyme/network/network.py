@@ -206,7 +206,8 @@ class Network:
         found = np.rint(1000 * self._arrays.arc_metres[Links.of(file, name).arcs(self._arrays)])
         if found.max(initial=0) >= 1 << 32:
             raise NetworkError("has an arc of more than 4294967 metres, which can't be summed", self._files.arcs)
-        return found.astype(np.uint32)
+        whole: NDArray[np.uint32] = found.astype(np.uint32)
+        return whole
 
     @functools.cached_property
     def _has_arcs(self) -> bool:
