@@ -116,7 +116,8 @@ class DimacsTests(ToolCase):
     def test_refusals(self):
         for co, gr, says in [
             (self.CO.replace("v 3 1000 2000\n", ""), self.GR, "x.co: has no coordinates of node 3"),
-            (self.CO.replace("1000 0", "200000000 0"), self.GR, "x.co, row 4: x 200000000 isn't from"),
+            (self.CO.replace("1000 0", "180000001 0"), self.GR, "x.co, row 4: x 180000001 isn't from"),
+            (self.CO.replace("1000 2000", "0 -90000001"), self.GR, "x.co, row 5: y -90000001 isn't from"),
             (self.CO, self.GR.replace("a 2 3 9", "a 2 4 9"), "x.gr, row 5: node 4 isn't from 1 to 3"),
             (self.CO, self.GR.replace("a 1 2 7\na 2 1 7", "a 1 2\na 7 2 1 7"), "x.gr, row 3: is no line of a graph"),
             (self.CO, self.GR.replace("a 2 3 9", "a 2 3-9 9"), "x.gr, row 5"), (self.CO, self.GR.replace("3 3", "3 4"), "x.gr: has 3 arcs and announces 4"),
