@@ -238,19 +238,6 @@ class PenaltyTests(CrossingCase):
         found = {(row[5], round((int(row[2]) - plain[row[5]]) / 1000)) for row in rows}
         self.assertEqual(found, {("1", 0), ("1", 5), ("1", 20), ("2", 0), ("2", 2), ("2", 20)})
 
-    def test_once_more_round_a_loop_is_no_turn_back(self):
-        # way 1 is a loop north of 1, and way 2 leads south: from the loop into it the same way again is to the left, or right
-        places = {1: (0, 0), 2: (0.5, 1), 3: (-0.5, 1), 4: (0, -1)}
-        nodes = "".join(f"<node id='{node}' lon='{x / 3000:.7f}' lat='{y / 3000:.7f}'/>" for node, (x, y) in places.items())
-        ways = "".join(f"<way id='{way}'>{''.join(f'<nd ref={node!r}/>' for node in refs)}<tag k='highway' v='residential'/></way>"
-                       for way, refs in ((1, "1231"), (2, "14")))
-        self.write("map.osm", f"<osm version='0.6'>{nodes}{ways}</osm>")
-        self.run_tool("osm_to_gr", "map.osm", "map", "--tables", "--profile", "turns.json")
-        rows = [(arc.osm, arc.weight) for arc in read_arcs(self.folder / "map.arcs.csv")]
-        least = {way: min(weight for osm, weight in rows if osm == way) for way in (1, 2)}
-        found = {(way, round((weight - least[way]) / 1000)) for way, weight in rows}
-        self.assertEqual(found, {(1, 0), (1, 2), (1, 5), (1, 20), (2, 0), (2, 20)})
-
     def test_a_bend_is_no_turn_and_a_hairpin_is_one(self):
         # a road of three ways: at 2 it bends by 40 degrees, at 3 it turns by 100 degrees to the right
         places = {1: (0, 0), 2: (1, 0), 3: (1.766, 0.643), 4: (2.266, -0.223)}
