@@ -5,10 +5,12 @@ import json
 import sys
 
 import numpy as np
+import pandas as pd
 import pytest
 from tool_case import PYTHON, ROOT, TOOLS, VILLAGE
 
 import domethyme
+from domethyme import library
 from domethyme.network.components import in_largest
 
 
@@ -75,10 +77,12 @@ PLACE = 47.1, 9.5
     (lambda h: h.network.geojson(None), "there is no route"), (lambda h: domethyme.Hierarchy(b"x"), "takes the path of a file, and no bytes"),
     (lambda h: domethyme.Hierarchy(h.path, keys=h.network), r"is it network.keys\(\)"),
     (lambda h: domethyme.Graph.from_keys([1], [2], [5e9]), "scale=1000"), (lambda h: domethyme.open("none"), "none.gr none.rch` makes it"),
+    (lambda h: domethyme.Graph.from_frame(pd.DataFrame({"a": [1], "b": [2]}), "a", "b"), "no column weight; it has a, b"),
+    (lambda h: library.find_library("none.so"), "none.so: No such file"),
     (lambda h: domethyme.prepare("li.net", "li.rch"), "its graph ends in .gr"), (lambda h: domethyme.prepare("li.osm.pbf", "li.rch"), "is a map"),
 ])
 def test_calls_that_nobody_can_mean(village, call, says):
-    with pytest.raises((ValueError, domethyme.DomethymeError), match=says):
+    with pytest.raises((ValueError, KeyError, domethyme.DomethymeError), match=says):
         call(village[0])
 
 
