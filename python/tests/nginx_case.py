@@ -3,6 +3,8 @@ by a real nginx as the user of the test."""
 import getpass
 import os
 import pathlib
+import re
+import resource
 import shutil
 import socket
 import subprocess
@@ -13,7 +15,7 @@ from tool_case import ROOT, SECONDS
 SHIPPED = ROOT / "packaging/nginx/domethyme.conf"
 MAIN = """
 {user}daemon off; worker_processes 2; pid {folder}/nginx.pid; error_log {folder}/nginx.log;
-events {{ worker_connections 4096; }}
+worker_rlimit_nofile {files}; events {{ worker_connections {connections}; }}
 http {{
     client_body_temp_path {folder}/body; proxy_temp_path {folder}/proxy; fastcgi_temp_path {folder}/fastcgi;
     uwsgi_temp_path {folder}/uwsgi; scgi_temp_path {folder}/scgi;
@@ -38,7 +40,12 @@ def configuration(folder: pathlib.Path, port: int, instead: dict[str, str]) -> s
         assert old in text, old
         text = text.replace(old, new)
     user = f"user {getpass.getuser()};\n" if os.geteuid() == 0 else ""
-    return MAIN.format(folder=folder, shipped=text, user=user)
+    page = (ROOT / "docs/OPERATING.md").read_text(encoding="utf-8")
+    connections = re.search(r"worker_connections (\d+);", page)[1]
+    # (no more files than a test may have)
+    hard, files = resource.getrlimit(resource.RLIMIT_NOFILE)[1], int(re.search(r"worker_rlimit_nofile (\d+);", page)[1])
+    files = files if hard == resource.RLIM_INFINITY else min(files, hard)
+    return MAIN.format(folder=folder, shipped=text, user=user, connections=connections, files=files)
 
 
 class NginxCase(ServiceCase):

@@ -5,6 +5,7 @@ import math
 import os
 import random
 import re
+import resource
 import signal
 import socket
 import sys
@@ -377,6 +378,18 @@ class FairTests(NginxCase):
             ]
         for network, found in statuses.items():
             self.assertEqual((found[:201], 429 in found), ([404] * 201, True), network)
+
+    def test_heads_that_never_end(self):
+        """1,600 of one client, which nginx doesn't count yet, with the settings of docs/OPERATING.md: others are answered."""
+        hard = resource.getrlimit(resource.RLIMIT_NOFILE)[1]
+        resource.setrlimit(resource.RLIMIT_NOFILE, (4096 if hard == resource.RLIM_INFINITY else min(4096, hard), hard))
+        self.serve_behind_nginx()
+        with contextlib.ExitStack() as stack:
+            for _ in range(1600):
+                stream = stack.enter_context(socket.create_connection(("127.0.0.1", self.port), SECONDS))
+                stream.sendall(b"GET /health HTTP/1.1\r\nHost: x\r\nX-")
+            for _ in range(20):
+                self.assertEqual(self.ask("/nodes/length?from=1&to=7")[0], 200)
 
     def test_connections_for_what_is_long(self):
         """A public client has four of them; its other requests, and those of others, are answered."""
