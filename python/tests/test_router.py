@@ -192,7 +192,7 @@ class RouterTests(ToolCase):
 
     def test_a_library_that_is_not_there(self):
         with unittest.mock.patch.dict(os.environ, DOMETHYME_LIBRARY=str(self.folder / "no.so")):
-            with self.assertRaisesRegex(domethyme.LibraryNotFound, "no.so: is no file of a library"):
+            with self.assertRaisesRegex(domethyme.LibraryNotFound, "no.so: No such file or directory"):
                 library.find_library()
             with self.assertRaises(FileNotFoundError):
                 library.find_library()

@@ -32,9 +32,11 @@ def tables_there(names: Files, are_written: bool) -> list[str]:
         if are_written and os.path.isfile(path) and path not in found:
             raise NetworkError("is there, and no tool has written it: move it, or choose another OUT", path)
     # (a file of the network that is damaged doesn't say that they have changed)
+    is_current = True
     with contextlib.suppress(NetworkError):
-        if found and os.path.exists(names.binary) and not net_file.is_current(names.path):
-            raise NetworkError(f"has changed since {names.binary} was made of it: move it, or choose another OUT", found[0])
+        is_current = not found or not os.path.exists(names.binary) or net_file.is_current(names.path)
+    if not is_current:
+        raise NetworkError(f"has changed since {names.binary} was made of it: move it, or choose another OUT", found[0])
     texts = {path: (f"{text}\n", f"{names.forms_of(has_keys=True)[path]}\n") for path, text in names.forms.items()}
     forms = [path for path in filter(os.path.isfile, texts) if pathlib.Path(path).read_text("utf-8", "replace") in texts[path]]
     return [*found, *forms] if found else []
