@@ -210,8 +210,8 @@ def prepare(
     order               edges, neighbours, depth or balanced: which nodes go first; without it balanced, and with
                         `switch_order_after`, which takes the first three, depth
     workers             threads, 0 to 64; without it 4
-    sequential          one thread in place of workers, which makes the file of one worker in about two thirds of its time and half
-                        of its memory; not beside `workers`
+    sequential          one thread in place of workers, which makes the file of one worker in less time and three fifths of its
+                        memory; not beside `workers`
     seed                of the draws of nodes, 0 to 18446744073709551615; without it 1
     switch_order_after  after how many nodes a worker takes the next order, from 1; without it none does. `stint` is its old word
     program             the path of `routecli`, else it is looked for (find_program)

@@ -3,7 +3,7 @@
 //! Builds on `ch_contract`, by whose ledger it contracts nodes, and on `ch_workers`, whose turns, options, gates and results it
 //! has: a [`Workplace`](ch_workers::Workplace) is all that differs. The promise of the layer is the contract of
 //! [`build_sequential`], which is that of [`build`](ch_workers::build) with one worker. With ample memory hierarchy, log and
-//! receipts are the same too, for about two thirds of the time and half of the memory.
+//! receipts are the same too, for less time and memory.
 //!
 //! ```rust
 //! let mut leases = Leases::new(alloc)?;

@@ -372,7 +372,7 @@ const WORKERS: &str =
     "Number of threads that contract nodes, 0 to 64; with 0 they are contracted in the order of their numbers";
 
 const SEQUENTIAL: &str =
-    "Contract nodes on one thread without what threads share: the file of --workers 1, in about two thirds of its time and half of its memory";
+    "Contract nodes on one thread, without what threads share: the file of --workers 1, in less time and memory";
 
 const SEED: &str = "Seed of the random choices of the threads, 0 to 18446744073709551615";
 
