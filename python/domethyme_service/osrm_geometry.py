@@ -74,7 +74,7 @@ def simplify_lines(lines: Sequence[Ints], budget: Budget) -> list[Ints]:
 def unwrapped(east: Ints) -> Ints:
     """Longitudes in microdegrees that go on beyond the 180th meridian."""
     half = 180 * MICRODEGREES
-    return east if int(east.max()) - int(east.min()) < half else np.unwrap(east, period=2 * half)
+    return east if int(east.max()) - int(east.min()) < half else np.asarray(np.unwrap(east, period=2 * half), np.int64)
 
 
 def simplified(points: Ints, tolerance: float, budget: Budget) -> Ints:
