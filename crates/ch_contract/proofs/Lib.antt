@@ -12,9 +12,7 @@ pub mod Sweeping
 pub mod NodesLeft
 pub mod Logs
 pub mod Links
-pub mod Chaining
-pub mod Merges
-pub mod Placing
+pub mod Sorting
 pub mod Finishing
 pub mod Current
 pub mod ShownRows

@@ -3,7 +3,6 @@ pub mod Board
 pub mod Planned
 pub mod Sweep
 pub mod Finish
-pub mod Chains
 pub mod Listed
 pub mod Proposal
 pub mod Commit

@@ -365,8 +365,8 @@ impl<S: Site> Board<S> {
     /// contracted before it, and the links are the arcs that the rows have, by their ends. It is right for the graph.
     ///
     /// Refused while a node isn't contracted, which is tested first, or where memory runs out; the board is returned as
-    /// it was. Takes memory for the ranks, the links, their index and the places of their halves, and for chains of the links
-    /// while it works.
+    /// it was. Takes memory for the ranks, the links, their index and the places of their halves, and the time of a sort of
+    /// the links.
     pub fn into_hierarchy(self) -> Result<Hierarchy, (Board<S>, FinishError)>
         ensures made { IfOk result (λ h. IsMade self.graph (state_of self.overlay) h) }
         ensures right { IfOk result (λ h. IsRight S.graph h) }

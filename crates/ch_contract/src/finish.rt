@@ -44,7 +44,7 @@ pub fn hierarchy_of(ledger: &Ledger) -> Result<Hierarchy, FinishError>
 /// Returns the hierarchy that the contractions of a ledger lead to, with no index.
 ///
 /// Refused while a node isn't contracted, which is tested first, or where memory runs out. Takes memory for the ranks
-/// and the links, and for chains of the links while it works.
+/// and the links, and the time of a sort of these.
 pub fn plain_hierarchy_of(ledger: &Ledger) -> Result<Hierarchy, FinishError>
     ensures { IsMaking ledger.now result }
 {

@@ -156,7 +156,7 @@ impl Ledger {
     /// right for the graph, and has no index yet, so that the rows can be dropped before or beside the making of one.
     ///
     /// Refused while a node isn't contracted, which is tested first, or where memory runs out; the ledger is returned as
-    /// it was. Takes memory for the ranks and the links, and for chains of the links while it works.
+    /// it was. Takes memory for the ranks and the links, and the time of a sort of these.
     pub fn finish(self) -> Result<Finished, (Ledger, FinishError)>
         ensures { IsFinish self result }
     {

@@ -27,7 +27,6 @@
 
 mod accepting;
 mod board;
-mod chains;
 mod contraction;
 mod draft;
 mod error;
