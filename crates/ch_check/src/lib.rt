@@ -42,5 +42,6 @@ mod working;
 
 pub use checking::{check, check_watched};
 pub use error::CheckError;
+pub use ranks::nodes_by_rank;
 pub use refuting::is_refuted_by;
 pub use watch::{Unwatched, Watch};

@@ -1,5 +1,5 @@
 -- A ledger that one thread contracts: the versions of its rows, and which nodes are contracted.
-use Rattle.std.proofs.Common.{ℕ, ◌≡◌, ◌≢◌, ◌+◌, ◌<◌, ◌≤◌, ◌^◌, List, [], ◌∷◌, Option, Some, None, length, map, All, Contains, arith, ap, sym, subst, ◌∙◌, refl, inl, inr}
+use Rattle.std.proofs.Common.{ℕ, ◌≡◌, ◌≢◌, ◌+◌, ◌<◌, ◌≤◌, ◌^◌, List, [], ◌∷◌, ◌++◌, Option, Some, None, length, map, All, Contains, arith, ap, sym, subst, ◌∙◌, refl, inl, inr}
 use Rattle.std.specs.List.{range_with_len, zip}
 use Rattle.std.proofs.lemmas.List.{length-map, length_push}
 use Rattle.std.proofs.lemmas.Bool.{cases_eq}
@@ -66,6 +66,10 @@ gone_still {old} {new} {node} done x among = subst (λ (xs : List ℕ). Contains
 
 pub same_nodes : {old new : Ledger} {node : ℕ} {put : List Shortcut} {receipt : Receipt} → IsContracted old node put receipt new → length new.overlay.rows ≡ length old.overlay.rows
 same_nodes done = ap (λ (s : State). s.nodes) done.state
+
+-- It is the last of those that are.
+pub order_now : {old new : Ledger} {node : ℕ} {put : List Shortcut} {receipt : Receipt} → IsContracted old node put receipt new → new.overlay.order ≡ old.overlay.order ++ node ∷ []
+order_now done = ap (λ (s : State). s.order) done.state
 
 -- so the nodes up to this one are
 pub gone_more : (old new : Ledger) (n : ℕ) → AreGoneBelow n old → IsGone new n → ((x : ℕ) → IsGone old x → IsGone new x) → AreGoneBelow (n + 1) new

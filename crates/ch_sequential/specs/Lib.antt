@@ -1,1 +1,2 @@
 pub mod Solo
+pub mod InOrder

@@ -15,8 +15,10 @@
 #![tactic(auto)]
 
 mod building;
+mod in_order;
 mod rows;
 mod solo;
 mod telling;
 
 pub use building::build_sequential;
+pub use in_order::build_by_ranks;

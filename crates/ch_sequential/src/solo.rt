@@ -1,5 +1,7 @@
-ghost use Rattle.std.specs.Prelude.{◌≡◌, ◌<◌, ◌≤◌, ℕ, IfOk, OnOk, length};
-ghost use Rattle.ch_contract.specs.Ledger.{IsContracted, IsGone, IsNode};
+ghost use Rattle.std.specs.Prelude.{◌≡◌, ◌<◌, ◌≤◌, ◌++◌, ◌∷◌, ℕ, [], IfOk, OnOk, length};
+ghost use Rattle.ch_laws.specs.Contraction.{IsAlive};
+ghost use Rattle.ch_overlay.specs.Overlay.{state_of};
+ghost use Rattle.ch_contract.specs.Ledger.{IsContracted, IsGone, IsNode, IsStartLedger};
 ghost use Rattle.ch_contract.specs.Commit.{Agrees};
 
 use crate::telling::tell_rest;
@@ -51,6 +53,55 @@ impl<S: Site> Solo<S> {
         let receipt = self.ledger.enter(planned, versions.as_slice());
         self.next += count as u64;
         Ok(receipt)
+    }
+
+    /// A ledger in which no node is contracted yet. Takes no memory.
+    pub(crate) fn at(alloc: Global, ledger: Ledger) -> Solo<S>
+        requires { IsStartLedger S.graph ledger }
+        ensures { result ≡ ledger }
+    {
+        let next = u64::from(ledger.overlay().nodes());
+        ledger.holds();
+        Solo {
+            alloc,
+            ledger,
+            next,
+            of: PhantomData,
+        }
+    }
+
+    /// The ledger as it is now.
+    pub(crate) fn into_ledger(self) -> Ledger
+        ensures same { result ≡ self }
+        ensures graph { result.graph ≡ S.graph }
+    {
+        self.ledger
+    }
+
+    /// Contracts a node that isn't contracted.
+    pub(crate) fn contract_next(
+        &mut self,
+        node: u32,
+        settle: u32,
+        scratch: &mut Scratch,
+    ) -> Result<(), AllocError>
+        requires alive { IsAlive (state_of self.old.overlay) node }
+        requires some { 0 < settle }
+        requires few { settle ≤ 65536 }
+        ensures order { OnOk result (self.new.overlay.order ≡ self.old.overlay.order ++ node ∷ []) }
+        ensures nodes { OnOk result (length self.new.overlay.rows ≡ length self.old.overlay.rows) }
+    {
+        self.ledger.holds();
+        match propose_with(self.alloc, self, scratch, node, settle) {
+            Ok(proposal) => {
+                let _receipt = self.contract(&proposal)?;
+                scratch.keep(proposal);
+                Ok(())
+            }
+            Err(ProposeError::OutOfMemory) => Err(AllocError),
+            Err(ProposeError::Unseen) => unreachable!(),
+            Err(ProposeError::Contracted) => unreachable!(),
+        }
     }
 
     /// Contracts a node, unless it is contracted, and puts the receipt behind the others.
@@ -126,14 +177,7 @@ impl<S: Site> OwnWorkplace for Solo<S> {
     ghost graph = { S.graph };
 
     fn new(alloc: Global, ledger: Ledger) -> Solo<S> {
-        let next = u64::from(ledger.overlay().nodes());
-        ledger.holds();
-        Solo {
-            alloc,
-            ledger,
-            next,
-            of: PhantomData,
-        }
+        Solo::at(alloc, ledger)
     }
 
     fn sweep(self, settle: u32) -> Result<Swept, AllocError> {

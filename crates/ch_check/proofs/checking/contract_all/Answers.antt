@@ -1,5 +1,5 @@
 use Rattle.std.proofs.Common.{ℕ, ◌<◌, List, Contains, get_or, refl, sym, subst, ◌∙◌}
-use Rattle.ch_check.proofs.Replaying.{not_yet, ranked_inside}
+use Rattle.ch_check.specs.Ranks.Laws.{not_yet, ranked_inside}
 use Rattle.ch_check.proofs.checking.contract_all.Goals as goal
 
 pub contract-requires : goal.contract-requires
