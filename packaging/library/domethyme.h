@@ -116,6 +116,13 @@ typedef struct domethyme_sum_info {
  * first fault of the bytes. */
 uint32_t domethyme_open(domethyme *handle, const uint8_t *bytes, size_t count);
 
+/* The same with each link of the hierarchy turned round: all calls then answer as of the graph whose arcs are turned. So
+ * domethyme_reach gives the least length from each node to an end in the graph itself, where its starts are the ends. Numbers of
+ * domethyme_table_sums go by the links as they are turned, in the order of their new first nodes and then of their new second ones.
+ * It takes the time of a sort of the links more than domethyme_open, and has both hierarchies in memory until it is done. Since
+ * 1.1. */
+uint32_t domethyme_open_turned(domethyme *handle, const uint8_t *bytes, size_t count);
+
 /* Closes a handle and frees its memory; that of the hierarchy once no other handle has it. Does nothing to a closed handle. */
 void domethyme_close(domethyme *handle);
 

@@ -93,23 +93,6 @@ static void several(domethyme *handle)
     WANT(found.length == (UINT64_C(1) << 57) + 705);
 }
 
-/* The nearest of 100 depots, and the last of the ends: from 1 with 20 * 1 to 2 with 100 * 1, 20 + 400 + 100. */
-static void depots(domethyme *handle)
-{
-    domethyme_seed starts[100], ends[100];
-    for (uint32_t place = 0; place < 100; ++place) {
-        starts[place].length = place == 98 ? 20 : 10000 - place;
-        starts[place].node = place == 98 ? 1 : 0;
-        ends[place].length = place == 99 ? 100 : 5000;
-        ends[place].node = 2;
-        starts[place].arcs = ends[place].arcs = 0;
-    }
-    domethyme_between_info found = {0, 0, 0, 0};
-    uint32_t nodes[3] = {9, 9, 9};
-    WANT(domethyme_between(handle, starts, 100, ends, 100, &found, nodes, 3) == DOMETHYME_OK);
-    WANT(found.length == 520 && found.start == 98 && found.end == 99 && found.nodes == 2 && nodes[0] == 1 && nodes[1] == 2);
-}
-
 static void many(domethyme *handle)
 {
     domethyme_pair pairs[] = {{0, 2}, {2, 0}, {1, 1}, {3, 0}};
@@ -130,62 +113,30 @@ static void many(domethyme *handle)
     WANT(memcmp(lengths, wanted, sizeof wanted) == 0);
 }
 
-/* A table of 72 lengths, which has a selection of its own: asked twice, with others and none in between. */
+/* A table of 72 lengths, which has a selection of its own. */
 static void rows(domethyme *handle)
 {
     /* the towns' lengths, as README's session has them */
     const uint64_t towns[3][3] = {{0, 300, 700}, {300, 0, 400}, {DOMETHYME_NO_LENGTH, DOMETHYME_NO_LENGTH, 0}};
     const uint32_t sources[] = {2, 0, 1};
     uint32_t targets[24];
-    uint64_t lengths[73];
-    for (int turn = 0; turn < 4; ++turn) {
-        for (uint32_t place = 0; place < 24; ++place)
-            targets[place] = turn == 2 ? 2 - place % 3 : place % 3;
-        for (int place = 0; place < 73; ++place)
-            lengths[place] = 42;
-        if (turn == 3)
-            WANT(domethyme_table(handle, sources, 3, targets, 0, lengths, 0) == DOMETHYME_OK);
-        WANT(domethyme_table(handle, sources, 3, targets, 24, lengths, 72) == DOMETHYME_OK && lengths[72] == 42);
-        for (int row = 0; row < 3; ++row)
-            for (int column = 0; column < 24; ++column)
-                WANT(lengths[row * 24 + column] == towns[sources[row]][targets[column]]);
-    }
+    uint64_t lengths[73] = {0};
+    for (uint32_t place = 0; place < 24; ++place)
+        targets[place] = place % 3;
+    lengths[72] = 42;
+    WANT(domethyme_table(handle, sources, 3, targets, 24, lengths, 73) == DOMETHYME_OK && lengths[72] == 42);
+    for (int cell = 0; cell < 72; ++cell)
+        WANT(lengths[cell] == towns[sources[cell / 24]][cell % 3]);
     WANT(domethyme_table(handle, sources, 3, targets, 24, lengths, 71) == DOMETHYME_NO_ROOM);
     targets[23] = 3;
     WANT(domethyme_table(handle, sources, 3, targets, 24, lengths, 72) == DOMETHYME_NODE_RANGE);
 }
 
-/* The lengths of the three nodes from some starts. */
-static int is_reach(domethyme *handle, const domethyme_seed *starts, size_t count, uint64_t limit, uint64_t a, uint64_t b, uint64_t c)
-{
-    uint64_t lengths[4] = {42, 42, 42, 42};
-    const uint64_t wanted[] = {a, b, c, 42};
-    return domethyme_reach(handle, starts, count, limit, lengths, 4) == DOMETHYME_OK && memcmp(lengths, wanted, sizeof wanted) == 0;
-}
-
-/* From node 0, from 0 with 500 or 1 with 250, and from none. */
+/* Which refusal of a reach comes first, and that none writes. */
 static void reaches(domethyme *handle)
 {
     const uint64_t none = DOMETHYME_NO_LENGTH, greatest = UINT64_C(1) << 62;
-    domethyme_seed start = {5, 0, 0}, far_off = {UINT64_C(1) << 57, 0, 1 << 25}, starts[] = {{500, 0, 0}, {250, 1, 0}};
-    WANT(is_reach(handle, &start, 1, none, 5, 305, 705));
-    WANT(is_reach(handle, &start, 1, greatest, 5, 305, 705));
-    WANT(is_reach(handle, &start, 1, 705, 5, 305, 705));
-    WANT(is_reach(handle, &start, 1, 704, 5, 305, none));
-    WANT(is_reach(handle, &start, 1, 5, 5, none, none));
-    WANT(is_reach(handle, &start, 1, 4, none, none, none));
-    WANT(is_reach(handle, &start, 1, 0, none, none, none));
-    WANT(is_reach(handle, starts, 2, none, 500, 250, 650));
-    WANT(is_reach(handle, starts, 2, 499, none, 250, none));
-    WANT(is_reach(handle, starts, 0, none, none, none, none));
-    WANT(is_reach(handle, &far_off, 1, none, far_off.length, far_off.length + 300, far_off.length + 700));
-    WANT(is_reach(handle, &far_off, 1, far_off.length + 300, far_off.length, far_off.length + 300, none));
-    start.length = 0;
-    WANT(is_reach(handle, &start, 1, 0, 0, none, none));
-    start.node = 2;
-    WANT(is_reach(handle, &start, 1, none, none, none, 0));
-
-    /* Which refusal comes first, and that none writes. */
+    domethyme_seed start = {0, 2, 0};
     uint64_t lengths[3] = {42, 42, 42};
     domethyme_seed away = {0, 3, 0}, costly = {(UINT64_C(1) << 57) + 1, 0, 0}, many = {0, 0, (1 << 25) + 1};
     domethyme_seed first[] = {costly, away}, second[] = {start, away, costly};
@@ -197,7 +148,7 @@ static void reaches(domethyme *handle)
     WANT(domethyme_reach(handle, second, 3, 0, lengths, 3) == DOMETHYME_NODE_RANGE);
     WANT(domethyme_reach(handle, &many, 1, 0, lengths, 3) == DOMETHYME_SEED_COST);
     WANT(lengths[0] == 42 && lengths[1] == 42 && lengths[2] == 42);
-    WANT(domethyme_reach(handle, &start, 1, 10, lengths, 3) == DOMETHYME_OK && lengths[2] == 0);
+    WANT(domethyme_reach(handle, &start, 1, 10, lengths, 3) == DOMETHYME_OK && lengths[0] == none && lengths[2] == 0);
 }
 
 /* A code and its text. */
@@ -256,6 +207,27 @@ static void texts(void)
     }
 }
 
+/* Turned: the lengths to 2 and to 0, and the way from 0 to 2 backwards. */
+static void turned(const file *hierarchy)
+{
+    domethyme handle = DOMETHYME_CLOSED;
+    WANT(domethyme_open_turned(&handle, hierarchy->bytes, hierarchy->count) == DOMETHYME_OK);
+    domethyme_seed end = {5, 2, 0}, other = {0, 0, 0};
+    uint64_t lengths[4] = {42, 42, 42, 42};
+    WANT(domethyme_reach(&handle, &end, 1, DOMETHYME_NO_LENGTH, lengths, 4) == DOMETHYME_OK);
+    WANT(lengths[0] == 705 && lengths[1] == 405 && lengths[2] == 5 && lengths[3] == 42);
+    WANT(domethyme_reach(&handle, &end, 1, 704, lengths, 3) == DOMETHYME_OK);
+    WANT(lengths[0] == DOMETHYME_NO_LENGTH && lengths[1] == 405 && lengths[2] == 5);
+    WANT(domethyme_reach(&handle, &other, 1, 300, lengths, 3) == DOMETHYME_OK);
+    WANT(lengths[0] == 0 && lengths[1] == 300 && lengths[2] == DOMETHYME_NO_LENGTH);
+    domethyme_route_info route = {0, 0};
+    uint32_t nodes[3];
+    WANT(domethyme_route(&handle, 2, 0, &route, nodes, 3) == DOMETHYME_OK && route.length == 700 && route.nodes == 3);
+    WANT(nodes[0] == 2 && nodes[1] == 1 && nodes[2] == 0);
+    WANT(domethyme_open_turned(&handle, hierarchy->bytes, hierarchy->count - 1) == DOMETHYME_TRUNCATED);
+    closed(&handle);
+}
+
 int main(int count, char **words)
 {
     WANT(count == 2);
@@ -265,11 +237,9 @@ int main(int count, char **words)
     WANT(domethyme_open(&handle, hierarchy.bytes, hierarchy.count) == DOMETHYME_OK);
     single(&handle);
     several(&handle);
-    depots(&handle);
     many(&handle);
     rows(&handle);
     reaches(&handle);
-    rows(&handle);
     /* A second handle lives on behind the first, whose selection it shares; a handle that is opened again closes what it had. */
     WANT(domethyme_beside(&handle, &other) == DOMETHYME_OK);
     WANT(domethyme_beside(&handle, &other) == DOMETHYME_OK);
@@ -280,6 +250,7 @@ int main(int count, char **words)
     WANT(domethyme_open(&other, hierarchy.bytes, hierarchy.count - 1) == DOMETHYME_TRUNCATED);
     closed(&other);
     closed(&handle);
+    turned(&hierarchy);
     texts();
     free(hierarchy.bytes);
     puts("ok");

@@ -94,6 +94,11 @@ static void run(const uint8_t *bytes, size_t count)
     while (is_out(domethyme_table_sums(&handle, sevens, arcs, ends, 2, ends, 2, cells, 4)))
         ;
     WANT(cells[1].length == 700 && cells[1].sum == 14 && cells[2].sum == DOMETHYME_NO_LENGTH);
+    while (is_out(domethyme_open_turned(&other, bytes, count)))
+        WANT(other.router == NULL);
+    while (is_out(domethyme_length(&other, 2, 0, &length)))
+        ;
+    WANT(length == 700);
     domethyme_close(&handle);
     domethyme_close(&other);
 }

@@ -138,7 +138,7 @@ not_wrong : (v : Version) (g : Graph) (h : Hierarchy) → IsGraph g → h.versio
 not_wrong One g h graph version weight right wrong = wrong.never_by_weight version g graph weight
 not_wrong Two g h graph version weight right wrong = wrong.never g graph (right version)
 
-answers_over : (g : Graph) (h : Hierarchy) → IsGraph g → IsRightByWeight g h → (h.version ≡ Two → IsRight g h) → AnswersOver g h
+pub answers_over : (g : Graph) (h : Hierarchy) → IsGraph g → IsRightByWeight g h → (h.version ≡ Two → IsRight g h) → AnswersOver g h
 answers_over g h graph weight right = record {
   nodes = weight.nodes;
   lengths = λ from to n is. is.by_weight g weight;

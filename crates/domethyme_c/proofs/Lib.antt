@@ -2,3 +2,4 @@ pub mod Steps
 pub mod Handles
 pub mod Tables
 mod Cells
+pub mod Towards

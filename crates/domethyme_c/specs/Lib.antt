@@ -4,3 +4,4 @@ pub mod Handles
 pub mod Engines
 pub mod Sums
 pub mod Summing
+pub mod Towards

@@ -52,6 +52,18 @@ impl Model for Engine {
     ghost invariant = { λ e. IsEngine e.router (arc_value e.hierarchy) e.version (option_map arc_value e.kept) e.sharing e.summing };
 }
 
+/// The hierarchy of the bytes of a file.
+pub(crate) fn read_hierarchy(alloc: Global, bytes: &[u8]) -> Result<Hierarchy, HierError>
+    ensures made { IfOk result (λ hierarchy. IsWellMade hierarchy) }
+    ensures ok { IfOk result (λ hierarchy. bytes.now ≡ bytes_of hierarchy) }
+    ensures err { IfErr result (IsFaultOf first_fault (Some bytes.now)) }
+{
+    let mut rest = bytes;
+    let hierarchy = hierfile::read(alloc, &mut rest)?;
+    let _well_made = hierarchy.nodes();
+    Ok(hierarchy)
+}
+
 impl Engine {
     /// Reads the bytes of a hierarchy file.
     pub(crate) fn read(alloc: Global, bytes: &[u8]) -> Result<Engine, HierError>
@@ -59,8 +71,16 @@ impl Engine {
         ensures ok { IfOk result (λ engine. bytes.now ≡ bytes_of engine) }
         ensures err { IfErr result (IsFaultOf first_fault (Some bytes.now)) }
     {
-        let mut rest = bytes;
-        let hierarchy = hierfile::read(alloc, &mut rest)?;
+        let hierarchy = read_hierarchy(alloc, bytes)?;
+        let engine = Engine::of(alloc, hierarchy)?;
+        Ok(engine)
+    }
+
+    /// The engine of a hierarchy.
+    pub(crate) fn of(alloc: Global, hierarchy: Hierarchy) -> Result<Engine, AllocError>
+        ensures made { IfOk result (λ engine. IsWellMade engine) }
+        ensures same { IfOk result (λ engine. engine ≡ hierarchy) }
+    {
         let version = hierarchy.version();
         let hierarchy = Arc::new(alloc, hierarchy)?;
         let router = RouterOf::new(alloc, Arc::try_clone(&hierarchy)?)?;

@@ -19,6 +19,7 @@ mod sharing;
 mod summing;
 mod sums;
 mod text;
+mod turning;
 
 pub use between::BetweenInfo;
 pub use code::{

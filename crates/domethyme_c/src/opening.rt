@@ -84,8 +84,8 @@ pub extern "C" fn domethyme_version(alloc: Global, handle: &mut Handle, version:
     OK
 }
 
-// The engine on the heap.
-fn boxed(alloc: Global, engine: Engine) -> Result<Box<ManuallyDrop<Engine>>, AllocError>
+/// The engine on the heap.
+pub(crate) fn boxed(alloc: Global, engine: Engine) -> Result<Box<ManuallyDrop<Engine>>, AllocError>
     ensures { IfOk result (λ b. manually_drop_value b.value ≡ engine) }
 {
     match Box::new(alloc, ManuallyDrop::new(engine)) {
