@@ -3,7 +3,7 @@ use Rattle.std.specs.Prelude.{Bool, false, ◌&&◌, not, is_some, ⊤, codes}
 use Rattle.std.specs.Str.{bytes_eq}
 use Rattle.jobs.specs.Orders.{takes_turns}
 use Rattle.jobs.specs.declared.job.Job.{Job}
-use Rattle.jobs.specs.declared.job.Job.TheVariants.{Answer, Prepare, Route, Serve, Info, Check}
+use Rattle.jobs.specs.declared.job.Job.TheVariants.{Answer, Prepare, Route, Serve, Info, Check, Renew}
 
 -- both texts are in one input
 abbrev pub is_joined : Job → Bool
@@ -13,6 +13,7 @@ is_joined (Route hierarchy queries) = false
 is_joined (Serve hierarchy) = false
 is_joined (Info hierarchy) = false
 is_joined (Check check) = false
+is_joined (Renew renewal) = false
 
 -- the file of a hierarchy is to be made under the name of the graph
 abbrev pub names_one_file : Job → Bool
@@ -22,6 +23,7 @@ names_one_file (Route hierarchy queries) = false
 names_one_file (Serve hierarchy) = false
 names_one_file (Info hierarchy) = false
 names_one_file (Check check) = false
+names_one_file (Renew renewal) = bytes_eq renewal.graph.now renewal.out.now
 
 -- with stints workers are to change from an order that takes no turns
 abbrev pub is_out_of_turn : Job → Bool

@@ -33,6 +33,8 @@ pub enum Job<'a> {
     },
     /// To check that a hierarchy is right for a graph.
     Check(Check<'a>),
+    /// To make the hierarchy of a graph by the order of another hierarchy.
+    Renew(Renewal<'a>),
 }
 
 /// Which hierarchy is to be checked against which graph.
@@ -42,6 +44,19 @@ pub struct Check<'a> {
     pub graph: &'a str,
     /// The file of the hierarchy.
     pub hierarchy: &'a str,
+    /// Whether the user is shown how far it has come, at a terminal.
+    pub progress: bool,
+}
+
+/// Of which graph a hierarchy is to be made by the order of which, and where it is to be put.
+#[derive(Clone, Copy, Debug, PartialEq, Eq)]
+pub struct Renewal<'a> {
+    /// The file of the hierarchy that has the order.
+    pub old: &'a str,
+    /// The file with the graph's text.
+    pub graph: &'a str,
+    /// The file that is made for the hierarchy.
+    pub out: &'a str,
     /// Whether the user is shown how far it has come, at a terminal.
     pub progress: bool,
 }
@@ -87,16 +102,18 @@ impl Job<'_> {
             | Job::Route { .. }
             | Job::Serve { .. }
             | Job::Info { .. }
-            | Job::Check(_) => false,
+            | Job::Check(_)
+            | Job::Renew(_) => false,
         }
     }
 
-    /// Whether `prepare` would make its file under the graph's own name.
+    /// Whether `prepare` or `renew` would make its file under the graph's own name.
     pub fn names_one_file(&self) -> bool
         ensures { result ≡ names_one_file self.now }
     {
         match self {
             Job::Prepare(preparation) => preparation.graph == preparation.out,
+            Job::Renew(renewal) => renewal.graph == renewal.out,
             Job::Answer { .. }
             | Job::Route { .. }
             | Job::Serve { .. }
@@ -105,8 +122,8 @@ impl Job<'_> {
         }
     }
 
-    /// Returns the job, unless `prepare` would make its file under the graph's own name: the hierarchy would take the
-    /// place of the graph.
+    /// Returns the job, unless `prepare` or `renew` would make its file under the graph's own name: the hierarchy would take
+    /// the place of the graph.
     pub fn of_two_files(self) -> Result<Self, Stop>
         ensures same { IfOk result (λ job. job ≡ self.entry) }
         ensures two { IfOk result (λ job. names_one_file job ≡ false) }
@@ -131,7 +148,8 @@ impl Job<'_> {
             | Job::Route { .. }
             | Job::Serve { .. }
             | Job::Info { .. }
-            | Job::Check(_) => false,
+            | Job::Check(_)
+            | Job::Renew(_) => false,
         }
     }
 

@@ -21,7 +21,7 @@ mod stint;
 mod stopping;
 mod workers;
 
-pub use job::{Call, Check, Job, Stop};
+pub use job::{Call, Check, Job, Renewal, Stop};
 pub use orders::{Order, Orders};
 pub use preparation::Preparation;
 pub use stint::Stint;

@@ -4,7 +4,7 @@ use Rattle.std.specs.Prelude.{⊤, Some, None, option_map, MatchBool, Result, Ok
 use Rattle.std.specs.Io.KnownBytes.{Appends, Keeps}
 use Rattle.std.proofs.lemmas.Option.{IfSome_then}
 use Rattle.outcomes.specs.Outcomes.{Ends, outcome_after, status_after}
-use Rattle.outcomes.specs.Written.{told_all}
+use Rattle.outcomes.specs.Written.{told_all, told_then}
 use Rattle.outcomes.specs.declared.cause.Cause.{Cause}
 use Rattle.outcomes.specs.declared.cause.Cause.TheVariants as causes
 use Rattle.outcomes.specs.declared.outcome.Outcome.{Outcome}
@@ -20,14 +20,15 @@ use Rattle.ch_service.specs.Refusals.{RefusesAnswers, RefusesPreparing, RefusesR
 use Rattle.ch_verify.specs.Verdict.{RefusesCheck, Says, verdict_line}
 use Rattle.ch_verify.specs.declared.verdict.Verdict.{Verdict}
 use Rattle.ch_verify.specs.declared.verdict.Verdict.TheVariants as verdicts
+use Rattle.ch_renew.specs.Renewal.{RefusesRenewing, Renews, TellsRenewed}
 use Rattle.jobs.specs.Job.{is_joined}
 use Rattle.jobs.specs.declared.job.Job.{Job}
-use Rattle.jobs.specs.declared.job.Job.TheVariants.{Answer, Prepare, Route, Serve, Info, Check}
+use Rattle.jobs.specs.declared.job.Job.TheVariants.{Answer, Prepare, Route, Serve, Info, Check, Renew}
 use Rattle.ch_requests.specs.declared.error.ServeError.{ServeError}
 use Rattle.ch_requests.specs.declared.error.ServeError.TheVariants as stops
 use Rattle.ch_requests.specs.Cause.{stop_cause}
 use Rattle.hierinfo.specs.Info.{RefusesInfo}
-use Rattle.performing.specs.Status.{outcome_of, outcome_found, Tells, TellsAnswers, TellsChecked, StopsBy, TellsPrepared, TellsRouted, TellsServed, TellsInfo, IsAnsweringStatus, IsPreparingStatus, IsRoutingStatus, IsServingStatus, IsCheckingStatus, IsStatusOf, TellsPut, RoutesAreExactAfter, HasPrepared, ZeroIsDone}
+use Rattle.performing.specs.Status.{outcome_of, outcome_found, Tells, TellsAnswers, TellsChecked, StopsBy, TellsPrepared, TellsRouted, TellsServed, TellsInfo, IsAnsweringStatus, IsPreparingStatus, IsRoutingStatus, IsServingStatus, IsCheckingStatus, IsStatusOf, TellsPut, RoutesAreExactAfter, HasPrepared, HasRenewed, IsRenewingStatus, TellsRenewedPut, ZeroIsDone}
 
 -- What a call says by its outcome.
 
@@ -187,6 +188,18 @@ checking_end {outcome = Refused (causes.Read input)} t = (inr (inr (inr (inr (in
 checking_end {outcome = Refused (causes.Write fault)} t = (inr (inr (inr (inr (inl refl)))), λ is. absurd (cc))
 checking_end {outcome = Refused cause} t = absurd (t.refused cause refl)
 
+-- where one is made by the ranks of another one
+pub renewing_end : {outcome : Outcome} {graph file old new : Option (List ℕ)} → TellsRenewed outcome graph file old new → Ending IsRenewingStatus old new outcome
+renewing_end {outcome = Done} t = (inl refl, λ is. absurd (cc))
+renewing_end {outcome = Wrong} t = (inr (inr (inr (inr (inr refl)))), λ is. absurd (cc))
+renewing_end {outcome = NotShown} t = absurd (t.shown refl)
+renewing_end {outcome = Refused (causes.Graph fault)} t = (inr (inl refl), λ is. absurd (cc))
+renewing_end {outcome = Refused (causes.Hierarchy fault)} t = (inr (inr (inl refl)), λ is. absurd (cc))
+renewing_end {outcome = Refused causes.Memory} t = (inr (inr (inr (inl refl))), λ is. absurd (cc))
+renewing_end {outcome = Refused (causes.Read input)} t = (inr (inr (inr (inr (inl refl)))), λ is. absurd (cc))
+renewing_end {outcome = Refused (causes.Write fault)} t = (inr (inr (inr (inr (inl refl)))), λ is. absurd (cc))
+renewing_end {outcome = Refused cause} t = absurd (t.refused cause refl)
+
 -- where requests are replied to
 
 stop_end : (old new : Option (List ℕ)) (e : ServeError) → Ending IsServingStatus old new (Refused (stop_cause e))
@@ -215,6 +228,7 @@ job_end (Route hierarchy queries) outcome first second left old new t = routing_
 job_end (Serve hierarchy) outcome first second left old new t = serving_end outcome first second left old new t.of_job
 job_end (Info hierarchy) outcome first second left old new t = informing_end outcome first old new t.of_job
 job_end (Check check) outcome first second left old new t = checking_end t.of_job
+job_end (Renew renewal) outcome first second left old new t = renewing_end t.of_job
 
 -- What the outcome of a preparation says where its bytes are put at a destination.
 
@@ -252,16 +266,69 @@ was_done (inl is) done = sym is ∙ done
 was_done (inr failed) done = failed.0
 
 -- all bytes of a draft that was empty
-whole : (graph : List ℕ) (new : Option (List ℕ)) {stands : Option (Option (List ℕ))} → stands ≡ option_map Some new → Writes (Prepares graph) (Some []) new → (bytes : List ℕ) × Prepares graph bytes × (stands ≡ Some (Some bytes))
-whole graph None put file = absurd file.2
-whole graph (Some ys) put file = (file.0, file.1, put ∙ ap (λ (bytes : List ℕ). Some (Some bytes)) file.2)
+whole : (IsFile : List ℕ → Type 0) (new : Option (List ℕ)) {stands : Option (Option (List ℕ))} → stands ≡ option_map Some new → Writes IsFile (Some []) new → (bytes : List ℕ) × IsFile bytes × (stands ≡ Some (Some bytes))
+whole IsFile None put file = absurd file.2
+whole IsFile (Some ys) put file = (file.0, file.1, put ∙ ap (λ (bytes : List ℕ). Some (Some bytes)) file.2)
+
+-- where what was there before is known
+stands_whole : (IsFile : List ℕ → Type 0) (stood : Option (Option (List ℕ))) {old : Option (List ℕ)} (new : Option (List ℕ)) {stands : Option (Option (List ℕ))} → old ≡ option_map (λ _. []) stood → stands ≡ option_map Some new
+    → Writes IsFile old new → IfSome stood (λ before. (bytes : List ℕ) × IsFile bytes × (stands ≡ Some (Some bytes)))
+stands_whole IsFile None new starts put file = tt
+stands_whole IsFile (Some before) new starts put file = whole IsFile new put (subst (λ (o : Option (List ℕ)). Writes IsFile o new) starts file)
 
 -- the draft that was put is the file of the hierarchy
 pub has_prepared : (graph : Option (List ℕ)) (stood : Option (Option (List ℕ))) {old : Option (List ℕ)} (new : Option (List ℕ)) {stands : Option (Option (List ℕ))} → old ≡ option_map (λ _. []) stood → stands ≡ option_map Some new
     → IfSome graph (λ text. Writes (Prepares text) old new) → HasPrepared graph stood stands
-has_prepared None stood new starts put file = tt
-has_prepared (Some text) None new starts put file = tt
-has_prepared (Some text) (Some before) new {stands} starts put file = whole text new put (subst (λ (o : Option (List ℕ)). Writes (Prepares text) o new) starts file)
+has_prepared graph stood new starts put file = IfSome_then graph file (λ text written. stands_whole (Prepares text) stood new starts put written)
+
+-- The same where a hierarchy is made by the ranks of another one.
+
+-- a refusal
+pub renewal_refused : (why : Cause) (graph file old new : Option (List ℕ)) → RefusesRenewing graph file old new why → TellsRenewed (Refused why) graph file old new
+renewal_refused why graph file old new refused = record {
+  done = λ is. absurd (cc);
+  wrong = λ is. absurd (cc);
+  shown = λ is. absurd (cc);
+  refused = λ cause is. let same : why ≡ cause = cc in subst (RefusesRenewing graph file old new) same refused;
+}
+
+untold_renewed : (outcome : Outcome) (graph file old new : Option (List ℕ)) → TellsRenewed outcome graph file old new → TellsRenewedPut outcome graph file
+untold_renewed Done graph file old new t = record {
+  done = λ is. told_then graph file (t.done refl) (λ text bytes put. (put.0, put.1, tt));
+  wrong = λ is. absurd (cc);
+  shown = λ is. absurd (cc);
+  refused = λ cause is. absurd (cc);
+}
+untold_renewed Wrong graph file old new t = record {
+  done = λ is. absurd (cc);
+  wrong = λ is. ((t.wrong refl).0, tt);
+  shown = λ is. absurd (cc);
+  refused = λ cause is. absurd (cc);
+}
+untold_renewed NotShown graph file old new t = absurd (t.shown refl)
+untold_renewed (Refused (causes.Graph fault)) graph file old new t = renewal_refused (causes.Graph fault) graph file None None ((t.refused (causes.Graph fault) refl).0, tt)
+untold_renewed (Refused (causes.Hierarchy fault)) graph file old new t = renewal_refused (causes.Hierarchy fault) graph file None None ((t.refused (causes.Hierarchy fault) refl).0, tt)
+untold_renewed (Refused causes.Memory) graph file old new t = renewal_refused causes.Memory graph file None None tt
+untold_renewed (Refused (causes.Read input)) graph file old new t = renewal_refused (causes.Read input) graph file None None ((t.refused (causes.Read input) refl).0, tt)
+untold_renewed (Refused (causes.Write fault)) graph file old new t =
+    renewal_refused (causes.Write fault) graph file None None (told_then graph file (t.refused (causes.Write fault) refl) (λ text bytes part. (part.0, part.1, part.2, tt)))
+untold_renewed (Refused cause) graph file old new t = absurd (t.refused cause refl)
+
+pub finished_renewed : (graph file old new : Option (List ℕ)) {renewed result : Outcome} → (result ≡ renewed) ⊎ ((renewed ≡ Done) × (result ≡ Refused causes.Flush)) → TellsRenewed renewed graph file old new
+    → TellsRenewedPut result graph file × IsRenewingStatus (status_after result)
+finished_renewed graph file old new {renewed} (inl is) t =
+    subst (λ (o : Outcome). TellsRenewedPut o graph file × IsRenewingStatus (status_after o)) (sym is) (untold_renewed renewed graph file old new t, (renewing_end t).0)
+finished_renewed graph file old new (inr failed) t =
+    subst (λ (o : Outcome). TellsRenewedPut o graph file × IsRenewingStatus (status_after o)) (sym failed.1)
+    (told_then graph file (t.done failed.0) (λ text bytes put. (put.0, put.1)), inr (inr (inr (inr (inl refl)))))
+
+pub has_renewed : (graph file : Option (List ℕ)) (stood : Option (Option (List ℕ))) {old : Option (List ℕ)} (new : Option (List ℕ)) {stands : Option (Option (List ℕ))} → old ≡ option_map (λ _. []) stood → stands ≡ option_map Some new
+    → IfTold graph file (λ text bytes. Writes (Renews text bytes) old new) → HasRenewed graph file stood stands
+has_renewed graph file stood new starts put made = told_then graph file made (λ text bytes written. stands_whole (Renews text bytes) stood new starts put written)
+
+-- it may be prepared from the text of the graph
+pub renewed_is_prepared : (text bytes made : List ℕ) → Renews text bytes made → Prepares text made
+renewed_is_prepared text bytes made is = record { graph = is.graph; hierarchy = is.new; graph_reads = is.graph_reads; version = is.version; right = is.right; spells = is.spells }
 
 -- What two statuses 0 say together.
 

@@ -20,10 +20,11 @@ use Rattle.ch_verify.specs.declared.verdict.Doubt.{Doubt}
 use Rattle.ch_verify.specs.declared.verdict.Refutation.{Refutation}
 use Rattle.ch_verify.specs.declared.verdict.Verdict.{Verdict}
 use Rattle.ch_verify.specs.declared.verdict.Verdict.TheVariants as verdicts
+use Rattle.ch_renew.specs.Renewal.{Renews, TellsRenewed}
 use Rattle.hierinfo.specs.Info.{Informs, RefusesInfo}
 use Rattle.jobs.specs.Job.{is_joined}
 use Rattle.jobs.specs.declared.job.Job.{Job}
-use Rattle.jobs.specs.declared.job.Job.TheVariants.{Answer, Prepare, Route, Serve, Info, Check}
+use Rattle.jobs.specs.declared.job.Job.TheVariants.{Answer, Prepare, Route, Serve, Info, Check, Renew}
 
 -- after a call that prepares or answers
 abbrev pub outcome_of : Result ⊤ ServiceError → Outcome
@@ -73,6 +74,12 @@ pub record TellsChecked (outcome : Outcome) (graph file old new : Option (List �
   pub not_shown : outcome ≡ outcomes.NotShown → (doubt : Doubt) × IfTold graph file (Says (verdicts.NotShown doubt)) × Appends old new (verdict_line (verdicts.NotShown doubt))
   pub refused : (cause : Cause) → outcome ≡ outcomes.Refused cause → RefusesCheck graph file old new cause
 
+-- That of a job that makes a hierarchy by the ranks of another one is TellsRenewed. The same of one whose file is put in its place,
+-- or can't be.
+abbrev pub TellsRenewedPut : Outcome → Option (List ℕ) → Option (List ℕ) → Type 0
+TellsRenewedPut (outcomes.Refused causes.Flush) graph file = IfTold graph file (λ graph_text bytes. (made : List ℕ) × Renews graph_text bytes made)
+TellsRenewedPut outcome graph file = TellsRenewed outcome graph file None None
+
 -- what that of any job says of what its two readers had and the second has left, and of what was written
 abbrev pub TellsOf : Job → Outcome → Option (List ℕ) → Option (List ℕ) → Option (List ℕ) → Option (List ℕ) → Option (List ℕ) → Type 0
 TellsOf (Answer graph queries) outcome first second left old new =
@@ -82,6 +89,7 @@ TellsOf (Route hierarchy queries) outcome first second left old new = TellsRoute
 TellsOf (Serve hierarchy) outcome first second left old new = TellsServed outcome first second left old new
 TellsOf (Info hierarchy) outcome first second left old new = TellsInfo outcome first old new
 TellsOf (Check check) outcome first second left old new = TellsChecked outcome first second old new
+TellsOf (Renew renewal) outcome first second left old new = TellsRenewed outcome first second old new
 
 pub record Tells (job : Job) (outcome : Outcome) (first second left old new : Option (List ℕ)) : Type 0 where
   pub of_job : TellsOf job outcome first second left old new
@@ -121,6 +129,10 @@ IsServingStatus n = (n ≡ 0) ⊎ (n ≡ 4) ⊎ (n ≡ 6) ⊎ (n ≡ 7)
 abbrev pub IsCheckingStatus : ℕ → Type 0
 IsCheckingStatus n = (n ≡ 0) ⊎ (n ≡ 3) ⊎ (n ≡ 4) ⊎ (n ≡ 6) ⊎ (n ≡ 7) ⊎ (n ≡ 9) ⊎ (n ≡ 10)
 
+-- and one that makes a hierarchy by the ranks of another one
+abbrev pub IsRenewingStatus : ℕ → Type 0
+IsRenewingStatus n = (n ≡ 0) ⊎ (n ≡ 3) ⊎ (n ≡ 4) ⊎ (n ≡ 6) ⊎ (n ≡ 7) ⊎ (n ≡ 9)
+
 -- the status is one of those of the job
 abbrev pub IsStatusOf : Job → ℕ → Type 0
 IsStatusOf (Answer graph queries) = IsAnsweringStatus
@@ -129,6 +141,7 @@ IsStatusOf (Route hierarchy queries) = IsRoutingStatus
 IsStatusOf (Serve hierarchy) = IsServingStatus
 IsStatusOf (Info hierarchy) = IsServingStatus
 IsStatusOf (Check check) = IsCheckingStatus
+IsStatusOf (Renew renewal) = IsRenewingStatus
 
 -- What is at a destination after a hierarchy was prepared for it.
 
@@ -136,3 +149,7 @@ IsStatusOf (Check check) = IsCheckingStatus
 -- text and the destination shows what was there before.
 abbrev pub HasPrepared : Option (List ℕ) → Option (Option (List ℕ)) → Option (Option (List ℕ)) → Type 0
 HasPrepared graph old new = IfSome graph (λ graph_text. IfSome old (λ before. (bytes : List ℕ) × Prepares graph_text bytes × (new ≡ Some (Some bytes))))
+
+-- the same of one that was made by the ranks of a file, whatever that is
+abbrev pub HasRenewed : Option (List ℕ) → Option (List ℕ) → Option (Option (List ℕ)) → Option (Option (List ℕ)) → Type 0
+HasRenewed graph file old new = IfTold graph file (λ graph_text bytes. IfSome old (λ before. (made : List ℕ) × Renews graph_text bytes made × (new ≡ Some (Some made))))

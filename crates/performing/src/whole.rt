@@ -51,7 +51,11 @@ pub fn prepare_whole<G: Read, D: Destination, P: Gate, R: Threads + Wait + Sync>
 }
 
 // Puts the draft of a job that is done at its destination, and throws any other away.
-fn finish<D: Destination>(destination: &mut D, draft: D::PendingFile, prepared: Outcome) -> Outcome
+pub(crate) fn finish<D: Destination>(
+    destination: &mut D,
+    draft: D::PendingFile,
+    prepared: Outcome,
+) -> Outcome
     ensures done { result ≡ Done → D.stands destination.new ≡ option_map Some (D.PendingFile.contents draft) }
     ensures kept { result ≢ Done → D.stands destination.new ≡ D.stands destination.old }
     ensures outcome { (result ≡ prepared) ⊎ ((prepared ≡ Done) × (result ≡ Refused Flush)) }

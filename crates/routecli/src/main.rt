@@ -5,19 +5,19 @@
 //! `terminal`, which shows how far a preparation has come and helps a user whose call was refused. `main` opens the files.
 #![tactic(auto)]
 
-ghost use Rattle.std.specs.Prelude.{IfErr, IfOk};
+ghost use Rattle.std.specs.Prelude.{IfErr, IfOk, IfSome};
 ghost use Rattle.outcomes.specs.Outcomes.{status_after};
-ghost use Rattle.performing.specs.Status.{IsAnsweringStatus, IsCheckingStatus, IsPreparingStatus, IsRoutingStatus, IsServingStatus};
+ghost use Rattle.performing.specs.Status.{IsAnsweringStatus, IsCheckingStatus, IsPreparingStatus, IsRenewingStatus, IsRoutingStatus, IsServingStatus};
 ghost use Rattle.routecli.specs.Opening.{IsUnopened};
 
-use ch_check::Unwatched;
+use ch_check::{Unwatched, Watch};
 use ch_workers::{Gate, OpenGate};
 use command_line::command;
-use jobs::{Check, Job, Preparation, Stop, show_stop};
+use jobs::{Check, Job, Preparation, Renewal, Stop, show_stop};
 use outcomes::{Cause, Input, Outcome, WriteFault};
 use performing::{
     perform_answer, perform_check, perform_info, perform_joined, perform_route, perform_service,
-    prepare_whole,
+    prepare_whole, renew_whole,
 };
 use std::env::{Env, FillError};
 use std::io::{ErrorKind, IsTerminal};
@@ -86,6 +86,7 @@ fn is_broken_pipe(failure: Option<Failure<'_>>) -> bool {
 fn would_be_one<R: Files>(rt: &R, job: &Job<'_>) -> bool {
     match job {
         Job::Prepare(preparation) => is_one_file(rt, preparation.graph, preparation.out),
+        Job::Renew(renewal) => is_one_file(rt, renewal.graph, renewal.out),
         _ => false,
     }
 }
@@ -109,6 +110,7 @@ fn perform<'a, R: Files + AllocGlobal + Clock + Threads + Wait + Sync, Q: io::Re
         Job::Info { hierarchy } => info(rt, hierarchy, out),
         Job::Check(check) => self::check(rt, &check, out, terminal),
         Job::Prepare(preparation) => prepare(rt, &preparation, terminal),
+        Job::Renew(renewal) => renew(rt, &renewal, out, terminal),
     }
 }
 
@@ -257,7 +259,8 @@ fn prepare_of<'a, R: Files + AllocGlobal + Clock + Threads + Wait + Sync, G: io:
             let mut graph = Watched::new(graph, &meter);
             let ended = prepare_file(rt, preparation, &mut graph, &meter);
             meter.clear();
-            show_end(rt, preparation, ended.outcome, &meter);
+            let (out, is_asked) = (preparation.out, preparation.progress);
+            show_end(rt, out, is_asked, ended.outcome, &meter);
             return ended;
         }
     }
@@ -267,12 +270,12 @@ fn prepare_of<'a, R: Files + AllocGlobal + Clock + Threads + Wait + Sync, G: io:
 // Shows what was made, if it was, and that is asked for.
 fn show_end<R: Files + Clock>(
     rt: &R,
-    preparation: &Preparation<'_>,
+    out: &str,
+    is_asked: bool,
     outcome: Outcome,
     meter: &Meter<'_, R>,
 ) {
-    let out = preparation.out;
-    if !preparation.progress || outcome != Outcome::Done {
+    if !is_asked || outcome != Outcome::Done {
         return;
     }
     if let Ok(made) = fs::metadata(rt, out) {
@@ -290,11 +293,8 @@ fn prepare_file<'a, R: Files + AllocGlobal + Threads + Wait + Sync, G: io::Read,
 ) -> Ended<'a>
     ensures { IsPreparingStatus (status_after result.outcome) }
 {
-    if let Some((name, error)) = obstacle(rt, preparation.out) {
-        return Ended {
-            outcome: Outcome::Refused(Cause::Write(WriteFault { written: 0 })),
-            failure: Some(Failure { name, error }),
-        };
+    if let Some(ended) = ended_by_obstacle(rt, preparation.out) {
+        return ended;
     }
     let mut destination = OutFile::new(rt, preparation.out);
     let outcome = prepare_whole(rt, rt.alloc(), preparation, graph, &mut destination, gate);
@@ -302,6 +302,85 @@ fn prepare_file<'a, R: Files + AllocGlobal + Threads + Wait + Sync, G: io::Read,
         outcome,
         failure: Failure::of(preparation.out, destination.failure()),
     }
+}
+
+// Makes the hierarchy of a graph in the order of an old one. Where that has other nodes, it prints so.
+fn renew<'a, R: Files + AllocGlobal + Clock, W: io::Write>(
+    rt: &R,
+    renewal: &Renewal<'a>,
+    out: &mut W,
+    terminal: Stderr,
+) -> Result<Ended<'a>, Ended<'a>>
+    ensures done { IfOk result (λ ended. IsRenewingStatus (status_after ended.outcome)) }
+    ensures unopened { IfErr result IsUnopened }
+{
+    let first = open(rt, Input::Graph, renewal.graph);
+    let second = open(rt, Input::Hierarchy, renewal.old);
+    let (mut first, mut second) = (first?, second?);
+    let ended = renew_of(rt, renewal, &mut first, &mut second, terminal);
+    if ended.outcome == Outcome::Wrong {
+        let _ = out.write_all(b"wrong: nodes\n");
+    }
+    Ok(Ended {
+        outcome: ended.outcome,
+        failure: ended.failure.or(first.failure()).or(second.failure()),
+    })
+}
+
+// Makes it of a graph's text and an old file. At a terminal a meter shows how far it has come, and at the end what was made, if
+// that is asked for.
+fn renew_of<'a, R: Files + AllocGlobal + Clock, G: io::Read + Drop, H: io::Read>(
+    rt: &R,
+    renewal: &Renewal<'a>,
+    graph: &mut G,
+    old: &mut H,
+    terminal: Stderr,
+) -> Ended<'a>
+    ensures { IsRenewingStatus (status_after result.outcome) }
+{
+    if terminal.is_terminal() {
+        if let Ok(meter) = Meter::new(rt, terminal, renewal.progress) {
+            let mut graph = Watched::new(graph, &meter);
+            let ended = renew_file(rt, renewal.out, &mut graph, old, &meter);
+            meter.clear();
+            show_end(rt, renewal.out, renewal.progress, ended.outcome, &meter);
+            return ended;
+        }
+    }
+    renew_file(rt, renewal.out, graph, old, &Unwatched)
+}
+
+// Makes it, and its file, unless that can't be made there.
+fn renew_file<'a, R: Files + AllocGlobal, G: io::Read, H: io::Read, V: Watch>(
+    rt: &R,
+    out: &'a str,
+    graph: &mut G,
+    old: &mut H,
+    watch: &V,
+) -> Ended<'a>
+    ensures { IsRenewingStatus (status_after result.outcome) }
+{
+    if let Some(ended) = ended_by_obstacle(rt, out) {
+        return ended;
+    }
+    let mut destination = OutFile::new(rt, out);
+    let outcome = renew_whole(rt.alloc(), graph, old, &mut destination, watch);
+    Ended {
+        outcome,
+        failure: Failure::of(out, destination.failure()),
+    }
+}
+
+// How a job ends whose file can't be made there.
+fn ended_by_obstacle<'a, R: Files + AllocGlobal>(rt: &R, out: &'a str) -> Option<Ended<'a>>
+    ensures preparing { IfSome result (λ ended. IsPreparingStatus (status_after ended.outcome)) }
+    ensures renewing { IfSome result (λ ended. IsRenewingStatus (status_after ended.outcome)) }
+{
+    let (name, error) = obstacle(rt, out)?;
+    Some(Ended {
+        outcome: Outcome::Refused(Cause::Write(WriteFault { written: 0 })),
+        failure: Some(Failure { name, error }),
+    })
 }
 
 // The arguments of the command line, the program's name first.

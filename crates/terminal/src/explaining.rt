@@ -51,7 +51,7 @@ pub fn explain<R: Files + AllocGlobal, E: Write>(
     ended: &Ended<'_>,
     err: &mut E,
 ) {
-    if let Some(what) = of_hierarchy(ended.outcome) {
+    if let Some(what) = of_hierarchy(job, ended.outcome) {
         return explain_hierarchy(rt, job, what, err);
     }
     let Outcome::Refused(cause) = ended.outcome else {
@@ -70,9 +70,10 @@ pub fn explain<R: Files + AllocGlobal, E: Write>(
 }
 
 // What is said of the file of a hierarchy, behind its name, if it is at fault and begins as a hierarchy does.
-fn of_hierarchy(outcome: Outcome) -> Option<&'static str> {
+fn of_hierarchy(job: &Job<'_>, outcome: Outcome) -> Option<&'static str> {
     let cause = match outcome {
         Outcome::Done => return None,
+        Outcome::Wrong if matches!(job, Job::Renew(_)) => return Some("has other nodes:"),
         Outcome::Wrong => return Some("gives wrong answers: is it of another graph?"),
         Outcome::NotShown => return Some("may be right or wrong:"),
         Outcome::Refused(cause) => cause,
@@ -145,6 +146,7 @@ fn call_of(job: &Job<'_>) -> &'static str {
         Job::Serve { .. } => "routecli serve HIER",
         Job::Info { .. } => "routecli info HIER",
         Job::Check(_) => "routecli check GRAPH HIER",
+        Job::Renew(_) => "routecli renew OLD GRAPH OUT",
     }
 }
 
@@ -157,6 +159,7 @@ fn path_of<'a>(job: &Job<'a>, input: Input) -> Option<&'a str> {
         Job::Route { hierarchy, queries } => (None, Some(queries), Some(hierarchy)),
         Job::Serve { hierarchy } | Job::Info { hierarchy } => (None, None, Some(hierarchy)),
         Job::Check(check) => (Some(check.graph), None, Some(check.hierarchy)),
+        Job::Renew(renewal) => (Some(renewal.graph), None, Some(renewal.old)),
     };
     match input {
         Input::Graph => graph,

@@ -8,10 +8,11 @@ use whole_file::folder_of;
 /// Warns before the work if permissions keep the file of a job from being made: a file that is there can't be written, or no
 /// file can be made in its folder. Nothing is made or changed. Of a job that makes no file nothing is printed.
 pub fn warn_of<R: Files, E: Write>(rt: &R, job: &Job<'_>, err: &mut E) {
-    let Job::Prepare(preparation) = job else {
-        return;
+    let path = match job {
+        Job::Prepare(preparation) => preparation.out,
+        Job::Renew(renewal) => renewal.out,
+        _ => return,
     };
-    let path = preparation.out;
     match fs::metadata(rt, path) {
         Ok(found) if found.is_file() => warn_of_file(rt, path, err),
         Err(error) if error.kind() == ErrorKind::NotFound => warn_of_folder(rt, path, err),
