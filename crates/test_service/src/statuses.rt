@@ -4,7 +4,7 @@ use crate::kit::prepare_alone;
 use ch_service::{ServiceError, WriteFault, route};
 use ch_unpack::UnpackError;
 use ch_workers::BuildError;
-use jobs::{Check, Job, Order, Preparation, Workers};
+use jobs::{Check, Job, Order, Preparation, Renewal, Workers};
 use outcomes::Outcome;
 use performing::perform;
 use std::alloc::Global;
@@ -103,6 +103,13 @@ const CHECK: Job<'static> = Job::Check(Check {
     progress: false,
 });
 
+const RENEW: Job<'static> = Job::Renew(Renewal {
+    old: "a.rch",
+    graph: "a.gr",
+    out: "b.rch",
+    progress: false,
+});
+
 /// Whether a job ends with status 7 and the line of a failed read, and writes nothing.
 fn is_unread<R: Threads + Wait + Sync>(
     rt: &R,
@@ -132,16 +139,18 @@ fn are_unread<R: Threads + Wait + Sync>(
 const SERVE: Job<'static> = Job::Serve { hierarchy: "a.rch" };
 
 /// Jobs of which a reader fails at once.
-const FAILED: [(Job, Given, Given); 9] = [
+const FAILED: [(Job, Given, Given); 11] = [
     (TWO, Given::Nothing, Given::Bytes(PAIRS)),
     (JOINED, Given::Nothing, Given::Bytes(PAIRS)),
     (ROUTE, Given::Nothing, Given::Bytes(PAIRS)),
     (SERVE, Given::Nothing, Given::Bytes(PAIRS)),
     (INFO, Given::Nothing, Given::Bytes(PAIRS)),
     (CHECK, Given::Nothing, Given::Bytes(PAIRS)),
+    (RENEW, Given::Nothing, Given::Bytes(ONE_ARC)),
     (TWO, Given::Bytes(ONE_ARC_TEXT), Given::Nothing),
     (ROUTE, Given::Bytes(ONE_ARC), Given::Nothing),
     (CHECK, Given::Bytes(ONE_ARC_TEXT), Given::Nothing),
+    (RENEW, Given::Bytes(ONE_ARC_TEXT), Given::Nothing),
 ];
 
 /// To prepare without workers.
@@ -158,16 +167,18 @@ fn preparing() -> Job<'static> {
 }
 
 /// Jobs of which a reader fails after the first byte.
-const FAILED_SECOND: [(Job, Given, Given); 9] = [
+const FAILED_SECOND: [(Job, Given, Given); 11] = [
     (TWO, Given::First(b'p'), Given::Bytes(PAIRS)),
     (JOINED, Given::First(b'p'), Given::Bytes(PAIRS)),
     (ROUTE, Given::First(b'R'), Given::Bytes(PAIRS)),
     (SERVE, Given::First(b'R'), Given::Bytes(PAIRS)),
     (INFO, Given::First(b'R'), Given::Bytes(PAIRS)),
     (CHECK, Given::First(b'p'), Given::Bytes(ONE_ARC)),
+    (RENEW, Given::First(b'p'), Given::Bytes(ONE_ARC)),
     (TWO, Given::Bytes(ONE_ARC_TEXT), Given::First(b'p')),
     (ROUTE, Given::Bytes(ONE_ARC), Given::First(b'p')),
     (CHECK, Given::Bytes(ONE_ARC_TEXT), Given::First(b'R')),
+    (RENEW, Given::Bytes(ONE_ARC_TEXT), Given::First(b'R')),
 ];
 
 #[test]
@@ -220,6 +231,7 @@ fn failed_writes(rt: HostRuntime) {
         (TWO, graph, pairs),
         (INFO, Given::Bytes(ONE_ARC), Given::Nothing),
         (preparing(), graph, Given::Nothing),
+        (RENEW, graph, Given::Bytes(ONE_ARC)),
     ];
     assert!(rt; are_unwritten(&rt, rt.alloc(), &jobs));
 }

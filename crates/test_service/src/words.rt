@@ -1,7 +1,7 @@
 //! Command lines that name a job, and what is shown where memory runs out. `tests/program/small` has those that are refused or ask
 //! for help.
 use command_line::command;
-use jobs::{Check, Job, Order, Preparation, Stint, Stop, Workers, show_stop};
+use jobs::{Check, Job, Order, Preparation, Renewal, Stint, Stop, Workers, show_stop};
 use std::alloc::{AllocError, Global};
 use std::test::Fail;
 
@@ -18,7 +18,7 @@ fn words(alloc: Global, line: &str) -> Result<Vec<String>, AllocError> {
 type Named = (&'static str, Job<'static>, bool);
 
 /// Jobs without options.
-const NAMED: [Named; 9] = [
+const NAMED: [Named; 10] = [
     (
         "routecli answer a.gr b.p2p",
         Job::Answer {
@@ -83,6 +83,16 @@ const NAMED: [Named; 9] = [
         Job::Check(Check {
             graph: "-",
             hierarchy: "-",
+            progress: true,
+        }),
+        false,
+    ),
+    (
+        "routecli renew a.rch b.gr --progress b.rch",
+        Job::Renew(Renewal {
+            old: "a.rch",
+            graph: "b.gr",
+            out: "b.rch",
             progress: true,
         }),
         false,

@@ -37,6 +37,8 @@ mod limits;
 #[cfg(test)]
 mod orders;
 #[cfg(test)]
+mod own_order;
+#[cfg(test)]
 mod queues;
 #[cfg(test)]
 mod refused;
