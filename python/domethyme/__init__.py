@@ -3,7 +3,12 @@ proved.
 
     import domethyme
 
-    domethyme.write_graph("town.gr", from_nodes, to_nodes, weights)      # an arc for each row, nodes from 0
+    hierarchy = domethyme.from_osm("li.osm.pbf", "out/li")               # a map, its network and its hierarchy
+    hierarchy = domethyme.open("out/li")                                 # the same, made before
+    hierarchy.directions([(9.5215, 47.1410), (9.6090, 47.1020)])         # a route by places, longitude and latitude, on the nearest roads
+    hierarchy.table(places)                                              # the weights from each place to each; tour(places), within(place)
+
+    domethyme.write_graph("town.gr", from_nodes, to_nodes, weights)      # a graph of your own: an arc for each row, nodes from 0
     with domethyme.prepare("town.gr", "town.rch") as hierarchy:          # or Hierarchy("town.rch"), made before
         hierarchy.length(0, 2)                                           # one length, None if there is no path
         hierarchy.route(0, 2).nodes                                      # the nodes of one route
@@ -11,12 +16,10 @@ proved.
         hierarchy.routes(pairs)[7]                                       # the nodes of the eighth route
         hierarchy.matrix(sources, targets)                               # a table of lengths
     domethyme.check("town.gr", "town.rch")                               # the file is right for the graph, or an error
-    domethyme.from_osm("li.osm.pbf", "out/li")                           # a map, its network and its hierarchy, in one call
-    domethyme.open("out/li")                                             # out/li.rch with its network and keys, made before
 
-Nodes are numbered from 0, as rows are; node n is node n + 1 of a file. Pass your own keys as `keys`, and all methods take and
-return them. Weights are whole numbers from 0 to 4,294,967,295 in a unit of the user's own, such as
-milliseconds or centimetres, and lengths are sums of them.
+A hierarchy is a network that was prepared. Nodes are numbered from 0, as rows are; node n is node n + 1 of a file. Pass your own
+keys as `keys`, and all methods take and return them. Weights are whole numbers from 0 to 4,294,967,295 in a unit of the user's
+own; those of a map are milliseconds, or centimetres. Lengths are sums of them.
 
 One question at a time (`length`, `route`, `between`) needs Python alone. Arrays and `nearest` need numpy, and frames
 pandas: where one is missing, the call that needs it raises ImportError.
@@ -33,7 +36,7 @@ from .errors import (
     NoSuchNode, NotProved, OutOfMemory, ProgramError, ProgramNotFound, ProgramStopped, ReadWriteError, WrongHierarchy
 )
 from .extras import need
-from .graphs import Graph, check, prepare, unscaled, write_graph
+from .graphs import Graph, check, prepare, renew, unscaled, write_graph
 from .hierarchy import Hierarchy
 from .keys import Keys
 from .opening import from_osm
@@ -49,7 +52,7 @@ __all__ = [
     "DomethymeError", "Fault", "FileError", "Graph", "GraphError", "Hierarchy", "HierarchyError", "HierarchyNotFound",
     "Keys", "LibraryError", "LibraryNotFound", "MapError", "Network", "NetworkError", "NoSuchNode", "NO_PATH", "NotProved",
     "OutOfMemory", "ProgramError", "ProgramNotFound", "ProgramStopped", "ReadWriteError", "Route", "Routes",
-    "WrongHierarchy", "check", "find_program", "from_osm", "prepare", "unscaled", "write_graph"
+    "WrongHierarchy", "check", "find_program", "from_osm", "prepare", "renew", "unscaled", "write_graph"
 ]
 
 # (not in __all__, so that `from domethyme import *` leaves Python's own alone)

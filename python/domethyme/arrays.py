@@ -11,8 +11,9 @@ from .keys import Keys, as_list
 from .limits import MAX_NODES
 
 Numbers = NDArray[np.int64]
-# What names nodes, which places are taken for.
-OF_NODES = ("sources", "targets", "pairs")
+# What takes places, where they were given for nodes.
+OF_TABLE = "table(sources, targets) takes places"
+OF_PLACES = {"sources": OF_TABLE, "targets": OF_TABLE, "pairs": "directions(places) takes places, and nearest(lon, lat) finds nodes"}
 COLUMNS = (("from_node", "to_node"), ("from", "to"), ("source", "target"))
 
 
@@ -22,7 +23,7 @@ def whole_numbers(name: str, values: "ArrayLike | list[Hashable]", low: int, hig
     if array.size == 0:
         return array.astype(np.int64)
     if array.dtype.kind not in "iu" and not (array.dtype == object and all(type(value) is int for value in array.flat)):
-        places = ": nearest(lon, lat) finds the nodes of places" if array.dtype.kind == "f" and name in OF_NODES else ""
+        places = f": {OF_PLACES[name]}" if array.dtype.kind == "f" and name in OF_PLACES else ""
         raise ValueError(f"{name} have to be whole numbers, and are {array.dtype}{places}")
     if array.min() < low or array.max() > high:
         raise ValueError(f"{name} have to be from {low} to {high}, and are from {array.min()} to {array.max()}")
@@ -79,25 +80,28 @@ def nodes_of(name: str, values: Any, keys: Keys | None, nodes: int) -> Numbers:
     return array
 
 
-def places_of(places: Any) -> tuple[NDArray[np.float64], Any]:
-    """Places as an array of shape (n, 2), lon and lat in degrees, and the index of the frame that they came as, or None: rows
-    (lon, lat), a frame of pandas with the columns lon and lat, or points of geopandas in any system of coordinates. Raises
-    ValueError."""
-    index, points = getattr(places, "index", None), getattr(places, "geometry", None)
+def places_of(places: Any) -> NDArray[np.float64]:
+    """Places as an array of shape (n, 2), lon and lat in degrees: rows (lon, lat) or points of shapely, or one of these; a frame of pandas
+    with the columns lon and lat; or points of geopandas in any system of coordinates. Raises ValueError."""
+    points = getattr(places, "geometry", None)
     if points is not None and hasattr(points, "geom_type"):
         if not (points.geom_type == "Point").all():
             raise ValueError("places have to be points, and some geometries aren't: take their centroids, or representative points")
         points = points if points.crs is None else points.to_crs(4326)
-        return np.column_stack((points.x, points.y)), index
-    if is_pandas(places):
-        if not {"lon", "lat"} <= set(getattr(places, "columns", ())):
+        return np.column_stack((points.x, points.y))
+    if is_pandas(places) and places.ndim == 2:
+        if not {"lon", "lat"} <= set(places.columns):
             raise ValueError("a frame of places has to have the columns lon and lat")
-        return places[["lon", "lat"]].to_numpy(float), index
-    rows = np.asarray(places, float)
-    rows = rows.reshape(-1, 2) if rows.size == 0 else rows
+        return np.asarray(places[["lon", "lat"]], float)
+    several = [places] if getattr(places, "geom_type", None) == "Point" else places
+    try:
+        rows = np.array([(each.x, each.y) if getattr(each, "geom_type", None) == "Point" else each for each in several], float)
+    except (TypeError, ValueError):
+        raise ValueError("places have to be rows (lon, lat), or points") from None
+    rows = rows.reshape(-1, 2) if rows.size == 0 or rows.shape == (2,) else rows
     if rows.shape[1:] != (2,):
-        raise ValueError("places have to be rows (lon, lat)")
-    return rows, None
+        raise ValueError("places have to be rows (lon, lat), or points")
+    return rows
 
 
 def is_pandas(value: Any) -> bool:

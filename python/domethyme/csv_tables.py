@@ -24,6 +24,8 @@ ALIKE = 0.7
 # How a formula begins for programs that show tables, and what is a number to them.
 FORMULA, NUMBER = re.compile("'*[-=+@\t\r]"), re.compile(r"[-+]?[0-9]*\.?[0-9]+(?:[eE][-+]?[0-9]+)?")
 DIGITS = re.compile("[-+]?[0-9]{1,4000}")
+# What may be between fields, and how a command has it.
+MARKS, SHELL = {",": "commas", ";": "semicolons", "\t": "tabs"}, {";": "';'", "\t": "tab"}
 # (characters of a field: the line of a road of three million points; csv has 131,072 by default)
 csv.field_size_limit(max(csv.field_size_limit(), 1 << 26))
 
@@ -51,19 +53,29 @@ def open_input(path: StrPath) -> Iterator[IO[bytes]]:
 
 
 class Form(NamedTuple):
-    """How a table is written: what is between its fields, and before the decimals of a number."""
+    """How a table is written: what is between its fields, and before the decimals of a number; and whether that is for its user to say, by
+    --delimiter and --decimal."""
 
     delimiter: str = ","
     decimal: str = "."
+    is_chosen: bool = False
+
+    def doubt(self, columns: list[str]) -> str:
+        """What is said of a table whose first row is one field, which has another mark in it; nothing of others."""
+        other = next((mark for mark in MARKS if mark != self.delimiter and mark in columns[0]), None) if len(columns) == 1 else None
+        if other is None:
+            return ""
+        remedy = f", or give --delimiter {SHELL.get(other, other)}" if self.is_chosen else ""
+        return f": fields have to be separated by {MARKS.get(self.delimiter, self.delimiter)}{remedy}"
 
 
 class Row(dict[str, str]):
-    """The texts of a row by their columns, the file and row that they are of, and what is before decimals."""
+    """The texts of a row by their columns, the file and row that they are of, and the form of the table."""
 
-    __slots__ = ("path", "row", "decimal")
+    __slots__ = ("path", "row", "form")
     path: StrPath
     row: int
-    decimal: str
+    form: Form
 
     def error(self, message: str) -> NetworkError:
         return NetworkError(message, self.path, self.row)
@@ -72,8 +84,7 @@ class Row(dict[str, str]):
         return parse_int(self[column], column, self.path, self.row, low, high)
 
     def read_float(self, column: str, low: float = -math.inf, high: float = math.inf) -> float:
-        text = self[column] if self.decimal == "." else self[column].replace(".", " ").replace(self.decimal, ".")
-        return parse_float(text, column, self.path, self.row, low, high)
+        return parse_float(self[column], column, self.path, self.row, low, high, self.form)
 
 
 class Table:
@@ -85,14 +96,14 @@ class Table:
         if (columns := self.next_record()) is None:
             raise NetworkError("is empty", path)
         self.columns = columns
-        need_columns(path, self.columns, required)
+        need_columns(path, self.columns, required, form)
 
     def __iter__(self) -> Iterator[tuple[int, Row]]:
         while (record := self.next_record()) is not None:
             if not record:
                 continue
             fields = Row(zip(self.columns, record))
-            fields.path, fields.row, fields.decimal = self.path, self.reader.line_num, self.form.decimal
+            fields.path, fields.row, fields.form = self.path, self.reader.line_num, self.form
             if len(record) != len(self.columns):
                 raise fields.error(f"has {len(record)} fields in place of {len(self.columns)}")
             yield fields.row, fields
@@ -106,7 +117,7 @@ class Table:
         return record and [unescape_formula(field) for field in record]
 
 
-def need_columns(path: StrPath, columns: list[str], needed: Iterable[str]) -> None:
+def need_columns(path: StrPath, columns: list[str], needed: Iterable[str], form: Form = Form()) -> None:
     """Raises NetworkError that names all columns that are missing, or one that is there twice."""
     names = list(needed)
     if twice := [name for name in names if columns.count(name) > 1]:
@@ -114,9 +125,8 @@ def need_columns(path: StrPath, columns: list[str], needed: Iterable[str]) -> No
     if not (missing := [name for name in names if name not in columns]):
         return
     found = ", ".join(columns[:MAX_COLUMNS]) + ", ..." * (len(columns) > MAX_COLUMNS)
-    doubt = ""
-    if len(columns) == 1 and (";" in columns[0] or "\t" in columns[0]):
-        doubt = ": fields have to be separated by commas"
+    if doubt := form.doubt(columns):
+        pass
     elif blank := next((name for name in missing if name in map(str.strip, columns)), None):
         doubt = f": there is a blank beside {blank}"
     elif near := [f"{other} for {name}" for name in missing if (other := alike(name, columns)) is not None]:
@@ -159,14 +169,18 @@ def parse_int(text: str | bytes, what: str, path: StrPath, row: int | None, low:
 
 
 def parse_float(
-    text: str, what: str, path: StrPath, row: int | None, low: float = -math.inf, high: float = math.inf
+    text: str, what: str, path: StrPath, row: int | None, low: float = -math.inf, high: float = math.inf, form: Form = Form()
 ) -> float:
     """The value of a decimal number, from low to high."""
     try:
-        value = plain_float(text)
+        value = plain_float(text if form.decimal == "." else text.replace(".", " ").replace(form.decimal, "."))
     except ValueError as error:
-        comma = ": write a point for the comma" if re.fullmatch("[-+]?[0-9]+,[0-9]+", text) else ""
-        raise NetworkError(f"{what} {excerpt(text)} is no number{comma}", path, row) from error
+        doubt = ""
+        if form.decimal == "," and "." in text:
+            doubt = ": write a comma for the point"
+        elif re.fullmatch("[-+]?[0-9]+,[0-9]+", text):
+            doubt = ": write a point for the comma" + ", or give --decimal ," * form.is_chosen
+        raise NetworkError(f"{what} {excerpt(text)} is no number{doubt}", path, row) from error
     if not math.isfinite(value):
         raise NetworkError(f"{what} {excerpt(text)} is no finite number", path, row)
     if not low <= value <= high:

@@ -18,7 +18,7 @@ from .hierarchy import Hierarchy
 from .keys import Keys, as_list, is_missing, to_python_scalar
 from .limits import MAX_LINES, MAX_NODES, MAX_WEIGHT
 from .program import StrPath, find_program, run_explaining, run_watched
-from .progress import Progress, reporting
+from .progress import OnProgress, Progress, reporting
 
 if TYPE_CHECKING:
     import numpy as np
@@ -136,6 +136,10 @@ class Graph:
         saved beside its file, as FILE.keys, where Keys.load finds them."""
         return prepare(self, hierarchy, **options)
 
+    def renew(self, old: "Hierarchy | StrPath", hierarchy: StrPath, **options: Any) -> Hierarchy:
+        """Makes the hierarchy of the graph as `renew` does, and returns it with the graph's keys, which are saved as by `prepare`."""
+        return renew(self, old, hierarchy, **options)
+
 
 def whole_or_scaled(weights: "ArrayLike", scale: float | None) -> "ArrayLike":
     """The weights as whole numbers: times the scale, if there is one. Raises ValueError for others."""
@@ -210,8 +214,8 @@ def prepare(
     order               edges, neighbours, depth or balanced: which nodes go first; without it balanced, and with
                         `switch_order_after`, which takes the first three, depth
     workers             threads, 0 to 64; without it 4
-    sequential          one thread in place of workers, which makes the file of one worker in less time and three fifths of its
-                        memory; not beside `workers`
+    sequential          one thread in place of workers, which makes the file of one worker in less time and half of its memory; not
+                        beside `workers`
     seed                of the draws of nodes, 0 to 18446744073709551615; without it 1
     switch_order_after  after how many nodes a worker takes the next order, from 1; without it none does. `stint` is its old word
     program             the path of `routecli`, else it is looked for (find_program)
@@ -231,13 +235,48 @@ def prepare(
     arguments = [str(word) for name, value in options.items() if value is not None for word in (name, value)]
     arguments += ["--sequential"] * sequential
     with graph_file(graph) as text, reporting(progress) as on_progress:
-        files = [text, os.fspath(hierarchy)]
-        if progress:
-            ended = run_watched(found, ["prepare", *arguments], files, on_progress)
-        else:
-            ended = run_explaining(found, ["prepare", *arguments], files, stdout=subprocess.DEVNULL)
+        ended = run_making(found, ["prepare", *arguments], [text, os.fspath(hierarchy)], on_progress if progress else None)
     if ended.returncode != 0:
         raise error_from_exit(ended.returncode, ended.stderr)
+    return made_of(graph, hierarchy)
+
+
+def renew(
+    graph: "Graph | StrPath", old: "Hierarchy | StrPath", hierarchy: StrPath, program: StrPath | None = None, *, progress: Progress = False
+) -> Hierarchy:
+    """Makes the file of the hierarchy of a Graph, or of a graph's file, in the order of an old hierarchy of the same nodes, such as
+    the one for other weights, by `routecli renew`. Returns the Hierarchy. At an exception its file is as it was before.
+
+    old       a Hierarchy, or a file of one, which may be that of `hierarchy` too. Only the order of its nodes is used, so whatever it
+              is, the lengths by the new one are right
+    program   the path of `routecli`, else it is looked for (find_program)
+    progress  as for `prepare`; a callable receives ("renew", nodes done, nodes)
+
+    Raises WrongHierarchy if the old one has another number of nodes, and GraphError, HierarchyError, OutOfMemory, ReadWriteError,
+    ProgramNotFound, ProgramError, LibraryNotFound.
+    """
+    found, name = find_program(program), os.fspath(old.path if isinstance(old, Hierarchy) else old)
+    library.load_library()
+    with graph_file(graph) as text, reporting(progress) as on_progress:
+        ended = run_making(found, ["renew"], [name, text, os.fspath(hierarchy)], on_progress if progress else None)
+    if ended.returncode == WRONG:
+        raise WrongHierarchy(f"{name}: wrong: nodes", WRONG)
+    if ended.returncode != 0:
+        raise error_from_exit(ended.returncode, ended.stderr, name)
+    return made_of(graph, hierarchy)
+
+
+def run_making(
+    program: str, arguments: list[str], files: list[str], on_progress: OnProgress | None
+) -> "subprocess.CompletedProcess[bytes]":
+    """Runs a command that makes the file of a hierarchy, and reports how far it is if that is asked for."""
+    if on_progress is not None:
+        return run_watched(program, arguments, files, on_progress)
+    return run_explaining(program, arguments, files, stdout=subprocess.DEVNULL)
+
+
+def made_of(graph: "Graph | StrPath", hierarchy: StrPath) -> Hierarchy:
+    """The Hierarchy whose file was made of a graph, with the graph's keys, which are saved beside it if they can be."""
     keys = graph.keys if isinstance(graph, Graph) else None
     if keys is not None:
         keys.save(hierarchy) if keys.can_be_saved() else keys.belong_to(hierarchy)

@@ -1,10 +1,11 @@
 """A file of a hierarchy, and the questions that it answers."""
+import contextlib
 import functools
 import operator
 import os
 import zlib
-from collections.abc import Hashable, Iterable, Mapping, Sequence
-from typing import TYPE_CHECKING, Any, Literal, Union, overload
+from collections.abc import Hashable, Iterable, Iterator, Mapping, Sequence
+from typing import IO, TYPE_CHECKING, Any, Literal, Union, overload
 
 from .deprecated import check_by, radius_of, side_of
 from .errors import NoSuchNode, WrongHierarchy
@@ -12,7 +13,7 @@ from .extras import need
 from .features import Features
 from .hierarchy_file import file_stamp, open_hierarchy_file, pread_all, read_header
 from .keys import Keys, as_list
-from .limits import DEFAULT_RADIUS
+from .limits import DEFAULT_DEVIATION, DEFAULT_RADIUS
 from .network.tables import Side
 from .program import StrPath
 from .progress import Progress
@@ -23,7 +24,7 @@ if TYPE_CHECKING:
     import numpy as np
     from numpy.typing import NDArray
 
-    from .network.directions import Directions, Tour
+    from .network.directions import Directions, Match, Tour
     from .network.isochrones import Shape
     from .network.network import Bearings, Network
     from .network.snapping import SnappedPoint
@@ -38,6 +39,7 @@ DEFAULT_MINUTES = (5, 10, 15)
 
 Ends = Union[Mapping[Any, int], Iterable[Any]]
 By = Literal["library", "sweeps"]
+Gaps = Literal["split", "ignore"]
 
 
 class Hierarchy:
@@ -86,6 +88,7 @@ class Hierarchy:
         self.path, self._name, self._checksum = path, os.fspath(path), checksum
         self._full_path = os.path.abspath(self._name)
         self._metres: NDArray[np.uint32] | None = None
+        self._turned: Router | None = None
         with open_hierarchy_file(self._name) as file:
             self.nodes, self.links = read_header(file.fileno(), self._name)
             self._stamp = file_stamp(file.fileno())
@@ -119,15 +122,15 @@ class Hierarchy:
     def __reduce__(self) -> tuple[Any, ...]:
         """The file is read again by its absolute path, and has to be the same. Raises WrongHierarchy where it was replaced already."""
         if self._checksum is None:
-            with open_hierarchy_file(self._full_path) as file:
-                if file_stamp(file.fileno()) != self._stamp:
-                    raise WrongHierarchy(f"{self._name}: was replaced since it was read, so no other process can read it again")
+            with self._open_again("no other process can read it again") as file:
                 self._checksum = zlib.crc32(pread_all(file.fileno(), 0, self._stamp.size))
         return reopened, (self._full_path, self.keys, self.network, self._compare_all, self._checksum)
 
     def close(self) -> None:
         """Frees the memory. Questions then raise ValueError, as those of a closed file do."""
         self._router.close()
+        if self._turned is not None:
+            self._turned.close()
 
     # One question
 
@@ -268,23 +271,24 @@ class Hierarchy:
 
         limit   the greatest length that is asked for, in the unit of the weights, from 0 to 2^62; None for all
         minutes the same in minutes, if weights are milliseconds: of a network, or else nobody compares them
-        towards lengths to the nearest instead: the library has none yet, so True raises ValueError
+        towards True: the length of a shortest path from each node to the nearest of them, as of a depot that they drive to
 
         The library goes once over all nodes, whatever the limit: 0.02 s for a million, and 0.1 s the first time. Memory: 8
-        bytes for each node, and the library's. Raises NoSuchNode, ValueError, OutOfMemory, and LibraryNotFound for a library
-        that is older and lacks the call.
+        bytes for each node, and the library's. The first question `towards` reads the file again and turns each link round, which
+        takes some three times as long as to open it, and then the memory of a hierarchy more. Raises NoSuchNode, ValueError,
+        OutOfMemory, LibraryNotFound for a library that is older and lacks the call, and WrongHierarchy if the file was replaced before
+        the first question `towards`.
         """
         need("numpy")
         from . import arrays, batch
 
-        refuse_towards(towards)
         if minutes is not None:
             limit = self._limit_of(minutes, limit)
         if limit is not None and not (is_whole(limit) and 0 <= limit <= MAX_LIMIT):
             raise ValueError(f"limit has to be a whole number from 0 to 2^62, or None, and is {limit!r}")
         if isinstance(starts, (int, float)) and not isinstance(starts, bool):
             raise ValueError(f"starts are nodes in a list, as [{starts!r}]")
-        lengths = batch.reach(self._router, self._ends("starts", starts), limit)
+        lengths = batch.reach(self._towards() if towards else self._router, self._ends("starts", starts), limit)
         return lengths if self.keys is None else arrays.by_keys(lengths, self.keys)
 
     def within(
@@ -303,7 +307,7 @@ class Hierarchy:
         generalize  simplified by this many metres
         denoise     without parts and holes smaller than this share, from 0 to 1, of the largest part
         colors      six hexadecimal digits for each number
-        towards     as for `reach`
+        towards     True: the roads from which a place is reached, or the nearest of several
         radius      how many metres away a road may be
 
         The lengths are the library's. Polygons and lines are drawn from them and aren't proved. Raises NoSuchNode if no
@@ -315,7 +319,6 @@ class Hierarchy:
         from . import batch
         from .network import isochrones
 
-        refuse_towards(towards)
         for name, numbers in (("minutes", minutes), ("metres", metres)):
             if not isinstance(numbers, Iterable):
                 raise ValueError(f"{name} are a list, as [{numbers!r}], and a place is (lon, lat)")
@@ -325,7 +328,8 @@ class Hierarchy:
         if max(limits) > MAX_LIMIT:
             raise ValueError(f"{max(asked):g} is too much: lengths are asked for up to 2^62")
         points = network.points_on_roads(place, radius)
-        reach = isochrones.reach_from(roads, points, limits, functools.partial(batch.reach, self._router))
+        lengths = functools.partial(batch.reach, self._towards() if towards else self._router)
+        reach = isochrones.reach_of(roads, points, limits, lengths, towards)
         style = isochrones.Style(shape, generalize, denoise, colors, roads.texts[0])
         return Features(isochrones.features(reach, asked, "distance" if is_metres else "time", style), network)
 
@@ -337,18 +341,48 @@ class Hierarchy:
         """The Directions by two or more places in degrees in their order: a shortest path from each to the next, between the nearest
         points of roads, each of which leaves its place in either direction. None if there is no path. Needs the network.
 
-        places    rows (lon, lat), a frame of pandas with the columns lon and lat, points of geopandas, or what
-                  Network.points_on_roads returned
+        places    rows (lon, lat), a frame of pandas with the columns lon and lat, points of shapely or geopandas, or what
+                  Network.points_on_roads of this network returned
         radius, bearings, radiuses   as for Network.points_on_roads
 
-        The service's `/route` answers the same. Raises NoSuchNode if a road isn't near enough, and ValueError.
+        The service's `/route` answers the same. Raises NoSuchNode if a road isn't near enough, NetworkError for points on the roads
+        of another network, and ValueError.
         """
         points = self._points(places, radius, bearings, radiuses)
         if len(points) < 2:
             raise ValueError("directions need two places or more")
         from .network import directions
 
-        return directions.directions(self._router, self._need_network().roads, points)
+        found = directions.directions(self._router, self._need_network().roads, points)
+        return None if found is None else found._replace(network=self.network)
+
+    def alternatives(self, places: Any, count: int = 3, *, radius: float = DEFAULT_RADIUS) -> "list[Directions]":
+        """The Directions from one of two places in degrees to the other, given as for `directions`, and up to `count` others (0 to 3) that
+        differ from it and from one another; none if there is no path. Needs the network.
+
+        Another route weighs up to 1.25 times as much as the first, and has at most 0.75 of its weight in common with it and with each
+        other one. It has a plateau, of 0.2 of that weight or more: a part on shortest paths both from the first place and to the second.
+        No part of it that weighs less than its plateau could be shorter. This rests on proved lengths; how many are found doesn't, and
+        there may be none.
+
+        Each call takes the time of two calls of `reach`, one of them `towards`, and some hundredths of a second for a million nodes.
+        Raises what `directions` and `reach` do.
+        """
+        points = self._points(places, radius)
+        if len(points) != 2:
+            raise ValueError("alternatives are between two places")
+        from . import batch
+        from .network import alternatives, directions
+
+        if not is_whole(count) or not 0 <= count <= alternatives.MAX_ALTERNATIVES:
+            raise ValueError(f"count has to be from 0 to {alternatives.MAX_ALTERNATIVES}, and is {count!r}")
+        roads = self._need_network().roads
+
+        def reached(seeds: Sequence[tuple[int, int]], limit: int, towards: bool) -> "NDArray[np.int64]":
+            return batch.reach(self._towards() if towards else self._router, seeds, limit)
+
+        found = directions.alternatives(self._router, roads, points[0], points[1], reached, count)
+        return [each._replace(network=self.network) for each in found]
 
     def table(self, sources: Any, targets: Any = None, *, radius: float = DEFAULT_RADIUS, missing: Any = None) -> Any:
         """The weights of shortest paths from each source to each target, places in degrees that are given as for `directions`: an array
@@ -403,21 +437,51 @@ class Hierarchy:
         if order is None:
             return None
         stops = [points[place] for place in [*order, *(order[:1] if roundtrip or len(order) == 1 else [])]]
-        route = directions.directions(self._router, roads, stops)
+        route = self.directions(stops)
         return None if route is None else directions.Tour(order, route)
+
+    def match(
+        self, trace: Any, seconds: Sequence[float] | None = None, *, deviation: float | Sequence[float] = DEFAULT_DEVIATION,
+        bearings: "Bearings" = None, gaps: Gaps = "split", tidy: bool = False
+    ) -> "Match":
+        """The way of a vehicle that was measured at some places in degrees, given as for `directions` in order: a Match. Needs the network.
+
+        seconds    when it was at each place, whole or not, which rise; without them nothing is known of gaps
+        deviation  the standard deviation of the error of a place in metres, above 0 to 200, or one for each place
+        bearings   for each place None, or (bearing, tolerance) in whole degrees clockwise from north
+        gaps       "split": a way ends at a gap of time, of more than 60 s and more than ten times the usual; "ignore": it goes on
+        tidy       places less than 15 m, or less than 5 s, from the last one that is kept have no match
+
+        The way is the most probable one by a hidden Markov model: a place is near roads within 3 deviations, and the metres between
+        two of its points are near those of the great circle. Each leg is a shortest path, or a part of one; which points these are is
+        tested, and has no promise. A deviation that is too small gives wrong roads. Raises ValueError.
+        """
+        if gaps not in ("split", "ignore"):
+            raise ValueError(f'gaps has to be "split" or "ignore", not {gaps!r}')
+        need("numpy")
+        from .network import directions
+        from .network.network import trace_of
+
+        found = trace_of(trace, seconds, deviation, bearings)
+        return directions.match(self._router, self._need_network().roads, found, gaps == "split", tidy)
 
     # What they share
 
     def _points(
         self, places: Any, radius: float, bearings: "Bearings" = None, radiuses: Sequence[float | None] | None = None
     ) -> "list[SnappedPoint]":
-        """The points on roads for places, which may be such points already."""
+        """The points on roads for places, which may be such points of the network already."""
         need("numpy")
         from .network.snapping import SnappedPoint
 
-        if isinstance(places, Sequence) and places and all(isinstance(each, SnappedPoint) for each in places):
-            return list(places)
-        return self._need_network().points_on_roads(places, radius, bearings=bearings, radiuses=radiuses)
+        network = self._need_network()
+        if not (isinstance(places, Sequence) and places and all(isinstance(each, SnappedPoint) for each in places)):
+            return network.points_on_roads(places, radius, bearings=bearings, radiuses=radiuses)
+        if bearings is not None or radiuses is not None:
+            raise ValueError("places that are points on roads already have no bearings or radiuses")
+        for number, point in enumerate(places):
+            network.roads.check_point(number, point)
+        return list(places)
 
     def _limit_of(self, minutes: float, limit: int | None) -> int:
         """Minutes in milliseconds. Raises ValueError where a limit is given too, or weights are no times."""
@@ -432,11 +496,27 @@ class Hierarchy:
         ValueError where there is no network, and WrongHierarchy where the file was replaced."""
         network = self._need_network()
         if self._metres is None:
-            with open_hierarchy_file(self._full_path) as file:
-                if file_stamp(file.fileno()) != self._stamp:
-                    raise WrongHierarchy(f"{self._name}: was replaced since it was read, so its links can't be summed up")
+            with self._open_again("its links can't be summed up") as file:
                 self._metres = network.millimetres(file.fileno(), self._name)
         return self._metres
+
+    def _towards(self) -> Router:
+        """The router of the hierarchy with each link turned round, which is opened once. Raises WrongHierarchy where the file was
+        replaced before, ValueError where this is closed, and what opening raises."""
+        if self._turned is None:
+            if self._router.is_closed:
+                raise ValueError(f"the hierarchy {self._name} is closed")
+            with self._open_again("it can't be turned round") as file:
+                self._turned = Router(pread_all(file.fileno(), 0, self._stamp.size), self._name, is_turned=True)
+        return self._turned
+
+    @contextlib.contextmanager
+    def _open_again(self, why: str) -> Iterator[IO[bytes]]:
+        """The file that was read. Raises WrongHierarchy, with what therefore can't be, where it was replaced."""
+        with open_hierarchy_file(self._full_path) as file:
+            if file_stamp(file.fileno()) != self._stamp:
+                raise WrongHierarchy(f"{self._name}: was replaced since it was read, so {why}")
+            yield file
 
     def _need_network(self) -> "Network":
         if self.network is None:
@@ -448,7 +528,8 @@ class Hierarchy:
         if self.keys is not None:
             return self.keys.node(node)
         if not is_whole(node):
-            raise ValueError(f"{node!r} is no node: nodes are whole numbers, or keys where Hierarchy has keys=")
+            doubt = ": directions(places) takes places, and nearest(lon, lat) finds nodes" if isinstance(node, (tuple, float)) else ""
+            raise ValueError(f"{node!r} is no node: nodes are whole numbers, or keys where Hierarchy has keys={doubt}")
         number = operator.index(node)  # type: ignore[arg-type]
         if not 0 <= number < self.nodes:
             raise NoSuchNode(f"there is no node {number}: the hierarchy has nodes 0 to {self.nodes - 1}", node)
@@ -486,12 +567,6 @@ def reopened(path: str, keys: Keys | None, network: "Network | None", compare_al
     hierarchy = Hierarchy.__new__(Hierarchy)
     hierarchy._open(path, keys, network, compare_all, checksum)
     return hierarchy
-
-
-def refuse_towards(towards: bool) -> None:
-    """Raises ValueError for lengths that the library doesn't have."""
-    if towards:
-        raise ValueError("towards=True isn't supported: the library has lengths from starts, and none towards places")
 
 
 def is_whole(value: Any) -> bool:

@@ -65,6 +65,7 @@ ARGUMENTS: dict[str, list[type]] = {
 RETURNS: dict[str, type | None] = {"close": None, "text": COUNT}
 # Calls that older libraries lack.
 LATER_ARGUMENTS: dict[str, list[type]] = {
+    "open_turned": [A_HANDLE, ARRAY, COUNT],
     "reach": [A_HANDLE, ARRAY, COUNT, ctypes.c_uint64, ARRAY, COUNT],
     "table_sums": [A_HANDLE, ARRAY, COUNT, ARRAY, COUNT, ARRAY, COUNT, ARRAY, COUNT],
 }

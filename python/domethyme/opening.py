@@ -1,5 +1,6 @@
 """The files of one network with one beginning of their names, made of a map and opened together."""
 import os
+import re
 from typing import Any
 
 from .extras import need
@@ -41,11 +42,12 @@ def from_osm(
 
 def open(path: StrPath) -> Hierarchy:
     """The Hierarchy of PATH.rch, with its network, PATH.net, and its keys: those that Graph.prepare saved, or else the names that the table
-    of nodes of `to_network` has; a map's nodes are numbered from 0. A hierarchy without a network is opened without one.
+    of nodes of `to_network` has; a map's nodes are numbered from 0. A hierarchy without a network is opened without one. PATH may be the
+    name of one of the files.
 
     Raises HierarchyNotFound, and what Hierarchy raises for files that don't belong together.
     """
-    prefix = os.fspath(path).removesuffix(".rch")
+    prefix = re.sub(r"\.(rch|net|gr)$", "", os.fspath(path))
     hierarchy = f"{prefix}.rch"
     keys = Keys.load(hierarchy) if os.path.exists(hierarchy) and os.path.exists(f"{hierarchy}.keys") else None
     if not os.path.exists(f"{prefix}.net"):

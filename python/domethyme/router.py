@@ -52,11 +52,13 @@ class Searcher:
         self.route_info, self.between_info = RouteInfo(), BetweenInfo()
         self._resize_buffer(INITIAL_NODES)
 
-    def open(self, data: bytes | bytearray) -> int:
-        """Opens the bytes of a file, and returns its nodes. Raises HierarchyError, with its first fault, and OutOfMemory."""
+    def open(self, data: bytes | bytearray, is_turned: bool = False) -> int:
+        """Opens the bytes of a file, each link turned round or as it is, and returns its nodes. Raises HierarchyError, with its first
+        fault, OutOfMemory, and LibraryNotFound for an older library that can't turn."""
         number = ctypes.c_uint32()
         whole = data if isinstance(data, bytes) else (ctypes.c_char * len(data)).from_buffer(data)
-        self._check(self._library.domethyme_open(self._at, whole, len(data)))
+        call = load_later_call("open_turned") if is_turned else self._library.domethyme_open
+        self._check(call(self._at, whole, len(data)))
         self._check(self._library.domethyme_nodes(self._at, byref(number)))
         return number.value
 
@@ -138,14 +140,19 @@ class Searcher:
 class Router:
     """A hierarchy of so many `nodes`, and its seats."""
 
-    def __init__(self, data: bytes | bytearray, name: str) -> None:
-        """Opens the bytes of a file that messages call `name`. Raises HierarchyError, OutOfMemory and LibraryNotFound."""
+    def __init__(self, data: bytes | bytearray, name: str, is_turned: bool = False) -> None:
+        """Opens the bytes of a file that messages call `name`. With each link turned round it answers as of the graph whose arcs are
+        turned: what is reached from a node is what leads there. Raises HierarchyError, OutOfMemory and LibraryNotFound."""
         self.name, self._first = name, Searcher(name)
-        self.nodes = self._first.open(data)
+        self.nodes = self._first.open(data, is_turned)
         self._idle: list[Searcher] = []
         self._seats: "weakref.WeakSet[Searcher]" = weakref.WeakSet()
         self._making, self._is_closed = threading.Lock(), False
         _routers.add(self)
+
+    @property
+    def is_closed(self) -> bool:
+        return self._is_closed
 
     def close(self) -> None:
         """Frees the memory, that of a seat which is lent once it comes back. Questions then raise ValueError."""

@@ -9,8 +9,7 @@ import numpy as np
 from numpy.typing import NDArray
 
 from ..atomic_files import atomic_write_all
-from ..csv_tables import open_input
-from ..errors import MapError
+from ..errors import MapError, raised_as
 from ..limits import MAX_LINES, MAX_NODES
 from ..network import net_file
 from ..network.groups import offsets
@@ -20,13 +19,13 @@ from ..network.tables import OSM_ATTRIBUTION, Files
 from ..program import StrPath
 from ..progress import OnProgress
 from . import turn_restrictions
-from .map_arrays import Folder, NodeArrays, WayArrays, cut_runs, folder_beside, read_places, read_ways
+from .map_arrays import Folder, NodeArrays, Runs, WayArrays, cut_runs, folder_beside, read_places, read_ways
 from .road_network import (
     OUTSIDE, WEIGHTS, RoadNetwork, RoadTable, RowsOf, Rules, build_network, keep_largest, metres_of_roads, split_junctions, to_arrays
 )
 from .turn_restrictions import Bools, Report, Restriction
 from .vehicle_profile import (
-    Profile, blocks_way, conditional_keys, judge, structure_of, unsupported_tags, way_keys
+    Profile, blocks_way, conditional_keys, judge, other_ways, road_tags, seconds_of, structure_of, unsupported_tags, way_keys
 )
 
 # metres: the most of a longest arc
@@ -66,10 +65,11 @@ def options_of(words: Mapping[str, Any]) -> Options:
 
 
 class Map(NamedTuple):
-    """The roads that the vehicle may take, in the map's order, their counts of nodes, these nodes, and the turn
-    restrictions. `rows_of` gives the rows of texts of roads by their numbers."""
+    """The roads that the vehicle may take, in the map's order, the seconds of each that is a ferry's with a duration, else NaN, their
+    counts of nodes, these nodes, and the turn restrictions. `rows_of` gives the rows of texts of roads by their numbers."""
 
     roads: RoadTable
+    seconds: Floats
     counts: NDArray[np.uint32]
     places: NodeArrays
     restrictions: list[Restriction]
@@ -79,7 +79,8 @@ class Map(NamedTuple):
 def read_map(path: StrPath, profile: Profile, folder: Folder, report: Report) -> Map:
     """The roads of the map, and the nodes that they name: which are junctions, where they lie, which are barriers; and the
     turn restrictions for the vehicle."""
-    ways = read_ways(folder, path, way_keys(profile), conditional_keys(profile))
+    ways = read_ways(folder, path, way_keys(profile), conditional_keys(profile), other_ways(profile))
+    ways = ways._replace(tags=[*map(road_tags, ways.tags)])
     is_taken, speeds, unknown = judge_tags(ways, profile, report)
     restrictions = []
     for tags, members in ways.relations:
@@ -99,7 +100,8 @@ def read_map(path: StrPath, profile: Profile, folder: Folder, report: Report) ->
     places = read_places(folder, path, taken, ["barrier", *profile.access], lambda tags: blocks_way(tags, profile))
     report["nodes that the map lacks"] = len(places.osm) - int(places.is_there.sum())
     report["barriers that part roads"] = int(places.is_barrier.sum())
-    return Map(roads, ways.nodes[taken], places, restrictions, text_rows(ways))
+    seconds = np.array([*map(seconds_of, ways.tags)])[ways.labels[:, 0][label]]
+    return Map(roads, seconds, ways.nodes[taken], places, restrictions, text_rows(ways))
 
 
 def judge_tags(ways: WayArrays, profile: Profile, report: Report) -> tuple[Bools, Floats, dict[str, Report]]:
@@ -125,12 +127,15 @@ def judge_tags(ways: WayArrays, profile: Profile, report: Report) -> tuple[Bools
 def text_rows(ways: WayArrays) -> RowsOf:
     """A function that gives for each of some labels of ways its texts, by net_file.TEXTS."""
     texts = [" ".join(text.split()) for text in ways.texts]
-    of_tags = [(tags["highway"], " ".join(tags.get("junction", "").split()), structure_of(tags)) for tags in ways.tags]
+    of_tags = [
+        (tags["highway"], " ".join(tags.get("junction", "").split()), structure_of(tags), "yes" if tags.get("toll", "no") == "yes" else "")
+        for tags in ways.tags
+    ]
 
     def rows_of(used: NDArray[np.int64]) -> Iterator[tuple[str, ...]]:
         for tags, name, ref, destination in ways.labels[used].tolist():
-            highway, junction, structure = of_tags[tags]
-            yield highway, texts[name if ways.texts[name] else ref], texts[ref], junction, texts[destination], structure
+            highway, junction, *others = of_tags[tags]
+            yield highway, texts[name if ways.texts[name] else ref], texts[ref], junction, texts[destination], *others
 
     return rows_of
 
@@ -146,6 +151,7 @@ def convert(
     with folder.step("roads"):
         runs = cut_runs(folder, read.counts, read.places, options.longest_arc)
     report["ways left out with fewer than two nodes in the map"] = len(read.counts) - len(np.unique(runs.road))
+    read = read._replace(roads=with_durations(read, runs))
     if not len(runs.road):
         raise MapError("has no road that the profile takes", path)
     with folder.step("junctions"):
@@ -162,6 +168,15 @@ def convert(
             raise MapError(f"{share}, less than {options.at_least:.0%}: is the map cut, or has it lost roads?", path)
     check_limits(len(network.node_osm), len(network.start), path)
     return network, read.rows_of
+
+
+def with_durations(read: Map, runs: Runs) -> RoadTable:
+    """The roads with the speeds that ferries have by their duration."""
+    metres = np.bincount(runs.road, runs.metres * runs.parts, len(read.seconds))
+    speed = metres * 3.6 / read.seconds
+    is_known = np.isfinite(speed) & (speed > 0)
+    forward, backward = (np.where(is_known & ~np.isnan(side), speed, side) for side in (read.roads.forward, read.roads.backward))
+    return read.roads._replace(forward=forward, backward=backward)
 
 
 def check_limits(nodes: int, arcs: int, path: StrPath) -> None:
@@ -191,7 +206,7 @@ def write_network(map_path: StrPath, out: str, profile: Profile, options: Option
     report: Report = collections.Counter()
     names = Files(out)
     old_tables = tables_there(names, options.tables)
-    with open_input(map_path):
+    with raised_as(MapError, map_path), open(map_path, "rb"):
         if not os.path.isfile(map_path):
             raise MapError("is no regular file; a map is read twice", map_path)
     with atomic_write_all(*outputs_of(out, options)) as (graph, binary, *tables):

@@ -194,10 +194,11 @@ class WayArrays(NamedTuple):
     relations: list[tuple[Tags, list[Member]]]
 
 
-def read_ways(folder: Folder, path: StrPath, keys: Sequence[str], conditional: Sequence[str]) -> WayArrays:
-    """The ways of a map that have the first of the keys. Tags are those with one of the keys, or whose key begins with one
-    of `conditional` and ends with `:conditional`."""
-    words = [f"{letter}:{key}" for letter, some in (("k", keys), ("p", conditional), ("t", TEXTS)) for key in some]
+def read_ways(folder: Folder, path: StrPath, keys: Sequence[str], conditional: Sequence[str], others: Sequence[str] = ()) -> WayArrays:
+    """The ways of a map that have the first of the keys, or one of the tags `others`, each KEY=VALUE. Tags are those with one of the
+    keys, or whose key begins with one of `conditional` and ends with `:conditional`."""
+    kinds = (("k", keys), ("p", conditional), ("w", others), ("t", TEXTS))
+    words = [f"{letter}:{key}" for letter, some in kinds for key in some]
     folder.read_map("ways", path, ["s::conditional", *words])
     of_relations, rows = folder.tags("relation_tags", path), folder.array("member", "i8", 3).tolist()
     members = (Member(chr(kind), osm, ROLES[role]) for kind, role, osm in rows)

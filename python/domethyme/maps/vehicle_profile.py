@@ -28,6 +28,9 @@ FEET = re.compile(r"([0-9]+)' *(?:([0-9]+(?:\.[0-9]+)?)\")?")
 MEASURES = {None: 1, "m": 1, "cm": 0.01, "ft": 0.3048, "t": 1, "kg": 0.001, "st": 0.90718474, "lt": 1.0160469088,
             "lbs": 0.00045359237, "cwt": 0.05080234544}
 NO_LIMIT = ("none", "no", "default", "unsigned", "no_sign", "unspecified")
+# The class of a ferry's way, and the forms of its duration
+FERRY = "ferry"
+DURATION, ISO_DURATION = re.compile(r"[0-9]{1,4}(:[0-5][0-9]){0,2}"), re.compile(r"PT(?:([0-9]{1,3})H)?(?:([0-9]{1,4})M)?(?:([0-9]{1,4})S)?")
 # hundredths of a second
 TURNS, MAX_PENALTY = ("left", "right", "back"), 360_000
 ONEWAY = {"yes": "forward", "true": "forward", "1": "forward", "-1": "backward", "reverse": "backward"}
@@ -136,7 +139,8 @@ def speed_error(value: Any, least: float = SLOWEST) -> str:
 def way_keys(profile: Profile) -> list[str]:
     """The keys of a way that the rules look at, but those of conditions; the first is the one that a road has."""
     tags = [word.partition("=")[0] for word in (*profile.both_ways, *profile.closed_by)]
-    kinds = ["highway", "area", "junction", "tunnel", "bridge", *["surface"] * bool(profile.surfaces)]
+    kinds = ["highway", "area", "junction", "tunnel", "bridge", "toll", *["surface"] * bool(profile.surfaces)]
+    kinds += ["duration"] * (FERRY in profile.speeds)
     return list(dict.fromkeys([*kinds, *profile.access, *profile.oneway, *speed_keys(profile), *profile.measures, *tags]))
 
 
@@ -151,7 +155,7 @@ def conditional_keys(profile: Profile) -> tuple[str, ...]:
 
 
 def judge(tags: Tags, profile: Profile) -> Judgement:
-    """What the rules say of a way with these tags, one of which is `highway`."""
+    """What the rules say of a way with these tags, one of which is `highway` (FERRY for a ferry's)."""
     reason = rejection_reason(tags, profile)
     if reason is not None:
         return Judgement(reason)
@@ -253,6 +257,29 @@ def unsupported_tags(tags: Tags, profile: Profile) -> Iterator[tuple[str, bool]]
     yield "ways for destinations alone that are taken as open", "destination" in access.split(";")
     conditional = any(key.endswith(":conditional") and key.startswith(conditional_keys(profile)) for key in tags)
     yield "ways with rules for some times or conditions, which aren't looked at", conditional
+
+
+def other_ways(profile: Profile) -> list[str]:
+    """The tags of ways that are taken though they are no highways."""
+    return ["route=ferry"] * (FERRY in profile.speeds)
+
+
+def road_tags(tags: Tags) -> Tags:
+    """The tags of a way with a class of highway: a way without one that was read is a ferry's."""
+    return {"highway": FERRY, **tags}
+
+
+def seconds_of(tags: Tags) -> float:
+    """The seconds of a ferry's way by its `duration`, minutes or HH:MM or HH:MM:SS or PT..H..M..S; NaN if that isn't known."""
+    text = tags.get("duration", "").strip() if tags["highway"] == FERRY else ""
+    if plain := DURATION.fullmatch(text):
+        numbers = [int(each) for each in text.split(":")]
+        hours, minutes, seconds = [0, *numbers, 0] if len(numbers) == 1 else [*numbers, 0][:3]
+    elif (plain := ISO_DURATION.fullmatch(text)) and text[-1:] not in ("T", "P"):
+        hours, minutes, seconds = (int(each or 0) for each in plain.groups())
+    else:
+        return math.nan
+    return 3600 * hours + 60 * minutes + seconds or math.nan
 
 
 def structure_of(tags: Tags) -> str:

@@ -28,12 +28,12 @@ class BearingRange(NamedTuple):
 
 
 def nearest_with_bearing(
-    roads: RoadIndex, place: Point, count: int, bearing_range: BearingRange, radius: float
+    roads: RoadIndex, place: Point, count: int, bearing_range: BearingRange, radius: float, is_any: bool = False
 ) -> list[SnappedPoint]:
-    """The `count` nearest points, up to `radius`, of roads with a direction in the range, which routes keep to."""
+    """The `count` nearest points, up to `radius`, of roads with a direction in the range, which routes keep to; of ferries only with `is_any`."""
     found: list[SnappedPoint] = []
     for limit in CANDIDATES:
-        edges = roads.nearest_edges(place, limit, within=radius)
+        edges = roads.nearest_edges(place, limit, within=radius, is_any=is_any)
         chosen = (roads.snap(place, edge) for edge in likely_edges(roads, place, edges, bearing_range))
         restricted = (restrict_to_bearing(roads, snapped, bearing_range) for snapped in chosen)
         found = list(itertools.islice((snapped for snapped in restricted if snapped is not None), count))
@@ -81,10 +81,7 @@ def restrict_to_bearing(roads: RoadIndex, snapped: SnappedPoint, bearing_range: 
     """The point with the arcs of its edge whose direction is in the range; None if there is none."""
     arcs = roads.edge(snapped.edge).arcs
     kept = {number: arc for number, arc in arcs.items() if bearing_range.contains(bearing_at(roads, arc, snapped.fraction))}
-    if not kept:
-        return None
-    exits, entries = roads.split_arcs(kept, snapped.fraction)
-    return snapped._replace(exits=exits, entries=entries, arcs=frozenset(kept))
+    return roads.keep_arcs(snapped, kept) if kept else None
 
 
 def bearing_at(roads: RoadIndex, arc: Arc, fraction: float) -> float:

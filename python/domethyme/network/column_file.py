@@ -82,12 +82,13 @@ def checksums(whole: NDArray[np.uint8]) -> list[int]:
 
 
 class MappedFile:
-    """A file of arrays that is mapped. `columns` are by the names of its form, and `sum` changes with what is in them. Raises
-    NetworkError for one that can't be read, has another form, or is damaged in its head or tail."""
+    """A file of arrays that is mapped. `columns` are by the names of its form, and `sum` changes with what is in them. `changes` counts
+    how often it was found to have been written to: what was read before may be wrong. Raises NetworkError for one that can't be
+    read, has another form, or is damaged in its head or tail."""
 
     def __init__(self, file: IO[bytes], path: str, forms: Mapping[int, Schema], remedy: str) -> None:
         """`forms` are those of the versions that are read."""
-        self.path, self.remedy, self._forms = path, remedy, forms
+        self.path, self.remedy, self._forms, self.changes = path, remedy, forms, 0
         # a descriptor of its own, by which `check_unchanged` looks at the file that is mapped, whatever has its name
         self._file = os.dup(file.fileno())
         weakref.finalize(self, os.close, self._file)
@@ -108,17 +109,18 @@ class MappedFile:
             for column in self.columns.values():
                 column.verify_rows(slice(None))
 
-    def check_unchanged(self) -> None:
-        """Raises NetworkError where the file was written to. Where its times alone differ, blocks are verified anew."""
+    def check_unchanged(self) -> int:
+        """Raises NetworkError where the file was written to. Where its times alone differ, blocks are verified anew. Returns `changes`."""
         now = self._stat()
         if now == self._state:
-            return
+            return self.changes
         if now[0] != self._state[0] or self._sum_now() != self.sum:
             problem = "was written to while it was in use; new files have to take their place by a rename"
             raise NetworkError(problem, self.path)
         for column in self.columns.values():
             column.forget()
-        self._state = now
+        self._state, self.changes = now, self.changes + 1
+        return self.changes
 
     def _sum_now(self) -> int:
         """The checksum of the head and the tail, as they are now."""
@@ -182,6 +184,10 @@ class Column:
 
     def __array__(self, dtype: Any = None) -> NDArray[Any]:
         return np.asarray(self[:], dtype)
+
+    @property
+    def changes(self) -> int:
+        return self._file.changes
 
     @property
     def checksum(self) -> int:

@@ -44,16 +44,16 @@ def keep(nodes: "Nodes", arcs: ArcArrays, kept: NDArray[np.bool_]) -> "tuple[Nod
     )
 
 
-def described(nodes: "Nodes", arcs: ArcArrays, kept: NDArray[np.bool_]) -> list[str]:
-    """Lines that say how a network hangs together, and the quartiles of the lengths and speeds of its arcs."""
-    said = []
-    alone = len(kept) - len(np.union1d(arcs.starts, arcs.ends))
-    if left := len(kept) - int(kept.sum()):
-        said.append(f"{int(kept.sum())} of {len(kept)} nodes reach one another, and {left} don't, of which {alone} have no arc")
+def islands(arcs: ArcArrays, kept: NDArray[np.bool_]) -> list[str]:
+    """A line that says how many nodes aren't of those that are kept, if any."""
+    alone, left = len(kept) - len(np.union1d(arcs.starts, arcs.ends)), len(kept) - int(kept.sum())
+    return [f"{int(kept.sum())} of {len(kept)} nodes reach one another, and {left} don't, of which {alone} have no arc"] if left else []
+
+
+def quartiles(arcs: ArcArrays) -> list[str]:
+    """Lines with the quartiles of the lengths and speeds of arcs."""
     figures = [("metres", arcs.metres)]
     if (timed := arcs.seconds > 0).any():
         figures.append(("km/h", arcs.metres[timed] * 3.6 / arcs.seconds[timed]))
-    for name, values in figures:
-        quartiles = ", ".join(f"{value:.0f}" for value in np.quantile(values, [0, 0.25, 0.5, 0.75, 1]))
-        said.append(f"{name} of arcs, from the least by quartiles to the greatest: {quartiles}")
-    return said
+    shown = ((name, ", ".join(f"{value:.0f}" for value in np.quantile(values, [0, 0.25, 0.5, 0.75, 1]))) for name, values in figures)
+    return [f"{name} of arcs, from the least by quartiles to the greatest: {values}" for name, values in shown]

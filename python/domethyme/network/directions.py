@@ -6,20 +6,27 @@ library's, which is proved; the split and the choice of the road are tested. Met
 import functools
 import itertools
 from collections.abc import Sequence
-from typing import Any, NamedTuple
+from typing import TYPE_CHECKING, Any, NamedTuple
 
 import numpy as np
 
 from ..batch import table
+from ..features import picture
 from ..protocol import RouteReply
 from ..router import Router
+from .alternatives import Reached
+from .alternatives import alternatives as other_legs
 from .geo import Point, to_geojson_geometry
 from .groups import Ints
 from .leg_geometry import MICRODEGREES, RouteGeometry, leg_totals
 from .leg_tables import weight_rows
 from .legs import Leg, SnapEnds, find_leg
+from .matching import Matched, Matcher, Trace
 from .parallel import differs_from_previous
 from .snapping import NAME, RoadIndex, SnappedPoint
+
+if TYPE_CHECKING:
+    from .network import Network
 
 # Lengths between nodes that are computed at once, for a table.
 NODE_CELLS = 1 << 22
@@ -28,7 +35,7 @@ NODE_CELLS = 1 << 22
 class RoadRoute(NamedTuple):
     """The route between two points on roads: its weight in the graph's unit, of how many arcs it has a part, its seconds, None where
     the network has none, its metres, the streets with their metres and seconds, and its line (lon, lat), of two points or more.
-    All are None where there is no route."""
+    All are None where there is no route. Its text in a session leaves out the line."""
 
     weight: int | None = None
     arcs: int | None = None
@@ -36,6 +43,9 @@ class RoadRoute(NamedTuple):
     metres: float | None = None
     steps: list[dict[str, Any]] | None = None
     line: list[Point] | None = None
+
+    def __repr__(self) -> str:
+        return f"<RoadRoute: {described(self)}, {len(self.line or ())} points>"
 
 
 class Directions(NamedTuple):
@@ -47,6 +57,7 @@ class Directions(NamedTuple):
     legs      a RoadRoute from each place to the next
     places    the points on roads that stand for the places
     attribution   what the map asks pages to show, "" for nothing
+    network       on which it is drawn in a notebook, or None
     """
 
     weight: int
@@ -55,6 +66,10 @@ class Directions(NamedTuple):
     legs: list[RoadRoute]
     places: list[SnappedPoint]
     attribution: str
+    network: "Network | None" = None
+
+    def __repr__(self) -> str:
+        return f"<Directions by {len(self.places)} places: {described(self)}>"
 
     @property
     def steps(self) -> list[dict[str, Any]]:
@@ -78,6 +93,10 @@ class Directions(NamedTuple):
     def __geo_interface__(self) -> dict[str, Any]:
         return self.geojson()
 
+    def _repr_html_(self) -> str | None:
+        """Its picture in a notebook, None without a network."""
+        return None if self.network is None else picture(self.network, [self.geojson()])
+
 
 class Tour(NamedTuple):
     """The order of some places, each from 0, and the route by them in this order, which leads back to the first one of a round trip."""
@@ -85,15 +104,94 @@ class Tour(NamedTuple):
     order: list[int]
     directions: Directions
 
+    def _repr_html_(self) -> str | None:
+        """The picture of its route in a notebook, None without a network."""
+        return self.directions._repr_html_()
+
+
+def described(route: Directions | RoadRoute) -> str:
+    """The figures of a route, as a session shows them."""
+    seconds = "" if route.seconds is None else f", {route.seconds:g} s"
+    return f"weight {route.weight}, {route.metres:g} m{seconds}" if route.metres is not None else "no path"
+
+
+class Matching:
+    """A way that was matched to points of a trace.
+
+    points      the numbers of the points, from 0
+    confidence  the mean probability, by the model, that a point is where it is, from 0 to 1
+    matched     where they are on roads, and the legs between
+    """
+
+    def __init__(self, roads: RoadIndex, matched: Matched) -> None:
+        self.points, self.confidence, self.matched, self._roads = matched.points, matched.confidence, matched, roads
+
+    def __repr__(self) -> str:
+        return f"<Matching of {len(self.points)} points>"
+
+    @functools.cached_property
+    def directions(self) -> Directions:
+        """The Directions along the way, with a leg from each of its points to the next."""
+        return directions_along(self._roads, self.matched.places, self.matched.legs)
+
+    def geojson(self) -> dict[str, Any]:
+        """The way as a Feature, with its confidence and its points beside weight, seconds and metres."""
+        found = self.directions.geojson()
+        found["properties"] |= {"confidence": round(self.confidence, 3), "points": self.points}
+        return found
+
+    @property
+    def __geo_interface__(self) -> dict[str, Any]:
+        return self.geojson()
+
+
+class Match(NamedTuple):
+    """What a trace was matched to.
+
+    matchings  the Matchings, in the order of the trace; another begins at a gap of time, and where no way leads on
+    places     for each point of the trace the point on a road that it is, or None for one without a match
+    """
+
+    matchings: list[Matching]
+    places: list[SnappedPoint | None]
+
+
+def match(router: Router, roads: RoadIndex, trace: Trace, is_split: bool, is_tidy: bool) -> Match:
+    """What a trace is matched to. Raises NetworkError."""
+    found = Matcher(functools.partial(ask_router, router), functools.partial(table, router), roads, trace).ways(is_split, is_tidy)
+    places: list[SnappedPoint | None] = [None] * len(trace.places)
+    for way in found:
+        for number, place in zip(way.points, way.places):
+            places[number] = place
+    return Match([Matching(roads, way) for way in found], places)
+
 
 def directions(router: Router, roads: RoadIndex, points: Sequence[SnappedPoint]) -> Directions | None:
     """The route by some points in their order, None where a leg has no path. Raises NetworkError."""
-    legs = []
+    legs = list[Leg]()
     for start, end in itertools.pairwise(points):
         leg = find_leg(functools.partial(ask_router, router), roads, start, end)
         if leg is None:
             return None
-        legs.append(route_along(roads, start, end, leg))
+        legs.append(leg)
+    return directions_along(roads, points, legs)
+
+
+def alternatives(
+    router: Router, roads: RoadIndex, start: SnappedPoint, end: SnappedPoint, reached: Reached, count: int
+) -> list[Directions]:
+    """The route between two points, and up to so many others; none where there is no path. Raises NetworkError."""
+    between = functools.partial(ask_router, router)
+    best = find_leg(between, roads, start, end)
+    if best is None:
+        return []
+    legs = [best, *other_legs(roads, start, end, best, between, reached, count)]
+    return [directions_along(roads, [start, end], [leg]) for leg in legs]
+
+
+def directions_along(roads: RoadIndex, points: Sequence[SnappedPoint], found: Sequence[Leg]) -> Directions:
+    """The route along legs from each point to the next."""
+    legs = [route_along(roads, start, end, leg) for (start, end), leg in zip(itertools.pairwise(points), found, strict=True)]
     weight, metres = sum(leg.weight or 0 for leg in legs), round(sum(leg.metres or 0.0 for leg in legs), 2)
     seconds = round(sum(leg.seconds or 0.0 for leg in legs), 3) if roads.has_seconds else None
     return Directions(weight, seconds, metres, legs, list(points), roads.texts[0])

@@ -68,7 +68,7 @@ def take_columns(table: Table, known: Mapping[str, tuple[str, ...]], needed: Ite
                 say(f"{table.path}: column {meant[0]} is taken as {name}")
     unused = [column for column in table.columns if column not in found]
     table.columns = [found.get(column, column) for column in table.columns]
-    need_columns(table.path, table.columns, needed)
+    need_columns(table.path, table.columns, needed, table.form)
     if unused:
         free = [name for name in known if name not in found.values()]
         near = ((column, alike(column, free)) for column in unused)

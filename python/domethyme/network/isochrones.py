@@ -22,7 +22,7 @@ METRICS: dict[str, tuple["Metric", int]] = {"duration": ("time", 60_000), "dista
 MAX_MINUTES = 600
 
 Metric = Literal["time", "distance"]
-# The least length of each node from the nearest of several, from 0, each with a length that is added; -1 above a limit.
+# The least length of each node from the nearest of several, or to it, from 0, each with a length that is added; -1 above a limit.
 Lengths = Callable[[Sequence[tuple[int, int]], int], Ints]
 Shape = Literal["polygons", "lines", "roads"]
 
@@ -60,10 +60,14 @@ def limits(unit: str, minutes: Sequence[float] = (), metres: Sequence[float] = (
     return [round(value * factor) for value in asked]
 
 
-def reach_from(roads: RoadIndex, points: Sequence[SnappedPoint], within: Sequence[int], lengths: Lengths) -> Reach:
-    """What is reached from the nearest of several points of roads within limits that rise. Raises what Reach and `lengths` do."""
-    starts = sorted((node, weight) for point in points for node, (weight, _) in point.exits.items())
-    return Reach(roads.arrays, lengths(starts, max(within, default=0)), within, [as_place(point) for point in points])
+def reach_of(
+    roads: RoadIndex, points: Sequence[SnappedPoint], within: Sequence[int], lengths: Lengths, towards: bool = False
+) -> Reach:
+    """What is reached from the nearest of several points of roads within limits that rise, or `towards` what leads there, where
+    `lengths` are those to the nearest. Raises what Reach and `lengths` do."""
+    sides = [point.entries if towards else point.exits for point in points]
+    seeds = sorted((node, weight) for side in sides for node, (weight, _) in side.items())
+    return Reach(roads.arrays, lengths(seeds, max(within, default=0)), within, [as_place(point) for point in points], towards)
 
 
 def as_place(point: SnappedPoint) -> PlaceOnRoad:

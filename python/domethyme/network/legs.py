@@ -4,7 +4,7 @@ Both points split arcs of the graph. A shortest path stays on one arc, or it lea
 arc, enters the second's by the start of one, and is a shortest path of the graph between. So the shortest of these is
 shortest in the graph with the split arcs.
 """
-from collections.abc import Callable
+from collections.abc import Callable, Sequence
 from typing import NamedTuple
 
 import numpy as np
@@ -38,6 +38,33 @@ def find_leg(ask: Between, roads: RoadIndex, start: SnappedPoint, end: SnappedPo
     if is_same_node(start, end):
         return EMPTY_LEG
     return choose_leg(roads, start, end, ask(start.exits, end.entries))
+
+
+def straight_legs(ask: Between, roads: RoadIndex, points: Sequence[SnappedPoint]) -> list[Leg] | int:
+    """The legs by some points in order that weigh least together of those that go on in their direction at each point within a road but the
+    first and the last; at a junction any turn will do. If there are none, the number of the first point from which none leads on. Up to
+    four legs are found for each two points. Raises NetworkError."""
+    states: list[tuple[SnappedPoint, int, list[Leg]]] = [(points[0], 0, [])]
+    for number, point in enumerate(points[1:], 1):
+        found = []
+        for end in [point] if number == len(points) - 1 else by_direction(roads, point):
+            ways = ((before, find_leg(ask, roads, start, end), legs) for start, before, legs in states)
+            there = [(before + leg.weight, [*legs, leg]) for before, leg, legs in ways if leg is not None]
+            if there:
+                found.append((end, *min(there, key=lambda way: way[0])))
+        if not found:
+            return number - 1
+        states = found
+    return min(states, key=lambda state: state[1])[2]
+
+
+def by_direction(roads: RoadIndex, point: SnappedPoint) -> list[SnappedPoint]:
+    """The point once for each direction of its road, or as it is at a junction."""
+    if point.copies:
+        return [point]
+    arcs = {number: arc for number, arc in roads.edge(point.edge).arcs.items() if number in point.arcs}
+    sides = ({number: arc for number, arc in arcs.items() if arc.is_along == is_along} for is_along in (True, False))
+    return [roads.keep_arcs(point, side) for side in sides if side]
 
 
 def is_same_node(start: SnappedPoint, end: SnappedPoint) -> bool:

@@ -41,7 +41,7 @@ VERSION, WITH_KEYS = 4, 5
 OLD_VERSION, OLD_WITH_KEYS = 2, 3
 UNITS = indexes.UNITS
 NO_OSM = -(1 << 63)
-TEXTS = ("highway", "name", "ref", "junction", "destination", "structure")
+TEXTS = ("highway", "name", "ref", "junction", "destination", "structure", "toll")
 UNITS_OF_WEIGHTS = ("weight", "duration", "distance")
 SECONDS_AT_A_TIME = 1 << 16
 NUMBER = r"-?[0-9]+(?:\.[0-9]+)?"
@@ -61,7 +61,7 @@ class Arrays(NamedTuple):
     node_ends                numbers in ENDS
     arc_row                  the row of texts of an arc
     arc_edge, arc_along      the edge that an arc lies on, and whether it leads along it
-    row_texts                rows of numbers of texts, in the order of TEXTS, and two zeros: different ones that arcs have, in the
+    row_texts                rows of numbers of texts, in the order of TEXTS, and a zero (two in older files): different ones that arcs have, in the
                              order of these numbers
     edge_begin, points       the points of edge e are points[edge_begin[e]:edge_begin[e + 1]], of shape (.., 2), lon and lat
     text_begin, text_bytes   text t is text_bytes[text_begin[t]:text_begin[t + 1]] in UTF-8; the first is what the data asks to
@@ -356,9 +356,9 @@ class Texts:
         return len(self._begins) - 1
 
     def __getitem__(self, number: int) -> str:
-        return self._text(number)
+        return self._text(number, self._begins.changes)
 
-    def _decoded(self, number: int) -> str:
+    def _decoded(self, number: int, _changes: int) -> str:
         if not 0 <= number < len(self):
             raise IndexError(number)
         begin, end = self._begins[number : number + 2].tolist()
@@ -374,7 +374,10 @@ class MappedNetwork:
     out_begin, ..   as in index.py
     node_grid, edge_grid    nodes, counted from 0, and edges, by their places
     box             the bounding box in degrees: west, south, east, which may be beyond 180, and north
+    is_partial      whether arcs are left out, so an edge may have none (without)
     """
+
+    is_partial = False
 
     if TYPE_CHECKING:
         def __getattr__(self, name: str) -> Column: ...

@@ -1,9 +1,10 @@
 """The class Network: where the nodes of a network lie, and the piece of road of each arc. Needs numpy."""
 import functools
 import itertools
+import math
 import os
 from collections.abc import Iterable, Iterator, Sequence
-from typing import Any, overload
+from typing import Any, Literal, overload
 
 import numpy as np
 from numpy.typing import NDArray
@@ -14,7 +15,7 @@ from ..deprecated import radius_of, side_of
 from ..errors import NetworkError, NoSuchNode
 from ..extras import load
 from ..keys import Keys, parse_keys
-from ..limits import DEFAULT_RADIUS
+from ..limits import DEFAULT_RADIUS, MAX_DEVIATION
 from ..links import Links
 from ..program import StrPath
 from ..route import Route, Rows
@@ -22,12 +23,14 @@ from ..routes import Routes
 from . import from_tables, net_file
 from .bearings import BearingRange, nearest_with_bearing
 from .geo import Point, to_geojson_geometry
+from .matching import Trace
 from .net_file import NO_OSM, UNITS
 from .node_index import NodeIndex, load_node_index
 from .reading import arcs_from_net
 from .snapping import RoadIndex, SnappedPoint
 from .sphere import Floats as Floats
 from .tables import ALL_ARC_COLUMNS, ENDS, KEY, Files, Side, arcs_file, need_nodes
+from .without import parse_classes, without
 
 # For each place None, or (bearing, tolerance) in degrees.
 Bearings = Sequence[tuple[int, int] | None] | None
@@ -38,19 +41,23 @@ class Network:
     files that take their names later change nothing.
 
     prefix   the beginning of their names
+    exclude  the classes of roads that are left out
     """
 
-    def __init__(self, prefix: StrPath) -> None:
-        """Raises NetworkError where there are no such files."""
+    def __init__(self, prefix: StrPath, *, exclude: Iterable[str] = ()) -> None:
+        """With `exclude`, some of motorway, toll, ferry and tunnel, the network is without these roads, and without what they cut off: its
+        hierarchy is that of the graph that the tool `without` makes. That takes scipy. Raises NetworkError where there are no such files, and ValueError."""
         self.prefix, self._files = os.fspath(prefix), Files(prefix)
+        words = exclude if isinstance(exclude, str) else ",".join(exclude)
+        self.exclude = parse_classes(words) if words else frozenset[str]()
         self._full_prefix = os.path.abspath(self.prefix)
         need_nodes(prefix)
 
     def __repr__(self) -> str:
         return f"<Network {self.prefix}>"
 
-    def __reduce__(self) -> tuple[type["Network"], tuple[str]]:
-        return Network, (self._full_prefix,)
+    def __reduce__(self) -> tuple[Any, ...]:
+        return functools.partial(Network, exclude=sorted(self.exclude)), (self._full_prefix,)
 
     @functools.cached_property
     def node_index(self) -> NodeIndex:
@@ -220,7 +227,8 @@ class Network:
 
     @functools.cached_property
     def _arrays(self) -> net_file.MappedNetwork:
-        return from_tables.load_network_or_dimacs(self.prefix)
+        found = from_tables.load_network_or_dimacs(self.prefix)
+        return without(found, self.exclude) if self.exclude else found
 
     @functools.cached_property
     def roads(self) -> RoadIndex:
@@ -229,41 +237,65 @@ class Network:
 
     def points_on_roads(
         self, places: Rows, radius: float = DEFAULT_RADIUS, *, bearings: Bearings = None, radiuses: Sequence[float | None] | None = None,
-        max_metres: float | None = None
+        snapping: Literal["default", "any"] = "default", max_metres: float | None = None
     ) -> list[SnappedPoint]:
         """The nearest point of a road to a place (lon, lat) in degrees, or to each of several: rows, a frame with the columns lon and
-        lat, or points of geopandas.
+        lat, or points of shapely or geopandas.
 
         radius    how many metres away a road may be; `radiuses` has a number for each place, or None for `radius`
         bearings  for each place None, or (bearing, tolerance) in whole degrees clockwise from north: a route begins and ends
                   there in a direction from bearing - tolerance to bearing + tolerance
+        snapping  "any": also points on ferries
 
         Raises NoSuchNode where no such road is near enough, ValueError for what are no degrees, and NetworkError.
         """
         radius = radius_of(radius, max_metres, "points_on_roads(max_metres=)")
-        is_one = np.shape(places) == (2,) and not hasattr(places, "columns")
-        rows, _ = places_of([places] if is_one else places)
+        rows = places_of(places)
         if not len(rows):
             raise ValueError("there has to be a place or more")
         check_degrees(rows[:, 0], rows[:, 1])
+        if snapping not in ("default", "any"):
+            raise ValueError(f'snapping has to be "default" or "any", not {snapping!r}')
+        is_any = snapping == "any"
         limits = [radius if each is None else each for each in each_place("radiuses", radiuses, len(rows))]
         ranges = [each and bearing_range(each) for each in each_place("bearings", bearings, len(rows))]
-        points: Iterable[SnappedPoint | None] = self.roads.nearest_batch([(lon, lat) for lon, lat in rows.tolist()])
+        spots = [(lon, lat) for lon, lat in rows.tolist()]
+        points: Iterable[SnappedPoint | None] = self.roads.nearest_within(spots, [math.inf] * len(spots), is_any)
         if any(ranges):
             points = (
-                next(iter(nearest_with_bearing(self.roads, (lon, lat), 1, wanted, limit)), None) if wanted else self.roads.nearest((lon, lat))[0]
-                for (lon, lat), wanted, limit in zip(rows.tolist(), ranges, limits)
+                next(iter(nearest_with_bearing(self.roads, spot, 1, wanted, limit, is_any)), None) if wanted
+                else next(iter(self.roads.nearest(spot, is_any=is_any)), None)
+                for spot, wanted, limit in zip(spots, ranges, limits)
             )
         found = []
         for number, (point, limit) in enumerate(zip(points, limits)):
             if point is None:
-                raise NoSuchNode(f"place {number} has no road within {limit:g} m in the direction of its bearing", number)
+                direction = " in the direction of its bearing" if ranges[number] else ""
+                raise NoSuchNode(f"place {number} has no road within {limit:g} m{direction}", number)
             if not point.metres <= limit:
                 lon, lat = rows[number].tolist()
-                swapped = abs(lon) <= 90 and next(iter(self.roads.nearest_batch([(lat, lon)]))).metres <= limit
+                swapped = abs(lon) <= 90 and any(other.metres <= limit for other in self.roads.nearest_batch([(lat, lon)]))
                 raise too_far("road", number, point.metres, limit, swapped)
             found.append(point)
         return found
+
+
+def trace_of(places: Any, seconds: Sequence[float] | None, deviation: float | Sequence[float], bearings: Bearings) -> Trace:
+    """The Trace of some places, given as for `points_on_roads`. Raises ValueError."""
+    rows = places_of(places)
+    count = len(rows)
+    if count < 2:
+        raise ValueError(f"a trace has two places or more, and not {count}")
+    check_degrees(rows[:, 0], rows[:, 1])
+    times = None if seconds is None else [float(each) for each in each_place("seconds", seconds, count)]
+    if times is not None and not all(before <= behind < math.inf for before, behind in itertools.pairwise(times)):
+        raise ValueError("seconds have to be numbers that don't fall")
+    each_deviation = [deviation] * count if isinstance(deviation, (int, float)) else each_place("deviation", deviation, count)
+    deviations = [float(each) for each in each_deviation]
+    if not all(0 < each <= MAX_DEVIATION for each in deviations):
+        raise ValueError(f"a deviation is above 0 and up to {MAX_DEVIATION:g} metres")
+    ranges = [each and bearing_range(each) for each in each_place("bearings", bearings, count)]
+    return Trace([(lon, lat) for lon, lat in rows.tolist()], times, deviations, ranges)
 
 
 def each_place(name: str, values: "Sequence[Any] | None", count: int) -> Sequence[Any]:

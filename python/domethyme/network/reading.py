@@ -58,7 +58,7 @@ def arcs_from_net(arrays: "net_file.MappedNetwork") -> Iterator[Arc]:
         places = (points / UNITS).tolist()
         lines = (format_linestring(places[low:high]) for low, high in itertools.pairwise(begins.tolist()))
         for row, values, line in zip(arrays.arc_texts(part).tolist(), figures, lines):
-            highway, name, *others = (arrays.texts[text] for text in row)
+            highway, name, *others = (arrays.texts[text] if text else "" for text in row)
             yield Arc._make((*values, highway, name, line, *others))
 
 

@@ -8,7 +8,7 @@ import bisect
 import functools
 import itertools
 import math
-from collections.abc import Callable, Iterator, Sequence
+from collections.abc import Callable, Iterable, Iterator, Sequence
 from typing import Any, NamedTuple
 
 import numpy as np
@@ -18,6 +18,7 @@ from ..errors import NetworkError
 from .column_file import Column
 from .geo import Point, metres_between
 from .grid import Ints, concat_ranges
+from .groups import offsets
 from .net_file import NO_OSM, TEXTS, UNITS, MappedNetwork, load_network
 from .node_index import NodeIndex
 from .parallel import differs_from_previous
@@ -32,7 +33,13 @@ EDGE_CACHE_SIZE = 1 << 8
 # Segments that are projected on at once; and the offsets of a segment's ends.
 SEGMENTS_PER_BATCH = 1 << 15
 SEGMENT_END_OFFSETS = np.array([[0], [1]])
-NAME, JUNCTION = TEXTS.index("name"), TEXTS.index("junction")
+# Places for which several edges are found at once.
+PLACES_PER_BATCH = 16
+# The bits of an edge's number where it is packed with a place's.
+EDGE_BITS = 32
+HIGHWAY, NAME, JUNCTION = TEXTS.index("highway"), TEXTS.index("name"), TEXTS.index("junction")
+# The class of a ferry's way, where no route begins or ends unless that is asked for.
+FERRY = "ferry"
 ROUNDABOUT_VALUES = ("roundabout", "circular")
 
 
@@ -48,11 +55,12 @@ class Arc(NamedTuple):
 
 
 class Edge(NamedTuple):
-    """A line, the metres along it at each point, and its arcs by number."""
+    """A line, the metres along it at each point, its arcs by number, and the row of its first point."""
 
     points: tuple[Point, ...]
     cumulative: list[float]
     arcs: dict[int, Arc]
+    first: int
 
     @property
     def metres(self) -> float:
@@ -105,7 +113,7 @@ class RoadIndex:
             raise NetworkError("has no arcs", self.arrays.path)
         self.texts, self.unit, self.degree = self.arrays.texts, self.arrays.unit, self.arrays.degrees
         self.has_seconds, self.box = self.arrays.has_seconds, self.arrays.box
-        self.edge = functools.lru_cache(EDGE_CACHE_SIZE)(self._edge)
+        self._kept: tuple[int, dict[int, Edge]] = 0, {}
         self.places = NodeIndex(self.arrays)
 
     def osm_ids(self, nodes: NDArray[Any]) -> Ints:
@@ -118,6 +126,14 @@ class RoadIndex:
         self.arrays.file.check_unchanged()
         line = np.array(nodes, dtype=np.int64)
         return self.arrays.lightest(line[:-1], line[1:])
+
+    @functools.cached_property
+    def metres_of_weight(self) -> tuple[float, float]:
+        """The least and the greatest metres for a weight of 1 on any arc; infinity where an arc with metres weighs nothing."""
+        weights, metres = self.arrays.arc_weight[:], self.arrays.arc_metres[:]
+        each = metres[weights > 0] / weights[weights > 0]
+        most = math.inf if metres[weights == 0].any() else float(each.max(initial=0.0))
+        return float(each.min(initial=most)), most
 
     @functools.cached_property
     def roundabout_texts(self) -> Ints:
@@ -138,31 +154,48 @@ class RoadIndex:
         """An arc by its number, from 0."""
         return self.edge(int(self.arrays.arc_edge[number])).arcs[number]
 
-    def _edge(self, number: int) -> Edge:
-        arrays, points = self.arrays, tuple(self.arrays.edge_line(number))
-        first, last = arrays.edge_first[number : number + 2].tolist()
-        arcs = arrays.edge_arcs[first:last]
+    def edge(self, number: int) -> Edge:
+        return self.find_edges([number])[number]
+
+    def find_edges(self, numbers: Iterable[int]) -> dict[int, Edge]:
+        """Some edges by their numbers, and maybe others. What isn't kept is read by one look at each column."""
+        (of, kept), changes = self._kept, self.arrays.file.changes
+        kept = kept if of == changes else {}
+        if not (missing := [number for number in dict.fromkeys(numbers) if number not in kept]):
+            return kept
+        read = dict(zip(missing, self._read_edges(np.array(missing))))
+        found = {**kept, **read}
+        self._kept = changes, found if len(found) <= EDGE_CACHE_SIZE else dict(itertools.islice(read.items(), EDGE_CACHE_SIZE))
+        return found
+
+    def _read_edges(self, numbers: Ints) -> Iterator[Edge]:
+        arrays = self.arrays
+        lines, points = rows_of(numbers, arrays.edge_begin)
+        groups, rows = rows_of(numbers, arrays.edge_first)
+        arcs = arrays.edge_arcs[rows]
         columns = (arrays.arc_from, arrays.arc_to, arrays.arc_weight, arrays.arc_along)
-        rows = zip(arcs.tolist(), arrays.arc_texts(arcs, NAME).tolist(), *(column[arcs].tolist() for column in columns))
-        found = {
-            arc: Arc(start, end, weight, self.texts[name], number, is_along) for arc, name, start, end, weight, is_along in rows
-        }
-        return Edge(points, list(itertools.accumulate(segment_metres(points), initial=0.0)), found)
+        names = [self.texts[name] for name in arrays.arc_texts(arcs, NAME).tolist()]
+        of_arcs = [*zip(arcs.tolist(), *(column[arcs].tolist() for column in columns[:3]), names, columns[3][arcs].tolist())]
+        places = [(lon / UNITS, lat / UNITS) for lon, lat in arrays.points[points].tolist()]
+        for number, line, group in zip(numbers.tolist(), lines, groups):
+            metres = list(itertools.accumulate(segment_metres(places[line]), initial=0.0))
+            some = {arc: Arc(start, end, weight, name, number, is_along) for arc, start, end, weight, name, is_along in of_arcs[group]}
+            yield Edge(tuple(places[line]), metres, some, int(points[line.start]))
 
     def nearest(
-        self, place: Point, count: int = 1, step: Callable[[], object] = lambda: None, within: float = math.inf
+        self, place: Point, count: int = 1, step: Callable[[], object] = lambda: None, within: float = math.inf, is_any: bool = False
     ) -> list[SnappedPoint]:
         """The nearest points of the `count` nearest edges, the nearest first, and of equally near ones the first of the file, up to
-        `within` metres. `step` is called between parts of the work; an exception of it ends the work."""
-        return [self.snap(place, edge) for edge in self.nearest_edges(place, count, step, within)]
+        `within` metres; of ferries only with `is_any`. `step` is called between parts of the work; an exception of it ends the work."""
+        return [self.snap(place, edge) for edge in self.nearest_edges(place, count, step, within, is_any)]
 
     def snap(self, place: Point, edge: int) -> SnappedPoint:
         """The nearest point of an edge."""
         ways = self.project(np.array(place), np.array([edge]))
-        return self._snap_on_segment(edge, ways, int(ways.metres.argmin()))
+        return self._snap_on_segment(edge, self.edge(edge), ways, int(ways.metres.argmin()))
 
     def nearest_edges(
-        self, place: Point, count: int, step: Callable[[], object] = lambda: None, within: float = math.inf
+        self, place: Point, count: int, step: Callable[[], object] = lambda: None, within: float = math.inf, is_any: bool = False
     ) -> list[int]:
         """The edges of `nearest`."""
         self.arrays.file.check_unchanged()
@@ -173,7 +206,9 @@ class RoadIndex:
             for part in split_by_points(edges, self.arrays.edge_begin):
                 ways = self.project(here, part)
                 found.append(np.minimum.reduceat(ways.metres, np.flatnonzero(differs_from_previous(ways.which))))
-            return np.concatenate(found)
+            away: Floats = np.concatenate(found)
+            away[~self._are_open(edges, is_any)] = np.inf
+            return away
 
         # (metres are rounded to the millionth)
         near = self.arrays.edge_grid.nearest(place, min(count, self.edges), metres, step, within + 1e-6)
@@ -183,26 +218,69 @@ class RoadIndex:
         """The nearest point of a road to each place, as by `nearest`."""
         return (found for found in self.nearest_within(places, [math.inf] * len(places)) if found is not None)
 
-    def nearest_within(self, places: Sequence[Point], within: Sequence[float]) -> Iterator[SnappedPoint | None]:
+    def nearest_within(self, places: Sequence[Point], within: Sequence[float], is_any: bool = False) -> Iterator[SnappedPoint | None]:
         """The same up to so many metres from each place, or None. Those within the grid's first radius are found at once."""
         self.arrays.file.check_unchanged()
-        near = self._snap_nearby(places)
+        near = self._snap_nearby(places, self.arrays.edge_grid.initial_radius, 1, is_any)
         for number, (place, metres) in enumerate(zip(places, within, strict=True)):
-            found = [near[number]] if number in near else self.nearest(place, within=metres)
+            found = near[number] if number in near else self.nearest(place, within=metres, is_any=is_any)
             yield found[0] if found and found[0].metres <= metres else None
 
-    def _snap_nearby(self, places: Sequence[Point]) -> dict[int, SnappedPoint]:
-        """The nearest points by the index of their places, for places with one within the grid's first radius."""
-        grid, found = self.arrays.edge_grid, {}
-        which, edges = grid.candidates_of_each(places, grid.initial_radius)
+    def nearest_of_each(self, places: Sequence[Point], count: int, within: float) -> list[list[SnappedPoint]]:
+        """What `nearest` finds for each place up to so many metres from it, also of ferries, for most places at once."""
+        self.arrays.file.check_unchanged()
+        found = list[list[SnappedPoint]]()
+        for begin in range(0, len(places), PLACES_PER_BATCH):
+            some = places[begin : begin + PLACES_PER_BATCH]
+            near = self._snap_nearby(some, within, count, True)
+            found += (
+                near[number] if number in near else self.nearest(place, count, within=within, is_any=True)
+                for number, place in enumerate(some)
+            )
+        return found
+
+    def _snap_nearby(self, places: Sequence[Point], reach: float, count: int, is_any: bool) -> dict[int, list[SnappedPoint]]:
+        """By the index of their places the nearest points of the `count` nearest edges up to `reach` metres, for places that have any."""
+        which, edges = self.arrays.edge_grid.candidates_of_each(places, reach)
         if not len(edges):
             return {}
+        is_there = self._are_open(edges, is_any)
+        pairs = np.unique(which[is_there] << EDGE_BITS | edges[is_there])  # (an edge is in several cells)
+        which, edges = pairs >> EDGE_BITS, pairs & (1 << EDGE_BITS) - 1
         ways = self.project(np.array(places)[which], edges)
-        place = which[ways.which]
-        order = np.lexsort((ways.rows, ways.metres, place))  # (rows are in the order of edges)
-        for best in order[differs_from_previous(place[order])].tolist():
-            if ways.metres[best] <= grid.initial_radius:
-                found[int(place[best])] = self._snap_on_segment(int(edges[ways.which[best]]), ways, best)
+        order = np.lexsort((ways.rows, ways.metres, ways.which))
+        best = order[differs_from_previous(ways.which[order])]
+        best = best[ways.metres[best] <= reach]
+        place = which[ways.which[best]]
+        order = np.lexsort((ways.metres[best], place))  # (stable: edges rise)
+        best, place = best[order], place[order]
+        first = np.flatnonzero(differs_from_previous(place))
+        is_wanted = np.arange(len(place)) - first.repeat(np.diff(np.append(first, len(place)))) < count
+        found: dict[int, list[SnappedPoint]] = {}
+        chosen = best[is_wanted]
+        numbers: list[int] = edges[ways.which[chosen]].tolist()
+        lines = self.find_edges(numbers)
+        for number, edge, row in zip(place[is_wanted].tolist(), numbers, chosen.tolist()):
+            found.setdefault(number, []).append(self._snap_on_segment(edge, lines[edge], ways, row))
+        return found
+
+    @functools.cached_property
+    def _ferry_rows(self) -> NDArray[np.bool_]:
+        """Whether rows of texts are those of ferries."""
+        highways = self.arrays.row_texts[:, HIGHWAY]
+        return np.isin(highways, [number for number in np.unique(highways).tolist() if self.texts[number] == FERRY])
+
+    def are_ferries(self, arcs: NDArray[np.int64]) -> NDArray[np.bool_]:
+        return np.asarray(self._ferry_rows[self.arrays.arc_row[arcs]])
+
+    def _are_open(self, edges: NDArray[Any], is_any: bool) -> NDArray[np.bool_]:
+        """Whether edges have arcs, as they all have unless some arcs are left out, and are no ferries' unless any will do."""
+        found, first = np.ones(len(edges), dtype=bool), self.arrays.edge_first
+        if self.arrays.is_partial:
+            found &= first[edges] < first[edges + 1]
+        if not is_any and self._ferry_rows.any():
+            arcs = self.arrays.edge_arcs[np.minimum(first[edges], len(self.arrays.edge_arcs) - 1)]
+            found &= ~self.are_ferries(arcs)
         return found
 
     def project(self, places: Floats, edges: Ints) -> SegmentProjections:
@@ -214,10 +292,9 @@ class RoadIndex:
         metres, shares = nearest_on_segments(places if places.ndim < 2 else places[which], points)
         return SegmentProjections(which, rows, metres.round(6), shares)
 
-    def _snap_on_segment(self, edge: int, ways: SegmentProjections, best: int) -> SnappedPoint:
+    def _snap_on_segment(self, edge: int, line: Edge, ways: SegmentProjections, best: int) -> SnappedPoint:
         """The nearest point of segment `best` of the projections, which is of this edge."""
-        line, share = self.edge(edge), float(ways.shares[best])
-        step = int(ways.rows[best]) - int(self.arrays.edge_begin[edge])
+        share, step = float(ways.shares[best]), int(ways.rows[best]) - line.first
         lon, lat = interpolate_one(line.points[step], line.points[step + 1], share)
         along = line.cumulative[step] + share * (line.cumulative[step + 1] - line.cumulative[step])
         is_at_start = along <= END_TOLERANCE or line.metres <= 2 * END_TOLERANCE
@@ -226,12 +303,26 @@ class RoadIndex:
         name = next((arc.name for arc in line.arcs.values() if arc.name), "")
         if 0.0 < fraction < 1.0:
             return SnappedPoint(*place, *self.split_arcs(line.arcs, fraction), (), frozenset(line.arcs), name)
-        first = next(iter(line.arcs.values()))
+        return SnappedPoint(*place, *self._at_end(line.arcs, fraction), frozenset(), name)
+
+    def _at_end(self, arcs: dict[int, Arc], fraction: float) -> tuple[dict[int, tuple[int, int]], dict[int, tuple[int, int]], tuple[int, ...]]:
+        """The exits, entries and copies of the node at an end of an edge with these arcs."""
+        first = next(iter(arcs.values()))
         copies = self.places.split_nodes((first.start if first.is_along == (fraction == 0.0) else first.end) - 1)
         exits, entries = (
             {node: (0, NO_ARC) for node in copies if ENDS[self.arrays.node_ends[node]] in ("", side)} for side in ("from", "to")
         )
-        return SnappedPoint(*place, exits, entries, copies, frozenset(), name)
+        return exits, entries, copies
+
+    def check_point(self, number: int, point: SnappedPoint) -> None:
+        """Raises NetworkError for a point, the one of this number, that has other arcs or nodes than these roads have there."""
+        if 0 <= point.edge < self.edges:
+            arcs = self.edge(point.edge).arcs
+            kept = {arc: each for arc, each in arcs.items() if arc in point.arcs}
+            ends = self.split_arcs(kept, point.fraction) if point.arcs else self._at_end(arcs, point.fraction)[:2]
+            if len(kept) == len(point.arcs) and ends == (point.exits, point.entries):
+                return
+        raise NetworkError(f"place {number} is a point on the roads of another network", self.arrays.path)
 
     def split_arcs(self, arcs: dict[int, Arc], fraction: float) -> tuple[dict[int, tuple[int, int]], dict[int, tuple[int, int]]]:
         """The exits and the entries of a point that splits these arcs at a fraction of their edge; nodes from 0."""
@@ -243,6 +334,11 @@ class RoadIndex:
                 if node not in found or weight < found[node][0]:
                     found[node] = weight, number
         return exits, entries
+
+    def keep_arcs(self, point: SnappedPoint, kept: dict[int, Arc]) -> SnappedPoint:
+        """A point with some arcs of its edge alone, on which routes begin and end there."""
+        exits, entries = self.split_arcs(kept, point.fraction)
+        return point._replace(exits=exits, entries=entries, arcs=frozenset(kept))
 
     @staticmethod
     def arc_fraction(arc: Arc, fraction: float) -> float:
@@ -258,6 +354,13 @@ class RoadIndex:
         arc = self.arc(number)
         edge = self.edge(arc.edge)
         return clip(edge, begin, end) if arc.is_along else clip(edge, 1.0 - end, 1.0 - begin)[::-1]
+
+
+def rows_of(groups: Ints, begins: Column) -> tuple[list[slice], Ints]:
+    """The rows of some groups, of which group k has begins[k]:begins[k + 1]: where those of each are among all of them, and these."""
+    first = begins[groups]
+    counts = begins[groups + 1] - first
+    return [slice(*pair) for pair in itertools.pairwise(offsets(counts).tolist())], concat_ranges(first, counts)[1]
 
 
 def split_by_points(edges: Ints, begins: Column) -> Iterator[Ints]:

@@ -71,7 +71,7 @@ def nodes_in(arrays: net_file.Arrays) -> Nodes:
 def arcs_in(arrays: net_file.Arrays) -> Iterator[Arc]:
     """The arcs, as those of the table."""
     texts, edge_begin = texts_in(arrays), arrays.edge_begin.tolist()
-    texts_of_rows = [[texts[number] for number in row] for row in arrays.row_texts[:, : len(net_file.TEXTS)].tolist()]
+    texts_of_rows = [[texts[number] if number else "" for number in row] for row in arrays.row_texts[:, : len(net_file.TEXTS)].tolist()]
     columns: tuple[NDArray[Any], ...] = (
         arrays.arc_from, arrays.arc_to, arrays.arc_weight, arrays.arc_seconds, arrays.arc_metres, arrays.arc_osm,
         arrays.arc_row, arrays.arc_edge, arrays.arc_along,

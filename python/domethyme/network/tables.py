@@ -2,7 +2,7 @@
 
 A network is files with one beginning of their names, NETWORK: the graph NETWORK.gr, both tables, which `osm_to_gr --help`
 describes, and NETWORK.net, which has them and what is derived from them, to be mapped: it is read in their place where it
-is no older. The columns ends, ref, junction, destination and structure of tables may be missing, and are empty then.
+is no older. The columns ends, ref, junction, destination, structure and toll of tables may be missing, and are empty then.
 
 Beside each table lie NAME.csvt and NAME.prj, by which GDAL and QGIS know the kinds of its columns and that it has degrees of
 WGS 84; no tool here reads them.
@@ -26,10 +26,10 @@ ARC_COLUMNS = ("from", "to", "weight", "seconds", "metres", "osm", "highway", "n
 ALL_NODE_COLUMNS = (*NODE_COLUMNS, "ends")
 # The column of nodes that have keys, where NETWORK.nodes.csv numbers them.
 KEY = "key"
-ALL_ARC_COLUMNS = (*ARC_COLUMNS[:-1], "ref", "junction", "destination", "structure", "WKT")
+ALL_ARC_COLUMNS = (*ARC_COLUMNS[:-1], "ref", "junction", "destination", "structure", "toll", "WKT")
 # For GDAL: the kinds of the columns, and the system of coordinates.
 NODE_KINDS = ("Integer", "Integer64", "CoordX", "CoordY", "String")
-ARC_KINDS = ("Integer", "Integer", "Integer64", "Real", "Real", "Integer64", *["String"] * 6, "WKT")
+ARC_KINDS = ("Integer", "Integer", "Integer64", "Real", "Real", "Integer64", *["String"] * 7, "WKT")
 WGS_84 = (
     'GEOGCS["WGS 84",DATUM["WGS_1984",SPHEROID["WGS 84",6378137,298.257223563]],PRIMEM["Greenwich",0],'
     'UNIT["degree",0.0174532925199433],AUTHORITY["EPSG","4326"]]'
@@ -129,6 +129,7 @@ class Arc(NamedTuple):
     junction: str = ""
     destination: str = ""
     structure: str = ""
+    toll: str = ""
 
 
 def reject_wrong_suffix(word: StrPath) -> None:
@@ -197,7 +198,7 @@ def iter_arc_rows(path: StrPath, nodes: int = MAX_NODES) -> Iterator[tuple[int, 
                 fields.read_int("from", 1, nodes), fields.read_int("to", 1, nodes), fields.read_int("weight"),
                 fields.read_float("seconds", 0), fields.read_float("metres", 0), fields.read_int("osm", *INT64),
                 fields["highway"], fields["name"], fields["WKT"],
-                *(fields.get(name, "") for name in ("ref", "junction", "destination", "structure")),
+                *(fields.get(name, "") for name in ("ref", "junction", "destination", "structure", "toll")),
             )
 
 

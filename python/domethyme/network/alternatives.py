@@ -1,0 +1,99 @@
+"""Other routes between two points on roads, by plateaus (Camvit's choice routing, 2005; Abraham, Delling, Goldberg and Werneck,
+Alternative routes in road networks, 2013). Needs numpy.
+
+There are the least length from the start to each node, and from each node to the end. An arc is tight if it leads from one length to
+the next in both. A plateau is a run of tight arcs, so a route by it is a shortest path from the start to the plateau's last node, and one
+from its first node to the end. A part of the route that weighs less than the plateau lies within one of these two: no such part could be
+shorter.
+"""
+from collections.abc import Callable, Iterator, Sequence
+from typing import NamedTuple
+
+import numpy as np
+
+from ..protocol import RouteReply
+from .grid import concat_ranges
+from .groups import Ints
+from .legs import Between, Leg, leg_via_route
+from .net_file import MappedNetwork
+from .snapping import NO_ARC, RoadIndex, SnappedPoint
+
+# Of the weight of the best route: how much another one weighs at most, its plateau at least, and what it has in common with each other.
+STRETCH, LEAST_PLATEAU, MOST_SHARED = 1.25, 0.2, 0.75
+MAX_ALTERNATIVES = 3
+# The least length of each node from the nearest of several, from 0, each with a length that is added, or `towards` it; -1 above a limit.
+Reached = Callable[[Sequence[tuple[int, int]], int, bool], Ints]
+
+
+class Plateau(NamedTuple):
+    """A plateau: what a route by it weighs, and its nodes, from 0."""
+
+    weight: int
+    nodes: list[int]
+
+
+def alternatives(
+    roads: RoadIndex, start: SnappedPoint, end: SnappedPoint, best: Leg, between: Between, reached: Reached, count: int
+) -> list[Leg]:
+    """Up to so many other legs between two points than the best one, those first whose weight is less and whose plateau weighs more."""
+    if not (count and best.weight and start.exits and end.entries):
+        return []
+    found, limit = [best], int(STRETCH * best.weight)
+    there, back = (
+        reached(sorted((node, weight) for node, (weight, _) in side.items()), limit, towards)
+        for side, towards in ((start.exits, False), (end.entries, True))
+    )
+    for plateau in plateaus(roads.arrays, there, back, best.weight):
+        if len(found) > count:
+            break
+        leg = leg_by(roads, start, end, plateau, between)
+        if leg is not None and all(shared(leg, other) <= MOST_SHARED * best.weight for other in found):
+            found.append(leg)
+    return found[1:]
+
+
+def plateaus(network: MappedNetwork, there: Ints, back: Ints, best: int) -> Iterator[Plateau]:
+    """The plateaus that weigh enough, of routes that don't weigh too much. The lengths are those from the start, and to the end."""
+    near = np.flatnonzero((there >= 0) & (back >= 0) & (there + back <= STRETCH * best))
+    begins = network.out_begin[near]
+    rows, places = concat_ranges(begins, network.out_begin[near + 1] - begins)
+    arcs = network.out_arcs[places]
+    tails, heads, weights = near[rows], network.arc_to[arcs] - 1, network.arc_weight[arcs].astype(np.int64)
+    is_tight = (there[heads] == there[tails] + weights) & (back[heads] >= 0) & (back[tails] == back[heads] + weights)
+    # (of several tight arcs that leave a node, or come to one, the first is taken)
+    tails, heads = tails[is_tight][::-1], heads[is_tight][::-1]
+    after, before = np.full(len(there), -1), np.full(len(there), -1)
+    after[tails], before[heads] = heads, tails
+    tails = near[after[near] >= 0]
+    tails = tails[before[after[tails]] == tails]
+    goes_on = np.zeros(len(there), np.bool_)
+    goes_on[tails] = True
+    firsts = tails[(before[tails] < 0) | (after[before[tails]] != tails)]
+    lasts, inner = firsts.copy(), np.arange(len(firsts))
+    while len(inner):
+        lasts[inner] = after[lasts[inner]]
+        inner = inner[goes_on[lasts[inner]]]
+    weight, long = there[firsts] + back[firsts], there[lasts] - there[firsts]
+    for place in np.lexsort((firsts, 2 * weight - long)).tolist():
+        if long[place] >= LEAST_PLATEAU * best:
+            nodes = [int(firsts[place])]
+            while nodes[-1] != lasts[place]:
+                nodes.append(int(after[nodes[-1]]))
+            yield Plateau(int(weight[place]), nodes)
+
+
+def leg_by(roads: RoadIndex, start: SnappedPoint, end: SnappedPoint, plateau: Plateau, between: Between) -> Leg | None:
+    """The leg by a plateau; None if it comes to a node twice."""
+    first, *inner, last = plateau.nodes
+    before, behind = between(start.exits, {first: (0, NO_ARC)}), between({last: (0, NO_ARC)}, end.entries)
+    if before is None or behind is None:
+        return None
+    nodes = (*before.nodes, *(node + 1 for node in inner), *behind.nodes)
+    if len({*nodes}) < len(nodes):
+        return None
+    return leg_via_route(roads, start, end, RouteReply(before.source, behind.target, plateau.weight, nodes))
+
+
+def shared(leg: Leg, other: Leg) -> int:
+    """What the arcs of a leg weigh that are another one's too."""
+    return int(leg.weights[np.isin(leg.arcs, other.arcs)].sum())
