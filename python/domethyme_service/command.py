@@ -22,6 +22,7 @@ from gunicorn import systemd
 
 from domethyme import DomethymeError, find_program
 from domethyme.deprecated import current_options
+from domethyme.network.without import parse_classes
 
 from .access import ORIGIN, AccessPolicy
 from .dataset import DatasetPaths
@@ -62,6 +63,9 @@ def argument_parser() -> argparse.ArgumentParser:
     graph = "the graph for which the hierarchy has to be right, proved at each start"
     add("--verify", metavar="GRAPH", help=graph)
     add("--network", metavar="NETWORK", help="the beginning of its network's file names: places on roads, OSRM's API")
+    add("--towards", action="store_true", help="what leads to places too: reverse=true of isochrones, by a second hierarchy in memory")
+    add("--exclude", metavar="CLASSES=HIERARCHY", type=parse_excluded, action="append", default=[],
+        help="the hierarchy without these classes of roads, as `without` leaves them out, for exclude=CLASSES; several times")
     add("--compare-all", action="store_true", help="compare all links with the network, also of more than ten million")
     radius = "metres from a place to a road, where a request has no radiuses (1000)"
     add("--radius", metavar="METRES", type=int_between(0, 10_000_000), default=1000, help=radius)
@@ -98,6 +102,18 @@ def int_between(low: int, high: int) -> Callable[[str], int]:
         return int(text)
 
     return parse
+
+
+def parse_excluded(text: str) -> tuple[frozenset[str], str]:
+    """The classes of an argument, and the file of their hierarchy."""
+    words, equals, path = text.partition("=")
+    try:
+        classes = parse_classes(words)
+    except ValueError as error:
+        raise argparse.ArgumentTypeError(str(error)) from None
+    if not equals or not path:
+        raise argparse.ArgumentTypeError(f"{text} has no =HIERARCHY")
+    return classes, path
 
 
 def parse_origin(text: str) -> str:
@@ -177,6 +193,8 @@ def main(words: Sequence[str] | None = None) -> None:
     access_log = logging.getLogger("domethyme_service.access")
     access_log.setLevel(logging.INFO if args.access_log or args.log_places else logging.WARNING)
     logging.getLogger("domethyme_service").setLevel(logging.INFO)
+    if len(dict(args.exclude)) < len(args.exclude):
+        argument_parser().error("--exclude has the same classes twice")
     if args.workers < MIN_WORKERS:
         why = f"takes {MIN_WORKERS}, the least, since a long request holds one"
         print(f"domethyme-serve: --workers {args.workers}: {why}", file=sys.stderr)
@@ -184,7 +202,7 @@ def main(words: Sequence[str] | None = None) -> None:
         print("domethyme-serve: --tables goes with the next version: leave it out, since all tables are proved", file=sys.stderr)
     try:
         program = None if args.verify is None else find_program(args.program)
-        paths = DatasetPaths(args.hierarchy, args.network, args.verify, program, args.compare_all)
+        paths = DatasetPaths(args.hierarchy, args.network, args.verify, program, args.compare_all, args.towards, dict(args.exclude))
         access = AccessPolicy.from_options(args.allowed_host, args.cors)
         options = Options(access, args.radius, args.max_table_cells, args.profile)
         bind, has_probe = open_sockets(args)

@@ -17,13 +17,16 @@ from domethyme.network.geo import Point
 
 from .errors import too_big
 from .parameters import (
-    ANNOTATIONS, BEARINGS, CONTOURS_METERS, CONTOURS_MINUTES, DESTINATIONS, NUMBER, OVERVIEW, ROUNDTRIP, SOURCES, STEPS,
+    ALTERNATIVES, ANNOTATIONS, BEARINGS, CONTINUE_STRAIGHT, CONTOURS_METERS, CONTOURS_MINUTES, DESTINATIONS, DEVIATIONS, NUMBER, OVERVIEW,
+    ROUNDTRIP, SOURCES, STEPS,
     TABLE_ANNOTATIONS, Values
 )
 
 SHORT, MOST = 250_000, 10_000_000
 # Nodes in a contour, from which on one of more takes no longer: it is drawn on a coarser grid.
 MOST_DRAWN = 150_000
+# Ways that are asked for at most from a place of a trace to the next; of those with less deviation one for each metre of it.
+MOST_ASKED = 30
 # Units between two calls of a meter's `tick`.
 TICK = 20_000
 
@@ -42,6 +45,7 @@ class Work(enum.Enum):
     DRAWN = 15, f"a node that is reached, for each contour, of {MOST_DRAWN:,} at most"
     CELL = 1, "a cell of a table"
     STOP = 10_000, "a place of a trip, whose order is searched for"
+    TRACE = 1000, "a place of a trace: roads near it, and which ways lead there"
     POINT = 2, "a point of a leg's line, and as much for each thing that is written of it"
     LINE = 5, "a line of a batch"
     TILE = 50_000, "a tile of the map"
@@ -57,12 +61,13 @@ class NeedsSlot(Exception):
 
 class Size(NamedTuple):
     """How large the served files are: the nodes and links of the hierarchy, and of the network the points of its lines for each
-    node and the degrees from one end of its bounding box to the other."""
+    node and the degrees from one end of its bounding box to the other. `alternatives` is how many other routes are searched for at most."""
 
     nodes: int
     links: int
     points: float = 0.0
     degrees: float = 0.0
+    alternatives: int = 0
 
 
 # Degrees that are driven in a minute at 130 km/h, and those of a metre.
@@ -73,12 +78,15 @@ VARIABLES = {
     "P": "places",
     "B": "places with a bearing",
     "K": "points that are asked for (`number`)",
-    "G": "legs: one for each two places, or for each cell of a table that needs routes",
+    "G": "legs: one for each two places, or four with `continue_straight=true`, or one for each cell of a table that needs routes. "
+    f"Of a trace one for each metre of a deviation, to {MOST_ASKED}",
     "W": "nodes of all legs, of each 2 √N or less by the distance of its places",
     "V": "points of all legs, by W, and as many more for each annotation, for steps and for the overview",
     "M": "rows of a table that needs no routes: two for each different source, or place of a trip",
     "L": "links of a table's selection: those of the hierarchy, or 20 √N for each different destination, if these are fewer",
     "Z": "cells of a table",
+    "A": "other routes that are asked for (`alternatives`), to 3; 0 if none are searched for",
+    "U": "1 if other routes are searched for, else 0",
     "C": "contours",
     "N": "nodes of the hierarchy",
     "R": "nodes that are reached, of all contours, by the area that can be reached at 130 km/h",
@@ -144,8 +152,13 @@ def expected(size: Size, places: Sequence[Point], values: Values, unit: str) -> 
     if ROUNDTRIP in values:
         legs, rows, cells = [between_two(places)] * len(places), 2 * len(places), len(places) ** 2
         found["L"] = selected_links(size.nodes, size.links, 2 * len(places))
+    others = min(values.get(ALTERNATIVES, 0), size.alternatives) if len(places) == 2 else 0
     nodes = sum(path_nodes(size, degrees) for degrees in legs)
-    found |= {"G": len(legs), "W": nodes, "V": nodes * size.points * things(values), "M": rows, "Z": cells}
+    asked = sum(min(each, MOST_ASKED) for each in values[DEVIATIONS]) / len(places) if DEVIATIONS in values else 1
+    if values.get(CONTINUE_STRAIGHT) == "true":
+        asked = 4
+    found |= {"G": asked * len(legs), "W": asked * nodes, "V": nodes * size.points * things(values), "M": rows, "Z": cells}
+    found |= {"A": others, "U": min(others, 1)}
     minutes, metres = values.get(CONTOURS_MINUTES) or (), values.get(CONTOURS_METERS) or ()
     circles = [*(DEGREES_A_MINUTE * each for each in minutes), *(DEGREES_A_METRE * each for each in metres)]
     # (a box that is as high as wide has half the square of its diagonal)

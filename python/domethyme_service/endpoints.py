@@ -2,19 +2,20 @@
 by it, and docs/SERVICE.md has what `python3 -m domethyme_service.endpoints` prints, as docs/openapi.json has what `openapi`
 makes of it. An endpoint is added here alone, and its parameters in `parameters`."""
 import enum
+import functools
 import re
 from collections.abc import Callable, Iterator, Mapping
 from typing import Any, NamedTuple
 
-from . import costs, handlers, isochrone, osrm, osrm_tables, osrm_trip
+from . import costs, handlers, isochrone, osrm, osrm_match, osrm_tables, osrm_trip
 from .access import BATCH_TYPES
 from .costs import Formula, Work, formula
 from .errors import RequestError, invalid_query
 from .parameters import (
     ALTERNATIVES, ANNOTATIONS, BEARINGS, COMMON, CONTINUE_STRAIGHT, CONTOURS_COLORS, CONTOURS_METERS, CONTOURS_MINUTES, DENOISE,
-    DESTINATION, DESTINATIONS, FALLBACK_COORDINATE, FALLBACK_SPEED, FROM, FROM_KEY, GENERALIZE, GEOMETRIES, NUMBER, OVERVIEW, POLYGONS,
-    RADIUSES, ROUNDTRIP, SCALE_FACTOR, SOURCE, SOURCES, STEPS, TABLE_ANNOTATIONS, TO, TO_KEY, Context, Parameter, Values, any_text, choice,
-    unsupported
+    DESTINATION, DESTINATIONS, DEVIATIONS, EXCLUDE, FALLBACK_COORDINATE, FALLBACK_SPEED, FROM, FROM_KEY, GAPS, GENERALIZE, GEOMETRIES, NUMBER,
+    OVERVIEW, POLYGONS, RADIUSES, REVERSE, ROUNDTRIP, SCALE_FACTOR, SOURCE, SOURCES, STEPS, TABLE_ANNOTATIONS, TIDY, TIMESTAMPS, TO, TO_KEY,
+    Context, Parameter, Values, any_text, unsupported
 )
 from .static import PAGE_FILES
 
@@ -61,12 +62,12 @@ class Endpoint(NamedTuple):
         """The values of its parameters. Raises RequestError for an unknown parameter, and for an invalid value."""
         if self.parameters is None:
             return {}
-        names = {parameter.name for parameter in self.parameters}
-        for name in query:
-            if name not in names:
-                raise invalid_query(self.unknown.format(name))
-        texts = ((parameter, query.get(parameter.name, parameter.default)) for parameter in self.parameters)
-        return {parameter: parameter.value(text, context) for parameter, text in texts if text is not None}
+        given = [parameter for parameter in self.parameters if parameter.name in query]
+        if len(given) < len(query):
+            names = {parameter.name for parameter in given}
+            raise invalid_query(self.unknown.format(next(name for name in query if name not in names)))
+        found = {parameter: parameter.value(query[parameter.name], context) for parameter in given}
+        return {**default_values(self.name, context), **found}
 
     @property
     def has_lines(self) -> bool:
@@ -83,7 +84,9 @@ def osrm_endpoint(
     service: str, answer: str, handler: Handler, places: range, cost: str, schema: str, *parameters: Parameter[Any]
 ) -> Endpoint:
     path = f"/{service}/v1/PROFILE/{'PLACE' if len(places) == 1 else 'PLACES'}" if answer else ""
-    taken, unknown = (*COMMON, *parameters), f"{service} has no parameter {{!r}}"
+    names = {parameter.name for parameter in parameters}
+    taken = (*(each for each in COMMON if each.name not in names), *parameters)
+    unknown = f"{service} has no parameter {{!r}}"
     return Endpoint(f"/{service}", path, answer, handler, Kind.PLACES, places, taken, cost, schema, unknown=unknown)
 
 
@@ -98,8 +101,8 @@ ENDPOINTS = (
              handlers.about, schema="MapAbout", unknown=NOWHERE),
     Endpoint("/map/roads", "/map/roads/ZOOM/X/Y", "the roads in a square tile, as maps of the web number them, to zoom 16",
              handlers.tile, Kind.TILE, parameters=(any_text("v"),), cost="TILE", schema="MapTile", unknown=NOWHERE),
-    osrm_endpoint("route", "a route by two places or more, to 500, a leg for each two", handlers.places(osrm.route),
-                  range(2, 501), f"{SNAPPING} + PAIR*G + NODE*W + POINT*V", "Routes",
+    osrm_endpoint("route", "a route by two places or more, to 500, a leg for each two, and other routes between two", handlers.places(osrm.route),
+                  range(2, 501), f"{SNAPPING} + PAIR*G + (NODE*W + POINT*V)*(1 + A) + U*(2*REACH*N + 20*PAIR)", "Routes",
                   ALTERNATIVES, CONTINUE_STRAIGHT, unsupported("waypoints"), ANNOTATIONS, OVERVIEW, GEOMETRIES, STEPS),
     osrm_endpoint("nearest", "the nearest points of roads", handlers.places(osrm.nearest), range(1, 2),
                   f"{SNAPPING} + PLACE*K", "Nearest", NUMBER),
@@ -109,13 +112,15 @@ ENDPOINTS = (
     osrm_endpoint("trip", "a round trip by two places or more, to 500, in an order of little weight", handlers.places(osrm_trip.trip),
                   range(2, 501), f"{SNAPPING} + ROW*M*(1 + L/10000) + CELL*Z + STOP*P + PAIR*G + NODE*W + POINT*V", "Trips",
                   ROUNDTRIP, SOURCE, DESTINATION, ANNOTATIONS, OVERVIEW, GEOMETRIES, STEPS),
-    Endpoint("/isochrone", "/isochrone/v1/PROFILE/PLACE", "what is reached within minutes or metres, as GeoJSON",
+    osrm_endpoint("match", "the way of a vehicle along roads, by 2 to 500 places where it was measured to be",
+                  handlers.places(osrm_match.match), range(2, 501), "TRACE*P + PAIR*G + NODE*W + POINT*V", "Matchings",
+                  DEVIATIONS, TIMESTAMPS, GAPS, TIDY, unsupported("waypoints"), ANNOTATIONS, OVERVIEW, GEOMETRIES, STEPS),
+    Endpoint("/isochrone", "/isochrone/v1/PROFILE/PLACE", "what is reached within minutes or metres, or leads to a place, as GeoJSON",
              handlers.places(isochrone.answer), Kind.PLACES, range(1, 2),
              (CONTOURS_MINUTES, CONTOURS_METERS, CONTOURS_COLORS, POLYGONS, GENERALIZE, DENOISE, RADIUSES, BEARINGS,
-              any_text("access_token"), choice("reverse", "false", rejected=["true"], message="reverse=true isn't supported"),
-              unsupported("exclude"), unsupported("depart_at")), f"{SNAPPING} + REACH*N + CONTOUR*C + DRAWN*R",
+              any_text("access_token"), REVERSE, EXCLUDE, unsupported("depart_at")), f"{SNAPPING} + REACH*N + CONTOUR*C + DRAWN*R",
              "FeatureCollection", unknown="isochrone has no parameter {!r}"),
-    *(osrm_endpoint(service, "", handlers.unsupported, range(0), "", "") for service in ("match", "tile")),
+    osrm_endpoint("tile", "", handlers.unsupported, range(0), "", ""),
     Endpoint("/nodes/route", "/nodes/route", "a route between nodes by their numbers, from 1", handlers.route, parameters=ENDS,
              cost="PAIR + NODE*W", schema="NodeRoute"),
     Endpoint("/nodes/length", "/nodes/length", "its length alone; null if there is no path", handlers.length, parameters=ENDS,
@@ -124,7 +129,7 @@ ENDPOINTS = (
              cost="T*(LINE + PAIR) + NODE*W", schema="NodeRoutes", media=BATCH_TYPES[0], method="POST", unknown=NO_PARAMETERS),
     Endpoint("/nodes/lengths", "/nodes/lengths", "a length for each line of the body, as a line of JSON", handlers.lengths,
              Kind.LINES, cost="T*(LINE + PAIR)", schema="NodeLengths", media=BATCH_TYPES[0], method="POST", unknown=NO_PARAMETERS),
-    Endpoint("/health", "/health", "200, and the numbers of nodes and links", handlers.health, parameters=None,
+    Endpoint("/health", "/health", "200, the numbers of nodes and links, whether `reverse=true` is answered, and how many `alternatives` are", handlers.health, parameters=None,
              schema="Health"),
     Endpoint("/metrics", "/metrics", "the text format 0.0.4 of Prometheus", handlers.metrics, parameters=None,
              media="text/plain"),
@@ -136,6 +141,13 @@ BY_PATH |= {path: endpoint for endpoint in ENDPOINTS if endpoint.kind is Kind.FI
 # Those whose paths have places, by the first word of these; and those of tiles, by what their paths begin with.
 BY_WORD = {endpoint.name: endpoint for endpoint in ENDPOINTS if endpoint.kind is Kind.PLACES}
 TILE = re.compile(r"(/map/roads)/[0-9]{1,2}/[0-9]{1,6}/[0-9]{1,6}")
+
+
+@functools.lru_cache(32)
+def default_values(name: str, context: Context) -> Values:
+    """The values that the parameters of an endpoint have which aren't given."""
+    some = BY_NAME[name].parameters or ()
+    return {parameter: parameter.value(parameter.default, context) for parameter in some if parameter.default is not None}
 
 
 def find_endpoint(path: str) -> Endpoint:
@@ -172,8 +184,9 @@ def shown(text: str) -> str:
 def parameter_list() -> list[str]:
     """The lines of the list of the parameters of OSRM's API and Mapbox's in docs/SERVICE.md."""
     lines = ["- OSRM's API", *map(parameter_line, COMMON)]
-    for name in ("route", "nearest", "table", "trip"):
-        lines += [f"- `{name}` also", *map(parameter_line, (BY_NAME[f"/{name}"].parameters or ())[len(COMMON) :])]
+    for name in ("route", "nearest", "table", "trip", "match"):
+        own = [each for each in BY_NAME[f"/{name}"].parameters or () if each not in COMMON]
+        lines += [f"- `{name}` also", *map(parameter_line, own)]
     own = [each for each in BY_NAME["/isochrone"].parameters or () if each not in COMMON]
     return [*lines, "- `isochrone`, with `radiuses` and `bearings` of OSRM's", *map(parameter_line, own)]
 

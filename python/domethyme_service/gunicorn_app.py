@@ -295,8 +295,9 @@ def when_ready(arbiter: Arbiter) -> None:
 
 
 def ready_message(service: Service) -> str:
-    """The report of a trial that succeeded: the state of the hierarchy's file."""
-    return f"ready {' '.join(map(str, service.dataset.stamp))}"
+    """The report of a trial that succeeded: the states of the hierarchies' files."""
+    datasets = [service.dataset, *service.dataset.excluded.values()]
+    return f"ready {' '.join(str(number) for each in datasets for number in each.stamp)}"
 
 
 def failure_reason(error: Exception) -> str:

@@ -4,14 +4,16 @@ import itertools
 from collections.abc import Callable, Iterable, Iterator, Mapping
 from typing import TYPE_CHECKING, Any, NamedTuple, TypeVar
 
+from domethyme import NetworkError
+
 from . import node_queries
 from .access import check_content_type
 from .costs import expected, path_nodes
-from .errors import RequestError, invalid_query
+from .errors import RequestError, invalid_query, not_implemented
 from .json_text import to_json
 from .osrm import Engine
 from .osrm_request import Request, parse_request
-from .parameters import FROM, FROM_KEY, TO, TO_KEY, Context
+from .parameters import EXCLUDE, FROM, FROM_KEY, TO, TO_KEY, Context
 from .static import CACHE_ONE_DAY, HEADERS, NO_CACHE, NO_STORE, PAGE_FILES
 
 if TYPE_CHECKING:
@@ -71,7 +73,7 @@ def tile(call: Call) -> Response:
     call.begin({})
     # (of another version while files are replaced, when both are asked for)
     is_asked_for = call.query.get("v", tiles.about["version"]) == tiles.about["version"]
-    return Response(unchanged(call, tiles.read(call.path)), headers=CACHE_ONE_DAY if is_asked_for else NO_STORE)
+    return Response(unchanged(call, lambda: tiles.read(call.path)), headers=CACHE_ONE_DAY if is_asked_for else NO_STORE)
 
 
 def places(answer: Callable[[Engine, Request], str]) -> Callable[[Call], Response]:
@@ -79,11 +81,21 @@ def places(answer: Callable[[Engine, Request], str]) -> Callable[[Call], Respons
     def handle(call: Call) -> Response:
         options = call.service.options
         request = parse_request(call.endpoint, call.path, call.query, options.default_radius, options.profiles)
-        engine = needed(call.service.engine)
+        needed(call.service.engine)
+        engine = engine_without(call.service, request.values[EXCLUDE])
         call.begin(expected(call.service.size, request.places, request.values, engine.roads.unit))
-        return Response(unchanged(call, answer(engine, request).encode("utf-8", "replace")))
+        return Response(unchanged(call, lambda: answer(engine, request)).encode("utf-8", "replace"))
 
     return handle
+
+
+def engine_without(service: "Service", classes: frozenset[str]) -> Engine:
+    """What answers requests without some classes of roads. Raises RequestError if the service wasn't started with these."""
+    if classes not in service.engines:
+        known = [",".join(sorted(each)) for each in service.engines if each]
+        words = f"it was started with {' and '.join(known)}" if known else "it was started without --exclude"
+        raise not_implemented(f"exclude={','.join(sorted(classes))} isn't answered: {words}")
+    return service.engines[classes]
 
 
 def unsupported(call: Call) -> Response:
@@ -91,11 +103,11 @@ def unsupported(call: Call) -> Response:
 
 
 def route(call: Call) -> Response:
-    return Response(unchanged(call, node_queries.route_answer(call.service.queries, *ends(call))))
+    return Response(unchanged(call, lambda: node_queries.route_answer(call.service.queries, *ends(call))))
 
 
 def length(call: Call) -> Response:
-    return Response(unchanged(call, node_queries.length_answer(call.service.queries, *ends(call))))
+    return Response(unchanged(call, lambda: node_queries.length_answer(call.service.queries, *ends(call))))
 
 
 def ends(call: Call) -> Iterator[int]:
@@ -123,26 +135,41 @@ def batch(call: Call, has_routes: bool) -> Response:
     call.begin({"T": lines, "W": lines * path_nodes(call.service.size)})
     if "domethyme.body" not in call.environ:  # (it may be begun again, once it has a slot)
         call.environ["domethyme.body"] = read_body(call.environ)
-    blocks = node_queries.batch_answer(call.service.queries, has_routes, call.environ["domethyme.body"])
-    blocks = (unchanged(call, block) for block in blocks)
+    body = call.environ["domethyme.body"]
+    blocks = node_queries.batch_answer(call.service.queries, has_routes, body, lambda block: unchanged(call, block))
     first = next(blocks, b"")
     return Response(itertools.chain([first], blocks), LINES)
 
 
 def health(call: Call) -> Response:
     queries = call.service.queries
-    return Response(to_json({"status": "ok", "nodes": queries.nodes, "links": queries.links}))
+    more: dict[str, object] = {"towards": queries.turned is not None, "alternatives": queries.alternatives}
+    if excluded := [sorted(classes) for classes in call.service.engines if classes]:
+        more["exclude"] = excluded
+    return Response(to_json({"status": "ok", "nodes": queries.nodes, "links": queries.links, **more}))
 
 
 def metrics(call: Call) -> Response:
     return Response(call.service.metrics.text(call.service.queries.nodes), METRICS)
 
 
-def unchanged(call: Call, answer: T) -> T:
-    """An answer, unless the network's file was written to while it was computed. Raises NetworkError."""
-    if call.service.engine is not None:
-        call.service.engine.roads.arrays.file.check_unchanged()
-    return answer
+def unchanged(call: Call, answer: Callable[[], T]) -> T:
+    """An answer. If the network's file was written to while it was computed it is computed once more, by blocks that are verified anew.
+    Raises NetworkError if that is so again, or the file is another one."""
+    if call.service.engine is None:
+        return answer()
+    file = call.service.engine.roads.arrays.file
+    for _ in range(2):
+        before = file.check_unchanged()
+        try:
+            found = answer()
+        except RequestError:  # (it may be for what was written that there is no road)
+            if file.check_unchanged() == before:
+                raise
+        else:
+            if file.check_unchanged() == before:
+                return found
+    raise NetworkError("is being written to while it is in use; new files have to take their place by a rename", file.path)
 
 
 def needed(part: T | None) -> T:

@@ -1,19 +1,19 @@
-"""Mapbox's Isochrone API, version 1: what is reached from a place within minutes or metres, as GeoJSON. The lengths to the nodes
-are the library's, which are proved; contours are drawn from them (domethyme.network.contours)."""
+"""Mapbox's Isochrone API, version 1: what is reached from a place within minutes or metres, or leads to it, as GeoJSON. The lengths to
+the nodes, or from them, are the library's, which are proved; contours are drawn from them (domethyme.network.contours)."""
 import itertools
 from collections.abc import Sequence
 
 import numpy as np
 
 from domethyme.network.groups import Ints
-from domethyme.network.isochrones import METRICS, Shape, Style, features, limits, reach_from
+from domethyme.network.isochrones import METRICS, Shape, Style, features, limits, reach_of
 
 from .costs import MOST_DRAWN, Work
 from .errors import invalid_query, invalid_value, not_implemented, too_big
 from .json_text import to_json
 from .osrm import Engine, snap_places
 from .osrm_request import Request
-from .parameters import CONTOURS_COLORS, CONTOURS_METERS, CONTOURS_MINUTES, DENOISE, GENERALIZE, POLYGONS, Values
+from .parameters import CONTOURS_COLORS, CONTOURS_METERS, CONTOURS_MINUTES, DENOISE, GENERALIZE, POLYGONS, REVERSE, Values
 
 # Nodes that may be reached. To draw four contours of a million took up to 140 MB and 5 seconds (bench/contours.py).
 MAX_REACHED = 4_000_000
@@ -23,11 +23,12 @@ def answer(engine: Engine, request: Request) -> str:
     """The answer to a request. Raises RequestError."""
     roads, values, colors = engine.roads, request.values, request.values.get(CONTOURS_COLORS) or []
     contours, weight_limits = parse_limits(values, roads.unit)
+    towards = values[REVERSE] == "true"
     if colors and len(colors) != len(contours):
         raise invalid_value("contours_colors has to have a colour for each contour")
 
     def lengths(starts: Sequence[tuple[int, int]], limit: int) -> Ints:
-        found = engine.queries.reach(starts, limit)
+        found = engine.queries.reach(starts, limit, towards)
         if np.count_nonzero(found >= 0) > MAX_REACHED:
             raise too_big(f"more than {MAX_REACHED:,} nodes are reached: ask for less")
         engine.meter.spend(Work.CONTOUR, len(weight_limits))
@@ -35,7 +36,7 @@ def answer(engine: Engine, request: Request) -> str:
         engine.meter.spend(Work.DRAWN, sum(min(count, MOST_DRAWN) for count in drawn))
         return found
 
-    reach = reach_from(roads, snap_places(engine, request), weight_limits, lengths)
+    reach = reach_of(roads, snap_places(engine, request), weight_limits, lengths, towards)
     shape: Shape = "polygons" if values[POLYGONS] == "true" else "lines"
     style = Style(shape, values[GENERALIZE], values[DENOISE], colors, roads.texts[0])
     return to_json(features(reach, contours, METRICS[roads.unit][0], style))

@@ -39,7 +39,7 @@ def figure_json(value: float | None) -> str:
 
 def join_object(members: Mapping[str, str]) -> str:
     """An object, from the texts of its members."""
-    return "{" + ",".join(f"{to_json(name)}:{text}" for name, text in members.items()) + "}"
+    return "{" + ",".join(f"{string_json(name)}:{text}" for name, text in members.items()) + "}"
 
 
 def join_array(items: Iterable[str]) -> str:

@@ -1,9 +1,11 @@
 """Routes and lengths between nodes by number, from 1, as in files: of one pair, or of a batch of pairs as NDJSON.
 A block of valid lines is parsed by one call of `json`, any other line by line."""
+import functools
 import io
 import itertools
 import json
-from collections.abc import Iterator, Sequence
+from collections.abc import Callable, Iterator, Sequence
+from typing import NamedTuple
 
 from domethyme.protocol import NO_PATH, RouteReply
 
@@ -55,35 +57,46 @@ def length_json(pair: Pair, length: int) -> bytes:
     return b'{"from":%d,"to":%d,"length":%d}' % (*pair, length)
 
 
-def batch_answer(queries: Queries, has_routes: bool, body: bytes) -> Iterator[bytes]:
-    """The answers to lines `{"from": S, "to": T}`, in order, a part for each block; too many errors end them."""
+class Block(NamedTuple):
+    """The answers to a block of lines, how many of the lines have an error, and whether these are too many."""
+
+    text: bytes
+    errors: int
+    is_last: bool
+
+
+def batch_answer(queries: Queries, has_routes: bool, body: bytes, checked: Callable[[Callable[[], Block]], Block]) -> Iterator[bytes]:
+    """The answers to lines `{"from": S, "to": T}`, in order, a part for each block, which `checked` computes; too many errors end them."""
     first, errors = 1, 0
     for lines in split_blocks(body):
         if first > 1:
             queries.meter.next_block()
         queries.meter.spend(Work.LINE, len(lines))
-        rows: Sequence[Pair | RequestError] | None = parse_pairs_fast(lines, queries.nodes)
-        rows = rows or [parse_pair(line, queries) for line in lines]
-        error_rows = [row for row, pair in enumerate(rows) if isinstance(pair, RequestError)]
-        errors += len(error_rows)
-        if is_last := errors > MAX_ERRORS:
-            last = error_rows[MAX_ERRORS - errors]
-            error = too_big(f"more than {MAX_ERRORS} lines have an error: this line and all behind it aren't answered")
-            rows = [*rows[:last], error]
-        pairs = [pair for pair in rows if not isinstance(pair, RequestError)]
-        if has_routes:
-            bodies = [route_json(pair, queries.route(*pair)) for pair in pairs]
-        else:
-            bodies = list(map(length_json, pairs, queries.lengths(pairs)))
-        answers = map(queries.keys.add_keys, bodies, pairs)
-        texts = [
-            row.json(line=number).encode() if isinstance(row, RequestError) else next(answers)
-            for number, row in enumerate(rows, first)
-        ]
-        yield b"\n".join([*texts, b""])
-        first += len(lines)
-        if is_last:
+        block = checked(functools.partial(block_answer, queries, has_routes, lines, first, MAX_ERRORS - errors))
+        yield block.text
+        first, errors = first + len(lines), errors + block.errors
+        if block.is_last:
             return
+
+
+def block_answer(queries: Queries, has_routes: bool, lines: list[bytes], first: int, most: int) -> Block:
+    """The answers to lines, of which the first has this number, and at most so many may have an error."""
+    rows: Sequence[Pair | RequestError] | None = parse_pairs_fast(lines, queries.nodes)
+    rows = rows or [parse_pair(line, queries) for line in lines]
+    wrong = [row for row, pair in enumerate(rows) if isinstance(pair, RequestError)]
+    if is_last := len(wrong) > most:
+        error = too_big(f"more than {MAX_ERRORS} lines have an error: this line and all behind it aren't answered")
+        rows = [*rows[: wrong[most]], error]
+    pairs = [pair for pair in rows if not isinstance(pair, RequestError)]
+    if has_routes:
+        bodies = [route_json(pair, queries.route(*pair)) for pair in pairs]
+    else:
+        bodies = list(map(length_json, pairs, queries.lengths(pairs)))
+    answers = map(queries.keys.add_keys, bodies, pairs)
+    texts = [
+        row.json(line=number).encode() if isinstance(row, RequestError) else next(answers) for number, row in enumerate(rows, first)
+    ]
+    return Block(b"\n".join([*texts, b""]), len(wrong), is_last)
 
 
 def split_blocks(body: bytes) -> Iterator[list[bytes]]:

@@ -45,10 +45,11 @@ POSITION = array(NUMBER, minItems=2, maxItems=2)
 ROWS = array(array(NUMBER_OR_NULL))
 WAYPOINTS = array(ref("Waypoint"))
 NODES = array(INTEGER)
+POINT = {"name": TEXT, "location": POSITION, "distance": NUMBER}
 KEYS = {"from_key": TEXT, "to_key": TEXT}
 SCHEMAS: dict[str, Schema] = {
     "Error": record({"line": INTEGER}, code=TEXT, message=TEXT),
-    "Waypoint": record({"hint": TEXT, "nodes": NODES, "trips_index": INTEGER, "waypoint_index": INTEGER}, name=TEXT, location=POSITION, distance=NUMBER),
+    "Waypoint": record({"hint": TEXT, "nodes": NODES, "trips_index": INTEGER, "waypoint_index": INTEGER}, **POINT),
     "LineString": record(type=word("LineString"), coordinates=array(POSITION)),
     "Line": {"oneOf": [TEXT, ref("LineString")]},
     "Maneuver": record(
@@ -63,9 +64,11 @@ SCHEMAS: dict[str, Schema] = {
         **dict.fromkeys(("duration", "weight", "distance", "speed"), array(NUMBER_OR_NULL)), "datasources": NODES, "nodes": NODES
     }),
     "Leg": record({"annotation": ref("Annotation")}, summary=TEXT, steps=array(ref("Step")), **FIGURES),
-    "Route": record({"geometry": ref("Line")}, legs=array(ref("Leg")), weight_name=TEXT, **FIGURES),
+    "Route": record({"geometry": ref("Line"), "confidence": NUMBER}, legs=array(ref("Leg")), weight_name=TEXT, **FIGURES),
     "Routes": record({"waypoints": WAYPOINTS}, code=word("Ok"), routes=array(ref("Route"))),
     "Trips": record({"waypoints": WAYPOINTS}, code=word("Ok"), trips=array(ref("Route"))),
+    "Tracepoint": {**record({"hint": TEXT}, **POINT, matchings_index=INTEGER, waypoint_index=INTEGER), "nullable": True},
+    "Matchings": record({"tracepoints": array(ref("Tracepoint"))}, code=word("Ok"), matchings=array(ref("Route"))),
     "Nearest": record(code=word("Ok"), waypoints=WAYPOINTS),
     "Table": record(
         {"durations": ROWS, "distances": ROWS, "weights": ROWS, "fallback_speed_cells": array(NODES), "sources": WAYPOINTS,
@@ -83,7 +86,9 @@ SCHEMAS: dict[str, Schema] = {
     "NodeLength": record(KEYS, **{"from": INTEGER, "to": INTEGER}, length={**INTEGER, "nullable": True}),
     "NodeRoutes": {"oneOf": [ref("NodeRoute"), ref("Error")]},
     "NodeLengths": {"oneOf": [ref("NodeLength"), ref("Error")]},
-    "Health": record(status=word("ok"), nodes=INTEGER, links=INTEGER),
+    "Health": record(
+        {"exclude": array(array(TEXT))}, status=word("ok"), nodes=INTEGER, links=INTEGER, towards={"type": "boolean"}, alternatives=INTEGER
+    ),
     "MapAbout": record(
         box=array(NUMBER, minItems=4, maxItems=4), attribution=TEXT, deepest=INTEGER, grid=INTEGER, version=TEXT, unit=TEXT
     ),

@@ -7,19 +7,22 @@ from typing import NamedTuple
 
 import numpy as np
 
+from domethyme.network.alternatives import alternatives
 from domethyme.network.bearings import BearingRange, nearest_with_bearing
-from domethyme.network.geo import Point
 from domethyme.network.leg_geometry import LegTotals, RouteGeometry, leg_totals
-from domethyme.network.legs import Leg, find_leg
+from domethyme.network.legs import Between, Leg, find_leg, straight_legs
 from domethyme.network.snapping import RoadIndex, SnappedPoint
 
 from .costs import Meter, Work, things
 from .errors import RequestError
-from .json_text import Json, figure_json, join_array, join_object, string_json, to_json
+from .json_text import figure_json, join_array, join_object, string_json
 from .osrm_geometry import Budget, annotations_json, join_lines, line_json, simplify_lines
 from .osrm_request import Request
 from .osrm_steps import LegSteps, build_steps
-from .parameters import ANNOTATIONS, BEARINGS, GENERATE_HINTS, GEOMETRIES, NUMBER, OVERVIEW, RADIUSES, SKIP_WAYPOINTS, STEPS
+from .parameters import (
+    ALTERNATIVES, ANNOTATIONS, BEARINGS, CONTINUE_STRAIGHT, GENERATE_HINTS, GEOMETRIES, NUMBER, OVERVIEW, RADIUSES, SKIP_WAYPOINTS, SNAPPING,
+    STEPS
+)
 from .queries import Queries
 
 # A place is near the network if it is within this many degrees of the bounding box of its roads.
@@ -45,31 +48,37 @@ def nearest(engine: Engine, request: Request) -> str:
         raise no_segment_error(roads, request, 0)
     arcs = [next(iter(roads.edge(snapped.edge).arcs.values())) for snapped in points]
     ids = roads.osm_ids(np.array([[arc.start, arc.end] for arc in arcs])).tolist()
-    found = [{**make_waypoint(request, snapped), "nodes": nodes} for snapped, nodes in zip(points, ids)]
-    return to_json({"code": "Ok", "waypoints": found})
+    found = (waypoint_json(request, snapped, f',"nodes":[{start},{end}]') for snapped, (start, end) in zip(points, ids))
+    return f'{{"code":"Ok","waypoints":{join_array(found)}}}'
 
 
 def snap_candidates(engine: Engine, request: Request, number: int, count: int) -> list[SnappedPoint]:
     """The nearest points of roads to a place, within its radius and its bearing."""
     place, radius, bearing = request.places[number], request.values[RADIUSES][number], request.values[BEARINGS][number]
     engine.meter.spend(Work.PLACE, count)
+    is_any = may_be_any(request)
     if bearing is None and count == 1:
-        return [snapped for snapped in engine.roads.nearest_within([place], [radius]) if snapped is not None]
+        return [snapped for snapped in engine.roads.nearest_within([place], [radius], is_any) if snapped is not None]
     if bearing is None:
-        return engine.roads.nearest(place, count, within=radius)
+        return engine.roads.nearest(place, count, within=radius, is_any=is_any)
     engine.meter.spend(Work.BEARING)
-    return nearest_with_bearing(engine.roads, place, count, BearingRange(*bearing), radius)
+    return nearest_with_bearing(engine.roads, place, count, BearingRange(*bearing), radius, is_any)
+
+
+def may_be_any(request: Request) -> bool:
+    """Whether a place may be on a ferry."""
+    return request.values.get(SNAPPING) == "any"
 
 
 def snap_places(engine: Engine, request: Request) -> list[SnappedPoint]:
     """The nearest point of a road to each place. Raises RequestError if there is none within a place's radius."""
-    places, radiuses = request.places, request.values[RADIUSES]
+    places = request.places
     points: Iterable[SnappedPoint | None]
     if any(request.values[BEARINGS]):
         points = (next(iter(snap_candidates(engine, request, number, 1)), None) for number in range(len(places)))
     else:
         parts = (slice(begin, begin + SNAP_BATCH) for begin in range(0, len(places), SNAP_BATCH))
-        points = itertools.chain.from_iterable(snap_part(engine, places[part], radiuses[part]) for part in parts)
+        points = itertools.chain.from_iterable(snap_part(engine, request, part) for part in parts)
     found: list[SnappedPoint] = []
     for snapped in points:
         if snapped is None:
@@ -78,9 +87,10 @@ def snap_places(engine: Engine, request: Request) -> list[SnappedPoint]:
     return found
 
 
-def snap_part(engine: Engine, places: Sequence[Point], radiuses: Sequence[float]) -> Iterable[SnappedPoint | None]:
+def snap_part(engine: Engine, request: Request, part: slice) -> Iterable[SnappedPoint | None]:
+    places, radiuses = request.places[part], request.values[RADIUSES][part]
     engine.meter.spend(Work.PLACE, len(places))
-    return engine.roads.nearest_within(places, radiuses)
+    return engine.roads.nearest_within(places, radiuses, may_be_any(request))
 
 
 def no_segment_error(roads: RoadIndex, request: Request, number: int) -> RequestError:
@@ -100,36 +110,59 @@ def no_segment_error(roads: RoadIndex, request: Request, number: int) -> Request
     )
 
 
-def make_waypoint(request: Request, snapped: SnappedPoint) -> Json:
-    """An OSRM waypoint. Clients send its hint back, and the service ignores it."""
-    found = {"name": snapped.name, "location": [snapped.lon, snapped.lat], "distance": round(snapped.metres, 6)}
+def waypoint_json(request: Request, snapped: SnappedPoint, more: str = "") -> str:
+    """An OSRM waypoint, with more members. Clients send its hint back, and the service ignores it."""
     if request.values[GENERATE_HINTS] == "true":
-        found["hint"] = base64.urlsafe_b64encode(f"{snapped.lon:.6f},{snapped.lat:.6f}".encode()).decode()
-    return found
+        more = f',"hint":"{base64.urlsafe_b64encode(f"{snapped.lon:.6f},{snapped.lat:.6f}".encode()).decode()}"{more}'
+    location, metres = f"{snapped.lon!r},{snapped.lat!r}", round(snapped.metres, 6)
+    return f'{{"name":{string_json(snapped.name)},"location":[{location}],"distance":{metres!r}{more}}}'
 
 
-def waypoints(request: Request, **points: Sequence[SnappedPoint]) -> dict[str, str]:
-    """The members of an answer with waypoints, unless they are to be skipped."""
+def waypoints(request: Request, points: Sequence[SnappedPoint], **lists: Iterable[int]) -> dict[str, str]:
+    """The members of an answer with waypoints, by the numbers of their points, unless they are to be skipped."""
     if request.values[SKIP_WAYPOINTS] == "true":
         return {}
-    return {name: to_json([make_waypoint(request, snapped) for snapped in some]) for name, some in points.items()}
+    shown = [waypoint_json(request, snapped) for snapped in points]
+    return {name: join_array(shown[number] for number in some) for name, some in lists.items()}
 
 
 def route(engine: Engine, request: Request) -> str:
     """The route by all places in order, a leg between each two. Raises RequestError if a leg has no path."""
     points = snap_places(engine, request)
-    return route_by(engine, request, points, "routes", waypoints(request, waypoints=points))
+    return route_by(engine, request, points, "routes", waypoints(request, points, waypoints=range(len(points))), request.values[ALTERNATIVES])
 
 
-def route_by(engine: Engine, request: Request, points: Sequence[SnappedPoint], name: str, more: dict[str, str]) -> str:
-    """The answer whose member of this name has the route by some points in order, and more members. Raises RequestError if a leg has
-    no path."""
-    roads, legs, budget = engine.roads, list[Leg](), Budget(engine.meter, things(request.values))
+def route_by(
+    engine: Engine, request: Request, points: Sequence[SnappedPoint], name: str, more: dict[str, str], others: int = 0
+) -> str:
+    """The answer whose member of this name has the route by some points in order, and between two up to so many others if the service
+    searches for them; and more members. Raises RequestError if a leg has no path."""
+    queries, is_straight = engine.queries, request.values.get(CONTINUE_STRAIGHT) == "true"
+    legs = (straight_legs if is_straight and len(points) > 2 else legs_of)(queries.between, engine.roads, points)
+    if isinstance(legs, int):
+        raise RequestError(400, "NoRoute", f"there is no route from place {legs} to place {legs + 1}")
+    count, budget = min(others, queries.alternatives) if len(legs) == 1 else 0, Budget(engine.meter, things(request.values))
+    found = alternatives(engine.roads, points[0], points[1], legs[0], queries.between, queries.reach, count) if count else []
+    parts = [part for each in (legs, *([leg] for leg in found)) for part in (",", *route_parts(engine, request, points, each, budget, {}))]
+    return "".join([f'{{"code":"Ok","{name}":[', *parts[1:], "]," if more else "]", join_object(more)[1:]])
+
+
+def legs_of(ask: Between, roads: RoadIndex, points: Sequence[SnappedPoint]) -> list[Leg] | int:
+    """The leg from each point to the next; or the number of the first from which there is none."""
+    legs = list[Leg]()
     for start, end in itertools.pairwise(points):
-        leg = find_leg(engine.queries.between, roads, start, end)
+        leg = find_leg(ask, roads, start, end)
         if leg is None:
-            raise RequestError(400, "NoRoute", f"there is no route from place {len(legs)} to place {len(legs) + 1}")
+            return len(legs)
         legs.append(leg)
+    return legs
+
+
+def route_parts(
+    engine: Engine, request: Request, points: Sequence[SnappedPoint], legs: Sequence[Leg], budget: Budget, more: dict[str, str]
+) -> list[str]:
+    """The parts of the text of a route along legs between points, with more members. (The legs may be long: they are copied once.)"""
+    roads = engine.roads
     totals = [leg_totals(roads, leg) for leg in legs]
     weight, duration, distance = (round(sum(value or 0.0 for value in column), 3) for column in zip(*totals))
     geometry = RouteGeometry(roads, legs, points) if needs_points(request) else None
@@ -137,15 +170,13 @@ def route_by(engine: Engine, request: Request, points: Sequence[SnappedPoint], n
         budget.spend(geometry.point_count)
     whole = {
         "weight_name": string_json(roads.unit), "weight": figure_json(weight),
-        "duration": figure_json(duration if roads.has_seconds else None), "distance": figure_json(distance),
+        "duration": figure_json(duration if roads.has_seconds else None), "distance": figure_json(distance), **more,
     }
     if geometry is not None and request.values[OVERVIEW] != "false":
         lines = geometry.lines()
         line = join_lines(simplify_lines(lines, budget) if request.values[OVERVIEW] == "simplified" else lines)
         whole["geometry"] = line_json(line, request.values[GEOMETRIES])
-    # (the legs may be long: they are copied once)
-    legs_text, rest = join_array(leg_texts(request, points, totals, geometry)), join_object(more)[1:]
-    return f'{{"code":"Ok","{name}":[{{"legs":{legs_text},{join_object(whole)[1:]}]{"," if more else ""}{rest}'
+    return ['{"legs":[', ",".join(leg_texts(request, points, totals, geometry)), f"],{join_object(whole)[1:]}"]
 
 
 def needs_points(request: Request) -> bool:
@@ -158,11 +189,12 @@ def leg_texts(
     request: Request, points: Sequence[SnappedPoint], totals: Sequence[LegTotals], geometry: RouteGeometry | None
 ) -> Iterator[str]:
     """The OSRM legs of a route, with their totals."""
-    steps, annotations = [LegSteps("[]", "")] * len(totals), [""] * len(totals)
+    steps: Iterable[LegSteps] = itertools.repeat(LegSteps("[]", ""))
+    annotations: Iterable[str] = itertools.repeat("")
     if geometry is not None and request.values[STEPS] == "true":
         steps = build_steps(geometry, points, request.values[GEOMETRIES])
     if geometry is not None and request.values[ANNOTATIONS]:
-        annotations = [f',"annotation":{text}' for text in annotations_json(geometry, request.values[ANNOTATIONS])]
+        annotations = (f',"annotation":{text}' for text in annotations_json(geometry, request.values[ANNOTATIONS]))
     for some, annotation, (weight, duration, distance) in zip(steps, annotations, totals):
         figures = f'"weight":{figure_json(weight)},"duration":{figure_json(duration)},"distance":{figure_json(distance)}'
         yield f'{{"summary":{string_json(some.summary)},"steps":{some.text},{figures}{annotation}}}'

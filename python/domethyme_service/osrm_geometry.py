@@ -2,7 +2,7 @@
 microdegrees, of shape (points, 2)."""
 import itertools
 import math
-from collections.abc import Sequence
+from collections.abc import Iterator, Sequence
 
 import numpy as np
 from numpy.typing import NDArray
@@ -18,7 +18,7 @@ from .errors import too_big
 from .json_text import Texts, decimal_texts, join_object, number_texts, point_texts, string_json
 
 # Points of the lines of an answer, and points that may be examined to simplify its line.
-MAX_POINTS, MAX_EXAMINED = 4_000_000, 80_000_000
+MAX_POINTS, MAX_EXAMINED = 1_500_000, 80_000_000
 # GEOS simplifies lines of up to so many points, while it may examine so many in all lines: of a zigzag it examines half the square
 # of the points, each in some 10 ns, and calls itself as often as there are points.
 MAX_GEOS_POINTS, MAX_GEOS_EXAMINED = 4096, 40_000_000
@@ -147,7 +147,7 @@ def polylines_json(lines: Sequence[Ints], format_: str) -> list[str]:
     return [string_json(text) for text in encode_polylines(degrees, 6 if format_ == "polyline6" else 5)]
 
 
-def annotations_json(geometry: RouteGeometry, names: list[str]) -> list[str]:
+def annotations_json(geometry: RouteGeometry, names: list[str]) -> Iterator[str]:
     """The annotations of these names of each leg: for each segment of its full line its metres, seconds, weight and speed, an arc's
     divided by metres; for each point the OpenStreetMap id of its node, or 0. Durations and speeds are null if the network
     has no seconds."""
@@ -167,7 +167,7 @@ def annotations_json(geometry: RouteGeometry, names: list[str]) -> list[str]:
         else:
             values = of_part[segments.parts] * (1.0 if name == "speed" else segments.shares)
             texts[name] = leg_arrays(decimal_texts(values, DECIMALS), segments.begins)
-    return [join_object({name: texts[name][leg] for name in names}) for leg in range(len(geometry.legs))]
+    return (join_object({name: texts[name][leg] for name in names}) for leg in range(len(geometry.legs)))
 
 
 def leg_arrays(texts: Texts, begins: Ints) -> list[str]:

@@ -1,4 +1,4 @@
-"""The steps of a leg. A step begins where the name of the road changes, at a turn of more than 45 degrees at a junction, and
+"""The steps of a leg. A step begins where the name of the road changes, or a ferry, at a turn of more than 45 degrees at a junction, and
 at a roundabout, until after its exit. Types are depart, turn, new name, continue, roundabout and arrive."""
 import itertools
 from collections.abc import Sequence
@@ -60,6 +60,7 @@ class StepBuilder:
         self.geometry, self.roads = geometry, geometry.roads
         self.names = self.roads.arrays.arc_texts(geometry.arcs, NAME_COLUMNS[0])
         self.is_on_roundabout = self.roads.is_roundabout(geometry.arcs)
+        self.is_on_ferry = self.roads.are_ferries(geometry.arcs)
         self.first_bearings, self.last_bearings = geometry.bearings
         self.begins = np.flatnonzero(self._is_first())
         self.ends = np.append(self.begins[1:], len(geometry.arcs))
@@ -77,7 +78,7 @@ class StepBuilder:
         turns = (self.first_bearings[1:] - self.last_bearings[:-1] + 180) % 360 - 180
         degrees = self.roads.degree[self.roads.arrays.arc_from[geometry.arcs[1:]]]
         is_turn = (degrees >= MIN_JUNCTION_DEGREE) & (np.abs(turns) > MIN_TURN_DEGREES)
-        is_new = np.append(True, (names[1:] != names[:-1]) | is_turn)
+        is_new = np.append(True, (names[1:] != names[:-1]) | is_turn | (self.is_on_ferry[1:] != self.is_on_ferry[:-1]))
         if is_round.any():  # (a step begins before a roundabout, but not on it or after it)
             is_free = np.append(True, ~is_round[:-1])
             for first, behind in itertools.pairwise(geometry.first.tolist()):
@@ -93,7 +94,8 @@ class StepBuilder:
         before = np.where(self.is_leg_first, 0, self.last_bearings[self.begins - 1]).tolist()
         after = self.first_bearings[self.begins].tolist()
         totals = self.geometry.totals(self.begins, self.ends).rows
-        return [*map(step_json, self.turns(), locations, before, after, roads, totals, shapes)], roads
+        modes = ["ferry" if is_on else "driving" for is_on in self.is_on_ferry[self.begins].tolist()]
+        return [*map(step_json, self.turns(), locations, before, after, roads, totals, shapes, modes)], roads
 
     def road_texts(self) -> list[RoadTexts]:
         """The texts of each step's road, each row of texts once."""
@@ -126,12 +128,14 @@ class StepBuilder:
         return f',"exit":{1 + sum(self.roads.count_exits(node) for node in nodes[:-1])}'
 
 
-def step_json(turn: str, location: str, before: int, after: int, road: RoadTexts, totals: StepTotals, shape: str) -> str:
+def step_json(
+    turn: str, location: str, before: int, after: int, road: RoadTexts, totals: StepTotals, shape: str, mode: str = "driving"
+) -> str:
     """An OSRM step, with the intersection at its start."""
     weight, seconds, metres = totals
     return (
         f'{{"maneuver":{{{turn},"location":{location},"bearing_before":{before},"bearing_after":{after}}},"name":{road.name_json},'
-        f'"mode":"driving","driving_side":"right","weight":{weight!r},"duration":{"null" if seconds is None else repr(seconds)},'
+        f'"mode":"{mode}","driving_side":"right","weight":{weight!r},"duration":{"null" if seconds is None else repr(seconds)},'
         f'"distance":{metres!r},"geometry":{shape},"intersections":[{{"location":{location},"bearings":[{after}],"entry":[true],'
         f'"out":0}}]{road.more}}}'
     )
@@ -147,8 +151,10 @@ def build_steps(geometry: RouteGeometry, points: Sequence[SnappedPoint], format_
     if len(geometry.arcs):
         builder = StepBuilder(geometry)
         firsts, behind = geometry.slices(builder.begins, builder.ends)
-        shown = point_texts(geometry.shown, 6)
-        texts, roads = builder.steps([*map(shown.row, firsts.tolist())], shapes_of(geometry.shown, shown, firsts, behind, format_))
+        is_whole = format_ == "geojson"
+        shown = point_texts(geometry.shown if is_whole else geometry.shown[firsts], 6)
+        locations = [*map(shown.row, firsts.tolist() if is_whole else range(len(firsts)))]
+        texts, roads = builder.steps(locations, shapes_of(geometry.shown, shown, firsts, behind, format_))
         bounds = np.searchsorted(builder.begins, geometry.first).tolist()
         last_bearings = builder.last_bearings[geometry.first[1:] - 1].tolist()
     found = []
@@ -170,7 +176,8 @@ def first_names(roads: Sequence[RoadTexts]) -> list[str]:
 
 
 def shapes_of(points: Ints, texts: Texts, firsts: Ints, behind: Ints, format_: str) -> list[str]:
-    """The JSON of the lines points[firsts[k]:behind[k]], of which `texts` are those; of two equal points if it is of one."""
+    """The JSON of the lines points[firsts[k]:behind[k]], of which `texts` are those of all points in GeoJSON; of two equal points if it
+    is of one."""
     pairs = [*zip(firsts.tolist(), behind.tolist())]
     if format_ != "geojson":
         return polylines_json([points[low:high] if high - low > 1 else points[[low, low]] for low, high in pairs], format_)

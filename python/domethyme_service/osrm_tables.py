@@ -48,8 +48,7 @@ def table(engine: Engine, request: Request) -> str:
     starts, ends = ([points[number] for number in dict.fromkeys(side)] for side in (sources, destinations))
     rows = (routed_rows if needs_routes else rows_of_weights)(engine, names, starts, ends)
     members = table_members(engine, request, points, rows)
-    sides = {name: [points[number] for number in values[side]] for name, side in (("sources", SOURCES), ("destinations", DESTINATIONS))}
-    return join_object({"code": '"Ok"', **members, **waypoints(request, **sides)})
+    return join_object({"code": '"Ok"', **members, **waypoints(request, points, sources=sources, destinations=destinations)})
 
 
 def rows_of_weights(

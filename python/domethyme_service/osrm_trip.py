@@ -6,8 +6,8 @@ from domethyme.network.leg_tables import weight_rows
 
 from .costs import Work
 from .errors import RequestError
-from .json_text import to_json
-from .osrm import Engine, make_waypoint, route_by, snap_places
+from .json_text import join_array
+from .osrm import Engine, route_by, snap_places, waypoint_json
 from .osrm_request import Request
 from .osrm_tables import NODE_CELLS
 from .parameters import DESTINATION, ROUNDTRIP, SKIP_WAYPOINTS, SOURCE
@@ -27,7 +27,7 @@ def trip(engine: Engine, request: Request) -> str:
     more = {}
     if values[SKIP_WAYPOINTS] != "true":
         index = np.argsort(order).tolist()
-        more["waypoints"] = to_json(
-            [{**make_waypoint(request, point), "trips_index": 0, "waypoint_index": at} for point, at in zip(points, index)]
+        more["waypoints"] = join_array(
+            waypoint_json(request, point, f',"trips_index":0,"waypoint_index":{at}') for point, at in zip(points, index)
         )
     return route_by(engine, request, [points[place] for place in [*order, *(order[:1] if is_round else [])]], "trips", more)

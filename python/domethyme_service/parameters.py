@@ -5,6 +5,9 @@ import re
 from collections.abc import Callable, Mapping, Sequence
 from typing import Any, Generic, NamedTuple, TypeVar
 
+from domethyme.limits import DEFAULT_DEVIATION, MAX_DEVIATION
+from domethyme.network.without import CLASSES, parse_classes
+
 from .errors import invalid_query, invalid_value, not_implemented
 
 T = TypeVar("T")
@@ -14,6 +17,7 @@ INDEX = re.compile("[0-9]{1,4}")
 NODE = re.compile("[0-9]{1,10}")
 COUNT = re.compile("[0-9]{1,3}")
 DECIMAL = re.compile(r"[0-9]{1,9}(?:\.[0-9]{1,20})?")
+TIMESTAMP = re.compile("[0-9]{1,12}")
 COLOR = re.compile("[0-9A-Fa-f]{6}")
 MAX_CONTOURS = 4
 
@@ -54,8 +58,8 @@ class Parameter(Generic[T]):
 Values = Mapping[Parameter[Any], Any]
 
 
-def choice(name: str, *words: str, rejected: Sequence[str] = (), message: str = "") -> Parameter[str]:
-    """One of `words`; the first is the default. Words of `rejected` are refused with `message`."""
+def choice(name: str, *words: str, rejected: Sequence[str] = (), message: str = "", condition: str = "") -> Parameter[str]:
+    """One of `words`; the first is the default. Words of `rejected` are refused with `message`. `condition` is for the documents."""
     def parse(text: str, _context: Context) -> str:
         if text in rejected:
             raise not_implemented(message)
@@ -64,7 +68,7 @@ def choice(name: str, *words: str, rejected: Sequence[str] = (), message: str = 
 
     lists = [", ".join(f"`{word}`" for word in some) for some in (words, rejected)]
     invalid = f"has to be one of {', '.join((*words, *rejected))}"
-    return Parameter(name, lists[0], parse, invalid, words[0], lists[1], words)
+    return Parameter(name, lists[0] + condition, parse, invalid, words[0], lists[1], words)
 
 
 def any_text(name: str, accepted: str = "any, not used") -> Parameter[str]:
@@ -136,7 +140,7 @@ def parse_number(pattern: re.Pattern[str], convert: Callable[[str], T], is_valid
 def per_place(parse: Parse[T], missing: str) -> Parse[list[T]]:
     """Parses a value for each place, or an empty word for each; `missing` is the message for another number of values."""
     def parse_all(text: str, context: Context) -> list[T]:
-        found = [parse(word, context) for word in (text.split(";") if text else [""] * context.places)]
+        found = [parse(word, context) for word in text.split(";")] if text else [parse("", context)] * context.places
         if len(found) != context.places:
             raise invalid_query(missing)
         return found
@@ -148,6 +152,22 @@ def parse_radius(word: str, context: Context) -> float:
     """The greatest metres to a road."""
     require(word in ("", "unlimited") or METRES.fullmatch(word))
     return context.default_radius if not word else float("inf") if word == "unlimited" else float(word)
+
+
+def parse_deviation(word: str, _context: Context) -> float:
+    """The standard deviation of a place of a trace, in metres."""
+    require(not word or METRES.fullmatch(word) and 0 < float(word) <= MAX_DEVIATION)
+    return float(word) if word else DEFAULT_DEVIATION
+
+
+def parse_timestamps(text: str, context: Context) -> list[int]:
+    """The seconds of each place, which don't fall."""
+    words = text.split(";")
+    require(all(map(TIMESTAMP.fullmatch, words)))
+    if len(words) != context.places:
+        raise invalid_query("there has to be a timestamp for each place")
+    require(all(before <= behind for before, behind in itertools.pairwise(map(int, words))))
+    return [int(word) for word in words]
 
 
 def parse_bearing(word: str, _context: Context) -> tuple[int, int] | None:
@@ -165,16 +185,15 @@ def parse_colors(text: str, _context: Context) -> list[str]:
     return words
 
 
-def parse_alternatives(text: str, _context: Context) -> None:
-    """The number of alternative routes, without effect: the answer has one route."""
+def parse_alternatives(text: str, _context: Context) -> int:
+    """How many other routes are asked for; `true` is one."""
     require(text in ("true", "false") or COUNT.fullmatch(text))
+    return int(text) if text.isdigit() else int(text == "true")
 
 
-def parse_continue_straight(text: str, context: Context) -> None:
-    """Whether U-turns at intermediate places are forbidden, which the service doesn't support."""
-    require(text in ("default", "true", "false"))
-    if text == "true" and context.places > 2:
-        raise not_implemented("continue_straight=true isn't supported for more than two places")
+def parse_exclude(text: str, _context: Context) -> frozenset[str]:
+    """The classes of roads that are left out."""
+    return parse_classes(text) if text else frozenset()
 
 
 def parse_indices(text: str, context: Context) -> list[int]:
@@ -195,7 +214,7 @@ def parse_node(text: object, name: str, nodes: int) -> int:
     return int(digits)
 
 
-UNSUPPORTED_VALUES = "snapping=any and flatbuffers aren't supported"
+SNAPPING = choice("snapping", "default", "any")
 RADIUSES = Parameter(
     "radiuses", "for each place metres, `unlimited`, or nothing for that of `--radius`",
     per_place(parse_radius, "there has to be a radius for each place"), "are metres, or unlimited", "",
@@ -210,6 +229,10 @@ FALLBACK_SPEED, SCALE_FACTOR = [
     for name in ("fallback_speed", "scale_factor")
 ]
 FALLBACK_COORDINATE = choice("fallback_coordinate", "input", "snapped")
+EXCLUDE = Parameter(
+    "exclude", f"classes of roads, with commas between, of {', '.join(f'`{each}`' for each in CLASSES)}", parse_exclude,
+    f"are some of {', '.join(CLASSES)}, each once", "", "those that the service wasn't started with",
+)
 GENERATE_HINTS, SKIP_WAYPOINTS = choice("generate_hints", "true", "false"), choice("skip_waypoints", "false", "true")
 OVERVIEW = choice("overview", "simplified", "full", "false")
 GEOMETRIES = choice("geometries", "polyline", "polyline6", "geojson")
@@ -224,15 +247,22 @@ SOURCES, DESTINATIONS = [
     for name in ("sources", "destinations")
 ]
 ALTERNATIVES = Parameter(
-    "alternatives", "`false`, `true` or a number; the answer has one route always", parse_alternatives,
-    "is true, false or a number",
+    "alternatives", "`false`, a number, or `true` for 1: up to 3 other routes, between two places if the service has `--towards`",
+    parse_alternatives, "is true, false or a number", "false",
 )
+REVERSE = choice("reverse", "false", "true", condition=" if the service has `--towards`: what leads to the place")
 ROUNDTRIP, SOURCE = choice("roundtrip", "true", "false"), choice("source", "any", "first")
 DESTINATION = choice("destination", "any", "last")
-CONTINUE_STRAIGHT = Parameter(
-    "continue_straight", "`default`, `false`, and `true` for two places", parse_continue_straight,
-    "is default, true or false", rejected="`true` for more",
+CONTINUE_STRAIGHT = choice("continue_straight", "default", "false", "true")
+DEVIATIONS = Parameter(
+    "radiuses",
+    f"for each place the standard deviation of its error in metres, above 0, to {MAX_DEVIATION:g}, or nothing for {DEFAULT_DEVIATION:g}",
+    per_place(parse_deviation, "there has to be a radius for each place"), f"are metres, above 0 and to {MAX_DEVIATION:g}", "",
 )
+TIMESTAMPS = Parameter(
+    "timestamps", "for each place whole seconds, which don't fall", parse_timestamps, "are whole seconds for each place, which don't fall",
+)
+GAPS, TIDY = choice("gaps", "split", "ignore"), choice("tidy", "false", "true")
 CONTOURS_MINUTES = contours("contours_minutes", 600, ", if weights are times")
 CONTOURS_METERS = contours("contours_meters", 1_000_000, ", if weights are lengths")
 CONTOURS_COLORS = Parameter(
@@ -246,6 +276,5 @@ FROM, TO, FROM_KEY, TO_KEY = node("from"), node("to"), any_text("from_key", ""),
 # The parameters of all of OSRM's services.
 COMMON: tuple[Parameter[Any], ...] = (
     RADIUSES, any_text("hints"), GENERATE_HINTS, SKIP_WAYPOINTS, BEARINGS, unsupported("approaches", "unrestricted"),
-    unsupported("exclude"), choice("snapping", "default", rejected=["any"], message=UNSUPPORTED_VALUES),
-    choice("format", "json", rejected=["flatbuffers"], message=UNSUPPORTED_VALUES),
+    EXCLUDE, SNAPPING, choice("format", "json", rejected=["flatbuffers"], message="flatbuffers aren't supported"),
 )

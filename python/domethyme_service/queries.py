@@ -8,6 +8,7 @@ import numpy as np
 
 from domethyme import LibraryNotFound, batch
 from domethyme.csv_tables import excerpt
+from domethyme.network.alternatives import MAX_ALTERNATIVES
 from domethyme.network.groups import Ints
 from domethyme.network.legs import SnapEnds
 from domethyme.network.net_file import MappedNetwork
@@ -21,6 +22,8 @@ if TYPE_CHECKING:
     from .metrics import SharedMetrics
 
 Pair = tuple[int, int]
+# Nodes up to which other routes are searched for: each search goes twice over all of them.
+MAX_NODES_OF_ALTERNATIVES = 5_000_000
 # Keys whose JSON is kept.
 JSON_CACHE_SIZE = 1 << 14
 
@@ -45,9 +48,10 @@ class NodeKeys:
         """The JSON object of a pair's answer, with the keys of both nodes added if nodes have keys."""
         if self._network is None:
             return answer
-        return b'%b,"from_key":%b,"to_key":%b}' % (answer[:-1], *map(self._json_key, pair))
+        keys = [self._json_key(node, self._network.file.changes) for node in pair]
+        return b'%b,"from_key":%b,"to_key":%b}' % (answer[:-1], *keys)
 
-    def _as_json(self, node: int) -> bytes:
+    def _as_json(self, node: int, _changes: int) -> bytes:
         key = None if self._network is None else self._network.key(node)
         return json.dumps(key, ensure_ascii=False).encode("utf-8", "replace")
 
@@ -57,10 +61,14 @@ class Queries:
     graph, and what the meter raises."""
 
     def __init__(
-        self, router: Router, links: int, metrics: "SharedMetrics", meter: Meter, keys: NodeKeys = NodeKeys()
+        self, router: Router, links: int, metrics: "SharedMetrics", meter: Meter, keys: NodeKeys = NodeKeys(),
+        turned: Router | None = None
     ) -> None:
+        """`turned` is the router of the hierarchy with each link turned round, if what leads to places is answered. `alternatives` is how
+        many other routes are searched for at most."""
         self.router, self.nodes, self.links, self._metrics, self.keys = router, router.nodes, links, metrics, keys
-        self.meter = meter
+        self.meter, self.turned = meter, turned
+        self.alternatives = MAX_ALTERNATIVES if turned is not None and self.nodes <= MAX_NODES_OF_ALTERNATIVES else 0
 
     def _count(self, queries: int, work: Work, count: float) -> None:
         """Counts queries, and what they are about to cost."""
@@ -87,11 +95,15 @@ class Queries:
         self.meter.spend(Work.NODE, len(found.nodes))
         return RouteReply(found.source + 1, found.target + 1, found.length, tuple([node + 1 for node in found.nodes]))
 
-    def reach(self, starts: Sequence[tuple[int, int]], limit: int) -> Ints:
-        """The least length of each node from the nearest of several, from 0, each with what is added there; or NO_PATH."""
+    def reach(self, starts: Sequence[tuple[int, int]], limit: int, towards: bool = False) -> Ints:
+        """The least length of each node from the nearest of several, from 0, each with what is added there; or NO_PATH. With
+        `towards` it is that to the nearest."""
+        router = self.turned if towards else self.router
+        if router is None:
+            raise not_implemented("reverse=true isn't supported: the service was started without --towards")
         self._count(1, Work.REACH, self.nodes)
         try:
-            return batch.reach(self.router, starts, limit)
+            return batch.reach(router, starts, limit)
         except LibraryNotFound as error:
             raise not_implemented("the service's library is too old for isochrones") from error
 

@@ -29,7 +29,7 @@ class Tiles:
         self.arrays = arrays
         # (made once: a file that is written in place would show in it)
         self.about_json = json.dumps({**self.about, "unit": arrays.unit}, ensure_ascii=False).encode("utf-8", "replace")
-        self.tile = functools.lru_cache(TILE_CACHE_SIZE)(self._tile)
+        self._kept = functools.lru_cache(TILE_CACHE_SIZE)(self._tile)
 
     @functools.cached_property
     def about(self) -> dict[str, Any]:
@@ -51,10 +51,12 @@ class Tiles:
             raise invalid_value(f"a tile is ZOOM/X/Y, with a zoom from 0 to {MAX_ZOOM}")
         return self.tile(zoom, x, y)
 
-    def _tile(self, zoom: int, x: int, y: int) -> bytes:
+    def tile(self, zoom: int, x: int, y: int) -> bytes:
+        return self._kept(zoom, x, y, self.arrays.file.check_unchanged())
+
+    def _tile(self, zoom: int, x: int, y: int, _changes: int) -> bytes:
         """A tile as JSON: for each class its lines, as the first point's coordinates and then the steps to the others,
         in units of 1/EXTENT of the tile's width; and the name of each line."""
-        self.arrays.file.check_unchanged()
         found: list[dict[str, Any]] = []
         for kind in range(len(ROAD_CLASSES)):
             if zoom >= self.arrays.about[f"shown_{kind}"]:

@@ -105,9 +105,13 @@ class BufferedHead:
     def sendall(self, data: bytes) -> None:
         if self._head is None:
             self._head = data
-        else:
-            self._client.sendall(self._head + data)
-            self._head = b""
+        else:  # (without a copy, for an answer may be long)
+            head, self._head = self._head, b""
+            sent = self._client.sendmsg([head, data])
+            if sent < len(head):
+                self._client.sendall(head[sent:])
+            if sent < len(head) + len(data):
+                self._client.sendall(memoryview(data)[max(0, sent - len(head)) :])
 
     def flush(self) -> None:
         """Sends the head of an answer without a body."""

@@ -13,6 +13,7 @@ from collections.abc import Callable, Iterable, Sequence
 from typing import NamedTuple
 
 from domethyme import DomethymeError, HierarchyError, LibraryError, OutOfMemory
+from domethyme.network.snapping import RoadIndex
 
 from .access import AccessPolicy
 from .costs import Meter, NeedsSlot, Size, Work
@@ -55,13 +56,26 @@ class Service:
     def __init__(self, dataset: Dataset, options: Options, metrics: SharedMetrics) -> None:
         self.dataset, self.options, self.metrics = dataset, options, metrics
         roads, keys = dataset.roads, NodeKeys(None if dataset.roads is None else dataset.roads.arrays)
-        self.meter, self.size = Meter(), size_of(dataset)
-        self.queries = Queries(dataset.router, dataset.links, metrics, self.meter, keys)
-        self.engine = None if roads is None else Engine(self.queries, roads, options.max_table_cells, self.meter)
-        if roads is not None:
-            roads.on_looked = lambda count: self.meter.spend(Work.ROAD, count)
+        self.meter = Meter()
+        self.queries = self.queries_of(dataset, keys)
+        self.size = size_of(dataset)._replace(alternatives=self.queries.alternatives)
+        self.engine = None if roads is None else self.engine_of(roads, self.queries)
+        # the engines by the classes of roads that they leave out
+        self.engines = {} if self.engine is None else {frozenset[str](): self.engine}
+        for classes, other in dataset.excluded.items():
+            if other.roads is not None:
+                self.engines[classes] = self.engine_of(other.roads, self.queries_of(other, keys))
         self.tiles = None if roads is None else Tiles(roads.arrays)
         self.headers = {"X-Content-Type-Options": "nosniff", **options.access.headers}
+
+    def queries_of(self, dataset: Dataset, keys: NodeKeys) -> Queries:
+        """The queries to a dataset's hierarchy, counted with all others."""
+        return Queries(dataset.router, dataset.links, self.metrics, self.meter, keys, dataset.turned)
+
+    def engine_of(self, roads: RoadIndex, queries: Queries) -> Engine:
+        """What answers requests by places on some roads."""
+        roads.on_looked = lambda count: self.meter.spend(Work.ROAD, count)
+        return Engine(queries, roads, self.options.max_table_cells, self.meter)
 
     def __call__(self, environ: Environ, start_response: StartResponse) -> Iterable[bytes]:
         environ["domethyme.endpoint"] = "other"

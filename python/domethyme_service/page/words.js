@@ -35,10 +35,10 @@ const th = (number) => `${number}${["th", "st", "nd", "rd"][number % 100 > 10 &&
 export function told(step, role) {
   const { type, modifier, exit } = step.maneuver, name = street(step);
   const into = name ? ` onto ${name}` : "", toward = step.destinations ? ` towards ${step.destinations}` : "";
-  if (type === "arrive") return role === "end" ? "Arrive at the destination" : "Arrive at the place between";
+  if (type === "arrive") return role === "end" ? "Arrive at the destination" : "Arrive at the stop";
   if (type === "depart") return `${role === "start" ? "Start" : "Continue"}${name ? ` on ${name}` : ""}${toward}`;
   if (type === "roundabout" || type === "rotary") return `At the roundabout take the ${exit ? `${th(exit)} ` : ""}exit${into}${toward}`;
-  if (modifier === "uturn") return `Turn round${into}`;
+  if (modifier === "uturn") return `Make a U-turn${into}`;
   const side = modifier === "straight" ? "Go straight on" : modifier.startsWith("slight") ? `Keep ${modifier.slice(7)}` : `Turn ${modifier}`;
   if (type === "new name" && modifier === "straight") return `Continue${into}${toward}`;
   return type === "continue" ? `${side}${name ? ` and stay on ${name}` : ""}${toward}` : `${side}${into}${toward}`;
