@@ -9,9 +9,9 @@ order. What is written, all files or none:
 With --tables there are these too, for other programs:
 
   OUT.nodes.csv   node, osm, lon, lat, ends: where each node is; `osm` is empty for a point where a long piece is cut
-  OUT.arcs.csv    from, to, weight, seconds, metres, osm, highway, name, ref, junction, destination, structure, WKT: the
+  OUT.arcs.csv    from, to, weight, seconds, metres, osm, highway, name, ref, junction, destination, structure, toll, WKT: the
                   piece of road of each arc of OUT.gr, in the same order; `osm` is the way, `name` its name or else its
-                  ref, `structure` tunnel or bridge, WKT its line, longitude first
+                  ref, `structure` tunnel or bridge, `toll` yes, WKT its line, longitude first
   OUT.nodes.csvt, OUT.nodes.prj, OUT.arcs.csvt, OUT.arcs.prj    the types and the projection of these tables, for GDAL and QGIS
 
 Without it tables of an earlier run are removed, since they are of another network. Tables that weren't written by the tools, or

@@ -1,4 +1,5 @@
-"""Writes what is reached from a place, or from the nearest of several, within minutes or metres, as GeoJSON.
+"""Writes what is reached from a place, or from the nearest of several, within minutes or metres, or with --towards what leads there, as
+GeoJSON.
 
 NETWORK is the beginning of the names of a network's files, and HIERARCHY the file of its hierarchy; one of another network is
 refused. PLACES is a CSV file with the columns lon and lat, in degrees (`-` is standard input). What is reached begins at the
@@ -44,6 +45,7 @@ def parse_args() -> argparse.Namespace:
     limits = parser.add_mutually_exclusive_group()
     limits.add_argument("--minutes", metavar="LIST", type=numbers, default=[], help="numbers that rise (default: 5,10,15)")
     limits.add_argument("--metres", metavar="LIST", type=numbers, default=[], help="the same where weights are lengths")
+    parser.add_argument("--towards", action="store_true", help="what leads to the place, or to the nearest of several")
     parser.add_argument("--shape", choices=SHAPES, default="polygons", help="default: polygons")
     parser.add_argument("--generalize", metavar="METRES", type=distance, default=0.0, help="simplify by this many metres")
     parser.add_argument("--denoise", metavar="SHARE", type=share, default=0.0,
@@ -87,7 +89,7 @@ def main() -> None:
         try:
             found = hierarchy.within(
                 places, options.minutes, metres=options.metres, shape=options.shape, generalize=options.generalize,
-                denoise=options.denoise, colors=options.colors, radius=options.radius
+                denoise=options.denoise, colors=options.colors, towards=options.towards, radius=options.radius
             )
         except NoSuchNode as error:
             message, row = str(error).partition(" has ")[2], trips.rows[error.key] if isinstance(error.key, int) else None

@@ -200,12 +200,12 @@ def make_route(
     if answer.length == NO_PATH:
         return Route(fields, ends | dict.fromkeys(FIGURES), None, None)
     metres = network.arc_metres[arcs].tolist()
-    seconds = network.arc_seconds[arcs].tolist() if network.has_seconds else [None] * len(arcs)
+    seconds = network.arc_seconds[arcs].tolist() if network.has_seconds else None
     names = [network.texts[text] for text in network.arc_texts(arcs, NAME).tolist()]
     steps, end = [], 0
     for name, street in itertools.groupby(names):
         begin, end = end, end + len(list(street))
-        total = totals(seconds[begin:end], metres[begin:end])
+        total = totals(seconds and seconds[begin:end], metres[begin:end])
         steps.append({"name": name, "metres": total[1], "seconds": total[0]})
     here = network.node_lon[answer.source - 1] / UNITS, network.node_lat[answer.source - 1] / UNITS
     line = join_lines([[here], *map(network.line, arcs.tolist())])
@@ -213,10 +213,9 @@ def make_route(
     return Route(fields, ends | dict(zip(FIGURES, figures)), steps, line if len(line) > 1 else line * 2)
 
 
-def totals(seconds: list[float | None], metres: list[float]) -> tuple[float | None, float]:
+def totals(seconds: list[float] | None, metres: list[float]) -> tuple[float | None, float]:
     """Seconds to the thousandth, None where the network has none, and metres to the hundredth, as in the table of arcs."""
-    known = [each for each in seconds if each is not None]
-    return round(sum(known), 3) if len(known) == len(seconds) else None, round(sum(metres), 2)
+    return None if seconds is None else round(sum(seconds), 3), round(sum(metres), 2)
 
 
 def routes_between_places(options: argparse.Namespace, roads: RoadIndex) -> Iterator[Route]:

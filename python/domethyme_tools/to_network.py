@@ -13,7 +13,7 @@ ARCS is a CSV table with a row for each arc and the columns from and to. Other c
   seconds   without it those of the metres at kmh kilometres an hour. An arc needs one of weight, seconds and kmh; with weight alone,
             and in files of DIMACS, it takes 0 seconds
   WKT       the line, LINESTRING (LON LAT, LON LAT, ..); without it the straight one
-  name, highway, ref, junction, destination, structure, osm    as in NETWORK.arcs.csv of osm_to_gr
+  name, highway, ref, junction, destination, structure, toll, osm    as in NETWORK.arcs.csv of osm_to_gr
 
 --delimiter and --decimal are for tables with other marks than a comma between fields and a point before decimals, as ";" and ",".
 --largest keeps the largest set of nodes that can all reach one another, as osm_to_gr does; without it all are kept, and their number is
@@ -48,7 +48,7 @@ from domethyme.belonging import older_hierarchy
 from domethyme.csv_tables import Form
 from domethyme.errors import raised_as
 from domethyme.network import from_tables, net_file
-from domethyme.network.components import described, in_largest, keep
+from domethyme.network.components import in_largest, islands, keep, quartiles
 from domethyme.network.table_files import bytes_of, tables_there, write_graph_of, write_tables
 from domethyme.network.tables import ARC_COLUMNS, NODE_COLUMNS, Files, has_columns, read_attribution
 
@@ -71,7 +71,7 @@ def parse_args() -> argparse.Namespace:
     parser.add_argument("--attribution", metavar="TEXT", help="the attribution that maps show (that in OUT.gr)")
     options = parser.parse_args()
     if options.delimiter == options.decimal:
-        parser.error("--delimiter and --decimal are one mark")
+        parser.error("a comma is between fields too: give --delimiter, as ';'")
     if not os.path.basename(options.out) or os.path.isdir(options.out):
         parser.error("OUT is the beginning of the names of files, as out/firm, and no folder")
     paths = Files(options.out)
@@ -107,15 +107,16 @@ def main() -> None:
     if options.tables:
         tables_there(paths, True)
     marks = numpy.array(net_file.NO_TABLES if options.tables else marks_beside(paths, options))
-    form = Form(options.delimiter, options.decimal)
+    form = Form(options.delimiter, options.decimal, True)
     nodes = from_tables.read_nodes(options.nodes, warn, form)
     arcs = from_tables.read_arcs(options.arcs, nodes, options.weight, warn, form)
     kept = in_largest(nodes.ends, arcs.starts - 1, arcs.ends - 1)
-    said = described(nodes, arcs, kept)
+    said = islands(arcs, kept)
     if options.largest:
         nodes, arcs = keep(nodes, arcs, kept)
         if not len(arcs.starts):
             raise ToolError("has no nodes that reach one another: are all roads of one way?", options.arcs)
+    said += quartiles(arcs)
     with raised_as(ToolError, options.arcs, ValueError):
         arrays = from_tables.build_arrays(nodes, arcs, attribution)
     with atomic_write_all(*options.outputs) as (graph, *tables, network):
