@@ -50,6 +50,18 @@ class Holds(NamedTuple):
         return not self.rule(found)
 
 
+class Others(NamedTuple):
+    """A list whose first is as expected, and of whose others, so many at most, a rule holds."""
+
+    expected: Any
+    most: int
+    rule: Callable[[Any], bool]
+
+    def differs(self, found: Any) -> bool:
+        is_list = isinstance(found, list) and 0 < len(found) <= 1 + self.most
+        return not is_list or bool(difference(found[0], self.expected)) or not all(map(self.rule, found[1:]))
+
+
 class Line(NamedTuple):
     """A line by its points, as polyline, polyline6 or geojson."""
 

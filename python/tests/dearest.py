@@ -17,14 +17,17 @@ TEXTS = {
     "geometries": ["geojson", "polyline", "polyline6"], "skip_waypoints": ["true"], "number": ["1", "10", "100"],
     "contours_minutes": ["1", "5,10", "15,30,60,600", "600", "597,598,599,600"], "polygons": ["true", "false"],
     "generalize": ["0", "1000"], "denoise": ["0", "0.000001", "1"], "scale_factor": ["2"], "fallback_speed": ["1"],
-    "roundtrip": ["true", "false"], "source": ["any", "first"], "destination": ["any", "last"],
+    "tidy": ["true"], "roundtrip": ["true", "false"], "source": ["any", "first"], "destination": ["any", "last"],
+    "alternatives": ["1", "3"], "continue_straight": ["true"], "reverse": ["true"], "snapping": ["any"],
 }
 NAMES = {
-    "route": ["annotations", "steps", "overview", "geometries", "skip_waypoints"], "nearest": ["number"],
+    "route": ["annotations", "steps", "overview", "geometries", "skip_waypoints", "alternatives", "continue_straight", "snapping"],
+    "nearest": ["number", "snapping"],
     "trip": ["annotations", "steps", "overview", "geometries", "skip_waypoints", "roundtrip", "source", "destination"],
-    "table": ["annotations", "scale_factor", "fallback_speed"], "isochrone": ["contours_minutes", "polygons", "generalize", "denoise"],
+    "match": ["annotations", "steps", "overview", "geometries", "skip_waypoints", "tidy"],
+    "table": ["annotations", "scale_factor", "fallback_speed"], "isochrone": ["contours_minutes", "polygons", "generalize", "denoise", "reverse"],
 }
-MOST_PLACES = {"route": 500, "nearest": 1, "table": 2000, "trip": 500, "isochrone": 1}
+MOST_PLACES = {"route": 500, "nearest": 1, "table": 2000, "trip": 500, "match": 500, "isochrone": 1}
 TABLE_TEXTS = ["duration", "distance", "duration,distance,weight"]
 
 
@@ -69,7 +72,8 @@ class Climber:
             for side in ("sources", "destinations"):
                 query[side] = ";".join(str(self.draw.randrange(len(places))) for _ in range(self.draw.choice([1, 5, 100, 900])))
         elif name == "radiuses":
-            query[name] = ";".join([self.draw.choice(["unlimited", "50000", "10"])] * len(places))
+            texts = ["5", "20", "200"] if service == "match" else ["unlimited", "50000", "10"]
+            query[name] = ";".join([self.draw.choice(texts)] * len(places))
         elif name == "bearings":
             query[name] = ";".join([self.draw.choice(["45,0", "0,180", "0,90", "100,3"])] * len(places))
         else:

@@ -6,6 +6,7 @@ test, and makes a draw that fails smaller before it is printed.
 import contextlib
 import csv
 import io
+import itertools
 import math
 import os
 import pathlib
@@ -155,11 +156,11 @@ def write_tables(drawn: Drawn, folder: pathlib.Path) -> None:
         )
     with open(folder / "arcs.csv", "w", newline="") as file:
         rows = csv.writer(file)
-        rows.writerow(("from", "to", "weight", "seconds", "metres", "WKT", "osm", *Arc._fields[7:], "highway"))
+        rows.writerow(("from", "to", "weight", "seconds", "metres", "WKT", "osm", *Arc._fields[7:], "highway", "toll"))
         for arc in arcs:
             line = ", ".join(f"{lon:.7f} {lat:.7f}" for lon, lat in arc.line)
             highway = HIGHWAYS[arc.way % len(HIGHWAYS)]
-            rows.writerow((names[arc.start], names[arc.end], *arc[2:5], f"LINESTRING ({line})", *arc[6:], highway))
+            rows.writerow((names[arc.start], names[arc.end], *arc[2:5], f"LINESTRING ({line})", *arc[6:], highway, "yes" if arc.way % 4 == 1 else ""))
 
 
 def model_of(prefix: pathlib.Path) -> Network:
@@ -248,12 +249,13 @@ WRONG = (
     "1\0", "1,", "one", "None", "\u0661", "\uff11", "9" * 11
 )
 UNSUPPORTED = coded("", NotImplemented=["toll", "nan", "0;1", "\0"])
+EXCLUDE = coded("", NotImplemented=["toll", "motorway,ferry"], InvalidValue=["nan", "0;1", "\0", "toll,toll", "toll,", "Toll"])
 LIMITS = ("5,3", "5,5", "0", "1,2,3,4,5", "5;6", "1,,2", "1000001", "0.00001,0.000011")
 KNOWN: dict[str, dict[str, dict[str, Sequence[str]]]] = {
     "osrm": {
-        "hints": coded("", "a;b"), "generate_hints": YES_NO, "skip_waypoints": YES_NO, "exclude": UNSUPPORTED,
+        "hints": coded("", "a;b"), "generate_hints": YES_NO, "skip_waypoints": YES_NO, "exclude": EXCLUDE,
         "approaches": coded("", "unrestricted", NotImplemented=["unrestricted;curb", "Unrestricted", "unrestricted,"]),
-        "unknown": {"InvalidQuery": ["1"]}, "snapping": coded("default", NotImplemented=["any"], InvalidValue=["x", "", "any;"]),
+        "unknown": {"InvalidQuery": ["1"]}, "snapping": invalid(["default", "any"], "x", "", "any;"),
         "format": coded("json", NotImplemented=["flatbuffers"], InvalidValue=["x", "json5", ""]),
     },
     "route": {
@@ -267,6 +269,15 @@ KNOWN: dict[str, dict[str, dict[str, Sequence[str]]]] = {
         "destination": invalid(["any", "last"], "first", "", "last "), "overview": invalid(["simplified", "full", "false"], "x", ""),
         "geometries": invalid(["polyline", "polyline6", "geojson"], "wkt"), "annotations": YES_NO,
     },
+    "match": {
+        "timestamps": coded("0;1", "5;5", InvalidQuery=["1", "1;2;3"], InvalidValue=[
+            "1;0", "1;", ";", "1;x", "-1;2", "1.5;2", "1,2", "", "9999999999999;9999999999999"
+        ]),
+        "gaps": invalid(["split", "ignore"], "Split", "", "true"), "tidy": YES_NO, "waypoints": UNSUPPORTED, "steps": YES_NO,
+        "overview": invalid(["simplified", "full", "false"], "x", ""), "annotations": YES_NO,
+        "geometries": invalid(["polyline", "polyline6", "geojson"], "wkt"),
+        "radiuses": coded("5;5", "200;40", ";20", InvalidQuery=["5", "5;5;5"], InvalidValue=["0;5", "201;5", "unlimited;5", "5;nan", "-1;5"]),
+    },
     "nearest": {"number": invalid(["1", "2", "5", "100"], "0", "101", "1.0", "9999", *WRONG)},
     "table": {
         "fallback_speed": invalid(["10", "0.5"], "0", "0.0", *WRONG), "fallback_coordinate": invalid(["input", "snapped"], "x", ""),
@@ -277,8 +288,8 @@ KNOWN: dict[str, dict[str, dict[str, Sequence[str]]]] = {
     "isochrone": {
         "polygons": YES_NO, "contours_colors": invalid(["ff0000", "00ff00,0000ff"], "red", "#ff0000", "ff000", ""),
         "generalize": invalid(["0", "10"], "1000001", *WRONG), "denoise": invalid(["0", "0.2", "1"], "2", "1.1", *WRONG),
-        "reverse": coded("false", NotImplemented=["true"], InvalidValue=["1", ""]), "access_token": coded("x", ""),
-        "exclude": UNSUPPORTED, "depart_at": UNSUPPORTED, "unknown": {"InvalidQuery": ["1"]},
+        "reverse": invalid(["false", "true", "true"], "1", "", "True"), "access_token": coded("x", ""),
+        "exclude": EXCLUDE, "depart_at": UNSUPPORTED, "unknown": {"InvalidQuery": ["1"]},
     },
 }
 # Of parameters with a word for each place.
@@ -286,6 +297,10 @@ WORDS = {
     "radiuses": invalid(["unlimited", "10", "50.5", "1000", "0"], "-1", "1e3", "Unlimited", "5m", *WRONG[1:9]),
     "bearings": invalid(["360,90"], "361,5", "10,181", "10", "a,b", "5,", ",5", "-5,5", "5,5,5", "1e1,5", "n,s"),
 }
+
+
+# What `radiuses` are for a trace.
+DEVIATIONS = invalid(["5", "20", "1.5", "50", "200"], "0", "0.0", "201", "unlimited", *WRONG[1:9])
 
 
 def texts_of(service: str, count: int, directions: Sequence[int], is_wrong: bool) -> dict[str, Any]:
@@ -303,15 +318,18 @@ def texts_of(service: str, count: int, directions: Sequence[int], is_wrong: bool
     bearings = pairs.map(lambda pair: ("%d,%d" % pair, ""))
     known = {**(KNOWN["osrm"] if service != "isochrone" else {}), **KNOWN[service]}
     found = {name: any_of(texts) for name, texts in known.items()}
-    found["radiuses"] = of_places(any_of(WORDS["radiuses"]))
+    found["radiuses"] = of_places(any_of(DEVIATIONS if service == "match" else WORDS["radiuses"]))
     found["bearings"] = of_places(st.one_of(bearings, bearings, any_of(WORDS["bearings"])))
-    annotations = ["duration", "distance", "weight", *(ANNOTATIONS[3:] if is_wrong or service in ("route", "trip") else ())]
+    annotations = ["duration", "distance", "weight", *(ANNOTATIONS[3:] if is_wrong or service in ("route", "trip", "match") else ())]
     some = st.lists(st.sampled_from(annotations), min_size=1, max_size=4, unique=not is_wrong)
-    if service in ("route", "trip"):
+    if service == "match":
+        found["timestamps"] = st.lists(st.sampled_from([0, 1, 5, 20, 100]), min_size=count, max_size=count).map(
+            lambda steps: (";".join(map(str, itertools.accumulate(steps))), "")
+        )
+    if service in ("route", "trip", "match"):
         found["annotations"] = st.one_of(some.map(lambda words: of_words(words, ANNOTATIONS)), found["annotations"])
     if service == "route":
-        straight = coded("default", "false", *(() if count > 2 else ("true",)), NotImplemented=["true"] if count > 2 else [])
-        found["continue_straight"] = any_of(straight)
+        found["continue_straight"] = any_of(invalid(["default", "false", "true", "true"], "x", "", "True"))
     if service == "table":
         indices = st.lists(st.integers(0, count - 1).map(str), min_size=1, max_size=count)
         found["annotations"] = st.one_of(some.map(lambda words: of_words(words, annotations[:3])), found["annotations"])

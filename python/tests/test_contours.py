@@ -133,17 +133,22 @@ def test_limits_that_differ_much(made_roads):
 
 
 def test_roads_far_from_what_is_reached_change_nothing(made_roads, monkeypatch):
-    """Also where a long road, a ferry say, is reached up to a place that is far from any node."""
+    """Also where a long road, a ferry say, is reached up to a place that is far from any node; nor do those in the box of a smaller
+    contour, beyond its sides."""
     nodes = [(0, 0), (0.5, 0), (0.2, 0.0005), (0.21, 0.0005), (0.001, 0.001)]
     roads = [Road(0, 1, 500_000, 500_000), Road(2, 3, 10_000, 10_000), Road(0, 4, 1000, 1000)]
     ferry = network(nodes, roads)
-    for net, start, limits in ((made_roads, 9000, [200_000]), (made_roads, 100, [100_000, 400_000]), (ferry, 0, [500, 205_000])):
+    for net, start, limits in (
+        (made_roads, 9000, [200_000]), (made_roads, 100, [100_000, 400_000]), (made_roads, 9000, [1800, 480_000, 1_200_000]),
+        (ferry, 0, [500, 205_000]),
+    ):
         reach = Reach(net, lengths(net, {start: 0}), limits)
         found = [MultiPolygon(contour.polygons).wkt for contour in contours(reach)]
         with monkeypatch.context() as patched:
             everywhere = Zone.over(reach.boxes[-1].grown(5000))
             everywhere.squares[:] = True
             patched.setattr(Reach, "zone", lambda *_: everywhere)
+            patched.setattr(Zone, "without", lambda zone, _: zone)
             assert found == [MultiPolygon(contour.polygons).wkt for contour in contours(reach)]
 
 

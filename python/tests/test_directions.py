@@ -15,11 +15,14 @@ from draws import drawn, networks, places, write_network
 from hypothesis import given
 from hypothesis import strategies as st
 from model.answers import figures, leg_line
-from model.network import Ambiguous
+from model.network import Ambiguous, Network
+from reach_case import Road, prepared
 from tool_case import VILLAGE, ToolCase
 
 import domethyme
 from domethyme import tours
+from domethyme.network import alternatives, directions
+from domethyme.network.legs import find_leg
 
 SETTINGS = list(itertools.product((True, False), ("any", "first"), ("any", "last")))
 
@@ -55,6 +58,100 @@ def test_as_the_model(data: Any) -> None:
             check_directions(made.roads, hierarchy.directions(spots, bearings=bearings, radiuses=radiuses), points, legs)
         for setting in SETTINGS:
             check_tour(hierarchy.tour(snapped, **dict(zip(("roundtrip", "source", "destination"), setting))), weights, *setting)
+
+
+@drawn(30)
+@given(networks(), st.data())
+def test_points_of_another_network(made: Any, data: Any) -> None:
+    """Points within an arc that weighs more there are refused, and those at nodes mean the same."""
+    heavier = [arc._replace(weight=arc.weight + 2) for arc in made.tables.arcs]
+    spots = data.draw(places(made.roads, 3))
+    with tempfile.TemporaryDirectory() as folder:
+        write_network(made, pathlib.Path(folder) / "net")
+        write_network(made._replace(tables=Network(made.tables.nodes, heavier)), pathlib.Path(folder) / "other")
+        hierarchy = domethyme.Hierarchy(f"{folder}/net.rch", network=f"{folder}/net")
+        others = domethyme.Network(f"{folder}/other").points_on_roads(spots, math.inf)
+        if any(point.arcs for point in others):
+            with pytest.raises(domethyme.NetworkError, match="is a point on the roads of another network"):
+                hierarchy.table(others)
+        else:
+            assert hierarchy.table(others).tolist() == hierarchy.table(spots, radius=math.inf).tolist()
+        with pytest.raises(ValueError, match="have no bearings or radiuses"):
+            hierarchy.directions(hierarchy.network.points_on_roads(spots, math.inf), bearings=[None] * len(spots))
+
+
+@drawn(60)
+@given(st.data())
+def test_alternatives(data: Any) -> None:
+    """Each other leg is a path, differs enough, and has a plateau, by the model's lengths; no part that weighs less could be shorter."""
+    made = data.draw(networks())
+    spots = data.draw(places(made.roads, 2))
+    with tempfile.TemporaryDirectory() as folder:
+        write_network(made, pathlib.Path(folder) / "net")
+        hierarchy = domethyme.Hierarchy(f"{folder}/net.rch", network=f"{folder}/net")
+        try:
+            start, end = hierarchy.network.points_on_roads(spots)
+        except domethyme.NoSuchNode:
+            return
+        shown = hierarchy.alternatives([start, end])
+        best, between = hierarchy.directions([start, end]), functools.partial(directions.ask_router, hierarchy._router)
+        assert shown[:1] == ([] if best is None else [best])
+        first = find_leg(between, hierarchy.network.roads, start, end)
+        if first is None:
+            return
+        found = alternatives.alternatives(
+            hierarchy.network.roads, start, end, first, between,
+            lambda seeds, limit, towards: hierarchy.reach(dict(seeds), limit, towards), 3
+        )
+        assert [each.weight for each in found] == [each.weight for each in shown[1:]] and len(found) <= 3
+        sides = [{node: weight for node, (weight, _) in side.items()} for side in (start.exits, end.entries)]
+        for place, leg in enumerate(found):
+            check_alternative(made.tables, hierarchy.network.roads.arrays, leg, sides, first.weight)
+            for other in [first, *found[:place]]:
+                assert sum(weight for arc, weight in zip(leg.arcs, leg.weights) if arc in other.arcs) <= 0.75 * first.weight
+
+
+def check_alternative(net: Network, arrays: Any, leg: Any, sides: list[dict[int, int]], best: int) -> None:
+    there, back = net.lengths(sides[0]), net.turned.lengths(sides[1])
+    arcs, sums = leg.arcs.tolist(), [0, *itertools.accumulate(leg.weights.tolist())]
+    assert sums[-1] == leg.weight <= 1.25 * best
+    ends = [(int(arrays.arc_from[arc]) - 1, int(arrays.arc_to[arc]) - 1) for arc in arcs]
+    assert all(one[1] == other[0] for one, other in itertools.pairwise(ends))
+    # (the nodes, and what is driven to each: a leg may begin and end on a part of an arc)
+    nodes = [(ends[0][0], 0)] * (sides[0].get(ends[0][0]) == 0) + [(one[1], total) for one, total in zip(ends, sums[1:-1])]
+    nodes += [(ends[-1][1], sums[-1])] * (sides[1].get(ends[-1][1]) == 0)
+    assert len({node for node, _ in nodes}) == len(nodes)
+    tight = [there[node] == total and back[node] == leg.weight - total for node, total in nodes]
+    runs = [list(run) for is_tight, run in itertools.groupby(zip(nodes, tight), key=lambda row: row[1]) if is_tight]
+    plateau = max(run[-1][0][1] - run[0][0][1] for run in runs)
+    assert plateau >= 0.2 * best
+    for (node, total), (other, more) in itertools.combinations(nodes, 2):
+        assert more - total >= plateau or net.lengths({node: 0})[other] == more - total
+    for node, total in nodes:
+        assert total >= plateau or there[node] == total
+        assert leg.weight - total >= plateau or back[node] == leg.weight - total
+
+
+@pytest.mark.parametrize("middle, wanted", [
+    (500, [2000, 2200]), (400, [2000, 2200]), (399, [2000]),
+])
+def test_alternatives_by_hand(tmp_path: pathlib.Path, middle: int, wanted: list[int]) -> None:
+    """Beside a way of 2000 one of 2200, whose middle is a plateau: a fifth of 2000 is enough. A way of 2501 is too long."""
+    ways = [[1000, 1000], [1100 - middle // 2, middle, 1100 - middle + middle // 2], [1000, 501, 1000]]
+    nodes, roads = [(0.0, 0.0), (0.02, 0.0)], []
+    for number, weights in enumerate(ways):
+        inner = [(0.02 * (place + 1) / len(weights), 0.002 * number) for place in range(len(weights) - 1)]
+        line = [0, *range(len(nodes), len(nodes) + len(inner)), 1]
+        nodes += inner
+        roads += [Road(*step, weight, None) for step, weight in zip(itertools.pairwise(line), weights)]
+    with prepared(nodes, roads, tmp_path / "net") as hierarchy:
+        ends = [(0.0, 0.0), (0.02, 0.0)]
+        assert [each.weight for each in hierarchy.alternatives(ends)] == wanted
+        assert [each.weight for each in hierarchy.alternatives(ends, 0)] == wanted[:1]
+        assert hierarchy.alternatives(ends[::-1]) == []
+        for some, count in ((ends[:1], 3), (ends, 4), (ends, True)):
+            with pytest.raises(ValueError):
+                hierarchy.alternatives(some, count)
 
 
 def least_weight(legs: Any) -> int | None:

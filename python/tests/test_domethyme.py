@@ -6,6 +6,9 @@ import typing
 
 import numpy as np
 import pandas as pd
+from draws import drawn
+from hypothesis import given
+from hypothesis import strategies as st
 from tool_case import PYTHON, ROOT, ToolCase
 
 import domethyme
@@ -13,6 +16,14 @@ from domethyme import find_program
 
 # Four nodes: two ways from 0 to 2, of 3 + 4 = 7 and of 9; back from 2 to 0 by 5; node 3 leads to 0 by 6, and nothing to it.
 SQUARE = ([0, 1, 0, 2, 3], [1, 2, 2, 0, 0], [3, 4, 9, 5, 6])
+
+
+@drawn(200)
+@given(st.lists(st.decimals(0, 40_000, places=2), min_size=1, max_size=4))
+def test_scaled_weights(values):
+    """Hundredths are whole numbers, whatever their floats are."""
+    graph = domethyme.Graph.from_keys(range(len(values)), range(1, len(values) + 1), [float(value) for value in values], scale=100)
+    assert graph.weights.tolist() == [int(100 * value) for value in values]
 
 
 class DomethymeTests(ToolCase):
@@ -51,6 +62,29 @@ class DomethymeTests(ToolCase):
         self.assertEqual(list(typing.get_args(domethyme.graphs.Order)), offered)
         for order in offered:
             self.assertEqual(self.prepared(order, *SQUARE, order=order).length(3, 2), 13)
+
+    def test_renewed(self):
+        """The order is that of the old hierarchy, and the lengths are those of the new weights. The old file may be replaced."""
+        old = self.prepared("old", *SQUARE, order="depth", workers=1)
+        keys = [2**40, 5, 7, 6]
+        sources, targets = ([keys[node] for node in side] for side in SQUARE[:2])
+        graph = domethyme.Graph.from_keys(sources, targets, [1, 1, 9, 5, 6])
+        self.assertEqual(list(graph.keys), keys)
+        new = graph.renew(old, self.folder / "new.rch", program=find_program())
+        self.addCleanup(new.close)
+        self.assertEqual((new.length(keys[3], keys[2]), new.length(keys[2], keys[1])), (8, 6))
+        ranks = [(self.folder / f"{name}.rch").read_bytes()[24:40] for name in ("old", "new")]
+        self.assertEqual(ranks[0], ranks[1])
+        again = domethyme.renew(self.folder / "old.gr", self.folder / "new.rch", self.folder / "new.rch", progress=lambda *_: None)
+        self.addCleanup(again.close)
+        self.assertEqual(again.length(3, 2), 13)
+        domethyme.write_graph(self.folder / "more.gr", *SQUARE, nodes=5)
+        with self.assertRaisesRegex(domethyme.WrongHierarchy, r"new.rch: wrong: nodes$") as caught:
+            domethyme.renew(self.folder / "more.gr", self.folder / "new.rch", self.folder / "none.rch")
+        self.assertEqual(caught.exception.status, 9)
+        with self.assertRaisesRegex(domethyme.HierarchyError, "old.gr: .*BadMagic"):
+            domethyme.renew(self.folder / "old.gr", self.folder / "old.gr", self.folder / "none.rch")
+        self.assertFalse((self.folder / "none.rch").exists())
 
     def test_names_that_begin_with_a_hyphen(self):
         """They are names of files, and no options."""
@@ -184,8 +218,6 @@ print(domethyme.Hierarchy("--help").length(0, 2))
                 domethyme.Hierarchy(self.folder / "square.rch", keys=keys)
 
     def test_weights_that_are_no_whole_numbers(self):
-        graph = domethyme.Graph.from_keys(["a", "b"], ["b", "c"], [0.5, 2.0004], scale=1000)
-        self.assertEqual(graph.weights.tolist(), [500, 2000])
         for weights in ([1.0, -1.0], [1.0, 5e6], [1.0, float("nan")]):
             with self.assertRaisesRegex(ValueError, "weights times 1000 have to be from 0"):
                 domethyme.Graph.from_keys(["a", "b"], ["b", "c"], weights, scale=1000)
@@ -194,13 +226,8 @@ print(domethyme.Hierarchy("--help").length(0, 2))
         with graph.prepare(self.folder / "scaled.rch", program=find_program()) as hierarchy:
             lengths = [hierarchy.length("a", "c"), hierarchy.length("c", "a")]
             self.assertEqual([domethyme.unscaled(length, 1000) for length in lengths], [2.5, float("inf")])
-            table = domethyme.unscaled(hierarchy.matrix(np.array(["a", "c"])), 1000)
-            self.assertEqual(table.tolist(), [[0, 2.5], [float("inf"), 0]])
-            frame = domethyme.unscaled(hierarchy.matrix(pd.Series(["a", "c"])), 1000)
-            self.assertEqual(frame.loc["c"].to_dict(), {"a": float("inf"), "c": 0})
-            series = domethyme.unscaled(
-                hierarchy.lengths(pd.DataFrame({"from": ["a", "c"], "to": ["b", "b"]}, index=[4, 5]))
-            )
+            self.assertEqual(domethyme.unscaled(hierarchy.matrix(np.array(["a", "c"])), 1000).tolist(), [[0, 2.5], [float("inf"), 0]])
+            series = domethyme.unscaled(hierarchy.lengths(pd.DataFrame({"from": ["a", "c"], "to": ["b", "b"]}, index=[4, 5])))
             self.assertEqual(series.to_dict(), {4: 500, 5: float("inf")})
 
     def test_ends_without_a_key(self):
@@ -212,18 +239,10 @@ print(domethyme.Hierarchy("--help").length(0, 2))
             with self.subTest(dtype=column.dtype), self.assertRaisesRegex(ValueError, "an arc has no key at an end"):
                 domethyme.Graph.from_frame(frame)
 
-    def test_frames_in_and_out(self):
+    def test_frames_without_a_pair(self):
         frame = pd.DataFrame({"from": ["a", "b", "a"], "to": ["b", "c", "c"], "weight": [3, 4, 9]})
         with domethyme.Graph.from_frame(frame).prepare(self.folder / "f.rch", program=find_program()) as hierarchy:
             asked = pd.DataFrame({"name": [1, 2], "from": ["a", "c"], "to": ["c", "a"]}, index=[7, 9])
-            self.assertEqual(hierarchy.lengths(asked).to_dict(), {7: 7, 9: pd.NA})
-            self.assertEqual(hierarchy.lengths(asked).mean(), 7)
-            told = hierarchy.routes(asked).to_frame()
-            self.assertEqual(told.to_dict("index"), {7: {"from": "a", "to": "c", "length": 7, "arcs": 2},
-                                                     9: {"from": "c", "to": "a", "length": pd.NA, "arcs": pd.NA}})
-            table = hierarchy.matrix(asked["from"], ["b", "c"])
-            self.assertEqual((table.loc["a"].to_dict(), table["c"].sum()), ({"b": 3, "c": 7}, 7))
-            self.assertIs(table.loc["c", "b"], pd.NA)
             for wrong, says in [
                 (asked[["name", "from", "to"]].rename(columns={"to": "there"}), "has 'name', 'from', 'there': rename"),
                 (
@@ -233,20 +252,7 @@ print(domethyme.Hierarchy("--help").length(0, 2))
             ]:
                 with self.assertRaisesRegex(ValueError, f"columns from and to, or source and target, and .*{says}"):
                     hierarchy.lengths(wrong)
-            self.assertEqual(hierarchy.lengths(pd.DataFrame({"target": ["c"], "source": ["a"]})).tolist(), [7])
             self.assertEqual(hierarchy.lengths(pd.DataFrame({"o": ["a"], "d": ["c"]}).to_numpy()).tolist(), [7])
-
-    def test_what_stands_for_no_path(self):
-        """One that can't be reached is never the nearest: by frames of lists of keys, and by arrays."""
-        graph = domethyme.Graph.from_keys(["north", "south", "shop", "far"], ["shop", "far", "far", "shop"], [5, 9, 2, 4])
-        with graph.prepare(self.folder / "depots.rch", program=find_program()) as hierarchy:
-            depots, customers = ["south", "north"], ["shop", "far", "north"]
-            nearest = domethyme.unscaled(hierarchy.matrix(depots, customers)).idxmin()
-            self.assertEqual(nearest.to_dict(), {"shop": "north", "far": "north", "north": "north"})
-            lengths = hierarchy.matrix(np.array(depots), np.array(customers), missing=np.inf)
-            self.assertEqual(lengths.tolist(), [[13, 9, np.inf], [5, 7, 0]])
-            self.assertEqual(hierarchy.matrix(depots, customers, missing=np.inf).loc["south", "north"], np.inf)
-            self.assertEqual(hierarchy.matrix(iter(depots), ["shop"]).index.tolist(), depots)
 
     def test_the_recipe_of_the_page(self):
         """The example of docs/PYTHON.md prints what it says."""

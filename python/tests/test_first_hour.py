@@ -26,7 +26,8 @@ def test_a_map_in_one_call(village):
     hierarchy, told, out = village
     assert [what for what in dict.fromkeys(what for what, _, _ in told)][:3] == ["ways", "places", "roads"]
     assert all(0 <= done <= total for _, done, total in told) and told[-1][0] in ("files", "prepare")
-    with domethyme.open(out) as again, domethyme.open(f"{out}.rch") as third:
+    with domethyme.open(out) as again, domethyme.open(f"{out}.rch") as third, domethyme.open(f"{out}.net") as fourth:
+        assert fourth.path == third.path
         assert again.keys is None and again.network.prefix == str(out)
         assert again.route(0, 5).nodes == third.route(0, 5).nodes == hierarchy.route(0, 5).nodes
     for words, says in [({"profile": "tank"}, "no profile tank"), ({"speed": 3}, "no option speed"), ({"at_least": 1.0}, "35 of 38 nodes reach")]:
@@ -56,12 +57,36 @@ def test_what_notebooks_and_others_know(village):
     assert routes[:1].__geo_interface__["features"] == hierarchy.routes([[0, 5]]).geojson()["features"]
     contours = hierarchy.within((float(hierarchy.network.lon[0]), float(hierarchy.network.lat[0])), [1, 2])
     assert json.loads(json.dumps(contours)) == contours == contours.__geo_interface__
-    for shown, what in ((route, "stroke"), (routes, "and 10 more"), (contours, "fill-rule")):
+    places = [(float(hierarchy.network.lon[node]), float(hierarchy.network.lat[node])) for node in (0, 5)]
+    directions, tour = hierarchy.directions(places), hierarchy.tour(places)
+    for shown, what in ((route, "stroke"), (routes, "and 10 more"), (contours, "fill-rule"), (directions, "stroke"), (tour, "stroke")):
         assert shown._repr_html_().startswith("<svg") and what in shown._repr_html_()
+    for said in (repr(directions), repr(directions.legs)):
+        assert f"weight {directions.weight}" in said and len(said) < 120
     with domethyme.Hierarchy(hierarchy.path) as bare:
         assert bare.route(0, 5)._repr_html_() is None and not hasattr(bare.route(0, 5), "__geo_interface__")
         with pytest.raises(ValueError, match="no network to draw on"):
             bare.route(0, 5).geojson()
+
+
+@pytest.mark.needs("import:geopandas")
+def test_places_of_geopandas(village):
+    """Points in any system, of two places too, which aren't one place; and a row for each in the frame that comes back."""
+    import geopandas
+    import shapely.geometry
+
+    hierarchy, _, _ = village
+    places = [(float(hierarchy.network.lon[node]), float(hierarchy.network.lat[node])) for node in (0, 5, 9)]
+    for count in (2, 3):
+        wanted = hierarchy.directions(places[:count])
+        points = [shapely.geometry.Point(place) for place in places[:count]]
+        frame = geopandas.GeoDataFrame({"name": list("abc"[:count])}, geometry=points, crs=4326)
+        for given in (points, frame, frame.geometry, frame.to_crs(3857), frame.geometry.to_crs(3857)):
+            assert hierarchy.directions(given).weight == wanted.weight
+        assert hierarchy.table(frame).to_numpy().tolist() == hierarchy.table(places[:count]).tolist()
+    assert hierarchy.network.points_on_roads(points[0]) == hierarchy.network.points_on_roads(places[0])
+    lines = geopandas.GeoDataFrame.from_features([wanted], crs=4326)
+    assert lines.weight[0] == wanted.weight and lines.geometry[0].geom_type == "LineString"
 
 
 PLACE = 47.1, 9.5
@@ -71,7 +96,10 @@ PLACE = 47.1, 9.5
     (lambda h: h.within(PLACE, 10), r"minutes are a list, as \[10\]"), (lambda h: h.within(9.5, 47.1), r"a place is \(lon, lat\)"),
     (lambda h: h.within(PLACE, ["5"]), "have to be numbers"), (lambda h: h.within(PLACE, [600000]), "there may be 600"),
     (lambda h: h.reach(0, 5), r"starts are nodes in a list, as \[0\]"), (lambda h: h.matrix(5), r"sources are nodes in a list, as \[5\]"),
-    (lambda h: h.reach([0], 5, minutes=3), "one of both"), (lambda h: h.matrix(np.array([9.5])), "nearest.lon, lat. finds the nodes of places"),
+    (lambda h: h.reach([0], 5, minutes=3), "one of both"), (lambda h: h.matrix(np.array([9.5])), "table.sources, targets. takes places"),
+    (lambda h: h.route(PLACE, PLACE), "directions.places. takes places"), (lambda h: h.routes([PLACE, PLACE]), "directions.places. takes places"),
+    (lambda h: h.directions([(*PLACE, 5), PLACE]), "rows .lon, lat., or points"), (lambda h: h.directions(["9.5,47.1", "9.6,47.1"]), "rows .lon, lat."),
+
     (lambda h: h.nearest([0, 0.01], [0.0]), "2 values of lon and 1 of lat"), (lambda h: h.nearest(60, 0.0), r"km|m away$"),
     (lambda h: h.nearest(0.0, 60), "m away$"), (lambda h: h.network.nearest(0, 60), "no node within 1000 m"),
     (lambda h: h.network.geojson(None), "there is no route"), (lambda h: domethyme.Hierarchy(b"x"), "takes the path of a file, and no bytes"),
@@ -79,6 +107,7 @@ PLACE = 47.1, 9.5
     (lambda h: domethyme.Graph.from_keys([1], [2], [5e9]), "scale=1000"), (lambda h: domethyme.open("none"), "none.gr none.rch` makes it"),
     (lambda h: domethyme.Graph.from_frame(pd.DataFrame({"a": [1], "b": [2]}), "a", "b"), "no column weight; it has a, b"),
     (lambda h: library.find_library("none.so"), "none.so: No such file"),
+    (lambda h: domethyme.from_osm("none.osm", "none"), "none.osm: No such file"),
     (lambda h: domethyme.prepare("li.net", "li.rch"), "its graph ends in .gr"), (lambda h: domethyme.prepare("li.osm.pbf", "li.rch"), "is a map"),
 ])
 def test_calls_that_nobody_can_mean(village, call, says):
@@ -105,8 +134,14 @@ BOTH = "from,to,kmh,km,oneway\n7,8,50,0.2,no\n8,9,50,0.3,no\n9,10,30,90,1\n"
     (NODES, BOTH + "7,8,50,0.2,no\n", [], 0, ["1 rows have the ends and figures of earlier ones"]),
     (NODES, BOTH, ["--largest"], 0, ["out: 3 nodes, 4 arcs, 0.5 km"]), (NODES, BOTH.replace(",1\n", ",1.0\n"), [], 0, ["out: 4 nodes, 5 arcs"]),
     (NODES.replace(",", ";").replace(".", ","), BOTH.replace(",", ";").replace(".", ","), ["--delimiter", ";", "--decimal", ","], 0, ["out: 4 nodes"]),
-    (NODES, BOTH.replace("7,", "7.0,"), [], 1, ["is it 7?"]), (NODES.replace("0.5,0.5", '"0,5",0'), BOTH, [], 1, ["write a point for the comma"]),
+    (NODES, BOTH.replace("7,", "7.0,"), [], 1, ["is it 7?"]),
     (NODES, BOTH.replace("50", ""), [], 1, ["row 2: has none of weight", "another row is refused too"]), ("PK\3\4", BOTH, [], 1, ["spreadsheet"]),
+    (NODES, BOTH, ["--largest"], 0, ["and 1 don't", "metres of arcs, from the least by quartiles to the greatest: 200, 200, 250, 300, 300\n"]),
+    (NODES.replace(",", ";"), BOTH, [], 1, ["fields have to be separated by commas, or give --delimiter ';'\n"]),
+    (NODES, BOTH, ["--delimiter", "tab"], 1, ["fields have to be separated by tabs, or give --delimiter ,\n"]),
+    (NODES.replace("0.5,0.5", '"0,5",0'), BOTH, [], 1, ["lon '0,5' is no number: write a point for the comma, or give --decimal ,"]),
+    (NODES.replace(",", ";"), BOTH, ["--delimiter", ";", "--decimal", ","], 1, ["lon '0.001' is no number: write a comma for the point"]),
+    (NODES, BOTH, ["--decimal", ","], 2, ["a comma is between fields too: give --delimiter, as ';'"]),
     (NODES, BOTH, ["--delimiter", "ab"], 2, ["no mark"]), (NODES, BOTH.replace("kmh", "kmh\u00df").encode("latin-1"), [], 1, ["save it as CSV UTF-8"]),
 ])
 def test_what_to_network_says(tmp_path, run, nodes, arcs, words, status, says):

@@ -61,7 +61,7 @@ def test_lengths_routes_and_tables(data: Any) -> None:
             added = st.one_of(st.just(0), st.integers(0, 50_000), st.just((1 << 32) - 1))
             starts, ends = (data.draw(st.dictionaries(nodes, added, min_size=1, max_size=4)) for _ in range(2))
             check_between(asked, starts, ends, data.draw(st.sampled_from(["mapping", "rows", "alone"])))
-            check_reach(asked, starts, data.draw(st.one_of(st.none(), st.integers(0, 100_000))))
+            check_reach(asked, starts, data.draw(st.one_of(st.none(), st.integers(0, 100_000))), data.draw(st.booleans()))
 
 
 def check_pairs(asked: Asked, pairs: list[tuple[int, int]], form: str) -> None:
@@ -177,9 +177,9 @@ def check_between(asked: Asked, starts: dict[int, int], ends: dict[int, int], fo
     assert is_route(asked, found.nodes, found.source, found.target, asked.lengths[first][last])
 
 
-def check_reach(asked: Asked, starts: dict[int, int], limit: int | None) -> None:
-    found = asked.hierarchy.reach({asked.keys[node]: added for node, added in starts.items()}, limit)
-    wanted = asked.net.lengths(starts)
+def check_reach(asked: Asked, starts: dict[int, int], limit: int | None, towards: bool) -> None:
+    found = asked.hierarchy.reach({asked.keys[node]: added for node, added in starts.items()}, limit, towards)
+    wanted = (asked.net.turned if towards else asked.net).lengths(starts)
     most = 1 << 62 if limit is None else limit
     expected = [wanted[node] if wanted.get(node, math.inf) <= most else -1 for node in range(len(asked.keys))]
     values = found.tolist() if isinstance(found, np.ndarray) else found.fillna(-1).tolist()
@@ -190,7 +190,7 @@ def check_reach(asked: Asked, starts: dict[int, int], limit: int | None) -> None
 @drawn(110)
 @given(st.data())
 def test_places(data: Any) -> None:
-    """The nearest node to a place, on either side, and the roads that are reached from one."""
+    """The nearest node to a place, on either side, and the roads that are reached from one, or lead to it."""
     made = data.draw(networks(["duration", "distance"]))
     with tempfile.TemporaryDirectory() as folder:
         write_network(made, pathlib.Path(folder) / "net")
@@ -201,7 +201,8 @@ def test_places(data: Any) -> None:
             with_limits = {"duration": ("minutes", 60_000), "distance": ("metres", 100)}.get(made.roads.unit)
             is_flat = abs(place[1]) < 80 and all(arc.metres < 10_000 for arc in made.roads.arcs)
             if with_limits is not None and is_flat:  # (else the plane of what is reached isn't the earth)
-                check_roads(hierarchy, made.roads, place, *with_limits)
+                for towards in (False, True):
+                    check_roads(hierarchy, made.roads, place, *with_limits, towards)
 
 
 def check_nearest(hierarchy: domethyme.Hierarchy, network: Network, place: Point, side: Any) -> None:
@@ -216,8 +217,8 @@ def check_nearest(hierarchy: domethyme.Hierarchy, network: Network, place: Point
     assert many.tolist() == [node] * 2 and all_away.tolist() == [away] * 2
 
 
-def check_roads(hierarchy: domethyme.Hierarchy, roads: Network, place: Point, unit: str, factor: int) -> None:
-    """The lines that are reached, by their points, and where they cross the 180th meridian by their metres."""
+def check_roads(hierarchy: domethyme.Hierarchy, roads: Network, place: Point, unit: str, factor: int, towards: bool) -> None:
+    """The lines that are reached, or lead there, by their points, and where they cross the 180th meridian by their metres."""
     try:
         point = roads.snap(place, 1000.0)
     except Ambiguous:
@@ -225,13 +226,13 @@ def check_roads(hierarchy: domethyme.Hierarchy, roads: Network, place: Point, un
     value = {"minutes": 0.3, "metres": 250}[unit]
     if point is None:
         with pytest.raises(domethyme.NoSuchNode):
-            hierarchy.within(place, shape="roads", **{unit: [value]})
+            hierarchy.within(place, shape="roads", towards=towards, **{unit: [value]})
         return
-    (feature,) = hierarchy.within(place, shape="roads", **{unit: [value]})["features"]
+    (feature,) = hierarchy.within(place, shape="roads", towards=towards, **{unit: [value]})["features"]
     geometry = feature["geometry"]
     parts = [] if geometry is None else geometry["coordinates"]
     lines = [[(lon, lat) for lon, lat in part] for part in ([parts] if geometry and geometry["type"] == "LineString" else parts)]
-    expected = reached_lines(roads, [point], round(value * factor))
+    expected = reached_lines(roads.turned if towards else roads, [point], round(value * factor))
     if any(max(lon for lon, _ in line) - min(lon for lon, _ in line) > 180 for line in expected):
         metres = [sum(along(line)[-1] for line in some) for some in (lines, expected)]
         assert abs(metres[0] - metres[1]) <= 0.3 * (1 + len(expected))

@@ -8,6 +8,7 @@ import tempfile
 import urllib.parse
 from collections.abc import Mapping, Sequence
 from typing import Any
+from unittest import mock
 
 from draws import (
     HIGHWAYS, KNOWN, LIMITS, ORIGINS, WORDS, WRONG, Drawn, directions, drawn, networks, places, texts_of, write_network
@@ -19,7 +20,9 @@ from model.answers import Refused
 from comparing import decoded, difference
 from model.network import Ambiguous, Arc, Network, Node
 from model.request import Request
+from model.steps import modifier_of
 
+from domethyme_service import osrm_tables
 from domethyme_service.access import AccessPolicy
 from domethyme_service.dataset import DatasetPaths, open_dataset
 from domethyme_service.metrics import SharedMetrics
@@ -27,7 +30,7 @@ from domethyme_service.wsgi import Options, Service
 
 REQUESTS = 6
 # How many places a request of each service has, at most: the small numbers are likelier.
-COUNTS = {"route": [2, 2, 2, 3, 4, 12], "nearest": [1], "table": [1, 2, 3, 6], "trip": [2, 3, 3, 4], "isochrone": [1]}
+COUNTS = {"route": [2, 2, 2, 3, 4, 12], "nearest": [1], "table": [1, 2, 3, 6], "trip": [2, 3, 3, 4], "match": [2, 3, 4], "isochrone": [1]}
 
 
 def serve(drawn: Drawn, folder: pathlib.Path) -> Service:
@@ -37,7 +40,7 @@ def serve(drawn: Drawn, folder: pathlib.Path) -> Service:
 
 
 def open_service(prefix: pathlib.Path) -> Service:
-    dataset = open_dataset(DatasetPaths(f"{prefix}.rch", str(prefix)))
+    dataset = open_dataset(DatasetPaths(f"{prefix}.rch", str(prefix), towards=True))
     return Service(dataset, Options(AccessPolicy.from_options(["x"], "none")), SharedMetrics())
 
 
@@ -60,7 +63,8 @@ def requests(draw: Any, drawn: Drawn, service: str) -> tuple[Request, set[str]]:
     count, is_wrong = draw(st.sampled_from(COUNTS[service])), draw(st.integers(0, 5)) == 0
     where = draw(places(drawn.roads, count))
     texts = texts_of(service, count, directions(drawn.roads), is_wrong)
-    often = [name for name in ("bearings", "steps", "overview", "annotations") for _ in range(4) if name in texts]
+    names = ["bearings", "steps", "overview", "annotations", *(["radiuses", "timestamps"] if service == "match" else [])]
+    often = [name for name in names for _ in range(4) if name in texts]
     chosen = draw(st.lists(st.sampled_from([*sorted(texts), *often]), max_size=6))
     rows = {name: draw(texts[name]) for name in dict.fromkeys(chosen)}
     return Request(service, where, {name: text for name, (text, _) in rows.items()}), {code for _, code in rows.values()} - {""}
@@ -76,13 +80,23 @@ def target(request: Request) -> str:
 @given(st.data())
 def test_routes_nearest_tables_and_trips(data: Any) -> None:
     made = data.draw(networks())
-    with tempfile.TemporaryDirectory() as folder:
+    with tempfile.TemporaryDirectory() as folder, mock.patch.object(osrm_tables, "NODE_CELLS", 8):  # (so that tables come in parts)
         service = serve(made, pathlib.Path(folder))
         for _ in range(REQUESTS):
             drawn_request = data.draw(requests(made, data.draw(st.sampled_from(["route", "route", "nearest", "table", "trip"]))))
             check(made, service, *drawn_request)
         nodes = st.integers(0, len(made.tables.nodes) - 1)
         check_nodes(made, service, data.draw(st.lists(st.tuples(nodes, nodes), min_size=1, max_size=3)))
+
+
+@drawn(50)
+@given(st.data())
+def test_traces(data: Any) -> None:
+    made = data.draw(networks(most=5))
+    with tempfile.TemporaryDirectory() as folder:
+        service = serve(made, pathlib.Path(folder))
+        for _ in range(REQUESTS):
+            check(made, service, *data.draw(requests(made, "match")))
 
 
 @drawn(40)
@@ -110,8 +124,8 @@ def test_each_text_of_a_parameter(tmp_path: pathlib.Path) -> None:
     rows += [("isochrone", "contours_minutes", text, "InvalidValue") for text in (*LIMITS, *WRONG)]
     rows += [("isochrone", "contours_meters", text, "InvalidValue") for text in (*LIMITS[:-1], *WRONG)]
     for what, name, text, code in [*rows, *(("route", name, *row) for name in WORDS for row in words_of(WORDS[name]))]:
-        for endpoint in ["route", "nearest", "table", "trip"] if what == "osrm" else [what]:
-            where = [(0.0003, 0.0), (0.0007, 0.00001)] if endpoint in ("route", "table", "trip") else [(0.0003, 0.0)]
+        for endpoint in ["route", "nearest", "table", "trip", "match"] if what == "osrm" else [what]:
+            where = [(0.0003, 0.0), (0.0007, 0.00001)] if endpoint in ("route", "table", "trip", "match") else [(0.0003, 0.0)]
             minutes = ",".join("1234"[: 1 + text.count(",") * (name == "contours_colors")])
             limits = {"contours_minutes": minutes} if endpoint == "isochrone" and name != "contours_meters" else {}
             status, found = ask(service, target(Request(endpoint, where, {**limits, name: text})))
@@ -148,6 +162,7 @@ def test_tiles(data: Any) -> None:
     found = []
     with tempfile.TemporaryDirectory() as folder:
         service = serve(made, pathlib.Path(folder))
+        assert {ask(service, f"/map/roads/{zoom}/{x}/{y}")[0] for x, y in ((1 << zoom, 0), (0, 1 << zoom))} == {400}
         for x, y in itertools.product(range(columns[0] - 1, columns[-1] + 2), range(rows[0] - 1, rows[-1] + 2)):
             for road in ask(service, f"/map/roads/{zoom}/{x}/{y}")[1]["roads"]:
                 names = [road["names"][number] for number in road["name"]] if zoom >= 14 else [""] * len(road["lines"])
@@ -200,6 +215,19 @@ def check(made: Drawn, service: Service, request: Request, codes: set[str]) -> N
         problem = difference(found, expected)
         assert not problem, (target(request), problem)
         assert request.service != "route" or fit_the_line(found, request), (target(request), found)
+        assert all(map(has_its_modifier, maneuvers(found))), (target(request), found)
+
+
+def maneuvers(found: Any) -> list[Any]:
+    return [
+        step["maneuver"] for route in found.get("routes", found.get("trips", [])) for leg in route["legs"] for step in leg["steps"]
+    ]
+
+
+def has_its_modifier(maneuver: Any) -> bool:
+    """Whether a turn's modifier is that of the degrees between its bearings, which are whole numbers."""
+    angle = (maneuver["bearing_after"] - maneuver["bearing_before"] + 180) % 360 - 180
+    return maneuver["type"] not in ("turn", "new name", "continue") or maneuver["modifier"] == modifier_of(angle)
 
 
 def fit_the_line(found: Any, request: Request) -> bool:

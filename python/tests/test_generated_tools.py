@@ -118,6 +118,7 @@ def check_between_nodes(network: Network, path: pathlib.Path, trips: list[tuple[
     for pair, feature in zip(pairs, features, strict=True):
         length = network.lengths({pair[0]: 0}).get(pair[1])
         assert feature["properties"]["length"] == length and (feature["geometry"] is None) == (length is None)
+        assert (feature["properties"]["seconds"] is None) == (length is None or not network.has_seconds)
         assert length is None or feature["properties"]["arcs"] == network.fewest_arcs(*pair)
         if length is not None:  # (an answer that there is no path is refused)
             (path / "no_path").write_text(f"n {pair[0] + 1} {pair[1] + 1}\n")

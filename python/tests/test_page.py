@@ -17,6 +17,7 @@ import subprocess
 import numpy as np
 import pytest
 from browser import Browser
+from reach_case import Road, network as made_network
 from tool_case import PYTHON, ROOT, TOOLS, VILLAGE
 from web_case import built
 
@@ -33,7 +34,7 @@ from domethyme_tools.cli import ToolError
 from domethyme_tools.page import MOST_NODES
 from domethyme_tools.page.bundle import bundled
 from domethyme_tools.page.hierarchy import columns_of as columns_of_hierarchy
-from domethyme_tools.page.network import network_bytes
+from domethyme_tools.page.network import network_bytes, split_nodes
 
 PAGE = PYTHON / "domethyme_tools/page"
 DOCUMENT = ROOT / "docs/liechtenstein.html"
@@ -105,6 +106,13 @@ def hierarchy_of_page(columns: bytes, tmp_path) -> bytes:
     return subprocess.run(words, check=True, capture_output=True).stdout
 
 
+def test_junctions_in_one_place():
+    """Two of them, split by turn restrictions, whose ids differ, as where two roads cross on two levels."""
+    nodes = [(0, 0), *((0.001, 0, end, osm) for osm in (7, 8) for end in ("from", "to"))]
+    split, groups = split_nodes(made_network(nodes, [Road(0, 2, 5, None), Road(3, 0, 5, None)]))
+    assert split.tolist() == [1, 2, 3, 4] and groups[0] == groups[1] != groups[2] == groups[3]
+
+
 def length_of(lines) -> float:
     return sum(math.dist(begin, end) for line in lines for begin, end in itertools.pairwise(line) if abs(begin[0] - end[0]) < 180)
 
@@ -161,7 +169,7 @@ class TestRules:
         places, limits = places_near(roads, 25, 6), [500, 20_000, 60_000]
         found = asked_of_page(network, tmp_path, pairs=[(place, place) for place in places], limits=limits, tiles=[])["reached"]
         for place, answer in zip(places, found, strict=True):
-            reach = isochrones.reach_from(roads, [roads.nearest(place)[0]], limits, lambda starts, most: batch.reach(router, starts, most))
+            reach = isochrones.reach_of(roads, [roads.nearest(place)[0]], limits, lambda starts, most: batch.reach(router, starts, most))
             for number, lines in enumerate(answer):
                 assert length_of(lines) == pytest.approx(length_of(reach.roads(number)), abs=1e-5 + 2e-6 * len(lines))
 

@@ -2,6 +2,9 @@
 equator, and weighs 1000 there."""
 import numpy as np
 import pytest
+from draws import drawn
+from hypothesis import given
+from hypothesis import strategies as st
 from reach_case import Road, lengths, network, prepared, town, town_map
 from shapely.geometry import Point, shape
 
@@ -46,6 +49,13 @@ def test_what_does_not_fit(values, limits):
         Reach(network(ROW, ROADS), values, limits)
 
 
+@drawn(200)
+@given(st.sampled_from([("duration", "minutes", 60_000), ("distance", "metres", 100)]), st.decimals("0.01", 600, places=2))
+def test_limits_in_the_unit_of_weights(kind, value):
+    unit, name, factor = kind
+    assert isochrones.limits(unit, **{name: [float(value)]}) == [int(value * factor)]
+
+
 @pytest.mark.parametrize("towards", [False, True])
 def test_a_town_road_by_road(towards):
     """The metres that are reached of a town, beside those of each arc by its own start, or end."""
@@ -76,6 +86,27 @@ def test_what_cannot_be_reached(row, starts, limit, says):
     assert isinstance(caught.value, domethyme.NoSuchNode) == (starts == [6])
 
 
+@pytest.mark.parametrize("starts, limit, wanted", [
+    ([3], None, [2000, 1000, 0, 0, 0, -1]), ([3], 999, [-1, -1, 0, 0, 0, -1]), ({0: 7}, None, [7, 1007, -1, -1, -1, -1]),
+    ({2: 500, 4: 0}, None, [2500, 1500, 500, 500, 0, -1]),
+])
+def test_towards(row, starts, limit, wanted):
+    """By hand."""
+    assert row.reach(starts, limit, towards=True).tolist() == wanted
+
+
+def test_towards_of_another_file_and_of_a_closed_one(tmp_path):
+    """A hierarchy is turned at the first question, if its file is still there."""
+    with prepared(ROW, ROADS, tmp_path / "row") as hierarchy, prepared(ROW, ROADS, tmp_path / "other") as other:
+        assert other.reach([3], towards=True)[0] == 2000
+        (tmp_path / "other.rch").replace(tmp_path / "row.rch")
+        with pytest.raises(domethyme.WrongHierarchy, match="was replaced since it was read, so it can't be turned round"):
+            hierarchy.reach([3], towards=True)
+    for each in (hierarchy, other):
+        with pytest.raises(ValueError, match="closed"):
+            each.reach([3], towards=True)
+
+
 def test_an_older_library(row, monkeypatch):
     """The error for a call that the library lacks says what to do."""
     monkeypatch.setitem(library.LATER_ARGUMENTS, "reached_by_nobody", [])
@@ -90,14 +121,15 @@ def made_town(tmp_path_factory):
         yield hierarchy
 
 
-@pytest.mark.parametrize("form, kinds", [
-    ("polygons", {"Polygon", "MultiPolygon"}), ("lines", {"LineString", "MultiLineString"}), ("roads", {"MultiLineString"}),
+@pytest.mark.parametrize("form, kinds, towards", [
+    ("polygons", {"Polygon", "MultiPolygon"}, False), ("lines", {"LineString", "MultiLineString"}, False),
+    ("roads", {"MultiLineString"}, False), ("polygons", {"Polygon", "MultiPolygon"}, True), ("roads", {"MultiLineString"}, True),
 ])
-def test_within(made_town, form, kinds):
+def test_within(made_town, form, kinds, towards):
     """What features makes of scipy's lengths, and each contour within the next."""
     at, net = (float(made_town.network.lon[300]), float(made_town.network.lat[300])), made_town.network.roads.arrays
-    found = made_town.within(at, [0.5, 1, 1.5], shape=form)
-    reach = Reach(net, lengths(net, {300: 0}), [30_000, 60_000, 90_000])
+    found = made_town.within(at, [0.5, 1, 1.5], shape=form, towards=towards)
+    reach = Reach(net, lengths(net, {300: 0}, towards), [30_000, 60_000, 90_000], towards=towards)
     assert found == features(reach, [0.5, 1, 1.5], "time", isochrones.Style(form, attribution="© the town"))
     assert {each["geometry"]["type"] for each in found["features"]} <= kinds
     if form == "polygons":

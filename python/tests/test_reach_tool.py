@@ -25,10 +25,13 @@ class ReachCase(ToolCase):
 
 class ReachToolTests(ReachCase):
     def test_forms(self):
-        """Of standard input, in the shape of roads; and a file, which has a feature on each line."""
+        """Of standard input, in the shape of roads, and what leads there; and a file, which has a feature on each line."""
         place = (9.004, 47.004)
         found = json.loads(self.run_tool("reach", "town", "town.rch", "-", "--minutes", "1", "--shape", "roads", given=PLACES).stdout)
         self.assertEqual(found, self.hierarchy.within(place, [1], shape="roads"))
+        found = json.loads(self.run_tool("reach", "town", "town.rch", "-", "--minutes", "1", "--towards", given=PLACES).stdout)
+        self.assertEqual(found, self.hierarchy.within(place, [1], towards=True))
+        self.assertNotEqual(found, self.hierarchy.within(place, [1]))
         self.run_tool("reach", "town", "town.rch", "places.csv", "-o", "out")
         text = (self.folder / "out").read_text()
         self.assertEqual((json.loads(text), len(text.splitlines())), (self.hierarchy.within(place), 5))

@@ -1,11 +1,13 @@
 """docs/RECIPES.md: its scripts and its lines for nginx do what the page says, in a folder in place of the machine's own."""
 import fcntl
 import hashlib
+import json
 import os
 import pathlib
 import re
 import shutil
 import signal
+import socket
 import subprocess
 import sys
 import unittest.mock
@@ -13,9 +15,10 @@ import unittest.mock
 import pytest
 from nginx_case import SHIPPED, NginxCase
 from test_osm_to_gr import write_map
-from tool_case import ROOT, TOOLS, VILLAGE
+from tool_case import ROOT, SECONDS, TOOLS, VILLAGE
 
 import domethyme
+from domethyme import find_program
 from domethyme.dimacs import read_graph
 
 sys.path.insert(0, str(ROOT / "packaging"))
@@ -32,6 +35,36 @@ TOWN = "<osm version='0.6'>" + "".join(f"<node id='{node}' lon='{node / 1000}' l
 <way id='2'><nd ref='2'/><nd ref='4'/><tag k='highway' v='residential'/></way></osm>"""
 
 
+def moved_village(folder):
+    """The village as a map, moved to where the pages ask for places."""
+    moved = re.sub(r"(?<=l(on|at))='([^']*)'", lambda at: f"='{float(at[2]) + (9.5215 if at[1] == 'on' else 47.141):.7f}'", VILLAGE.read_text())
+    (folder / "li.osm").write_text(moved)
+    return folder / "li.osm"
+
+
+def test_from_osrm(tmp_path):
+    """Each command of docs/FROM_OSRM.md, in a folder with the clone's tools and the village in the place of its map; the service answers."""
+    page = (ROOT / "docs/FROM_OSRM.md").read_text(encoding="utf-8")
+    (tmp_path / "out").mkdir()
+    (tmp_path / "tools").symlink_to(TOOLS)
+    (tmp_path / "bin").mkdir()
+    (tmp_path / "bin/routecli").symlink_to(pathlib.Path(os.environ["ROUTECLI"]).resolve())
+    write_map(tmp_path / "out/liechtenstein-2013-08-03.osm.pbf", moved_village(tmp_path))
+    with socket.create_server(("127.0.0.1", 0)) as free:
+        port = str(free.getsockname()[1])
+    serving, pricing = re.findall(r"^```sh\n(.*?)^```$", page, re.S | re.M)
+    serving = serving.replace("--network out/osrm &", f"--network out/osrm --port {port} &").replace(":5000/", f":{port}/")
+    serving = serving.replace("9.5090,47.1650", "9.5225,47.1410").replace("--retry 50 ", f"--retry {SECONDS} ")  # (what only a hang exceeds)
+    environment = {**os.environ, "PATH": f"{tmp_path}/bin:{os.environ['PATH']}"}
+    for block in (f"trap 'kill $(jobs -p); wait' EXIT\n{serving}", pricing):
+        ran = subprocess.run(["bash", "-euc", block], cwd=tmp_path, env=environment, capture_output=True, text=True)
+        assert ran.returncode == 0, ran.stderr
+        printed = ran.stdout if block == pricing else json.loads(ran.stdout)["code"]
+        assert printed.strip() == ("right" if block == pricing else "Ok")
+    typed = {line.partition(" ")[0] for line in f"{serving}{pricing}".splitlines()}
+    assert {"tools/osm_to_gr", "tools/domethyme-serve", "routecli", "curl"} == typed
+
+
 @pytest.mark.parametrize("number", [
     pytest.param(0, marks=pytest.mark.needs("import:networkx")), pytest.param(1, marks=pytest.mark.needs("import:osmnx")),
     pytest.param(2, marks=[pytest.mark.needs("import:geopandas"), pytest.mark.needs("import:folium")]),
@@ -41,15 +74,19 @@ def test_python(tmp_path, number):
     block = blocks(PAGE, "import domethyme")[number]
     (tmp_path / "out").mkdir()
     (tmp_path / "out/town.osm").write_text(TOWN)
-    moved = re.sub(r"(?<=l(on|at))='([^']*)'", lambda at: f"='{float(at[2]) + (9.5215 if at[1] == 'on' else 47.141):.7f}'", VILLAGE.read_text())
-    (tmp_path / "li.osm").write_text(moved)
-    domethyme.from_osm(tmp_path / "li.osm", tmp_path / "out/li").close()
+    domethyme.from_osm(moved_village(tmp_path), tmp_path / "out/li").close()
     environment = {**os.environ, "PYTHONPATH": os.pathsep.join([str(ROOT / "python"), os.environ.get("PYTHONPATH", "")])}
     code = block.replace("(9.5090, 47.1650)", "(9.5225, 47.1410)")
     ran = subprocess.run(["/usr/bin/python3", "-c", code], cwd=tmp_path, env=environment, capture_output=True, text=True)
     assert ran.returncode == 0, ran.stderr
     assert ran.stdout.splitlines() == re.findall(r"print\(.*\) +# (.*)", block)
     assert number != 2 or "geojson" in (tmp_path / "out/page.html").read_text().lower() and (tmp_path / "out/routes.gpkg").stat().st_size > 10_000
+
+
+def ranks_in(path):
+    """The bytes of a hierarchy's ranks."""
+    data = path.read_bytes()
+    return data[24 : 24 + 4 * int.from_bytes(data[4:8], "big")]
 
 
 class RecipeTests(NginxCase):
@@ -161,6 +198,26 @@ class RecipeTests(NginxCase):
         (self.folder / "bin/routecli").write_text('#!/bin/sh\n[ "$1" = prepare ] && : > "$5" || exit 10\n')
         self.run_program(night, status=10, environment=environment)
         self.assertEqual({path: path.read_bytes() for path in held}, held)
+
+    def test_each_hour(self):
+        """New speeds come as a map of the same roads, which takes the place of what `domethyme-reweigh` writes."""
+        self.machine()
+        served = self.folder / "var/lib/domethyme"
+        self.run_tool("osm_to_gr", VILLAGE, served / "network")
+        domethyme.prepare(served / "network.gr", served / "network.rch", order="depth", workers=1).close()
+        process = self.serve_network(served / "network")
+        before, ranks = self.ask(PLACE.format("car"))[1]["routes"][0]["duration"], ranks_in(served / "network.rch")
+        slow = self.write("slow.osm", re.sub(r"(<tag k='highway' v='[a-z_]+'/>)", r"\1<tag k='maxspeed' v='5'/>", VILLAGE.read_text(encoding="utf-8")))
+        (block,) = blocks(PAGE, "cd /var/lib/domethyme\ndomethyme-reweigh")
+        reweigh = {"domethyme-reweigh": f'exec {TOOLS}/osm_to_gr {slow} "$3"', "systemctl": f"echo $* >> {self.folder}/asked"}
+        self.run_program(["sh", "-euc", self.here(block)], environment=self.commands(**reweigh))
+        self.assertEqual((self.folder / "asked").read_text(), "reload domethyme-serve\n")
+
+        domethyme.check(served / "network.gr", served / "network.rch", find_program())
+        self.assertEqual(ranks_in(served / "network.rch"), ranks)
+        process.send_signal(signal.SIGHUP)
+        self.wait_for(lambda: self.value("reloads_total") == 1)
+        self.assertGreater(self.ask(PLACE.format("car"))[1]["routes"][0]["duration"], before)
 
     def serve_network(self, network):
         """A service of these files at a port, as `serve` starts that of the village."""

@@ -407,6 +407,7 @@ class RefusalTests(RouteManyCase):
         self.assert_ends(run, 5)
         self.assertEqual(self.said().splitlines()[:2], ["routecli: queries: NodeRange line 121", "  pairs:121: q 301 1"])
         self.assert_untouched()
+        self.assertLess(len(self.parts_begun()), 20)  # (none of the 20 begins once one is known to have failed)
 
     def test_hierarchy(self):
         whole = (self.folder / "network.rch").read_bytes()

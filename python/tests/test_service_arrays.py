@@ -46,7 +46,7 @@ def test_a_zigzag_whose_points_lie_ever_nearer():
 
 
 @pytest.mark.parametrize("digits", [0, 1, 2, 3, 6])
-@pytest.mark.parametrize("most", [1, 10, 999, 10**6, 18 * 10**7, 10**12, 10**15])
+@pytest.mark.parametrize("most", [1, 10, 999, 10**6, 18 * 10**7, *(9 * 10**power for power in (8, 9, 10, 12, 14))])
 def test_numbers_are_those_of_std(digits, most):
     draw = np.random.default_rng(most)
     values = np.append(draw.integers(-most, most, 300), (0, most, -most, 1, -1))

@@ -54,10 +54,16 @@ TWICE = "sources=" + "0;" * 99 + "0&destinations=" + "1;" * 99 + "1"
     ("table", 110, "bearings=" + "45,0;" * 109 + "45,0", SHORT, MOST), ("table", 2, f"annotations=distance&{TWICE}", 0, SHORT),
     ("table", 100, "annotations=distance", SHORT, MOST), ("table", 25, "", 0, SHORT), ("table", 1000, "", SHORT, MOST),
     ("isochrone", 1, "contours_minutes=5", SHORT, MOST), ("isochrone", 1, "contours_minutes=600", SHORT, MOST),
-    ("nearest", 1, "number=100", 0, SHORT),
+    ("nearest", 1, "number=100", 0, SHORT), ("match", 20, "", 0, MOST), ("match", 500, ALL, MOST, math.inf),
 ], ids=itertools.count())
 def test_costs_on_a_map_of_half_a_million_nodes(service, count, query, low, high):
     assert low < cost(service, count, query) <= high
+
+
+@pytest.mark.parametrize("minutes", [0.5, 2, 5, 30])
+def test_contours_by_metres_cost_what_is_driven_in_minutes(minutes):
+    metres = minutes * 130_000 / 60
+    assert cost("isochrone", 1, f"contours_meters={metres:.0f}") == pytest.approx(cost("isochrone", 1, f"contours_minutes={minutes}"), rel=0.01)
 
 
 def test_a_meter_ends_what_costs_too_much():
@@ -130,43 +136,53 @@ def test_private_addresses_are_those_of_nginx():
     assert [*map(str, slots.PRIVATE)] == listed
 
 
+class OneSlot:
+    """A slot that this process has, or not: those of the kernel are always free to the process that has them."""
+
+    is_taken = False
+
+    def acquire(self, _client, _is_long):
+        was_taken, self.is_taken = self.is_taken, True
+        return not was_taken
+
+    def release(self):
+        self.is_taken = False
+
+
 class Waiting:
-    """A worker without sockets, whose clock goes on while it answers: `seconds` for each request, or block of it, in parts of a tenth
-    of a second between which it is called as a meter does."""
+    """A worker without sockets, whose clock goes on while it answers: `seconds` for each block of an answer, in tenths of a second, of
+    which each costs what has the service's meter call it."""
 
-    def __init__(self, seconds, count=1):
-        self.now, self.seconds, self.blocks, self.served, self.refused = 0.0, seconds, {}, [], []
+    def __init__(self, seconds):
+        self.now, self.seconds, self.served, self.refused = 0.0, seconds, [], []
         self.worker = worker.Worker.__new__(worker.Worker)
-        metrics = SharedMetrics(2)
+        metrics, self.meter = SharedMetrics(2), Meter()
         self.worker.app, self.worker.row, self.worker.is_probe = mock.Mock(metrics=metrics), metrics.rows[0], False
+        self.worker.app.wsgi = lambda: mock.Mock(meter=self.meter)
+        self.worker.load_wsgi()
         self.worker.queue, self.worker.awaiting_head, self.worker.lingering = [], {}, {}
-        self.worker.slots, self.worker.seconds, self.silent = Slots(4), 0.0, 0.0
-        self.worker.begin, self.worker.write, self.worker.end = self.begin, self.write, self.served.append
-        self.worker.reject, self.worker.set_alarm = lambda connection, error: self.refused.append(connection), lambda seconds: None
-        self.other = metrics.rows[1]
+        self.worker.slots = OneSlot()
+        self.worker.begin, self.worker.end = lambda connection: self.answers[connection], self.served.append
+        self.worker.reject, self.worker.set_alarm = self.reject, lambda seconds: None
+        self.answers, self.other = {}, metrics.rows[1]
 
-    def connection(self, owner=A, is_long=True, blocks=0, method="GET"):
+    def connection(self, owner=A, is_long=True, blocks=1, method="GET"):
         found = worker.Connection(None, "", self.now + worker.SLOT_SECONDS, mock.Mock(method=method), owner, is_long, self.now)
-        self.blocks[found] = blocks
+        self.answers[found] = worker.Answer(mock.Mock(), {}, self.work(blocks), method == "POST")
         return found
 
-    def begin(self, connection):
-        self.work()
-        return connection
+    def work(self, blocks):
+        for _ in range(blocks):
+            self.meter.begin(0, True)
+            for _ in range(round(10 * self.seconds)):
+                self.now += 0.1
+                self.meter.spend(Work.TILE)
+                assert self.worker.row.reported == self.now, "it reports that it is alive"
+            yield b""
 
-    def write(self, connection):
-        if connection.answer and self.blocks[connection]:
-            self.work()
-        self.blocks[connection] -= 1
-        return self.blocks[connection] < 0
-
-    def work(self):
-        for _ in range(round(10 * self.seconds)):
-            self.now += 0.1
-            before = len(self.refused)
-            self.worker.tick()
-            for late in self.refused[before:]:
-                assert late.deadline <= self.now < late.deadline + 0.2, "nobody waits longer than its limit"
+    def reject(self, connection, _error):
+        assert self.now < connection.deadline + 0.2, "nobody waits longer than its limit"
+        self.refused.append(connection)
 
     @contextlib.contextmanager
     def clock(self):
@@ -175,16 +191,14 @@ class Waiting:
 
 
 def test_nobody_waits_longer_than_its_limit():
-    """Ten requests of nine seconds each: others wait for five seconds and are refused, though the worker is at work; and it reports."""
+    """Ten requests of nine seconds each: nine wait for five seconds and are refused, though the worker is at work; and it reports."""
     case = Waiting(9.0)
     with case.clock():
-        for _ in range(10):
-            case.worker.serve_or_queue(case.connection())
-        while case.worker.queue:
-            case.worker.take_turn()
-            case.now += 0.01
-    assert (len(case.served), len(case.refused)) == (1, 9) or len(case.served) + len(case.refused) == 10
-    assert case.worker.row.long_requests_refused_total == len(case.refused)
+        case.worker.queue += [case.connection() for _ in range(10)]
+        while case.worker.take_turn():
+            pass
+    assert (len(case.served), len(case.refused), case.now) == (1, 9, pytest.approx(9.0))
+    assert case.worker.row.long_requests_refused_total == 9
 
 
 def test_one_waiting_request_for_each_turn():
@@ -199,7 +213,7 @@ def test_the_queue_is_bounded():
     """64 wait, 32 of one client; others are refused at once."""
     case = Waiting(0.1)
     with case.clock():
-        case.worker.slots = mock.Mock(acquire=lambda *needs: False)
+        case.worker.slots.is_taken = True
         for owner, count in ((A, 100), (B, 100), (OTHER, 100)):
             for _ in range(count):
                 case.worker.serve_or_queue(case.connection(owner))
@@ -208,26 +222,30 @@ def test_the_queue_is_bounded():
 
 
 def test_a_batch_frees_its_slot_between_blocks():
-    """Others are answered between its blocks; and it waits a moment if other workers have requests that wait."""
+    """Others are answered between its blocks, of which each is a turn of its own; and it waits a moment if other workers have requests
+    that wait. A second one waits for its end."""
     case = Waiting(0.3)
     with case.clock():
-        batch, other = case.connection(A, True, 20, "POST"), case.connection(B)
+        batch, second, other = (case.connection(owner, True, blocks, "POST") for owner, blocks in ((A, 4), (B, 2), (B, 1)))
+        other.request.method, case.answers[other] = "GET", case.answers[other]._replace(is_in_blocks=False)
         case.worker.serve_or_queue(batch)
-        assert case.worker.queue == [batch] and case.worker.slots.acquire(B, True)
-        case.worker.slots.release()
-        case.worker.queue.append(other)
-        case.worker.take_turn()
-        case.worker.take_turn()
-        assert case.served == [other] and case.worker.queue == [batch]
-        second = case.connection(B, True, 1, "POST")
-        case.worker.queue.append(second)
+        assert (case.worker.queue, case.worker.slots.is_taken, case.now) == ([batch], False, pytest.approx(0.3))
+        case.worker.queue += [second, other]
         case.other.requests_waiting = 1
-        assert case.worker.take_turn() and case.worker.queue == [second, batch] and not case.worker.take_turn()
+        assert case.worker.take_turn() and case.worker.queue == [second, other, batch]
+        assert case.worker.take_turn() and case.worker.queue == [second, batch] and case.served == [other]
+        case.now = batch.earliest - 0.01
+        assert not case.worker.take_turn()
+        case.now += 0.02
+        assert case.worker.take_turn() and not case.worker.slots.is_taken
         case.other.requests_waiting = 0
-        while batch in case.worker.queue:
-            case.worker.take_turn()
+        for _ in range(2):
             case.now += 0.02
-    assert case.served == [other, batch] or case.refused == [second]
+            assert case.worker.take_turn()
+        assert case.served == [other, batch]
+        while case.worker.take_turn():
+            case.now += 0.02
+    assert (case.served, case.refused) == ([other, batch, second], [])
 
 
 def test_standard_error_that_nobody_reads():
@@ -275,18 +293,33 @@ class ArbiterTests(ServiceCase):
         assert ask(service, "/nearest/v1/car/-179.99,0.01?radiuses=unlimited")[0] == 200 and service.meter.counts[Work.ROAD] > 10
 
     def test_a_network_that_is_written_in_place(self):
-        """An answer while it is being written is right, or an error inside: about the map, the nearest road, and a route."""
-        service, path = open_service(self.folder / "v"), self.folder / "v.net"
-        asked = ("/map/about", "/nearest/v1/car/0.0003,0.00001", "/route/v1/car/0.0003,0;0.0077,0", "/map/roads/16/32768/32767")
-        right, whole = {each: ask(service, each) for each in asked}, path.read_bytes()
-        for begin in range(0, len(whole), len(whole) // 7):
-            with open(path, "r+b") as file:
-                file.seek(begin)
-                file.write(bytes(len(whole) // 7))
-            for each in asked:
-                status, found = ask(service, each)
-                self.assertTrue((status, found) == right[each] or status == 500, (each, found))
+        """An answer while it is being written, or after which it has been, is right, or an error inside: about the map, the nearest road, a
+        route, and a tile. A service that is asked for the first time then has read what all answers have."""
+        path, targets = self.folder / "v.net", ("/nearest/v1/car/0.0003,0.00001", "/route/v1/car/0.0003,0;0.0077,0", "/map/roads/16/32768/32767")
+        service, others, whole = open_service(self.folder / "v"), [open_service(self.folder / "v") for _ in range(7)], path.read_bytes()
+        right = {each: ask(service, each) for each in ("/map/about", *targets)}
+        for begin, other in zip(range(0, len(whole), len(whole) // 7), others):
+            def damage(_count=0, begin=begin):
+                with open(path, "r+b") as file:
+                    file.seek(begin)
+                    file.write(bytes(len(whole) // 7))
+
+            damage()
+            for each, some in right.items():
+                for answer in (ask(service, each), ask(other, each)):
+                    self.assertTrue(answer == some or answer[0] == 500, (each, answer))
             path.write_bytes(whole)
+            for each in targets[:2]:
+                late = open_service(self.folder / "v")
+                late.engine.roads.on_looked = damage
+                answer = ask(late, each)
+                self.assertTrue(answer == right[each] or answer[0] == 500, (each, answer))
+                path.write_bytes(whole)
+                late.engine.roads.on_looked = lambda _count: None
+                self.assertEqual(ask(late, each), right[each])  # (nothing is kept of what was wrong)
+                touches = [0]
+                late.engine.roads.on_looked = lambda _count: os.utime(path, ns=(1, touches.pop())) if touches else None
+                self.assertEqual(ask(late, each), right[each])
 
     def test_processes_that_the_kernel_refuses(self):
         """At a reload, and for a worker that has ended: the old ones stay, and it is tried again."""

@@ -76,6 +76,7 @@ class EndpointTests(ServiceCase):
             "/nearest/v1/{PROFILE}/{PLACE}": [f"/nearest/v1/car/{place}?number=3"],
             "/table/v1/{PROFILE}/{PLACES}": [f"/table/v1/car/{place};{far}?annotations=duration,distance,weight&fallback_speed=1"],
             "/trip/v1/{PROFILE}/{PLACES}": [f"/trip/v1/car/{place};{far}?{every}"],
+            "/match/v1/{PROFILE}/{PLACES}": [f"/match/v1/car/{place};0.0013,0;{far}?{every}", "/match/v1/car/0.0003,0;0.0013,0;0.5,0.5"],
             "/isochrone/v1/{PROFILE}/{PLACE}": [f"/isochrone/v1/car/{place}?contours_minutes=1&polygons={each}" for each in ("true", "false")],
             "/nodes/route": ["?from=1&to=7", "?from=1&to=99"], "/nodes/length": ["?from=1&to=7"], "/nodes/routes": [""], "/nodes/lengths": [""],
             "/health": [""], "/metrics": [""],
@@ -92,8 +93,8 @@ class EndpointTests(ServiceCase):
                 for value in values:
                     self.assertEqual([*problems(value, content["schema"], described["components"]["schemas"])], [], path)
         with self.subTest("other shapes are found"):
-            shape = {"$ref": "#/components/schemas/Health"}
-            for value in ({"status": "ok", "nodes": 1}, {"status": "ok", "nodes": "1", "links": 1}, {"status": "ok", "nodes": 1, "links": 1, "x": 1}):
+            shape, health = {"$ref": "#/components/schemas/Health"}, {"status": "ok", "nodes": 1, "links": 1, "towards": True, "alternatives": 0}
+            for value in ({"status": "ok", "nodes": 1}, {**health, "nodes": "1"}, {**health, "x": 1}):
                 self.assertTrue([*problems(value, shape, described["components"]["schemas"])])
 
 

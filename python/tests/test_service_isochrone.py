@@ -1,5 +1,6 @@
 """The service's isochrones: a Mapbox client's request, invalid requests, and contours around the village's nodes."""
 import json
+import signal
 import unittest.mock
 import urllib.parse
 
@@ -68,6 +69,7 @@ class IsochroneTests(ServiceCase):
             ("contours_meters=500", "NotImplemented", "contours_meters isn't supported"),
             ("contours_minutes=9,5", "InvalidValue", "rising"), ("contours_minutes=601", "InvalidValue", "600"),
             ("contours_minutes=0.00001,0.00002", "InvalidValue", "differ"), ("contours_meters=1000001", "InvalidValue", "1,000,000"),
+            ("contours_minutes=5&reverse=true", "NotImplemented", "reverse=true isn't supported: the service was started without --towards"),
             ("contours_minutes=5&radiuses=5;5", "InvalidQuery", "radius"), ("contours_minutes=5&costing=auto", "InvalidQuery", "'costing'"),
         ]:
             with self.subTest(query=query):
@@ -86,6 +88,26 @@ class IsochroneTests(ServiceCase):
         self.assertTrue(shape(whole["geometry"]).is_valid)
         told = self.raw(f"HEAD {PATH}?contours_minutes=0.1 HTTP/1.1\r\nHost: x\r\n\r\n".encode())
         self.assertTrue(told.startswith(b"HTTP/1.1 200 OK\r\n") and told.endswith(b"\r\n\r\n"), told[:200])
+
+
+class TowardsTests(ServiceCase):
+    def test_what_leads_to_a_place(self):
+        """The answer is drawn from scipy's lengths towards the place, also after a reload, and the other way as without --towards."""
+        process, net = self.serve("--network", self.folder / "v", "--towards"), net_file.read(self.folder / "v.net")
+        places = zip(net.node_lon[:].tolist(), net.node_lat[:].tolist())
+        node = next(node for node, place in enumerate(places) if place == (20_000, 0))
+
+        def drawn(towards):
+            reach = Reach(net, lengths(net, {node: 0}, towards), limits("duration", [1, 3]), towards=towards)
+            return json.loads(json.dumps(features(reach, [1, 3], "time", Style("polygons", attribution=net.texts[0]))))
+
+        self.assertNotEqual(drawn(True), drawn(False))
+        for turn in range(2):
+            for word, towards in (("true", True), ("false", False)):
+                self.assertEqual(self.ask(f"{PATH}?contours_minutes=1,3&polygons=true&reverse={word}"), (200, drawn(towards)))
+            if not turn:
+                process.send_signal(signal.SIGHUP)
+                self.wait_for(lambda: any("reloaded" in line for line in self.said))
 
 
 @pytest.mark.parametrize("most, is_refused", [(2, False), (1, True)])

@@ -30,11 +30,11 @@ HIGH = "0.0003,0.00001;0.0077,-0.00002"
 
 # What the names in templates stand for: one of these texts, which are templates, or what a method of Draw returns.
 PARTS = {
-    "get": ("/nearest/v1/$text/$place$query", "/$many/v1/$text/$places$query"), "many": ("route", "table", "trip"),
+    "get": ("/nearest/v1/$text/$place$query", "/$many/v1/$text/$places$query"), "many": ("route", "table", "trip", "match"),
     "places": ("$place;$place", "$place;$place;$place", "$place;$place;$place;$place"), "query": ("", "?$right", "?$right&format=json"),
     "right": ("hints=$text", "generate_hints=false", "skip_waypoints=true", "snapping=default"), "pair": ("from=$node&to=$node",),
     "nodes": ("/nodes/route", "/nodes/length"), "batch": ("/nodes/routes", "/nodes/lengths"), "few": tuple("123456789"),
-    "other_service": ("match", "tile"), "site": ("cross-site", "same-site"), "upper": ("POST", "PUT", "DELETE", "PATCH", "OPTIONS"),
+    "other_service": ("tile",), "site": ("cross-site", "same-site"), "upper": ("POST", "PUT", "DELETE", "PATCH", "OPTIONS"),
     "line": ("_ibE_ibE", "??_ibE_ibE", "_ibE_ibE$few$few"), "type": (
         "application/json", "application/x-ndjson", "application/JSONL", "application/x-ndjson; charset=utf-8"),
     # texts that are no numbers

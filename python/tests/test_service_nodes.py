@@ -50,7 +50,7 @@ class NodesTests(ServiceCase):
 
     def test_health_metrics_and_log(self):
         self.serve("--access-log")
-        wanted = {"status": "ok", "nodes": self.graph.nodes, "links": self.links()}
+        wanted = {"status": "ok", "nodes": self.graph.nodes, "links": self.links(), "towards": False, "alternatives": 0}
         self.assertEqual(self.ask("/health"), (200, wanted))
         self.ask("/nodes/length?from=1&to=2")
         counted = 'requests_total{endpoint="/nodes/length",status="200"}'

@@ -183,7 +183,7 @@ class PointerTests(BrowserCase):
         self.browser.until("document.getElementById('total').textContent === '1 min720 m'")
         self.browser.drag(self.browser.pixel(0.0045, 0), self.browser.pixel(0.006, 0.0006))
         self.browser.until("document.querySelectorAll('#steps .text').length === 6")
-        self.steps("Start on High Street", "Turn left onto Mill Road", "Arrive at the place between", "Continue on Mill Road",
+        self.steps("Start on High Street", "Turn left onto Mill Road", "Arrive at the stop", "Continue on Mill Road",
                    "Turn left onto High Street", "Arrive at the destination")
         self.assertEqual(self.browser.value("[...document.querySelectorAll('.mark')].map(each => each.textContent).join()"), "A,1,B")
         self.assertEqual(self.browser.value("location.hash.split(';').length"), 3)

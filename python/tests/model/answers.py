@@ -1,19 +1,20 @@
-"""The answers of the service to requests: what docs/SERVICE.md has of route, nearest, table and isochrone."""
+"""The answers of the service to requests: what docs/SERVICE.md has of each endpoint with places."""
 import functools
 import itertools
 import math
-from collections.abc import Sequence
+from collections.abc import Iterator, Sequence
 from typing import Any
 
-from comparing import AnyOf, Contour, Holds, Line, Near, Simplified
+from comparing import AnyOf, Contour, Holds, Line, Near, Others, Simplified
 
+from . import matching
 from .network import Ambiguous, Network, Part, SnappedPoint
 from .request import Request
 from .sphere import Point, clip, metres_between
 from .steps import steps
 
-# The roundings of degrees, metres and seconds; and alternatives up to which an answer is compared with each.
-DEGREES, METRES, SECONDS, MOST = 1.1e-6, 0.011, 0.0015, 256
+# The roundings of degrees, metres and seconds, and of metres to a point as it is shown; and alternatives up to which an answer is compared with each.
+DEGREES, METRES, SECONDS, STANDING, MOST = 1.1e-6, 0.011, 0.0015, 0.2, 256
 UNITS = {"duration": 1000, "distance": 100}
 TEXT = Holds("a text", lambda value: isinstance(value, str))
 SHAPES = {"true": ("Polygon", "MultiPolygon"), "false": ("LineString", "MultiLineString")}
@@ -71,12 +72,51 @@ def places_on_roads(network: Network, request: Request) -> list[SnappedPoint]:
 def route(network: Network, request: Request) -> Any:
     """The route by all places in order: any of those whose legs are shortest."""
     points = places_on_roads(network, request)
+    if request.value("continue_straight") == "true":
+        return AnyOf([route_along(network, request, points, legs) for legs in straight_legs(network, points)])
     options = [network.legs(start, end) for start, end in itertools.pairwise(points)]
     if not all(options):
         raise Refused("NoRoute")
     if math.prod(map(len, options)) > MOST:
         raise Ambiguous
-    return AnyOf([route_along(network, request, points, legs) for legs in itertools.product(*options)])
+    return AnyOf([with_others(request, route_along(network, request, points, legs)) for legs in itertools.product(*options)])
+
+
+def with_others(request: Request, answer: dict[str, Any]) -> dict[str, Any]:
+    """The answer, which may have other routes between two places, of little more weight."""
+    asked = request.value("alternatives", "false")
+    most = min(3, int({"true": "1", "false": "0"}.get(asked, asked))) if len(request.places) == 2 else 0
+    (whole,) = answer["routes"]
+    weight = whole["weight"].value
+
+    def is_other(route: Any) -> bool:
+        return set(route) == set(whole) and len(route["legs"]) == 1 and weight - 0.001 <= route["weight"] <= 1.25 * weight + 0.001
+
+    return {**answer, "routes": Others(whole, most, is_other)}
+
+
+def straight_legs(network: Network, points: Sequence[SnappedPoint]) -> list[tuple[Sequence[Part], ...]]:
+    """All legs that weigh least together of those that go on in one direction at each point within a road but the first and the last."""
+    choices = [[points[0]], *([*by_direction(network, point)] for point in points[1:-1]), [points[-1]]]
+    if math.prod(map(len, choices)) > MOST // 16:
+        raise Ambiguous
+    ways = [[network.legs(*step) for step in itertools.pairwise(some)] for some in itertools.product(*choices)]
+    whole = [(sum(part[3] for leg in way for part in leg[0]), way) for way in ways if all(way)]
+    if not whole:
+        raise Refused("NoRoute")
+    least = [way for weight, way in whole if weight == min(whole, key=lambda row: row[0])[0]]
+    if sum(math.prod(map(len, way)) for way in least) > MOST:
+        raise Ambiguous
+    return [legs for way in least for legs in itertools.product(*way)]
+
+
+def by_direction(network: Network, point: SnappedPoint) -> Iterator[SnappedPoint]:
+    """A point once for each direction of its road, or as it is at a node."""
+    edge = network.edges[point.edge]
+    for way in [None] if point.node is not None else [True, False]:
+        arcs = frozenset(arc for arc in edge.arcs if edge.arcs[arc] == way and (point.arcs is None or arc in point.arcs))
+        if way is None or arcs:
+            yield point if way is None else point._replace(arcs=arcs)
 
 
 def trip(network: Network, request: Request) -> Any:
@@ -105,6 +145,29 @@ def trip(network: Network, request: Request) -> Any:
         for some in itertools.product(*options):
             (whole,) = route_along(network, request, [points[place] for place in stops], some)["routes"]
             answers.append({"code": "Ok", "trips": [whole], **shown})
+    return AnyOf(answers)
+
+
+def match(network: Network, request: Request) -> Any:
+    """The ways that a trace is matched to: any of those that are as probable."""
+    options = matching.ways(network, request)
+    if not options:
+        raise Refused("NoMatch")
+    if math.prod(map(len, options)) > MOST:
+        raise Ambiguous
+    answers, trust = [], Holds("a probability", lambda value: 0 < value <= 1)
+    for some in itertools.product(*options):
+        points: list[Any] = [None] * len(request.places)
+        matchings = []
+        for index, way in enumerate(some):
+            (whole,) = route_along(network, request, way.places, way.legs)["routes"]
+            matchings.append({**whole, "confidence": trust})
+            for at, (number, place) in enumerate(zip(way.numbers, way.places)):
+                points[number] = {**waypoint(network, place, request), "matchings_index": index, "waypoint_index": at}
+                if at > 0 and place.place == way.places[at - 1].place:  # (it stands: the metres are to the point as it is shown)
+                    points[number]["distance"] = Near(place.metres, STANDING)
+        shown = {} if request.value("skip_waypoints") == "true" else {"tracepoints": points}
+        answers.append({"code": "Ok", "matchings": matchings, **shown})
     return AnyOf(answers)
 
 
@@ -207,7 +270,7 @@ def cell(
 
 
 def isochrone(network: Network, request: Request) -> Any:
-    """What is reached from a place within minutes or metres, the greatest contour first."""
+    """What is reached from a place within minutes or metres, or leads to it, the greatest contour first."""
     minutes, colors = request.value("contours_minutes"), request.value("contours_colors").split(",")
     metric, unit, factor = ("time", "duration", 60_000) if minutes else ("distance", "distance", 100)
     asked = [float(text) for text in (minutes or request.value("contours_meters")).split(",")]
@@ -215,7 +278,7 @@ def isochrone(network: Network, request: Request) -> Any:
         raise Refused("NotImplemented")
     if colors != [""] and len(colors) != len(asked):
         raise Refused("InvalidValue")
-    points = places_on_roads(network, request)
+    points, driven = places_on_roads(network, request), network.turned if request.value("reverse") == "true" else network
     is_whole = {request.value(name, "0") for name in ("generalize", "denoise")} == {"0"}
     features = []
     for number, value in reversed(list(enumerate(asked))):
@@ -223,6 +286,6 @@ def isochrone(network: Network, request: Request) -> Any:
         style: dict[str, Any] = dict.fromkeys(("color", "fill", "fillColor"), color)
         style |= dict.fromkeys(("opacity", "fill-opacity", "fillOpacity"), 0.33)
         properties = {"contour": int(value) if value.is_integer() else value, "metric": metric, **style}
-        shape = Contour(network, points, round(value * factor), SHAPES[request.value("polygons", "false")], is_whole)
+        shape = Contour(driven, points, round(value * factor), SHAPES[request.value("polygons", "false")], is_whole)
         features.append({"type": "Feature", "properties": properties, "geometry": shape})
     return {"type": "FeatureCollection", "features": features}

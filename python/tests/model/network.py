@@ -110,6 +110,15 @@ class Network:
             for number, arc in enumerate(self.arcs)
         ]
 
+    @functools.cached_property
+    def turned(self) -> "Network":
+        """The network with each arc turned round, and with the same edges: its routes are those of this one backwards."""
+        arcs = [arc._replace(start=arc.end, end=arc.start, line=arc.line[::-1]) for arc in self.arcs]
+        found = Network(self.nodes, arcs, [(second, first) for first, second in self.forbidden])
+        # (a line that goes back as it came is the same turned round, and its arc goes the other way all the same)
+        found.edges = [Edge(edge.line, {arc: not is_along for arc, is_along in edge.arcs.items()}) for edge in self.edges]
+        return found
+
     # Between nodes
 
     def search(self, starts: Mapping[int, int]) -> dict[int, tuple[int, int]]:

@@ -78,10 +78,15 @@ def steps(
     return [*found, step({"type": "arrive"}, ways, name, nothing, [end.place] * 2, form)]
 
 
+def modifier_of(angle: float) -> str:
+    """The modifier of a turn of so many degrees, to the right above 0."""
+    return MODIFIERS[sum(abs(angle) >= limit for limit in LIMITS)].format("right" if angle > 0 else "left")
+
+
 def turn_at(network: Network, arcs: Sequence[Arc], named: int, angle: float) -> dict[str, Any]:
     """The type of the maneuver of a step, with its modifier, and the exit of a roundabout. The first arc is that before."""
     angle = (angle + 180) % 360 - 180
-    modifier = MODIFIERS[sum(abs(angle) >= limit for limit in LIMITS)].format("right" if angle > 0 else "left")
+    modifier = modifier_of(angle)
     before, *behind = arcs
     if is_round(behind[0]):
         exits = [edges_at(network, arc.end, True) for arc in behind[: max(0, named - 1)]]

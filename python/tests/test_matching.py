@@ -1,0 +1,158 @@
+"""Traces by the package: on the village, where each figure is one of the drawing, and places on legs by plain enumeration. The ways of
+short traces are compared with the model's in test_generated_service.py."""
+import itertools
+import json
+import math
+import random
+import re
+from types import SimpleNamespace
+
+import numpy as np
+import pytest
+from model.sphere import metres_between, nearest_on_segment
+from tool_case import VILLAGE, ToolCase
+
+import domethyme
+from domethyme.network.legs import Leg
+from domethyme.network.matching import nearest_marks, parts_of
+
+STEP = 111.195
+NO_ROAD = (0.0035, 0.0005)
+
+
+class VillageTests(ToolCase):
+    def setUp(self):
+        super().setUp()
+        self.run_tool("osm_to_gr", VILLAGE, "v")
+        domethyme.prepare(self.folder / "v.gr", self.folder / "v.rch").close()
+        self.hierarchy = domethyme.Hierarchy(self.folder / "v.rch", network=self.folder / "v")
+        self.addCleanup(self.hierarchy.close)
+
+    def along(self, *east, north=0.0):
+        return [(lon, north) for lon in east]
+
+    def test_a_drive_along_a_street(self):
+        """Each place is where it was drawn, some metres beside the street; the legs sum to the way from the first to the last."""
+        for step, stride in ((0.0001, 3), (0.0004, 1)):
+            trace = [(0.0003 + step * number, 0.00002 * (-1) ** number) for number in range(16)]
+            (way,), places = self.hierarchy.match(trace)
+            with self.subTest(step=step):
+                self.assertEqual(way.points, list(range(16)))
+                for place, (lon, lat) in zip(places, trace):
+                    self.assertLess(metres_between((place.lon, place.lat), (lon, 0.0)), 0.2)
+                    self.assertAlmostEqual(place.metres, abs(lat) * 1000 * STEP, delta=0.2)
+                found, whole = way.directions, self.hierarchy.directions([(trace[0][0], 0.0), (trace[-1][0], 0.0)])
+                self.assertEqual((found.weight, len(found.legs)), (whole.weight, 15))
+                self.assertAlmostEqual(found.metres, 15 * step * 1000 * STEP, delta=0.5)
+                self.assertGreater(way.confidence, 0.5)
+                feature = way.geojson()
+                self.assertEqual(feature, way.__geo_interface__)
+                self.assertEqual(feature["properties"]["points"], way.points)
+
+    def test_a_vehicle_that_stands(self):
+        """Places to and fro by less than two deviations are one, and no metre counts twice."""
+        trace = self.along(0.0002, 0.0006, 0.00052, 0.00058, 0.0009)
+        (way,), places = self.hierarchy.match(trace, deviation=[5, 5, 5, 5, 5])
+        self.assertAlmostEqual(way.directions.metres, 0.7 * STEP, delta=0.5)
+        self.assertTrue(all(places))
+
+    def test_directions(self):
+        """A bearing decides on the direction of a street, though the places are one."""
+        trace = self.along(0.0005, 0.00051)
+        for bearing, east in ((90, True), (270, False)):
+            (way,), places = self.hierarchy.match(trace, deviation=20, bearings=[(bearing, 30)] * 2)
+            arc, = places[0].arcs
+            self.assertEqual(self.hierarchy.network.roads.arc(arc).is_along, east == (self.hierarchy.network.roads.edge(places[0].edge).points[0][0] == 0.0))
+        found = self.hierarchy.match(self.along(0.0002, 0.0007), bearings=[(0, 10), (0, 10)])
+        self.assertEqual((found.matchings, found.places), ([], [None, None]))
+
+    def test_gaps(self):
+        """A gap of time ends a way, unless it is ignored; a place without a road is left out; and a way needs two places."""
+        trace, times = self.along(*(0.0004 * number + 0.0001 for number in range(8))), [0, 5, 10, 15, 100, 105, 110, 115]
+        for gaps, wanted in (("split", [[0, 1, 2, 3], [4, 5, 6, 7]]), ("ignore", [list(range(8))])):
+            self.assertEqual([way.points for way in self.hierarchy.match(trace, times, gaps=gaps).matchings], wanted)
+        self.assertEqual([way.points for way in self.hierarchy.match(trace, [4 * each for each in times]).matchings], [[0, 1, 2, 3], [4, 5, 6, 7]])
+        self.assertEqual(len(self.hierarchy.match(trace, [20 * number for number in range(8)]).matchings), 1)
+        trace[2] = NO_ROAD
+        (way,), places = self.hierarchy.match(trace)
+        self.assertEqual((way.points, places[2]), ([0, 1, 3, 4, 5, 6, 7], None))
+        self.assertEqual(self.hierarchy.match([*trace[:1], NO_ROAD]).matchings, [])
+
+    def test_an_island(self):
+        """Where no way leads on another one begins."""
+        far = [(0.020 + 0.0004 * number, 0.005) for number in range(3)]
+        self.run_tool("osm_to_gr", VILLAGE, "w", "--keep-islands")
+        domethyme.prepare(self.folder / "w.gr", self.folder / "w.rch").close()
+        with domethyme.Hierarchy(self.folder / "w.rch", network=self.folder / "w") as hierarchy:
+            found = hierarchy.match([*self.along(0.0001, 0.0005, 0.0009), *far])
+        self.assertEqual([way.points for way in found.matchings], [[0, 1, 2], [3, 4, 5]])
+
+    def test_tidy(self):
+        trace = self.along(0.0001, 0.0002, 0.0006, 0.0007, 0.0012)
+        self.assertEqual(self.hierarchy.match(trace, tidy=True).matchings[0].points, [0, 2, 4])
+        self.assertEqual(self.hierarchy.match(trace, [0, 9, 12, 20, 15 + 9], tidy=True).matchings[0].points, [0, 2, 4])
+        self.assertEqual(self.hierarchy.match(trace, [0, 9, 12, 14, 16], tidy=True).matchings[0].points, [0, 2])
+
+    def test_refusals(self):
+        for words, says in [
+            ({"trace": [(0, 0)]}, "two places or more"), ({"deviation": 0}, "above 0"), ({"deviation": 201}, "above 0"),
+            ({"deviation": [5]}, "one for each place"), ({"seconds": [1]}, "one for each place"), ({"seconds": [2, 1]}, "don't fall"),
+            ({"seconds": [1, math.nan]}, "don't fall"), ({"gaps": "both"}, "gaps has to be"), ({"bearings": [None]}, "one for each place"),
+            ({"bearings": [(400, 1), None]}, "a bearing is"), ({"trace": [(0, 0), (200, 0)]}, "-180"),
+        ]:
+            with self.subTest(says), pytest.raises(ValueError, match=re.escape(says)):
+                self.hierarchy.match(**{"trace": self.along(0.0001, 0.0005), **words})
+
+    def test_tool(self):
+        self.write("trace.csv", "lon,name,lat,seconds,deviation\n0.0001,a,0,0,\n0.0005,b,0,9,20\n0.0009,c,0.00001,18,\n0.0013,d,0,200,\n0.0017,e,0,209,\n")
+        self.run_tool("match", "v", "v.rch", "trace.csv", "-o", "out.geojson")
+        found = json.loads((self.folder / "out.geojson").read_text())
+        self.assertEqual([feature["properties"]["rows"] for feature in found["features"]], [[2, 3, 4], [5, 6]])
+        self.assertAlmostEqual(found["features"][0]["properties"]["metres"], 0.8 * STEP, delta=0.5)
+        found = json.loads(self.run_tool("match", "v", "v.rch", "-", "--ignore-gaps", "--deviation", "4", given=(self.folder / "trace.csv").read_text()).stdout)
+        self.assertEqual([feature["properties"]["rows"] for feature in found["features"]], [[2, 3, 4, 5, 6]])
+        for text, says in [("lon,lat\n0,0\n", "two places or more"), ("lon,lat,seconds\n0,0,1\n0,0,x\n", "row 3: seconds 'x' is no number"),
+                           ("lon,lat,seconds\n0,0,2\n0,0,1\n", "don't fall"), ("lon,lat,deviation\n0,0,\n0,0,0\n", "above 0")]:
+            self.write("bad.csv", text)
+            self.assert_refused("match", "v", "v.rch", "bad.csv", says=says)
+
+
+@pytest.mark.parametrize("seed", range(40))
+def test_places_on_a_leg(seed):
+    """Places are put in order along a leg for the least sum of squares, of all ways to take segments that rise; and its parts sum to it."""
+    draw = random.Random(seed)
+    lines = [[(draw.uniform(0, 1e-3), draw.uniform(0, 1e-3)) for _ in range(draw.randint(2, 3))] for _ in range(draw.randint(1, 3))]
+    lines = [[*([lines[number - 1][-1]] if number else []), *line] for number, line in enumerate(lines)]
+    weights = [draw.randint(1, 1000) for _ in lines]
+    units = [[(round(lon * 1e7), round(lat * 1e7)) for lon, lat in line] for line in lines]
+    arrays = SimpleNamespace(
+        arc_lines=lambda arcs: (np.cumsum([0, *map(len, units)]), np.array([point for line in units for point in line])),
+        arc_weight=np.array(weights),
+    )
+    roads = SimpleNamespace(arrays=arrays)
+    leg = Leg(sum(weights), np.arange(len(lines)), np.array(weights), 0.0, 1.0)
+    places = [(draw.uniform(0, 1e-3), draw.uniform(0, 1e-3)) for _ in range(draw.randint(1, 3))]
+    reach = [draw.choice([10.0, 1000.0]) for _ in places]
+    marks = nearest_marks(roads, leg, np.array(places), np.array(reach))
+    segments = [(arc, step) for arc, line in enumerate(units) for step in itertools.pairwise([(lon / 1e7, lat / 1e7) for lon, lat in line])]
+    ways = [[min(nearest_on_segment(place, *step)[0], far) ** 2 for _, step in segments] for place, far in zip(places, reach)]
+    least = min(sum(row[at] for row, at in zip(ways, some)) for some in itertools.combinations_with_replacement(range(len(segments)), len(places)))
+
+    def at_mark(mark):
+        line = [(lon / 1e7, lat / 1e7) for lon, lat in units[mark[0]]]
+        metres = [metres_between(*step) for step in itertools.pairwise(line)]
+        left = mark[1] * sum(metres)
+        for (begin, end), long in zip(itertools.pairwise(line), metres):
+            if left <= long:
+                break
+            left -= long
+        return [low + min(1.0, left / long) * (high - low) for low, high in zip(begin, end)]
+
+    found = sum(min(metres_between(at_mark(mark), place), far) ** 2 for mark, place, far in zip(marks, places, reach))
+    assert marks == sorted(marks) and (found <= least + 0.1 or len({mark[0] for mark in marks}) < len(marks))
+    parts = parts_of(roads, leg, marks)
+    assert len(parts) == len(marks) + 1 and sum(part.weight for part in parts) == leg.weight
+    for part in parts:
+        assert part.weight == part.weights.sum() and (part.weights >= 0).all() and len(part.weights) == len(part.arcs)
+    ends = [(part.arcs[0] + part.begin, part.arcs[-1] + part.end) for part in parts if len(part.arcs)]
+    assert ends[0][0] == 0 and ends[-1][1] == len(lines) and all(before[1] == behind[0] for before, behind in itertools.pairwise(ends))
