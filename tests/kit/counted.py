@@ -1,7 +1,28 @@
 """How a test script counts what it tries, which cases a word names, and how it ends."""
 import argparse
+import subprocess
 import sys
 import typing
+from collections.abc import Callable, Iterable
+
+from .optional import LeftOut, left_out
+
+
+class Failed(Exception):
+    """A case failed, for the reason that it says."""
+
+
+class Found(typing.NamedTuple):
+    """How much a part compared, and what differs."""
+
+    compared: int
+    wrong: list[str]
+
+    def told(self) -> str:
+        """How much that is. Raises Failed where something differs."""
+        if self.wrong:
+            raise Failed("\n  ".join([f"{self.compared} compared, {len(self.wrong)} wrong", *(line[:2000] for line in self.wrong[:10])]))
+        return f"{self.compared} compared"
 
 
 def parser(told: str) -> argparse.ArgumentParser:
@@ -28,3 +49,20 @@ def end(script: str, passed: int, failed: int) -> typing.NoReturn:
     """Prints the count as the last line, and ends with status 0 only where something passed and nothing failed."""
     print(f"{script}: {passed:d} passed, {failed:d} failed", flush=True)
     sys.exit(1 if failed or not passed else 0)
+
+
+def run_cases(script: str, cases: Iterable[tuple[str, Callable[[], object]]]) -> typing.NoReturn:
+    """Runs cases, and prints a line for each by its name, with what it returns, and the count. One that needs what isn't there is left
+    out."""
+    passed = failed = 0
+    for name, case in cases:
+        try:
+            told = case()
+            passed += 1
+            print(f"ok: {name}" + (f": {told}" if told else ""), flush=True)
+        except LeftOut as lacking:
+            print(left_out(f"{script} {name}", lacking.package), flush=True)
+        except (AssertionError, Failed, OSError, subprocess.SubprocessError) as why:
+            failed += 1
+            print(f"FAILED: {name}: {why}", flush=True)
+    end(script, passed, failed)

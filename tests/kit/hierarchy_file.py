@@ -30,6 +30,11 @@ def spelled(numbers: Sequence[int], links: Iterable[tuple[int, int, int, int, in
     return head(len(numbers), len(texts), bound, version) + ranks(numbers) + b"".join(texts)
 
 
+def ranks_in(file: bytes) -> tuple[int, ...]:
+    """The ranks that a file has."""
+    return struct.unpack_from(f">{int.from_bytes(file[4:8], 'big')}I", file, HEAD_BYTES)
+
+
 def links_in(file: Union[str, "os.PathLike[str]"]) -> int:
     """How many links a file says that it has."""
     with open(file, "rb") as source:

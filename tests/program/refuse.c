@@ -22,20 +22,18 @@ extern void *mmap(void *, word, int, int, int, long);
 extern long syscall(long, ...);
 extern int *__errno_location(void);
 
-enum { READ = 0, WRITE = 1, WRITE_PARTS = 20, PROCESS = 39, SYNC = 74, SYNC_DATA = 75, READ_MEMORY = 310 };
+enum { READ = 0, WRITE = 1, WRITE_PARTS = 20, SYNC = 74, SYNC_DATA = 75 };
 enum { INTERRUPTED = 4, NO_MEMORY = 12, INPUT_OUTPUT = 5 };
-enum { DEPTH = 1020, PAGE = 4096, PAGES = 8 };
 
-// How many growths and calls there were; whether one was refused, and then the words of the stack that are places of the
-// program, from the inside: where the calls that led to the growth go on, among others.
-static struct account { word growths, calls, refused, depth, places[DEPTH]; } *account;
+// How many growths and calls there were, and whether one was refused.
+static struct account { word growths, calls, refused; } *account;
 
 static enum { NOTHING, GROWTH, CALL, SHORT, INTERRUPT, BYTES } what;
-static word which, low, high, base;
+static word which, low, high;
 
 static int main_program(struct object *object, word size, void *unused)
 {
-    base = object->base;
+    word base = object->base;
     low = ~0ul;
     for (unsigned short i = 0; i < object->count; i++) {
         const struct header *part = object->headers + i;
@@ -70,23 +68,6 @@ __attribute__((constructor)) static void begin(void)
     dl_iterate_phdr(main_program, 0);
 }
 
-// Puts in the words of the stack from here on, a page at a time, since it isn't known where it ends.
-static void keep_stack(word from)
-{
-    static word words[PAGE / sizeof(word)];
-    for (int page = 0; page < PAGES; page++) {
-        word end = (from | (PAGE - 1)) + 1;
-        struct part to = { words, end - from }, source = { (void *)from, end - from };
-        long moved = syscall(READ_MEMORY, syscall(PROCESS), &to, 1ul, &source, 1ul, 0ul);
-        for (long i = 0; i < moved / (long)sizeof(word); i++)
-            if (words[i] >= low && words[i] < high && account->depth < DEPTH)
-                account->places[account->depth++] = words[i] - base;
-        if (moved <= 0)
-            return;
-        from = end;
-    }
-}
-
 // Whether the program itself calls, and no library for it.
 static int is_own(void *caller)
 {
@@ -98,7 +79,6 @@ static int is_refused_growth(void *caller)
     if (!is_own(caller) || __atomic_add_fetch(&account->growths, 1, 5) != which || what != GROWTH)
         return 0;
     account->refused = 1;
-    keep_stack((word)__builtin_frame_address(0) & ~7ul);
     *__errno_location() = NO_MEMORY;
     return 1;
 }
