@@ -1,13 +1,14 @@
 #!/usr/bin/python3
 """Measures what others get while one public client repeats the dearest requests that are allowed, through nginx as it is packaged.
 
-    hostile_clients.py HIERARCHY NETWORK [--seconds S] [--only WORD]
+    hostile_clients.py HIERARCHY NETWORK [--seconds S] [--rounds N] [--only WORD]
 
 NETWORK is the beginning of the names of a network's files, as osm_to_gr or bench/make_roads.py write them. The client has eight
 connections, each of which asks again at once: routes, tables, isochrones and places far away, some of which nginx refuses. Then there are
 two batches of 4 MiB, forty connections with places at the antipode, and 1,600 heads that never end. Meanwhile another public client
 asks for routes by two near places, one after the other, each on a connection of its own. Each line has its median and its slowest
 answer, and how many there were, at rest and then, and how often the median of these at rest that is; then what the first client got.
+At last each attack has the median of its rounds' ratios, the greatest, and its slowest answer.
 """
 import collections
 import contextlib
@@ -21,7 +22,7 @@ import socket
 import statistics
 import time
 
-from kit.counted import parser
+from kit.counted import parser, positive
 
 import service_load
 
@@ -150,6 +151,7 @@ def main():
     words.add_argument("hierarchy", metavar="HIERARCHY")
     words.add_argument("network", metavar="NETWORK")
     words.add_argument("--seconds", type=float, default=15)
+    words.add_argument("--rounds", metavar="N", type=positive, default=1)
     words.add_argument("--only", metavar="WORD", default="")
     given = words.parse_args()
     given.direct, given.workers, draw, places = False, 4, random.Random(1), service_load.Places(given.network)
@@ -159,7 +161,8 @@ def main():
         rows = {**attacks(places, draw), "1,600 heads that never end": []}
         for target in targets[:20]:
             ask(service.port, target)
-        for name, some in rows.items():
+        found = collections.defaultdict(list)
+        for name, some in [*rows.items()] * given.rounds:
             if given.only not in name:
                 continue
             rest, counts = measure(service.port, targets, given.seconds / 2), multiprocessing.Queue()
@@ -177,9 +180,14 @@ def main():
                 got[counts.get()] += 1
             show = lambda times: f"{1000 * statistics.median(times):.0f}, {1000 * max(times):.0f} ms ({len(times)})"  # noqa: E731
             times = statistics.median(then) / statistics.median(rest)
+            found[name].append((times, max(then)))
             print(f"{name}: at rest {show(rest)}, beside it {show(then)}, {times:.1f} times; "
                   f"{os.cpu_count()} processors, load {load}; it got {dict(got)}", flush=True)
             time.sleep(5)
+        for name, some in found.items():
+            ratios, slowest = zip(*some)
+            shown = f"{statistics.median(ratios):.1f} times (at most {max(ratios):.1f}), at worst {1000 * max(slowest):.0f} ms"
+            print(f"{name}: {shown}, {len(some)} rounds")
     finally:
         service.end()
 

@@ -1,8 +1,8 @@
-// One worker's preparation by the rules of docs/ALGORITHM.md, to compare with: rows are changed in place, and there is no log,
+// One worker's preparation by the rules of docs/dev/ALGORITHM.md, to compare with: rows are changed in place, and there is no log,
 // no receipt and no account. It writes the file that `routecli prepare --workers 1` writes, to the byte.
 //
-//     one_worker NETWORK.gr OUT.rch [ORDER [SEED]]    ORDER is edges, neighbours or depth. Prints seconds to contract and the number
-//                                                     of links on standard error.
+//     one_worker NETWORK.gr OUT.rch [ORDER [SEED]]    ORDER is edges, neighbours, depth or balanced. Prints seconds to contract and
+//                                                     the number of links on standard error.
 #include "text.hpp"
 
 #include <algorithm>
@@ -198,8 +198,10 @@ struct Contraction {
     }
 
     std::uint64_t key(std::uint32_t node) const {
-        std::uint64_t arcs = 67108864 + found.size() - inn[node].size() - out[node].size();
-        return order == "edges" ? arcs : arcs + (order == "depth" ? depth[node] : gone[node]);
+        std::uint64_t arcs = inn[node].size() + out[node].size();
+        if (order == "balanced") return (arcs ? 6000 * found.size() / arcs : 0) + std::uint64_t{1000} * depth[node];
+        std::uint64_t edges = 67108864 + found.size() - arcs;
+        return order == "edges" ? edges : edges + (order == "depth" ? depth[node] : gone[node]);
     }
 
     void contract(std::uint32_t node) {
@@ -291,7 +293,8 @@ int main(int count, char **words) {
     }
     Contraction made;
     made.order = count > 3 ? words[3] : "edges";
-    if (made.order != "edges" && made.order != "neighbours" && made.order != "depth") return 2;
+    const std::string orders[] = {"edges", "neighbours", "depth", "balanced"};
+    if (std::find(std::begin(orders), std::end(orders), made.order) == std::end(orders)) return 2;
     double begun = seconds();
     made.start(graph);
     made.work(count > 4 ? std::strtoull(words[4], nullptr, 10) : 1);

@@ -1,5 +1,5 @@
 #!/usr/bin/env python3
-"""Measures what large networks cost: nodes, links, bytes, and time and memory of `prepare` and `route`, as docs/SCALE.md has it.
+"""Measures what large networks cost: nodes, links, bytes, and time and memory of `prepare` and `route`, as docs/PERFORMANCE.md has it.
 
     bench/scale.py [--order ORDER] [--workers K] [--pairs PAIRS] [--compared PAIRS] [--allocator NAME] [--allocators] [--lists]
                    [--batches] [--folder FOLDER] [--usa] [NODES ..]        by default 264346 1000000, with --usa none

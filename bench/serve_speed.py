@@ -1,5 +1,5 @@
 #!/usr/bin/env python3
-"""Measures a process of `routecli serve` beside `routecli route`, and prints the table of docs/SPEED.md for processes that stay
+"""Measures a process of `routecli serve` beside `routecli route`, and prints the table of docs/PERFORMANCE.md for processes that stay
 open.
 
     bench/serve_speed.py [--nodes N ..] [--sparse N ..] [--rounds ROUNDS] [--folder FOLDER]

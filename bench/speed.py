@@ -1,5 +1,5 @@
 #!/usr/bin/env python3
-"""Measures all that docs/SPEED.md shows, in one go, and has its tables and pictures written (speed_page.py).
+"""Measures all that docs/PERFORMANCE.md shows, in one go, and has its tables and pictures written (speed_page.py).
 
     bench/speed.py [--sparse N ..] [--nodes N ..] [--rounds ROUNDS] [--kept FOLDER] [--only WORD ..] [--no-python] [--page] [--anew]
 
@@ -33,7 +33,7 @@ loads are those of the last minute, before and after the run.
 
 All answers are compared: lengths and numbers of arcs with route.cpp, which searches by itself, nodes along the arcs of the
 network, and the first 20 of each text with every search. Each hierarchy that is prepared answers 100 pairs, as that of one
-worker does. At the end the tables of docs/SPEED.md are printed, of all that was measured; with `--page` they are written, and
+worker does. At the end the tables of docs/PERFORMANCE.md are printed, of all that was measured; with `--page` they are written, and
 the pictures.
 
 It needs g++ and the proved program, which is crates/routecli/out/routecli (README.md says how to build it) or the path in the

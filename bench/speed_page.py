@@ -1,10 +1,10 @@
 #!/usr/bin/python3
-"""Writes the tables and the picture of docs/SPEED.md and README.md from the runs of speed.py.
+"""Writes the tables and the picture of docs/PERFORMANCE.md and README.md from the runs of speed.py.
 
     bench/speed_page.py [--check] [FOLDER]
 
 The runs are docs/speed.csv, and the facts about networks and machine docs/speed.json. With FOLDER, as out/speed, its
-runs.csv and facts.json replace them first. In SPEED.md each table replaces what is between a line as `<!-- prepare -->` and
+runs.csv and facts.json replace them first. In PERFORMANCE.md each table replaces what is between a line as `<!-- prepare -->` and
 the next empty line, in README.md what is between two such lines; the picture is docs/speed.svg. With --check nothing is
 written: the status is 1 if a page isn't what the runs give.
 
@@ -249,7 +249,7 @@ def slower(measured: Measured) -> str:
 
 
 def figures(measured: Measured) -> str:
-    """The three figures that SPEED.md begins with, of the largest network that is shown."""
+    """The three figures that PERFORMANCE.md begins with, of the largest network that is shown."""
     name = max(measured.shown(), key=measured.nodes)
     pair, near = (measured.pair(name, "depth", kind) for kind in KINDS)
     lines = [
@@ -335,11 +335,11 @@ def put(page: str, first: str, last: str, text: str) -> str:
 
 def pages(measured: Measured) -> dict[pathlib.Path, str]:
     """Both pages as the runs give them."""
-    speed = (DOCS / "SPEED.md").read_text()
+    speed = (DOCS / "PERFORMANCE.md").read_text()
     for mark, made in TABLES.items():
         speed = put(speed, f"<!-- {mark} -->\n", "\n\n", made(measured))
     readme = put(README.read_text(), "<!-- speed: begin -->\n", "<!-- speed: end -->", summary(measured))
-    return {DOCS / "SPEED.md": speed, README: readme}
+    return {DOCS / "PERFORMANCE.md": speed, README: readme}
 
 
 def main() -> None:
