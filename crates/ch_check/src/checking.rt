@@ -26,15 +26,15 @@ use std::alloc::Global;
 /// are lawful, and the arcs that this leads to are compared with the links. So nothing of the hierarchy is believed: if
 /// the result is `Ok`, it is right.
 ///
-/// It is complete for what `ch_contract` makes by searches that settle 64 nodes, and for all that searches of at most 65,536
-/// nodes could have made if the check needs no more than 256 settled nodes for each link, and 4,194,304 beside: beyond that it
-/// gives up ([`CheckError::Work`]). That is argued, and tested on small graphs, and not proved. An error is no proof that the
-/// hierarchy is wrong, but for [`CheckError::Nodes`]; [`is_refuted_by`](crate::is_refuted_by) may give one. A hierarchy of
-/// version 1 gives [`CheckError::Version`].
+/// It is complete for what `ch_contract` makes by searches that settle 64 nodes, and for all that searches of at most
+/// 65,536 nodes could have made if the check needs no more than 256 settled nodes for each link, and 4,194,304 beside:
+/// beyond that it gives up ([`CheckError::Work`]). That is argued, and tested on small graphs, and not proved. An error is
+/// no proof that the hierarchy is wrong, but for [`CheckError::Nodes`]; [`is_refuted_by`](crate::is_refuted_by) may give
+/// one. A hierarchy of version 1 gives [`CheckError::Version`].
 ///
-/// Takes memory for the rows, an entry for each end of an arc, and time by the pairs of neighbours of the nodes, by the arcs
-/// into the ends of those pairs that have no link, and by searches for those that have no way of two arcs either. A link is
-/// looked for often, so an index ([`Hierarchy::into_indexed`]) saves time.
+/// Takes memory for the rows, an entry for each end of an arc, and time by the pairs of neighbours of the nodes, by the
+/// arcs into the ends of those pairs that have no link, and by searches for those that have no way of two arcs either. A
+/// link is looked for often, so an index ([`Hierarchy::into_indexed`]) saves time.
 pub fn check(alloc: Global, graph: &Graph, hierarchy: &Hierarchy) -> Result<(), CheckError>
     ensures right { OnOk result (IsRight graph.now hierarchy.now) }
     ensures version { OnOk result (hierarchy.now.version ≡ Two) }

@@ -7,11 +7,11 @@ use ch_graph::{Graph, Hierarchy, value_is_unique};
 use ch_query::Search;
 use std::alloc::{AllocError, Global};
 
-/// Whether two nodes show that a hierarchy isn't right for a graph: it has another number of nodes, or the distance from the
-/// first node to the second is another one in the hierarchy than in the graph.
+/// Whether two nodes show that a hierarchy isn't right for a graph: it has another number of nodes, or the distance from
+/// the first node to the second is another one in the hierarchy than in the graph.
 ///
-/// If the result is true, the hierarchy isn't right. False says nothing, also if a node is out of range. Takes the memory and
-/// time of a [`Search`] of the hierarchy and of [`Graph::least`].
+/// If the result is true, the hierarchy isn't right. False says nothing, also if a node is out of range. Takes the memory
+/// and time of a [`Search`] of the hierarchy and of [`Graph::least`].
 pub fn is_refuted_by(
     alloc: Global,
     graph: &Graph,

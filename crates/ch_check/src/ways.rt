@@ -95,12 +95,12 @@ impl Finder {
         })
     }
 
-    /// Searches ways to the ends of these pairs by two short searches, and returns those pairs for which they found none that costs
-    /// no more.
+    /// Searches ways to the ends of these pairs by two short searches, and returns those pairs for which they found none
+    /// that costs no more.
     ///
-    /// A way that costs no more than its pair will do, the best isn't wanted. So the first search ends as soon as it has come to
-    /// each end. Those pairs that it leaves without a way, since it came to their ends by too costly ones, get a search like
-    /// those by which hierarchies are made here.
+    /// A way that costs no more than its pair will do, the best isn't wanted. So the first search ends as soon as it has
+    /// come to each end. Those pairs that it leaves without a way, since it came to their ends by too costly ones, get a
+    /// search like those by which hierarchies are made here.
     fn search_few(
         &mut self,
         overlay: &Overlay,
@@ -123,8 +123,8 @@ impl Finder {
         Ok(few)
     }
 
-    /// Searches ways to the ends of these pairs, settling at most so many nodes, and returns those pairs for which it found none
-    /// that costs no more.
+    /// Searches ways to the ends of these pairs, settling at most so many nodes, and returns those pairs for which it found
+    /// none that costs no more.
     fn search_ways(
         &mut self,
         overlay: &Overlay,

@@ -15,8 +15,8 @@ use ch_laws::{Entry, bounds_fit, verdicts_are_lawful};
 
 /// Works out the shortcuts of a contraction of a node, and leaves them on the desk.
 ///
-/// What the hierarchy has says which pairs get one, where that is lawful. For each other pair there has to be an arc or a way
-/// around the node that costs as little.
+/// What the hierarchy has says which pairs get one, where that is lawful. For each other pair there has to be an arc or a
+/// way around the node that costs as little.
 pub fn work_out(
     replay: &Replay<'_>,
     hierarchy: &Hierarchy,

@@ -169,8 +169,8 @@ impl<S: Site> Board<S> {
     /// compared: an answer of the book whose version is current has the current row.
     ///
     /// The new rows are all laid, first the node's and then those of its neighbours by rising number, before the first is
-    /// shown. They are shown in that order too, by this code and by no clause: they are of different nodes, so nothing rests
-    /// on it. Takes memory for the rows that change, and waits while another thread makes room for records.
+    /// shown. They are shown in that order too, by this code and by no clause: they are of different nodes, so nothing
+    /// rests on it. Takes memory for the rows that change, and waits while another thread makes room for records.
     pub fn commit<R: Wait>(&mut self, rt: &R, proposal: Proposal) -> Result<Receipt, CommitError>
         requires of_book { All (IsOfBook S.book) proposal.rests_on }
         requires bound { proposal.bound ≡ S.book.bound }
@@ -183,9 +183,9 @@ impl<S: Site> Board<S> {
         self.accept(rt, &proposal, None)
     }
 
-    /// Commits a proposal, as [`Board::commit`] does, and gives a reader of the board's book the versions as they are
-    /// then, so that it reads no older row from there on. On a refusal the reader is as it was, too. The proposal is left to
-    /// the caller, who may drop it where no lock is held.
+    /// Commits a proposal, as [`Board::commit`] does, and gives a reader of the board's book the versions as they are then,
+    /// so that it reads no older row from there on. On a refusal the reader is as it was, too. The proposal is left to the
+    /// caller, who may drop it where no lock is held.
     pub fn commit_and_see<R: Wait>(
         &mut self,
         rt: &R,
@@ -209,8 +209,8 @@ impl<S: Site> Board<S> {
     /// Commits a proposal, as [`Board::commit_and_see`] does, with the new rows that [`make_ready`](crate::make_ready) made
     /// for it before, if there are some. What it promises is the same with them and without.
     ///
-    /// Where a row that was read for them beside the proposal has changed since, the new rows are made here. Where they still
-    /// fit, one row is made: the node's, which gets its rank.
+    /// Where a row that was read for them beside the proposal has changed since, the new rows are made here. Where they
+    /// still fit, one row is made: the node's, which gets its rank.
     pub fn commit_ready<R: Wait>(
         &mut self,
         rt: &R,
@@ -294,8 +294,8 @@ impl<S: Site> Board<S> {
         }
     }
 
-    /// The new rows that were made before, where the rows that were read for them beside the proposal are current. Those that
-    /// the proposal rests on are.
+    /// The new rows that were made before, where the rows that were read for them beside the proposal are current. Those
+    /// that the proposal rests on are.
     fn fitting(&self, proposal: &Proposal, ready: Option<Ready>) -> Option<Prepared>
         requires agrees { Agrees self.now proposal.now }
         requires lawful { AreLawful self.now proposal.now.node proposal.now.shortcuts }
@@ -311,8 +311,8 @@ impl<S: Site> Board<S> {
         Some(prepared)
     }
 
-    /// Contracts a node and puts these shortcuts in, by new rows that were made before if there are some. They are laid, and
-    /// then shown.
+    /// Contracts a node and puts these shortcuts in, by new rows that were made before if there are some. They are laid,
+    /// and then shown.
     fn contract<R: Wait>(
         &mut self,
         rt: &R,

@@ -3,15 +3,15 @@
 //! Builds on `ch_overlay`, whose rows it changes, on the book of `ch_rowbook`, on the searches of `ch_witness`, and on the
 //! laws of `ch_laws`. Its main types:
 //!
-//! - [`Proposal`], a contraction that was worked out by rows, and [`Ready`], the new rows that it leads to, which may be made
-//!   before it is committed.
+//! - [`Proposal`], a contraction that was worked out by rows, and [`Ready`], the new rows that it leads to, which may be
+//!   made before it is committed.
 //! - [`Ledger`], a graph, the rows that its contractions so far lead to, and the log of these contractions.
 //! - [`Board`], a ledger whose rows are in a book of `ch_rowbook`, whose readers propose without a lock. A board contracts
 //!   a node by a proposal, [`Board::commit`], as long as the versions of the rows that the proposal rests on are current.
 //!
 //! The promise of the layer is the contract of [`Ledger::finish`]: the hierarchy that it returns is right for the graph, so
-//! its values are the graph's distances. It rests on what every [`Ledger`] keeps, that its rows come from the graph's by the
-//! lawful contractions of its log.
+//! its values are the graph's distances. It rests on what every [`Ledger`] keeps, that its rows come from the graph's by
+//! the lawful contractions of its log.
 //!
 //! In a function that is generic in the [`Site`], whose caller passes `Brand` for it, a reader's proposal is committed, a
 //! sweep contracts the other nodes, and the board is made into a hierarchy:

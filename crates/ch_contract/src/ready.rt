@@ -10,11 +10,11 @@ use ch_overlay::{Prepared, Row, RowSource, SeeError, Seen, prepare};
 use std::alloc::{AllocError, Global};
 use std::marker::Model;
 
-/// New rows of a contraction that is proposed, made before it is committed, and the rows that were read for them beside those
-/// that the proposal rests on.
+/// New rows of a contraction that is proposed, made before it is committed, and the rows that were read for them beside
+/// those that the proposal rests on.
 ///
-/// They are made by [`make_ready`] alone. As long as all these rows are current, they are the rows that the contraction leads
-/// to.
+/// They are made by [`make_ready`] alone. As long as all these rows are current, they are the rows that the contraction
+/// leads to.
 #[derive(Drop)]
 pub struct Ready {
     pub(crate) prepared: Prepared,
@@ -29,13 +29,13 @@ impl Model for Ready {
     ghost view = { λ r. record { prepared = r.prepared; beside = r.beside.items } };
 }
 
-/// Makes the new rows of a contraction that is proposed, for [`Board::commit_ready`](crate::Board::commit_ready), which then
-/// has less to do.
+/// Makes the new rows of a contraction that is proposed, for [`Board::commit_ready`](crate::Board::commit_ready), which
+/// then has less to do.
 ///
 /// They are made by the rows that the proposal rests on and those of the node's other neighbours, which the source is asked
-/// for once each. `OutOfMemory` where memory runs out, `Unseen` where the source has no row of one of these; nothing but the
-/// source has moved then. Takes memory for the new rows, which grows with the entries of the neighbours' rows, and time by
-/// these, and by the neighbours times the rows that the proposal rests on.
+/// for once each. `OutOfMemory` where memory runs out, `Unseen` where the source has no row of one of these; nothing but
+/// the source has moved then. Takes memory for the new rows, which grows with the entries of the neighbours' rows, and time
+/// by these, and by the neighbours times the rows that the proposal rests on.
 pub fn make_ready<S: RowSource>(
     alloc: Global,
     source: &mut S,

@@ -17,8 +17,8 @@ pub type Neighbours = ByKey<ArcsAndGone>;
 /// Nodes whose contraction leaves the fewest arcs go first, and each step of its depth puts a node back by one.
 pub type Depth = ByKey<ArcsAndDepth>;
 
-/// Nodes whose contraction puts in the fewest shortcuts for each arc that it takes away go first, and each step of its depth puts
-/// a node back.
+/// Nodes whose contraction puts in the fewest shortcuts for each arc that it takes away go first, and each step of its
+/// depth puts a node back.
 pub type Balanced = ByKey<ShortcutsForArcsAndDepth>;
 
 /// A number by which an estimator puts nodes in order. No value of a kind of key is made.
@@ -70,8 +70,8 @@ impl Key for ArcsAndDepth {
     }
 }
 
-/// Six for each shortcut that the contraction puts in for an arc that it takes away, and one for each step of the node's depth, all
-/// in thousandths.
+/// Six for each shortcut that the contraction puts in for an arc that it takes away, and one for each step of the node's
+/// depth, all in thousandths.
 pub struct ShortcutsForArcsAndDepth;
 
 impl Key for ShortcutsForArcsAndDepth {

@@ -3,11 +3,11 @@
 //! Builds on `ch_contract`, of which it uses the counts of a proposal and the entries of the log, and for the leases on
 //! `atomic_table`, which counts them, and `crossbeam_utils`, by which they are waited for. Its main item is the trait
 //! [`Estimator`]: it receives each contraction in turn, and gives keys, smaller ones first. Four kinds are here:
-//! [`EdgeDifference`], [`Neighbours`], [`Depth`] and [`key::Balanced`]. They are one type, [`ByKey`], with four kinds of [`Key`]. What they
-//! know of the nodes is kept in a [`WorkSpace`], and each works under a [`Lease`]. The promise of the layer is the contract
-//! of `note`, that a note is what the received entries say, that of each kind's `key`, which says which number it is, and
-//! that of [`Leases::wait`], that no lease is out; [`Leases::none_is_left`] says what that means. No promise on answers
-//! rests on any of these.
+//! [`EdgeDifference`], [`Neighbours`], [`Depth`] and [`key::Balanced`]. They are one type, [`ByKey`], with four kinds of
+//! [`Key`]. What they know of the nodes is kept in a [`WorkSpace`], and each works under a [`Lease`]. The promise of the
+//! layer is the contract of `note`, that a note is what the received entries say, that of each kind's `key`, which says
+//! which number it is, and that of [`Leases::wait`], that no lease is out; [`Leases::none_is_left`] says what that means.
+//! No promise on answers rests on any of these.
 //!
 //! An estimator works under a lease, receives the log from its start, and gives the key of a node by the counts of its
 //! proposal. Once it is dropped the wait is over:

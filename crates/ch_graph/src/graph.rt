@@ -99,8 +99,8 @@ impl Graph {
 
     /// Returns the least cost over all walks from `source` to `target`, or `None` where there is no walk.
     ///
-    /// By Dijkstra's algorithm (1959). Of N nodes and M arcs it takes time by (N + M) log N, and memory for a mark a node (a
-    /// cost and a state), a place of an arc a node and one an arc, and for a queue of at most M + 1 entries. Fails only
+    /// By Dijkstra's algorithm (1959). Of N nodes and M arcs it takes time by (N + M) log N, and memory for a mark a node
+    /// (a cost and a state), a place of an arc a node and one an arc, and for a queue of at most M + 1 entries. Fails only
     /// where memory runs out.
     ///
     /// In this graph the line from 0 to 1 is one arc, and each other line is two of one weight, there and back:
@@ -116,8 +116,8 @@ impl Graph {
     /// ```
     ///
     /// From 0 to 3 the least cost is 2 + 1 + 1 = 4, of three arcs, over 1 and 4. From 2 to 3 two walks have the length 5,
-    /// and the result is the cost of the one with fewer arcs, of one. From 3 to 0 there is no walk; from 3 to 3 there is the
-    /// one of no arc, which costs nothing.
+    /// and the result is the cost of the one with fewer arcs, of one. From 3 to 0 there is no walk; from 3 to 3 there is
+    /// the one of no arc, which costs nothing.
     pub fn least(&self, source: u32, target: u32) -> Result<Option<Cost>, AllocError>
         requires source_in { source < self.now.nodes }
         requires target_in { target < self.now.nodes }

@@ -9,7 +9,7 @@ use std::alloc::{AllocError, Global};
 use std::marker::Model;
 
 /// This many links are looked at in turn, which takes less time than to halve them further.
-const FEW: usize = 16;
+const LINEAR_BELOW: usize = 16;
 
 /// Where the links of each node begin, in a list of links in rising order of their ends.
 ///
@@ -123,7 +123,7 @@ fn near_head(links: &[Link], to: u32) -> Part
         begin: 0,
         end: links.len(),
     };
-    'halves: while near.end - near.begin > FEW {
+    'halves: while near.end - near.begin > LINEAR_BELOW {
         near = half_with(links, near, to);
     }
     near

@@ -3,8 +3,8 @@ ghost use Rattle.ch_graph.specs.Middle.{same_middles, same_middles-laws, same_mi
 
 use std::marker::Model;
 
-/// The node where the two halves of a link or of an entry meet, or `None`: an `Option<u32>` in 4 bytes, since no node has the number
-/// 2^32 - 1.
+/// The node where the two halves of a link or of an entry meet, or `None`: an `Option<u32>` in 4 bytes, since no node has
+/// the number 2^32 - 1.
 #[derive(Clone, Copy, Debug)]
 pub struct Middle {
     // The node, or the greatest number for none.

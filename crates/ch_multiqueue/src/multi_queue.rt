@@ -16,9 +16,9 @@ use std::sync::{Mutex, Wait};
 
 /// A relaxed priority queue, which threads share by reference, each with a [`Pass`] of its own.
 ///
-/// It has 1 to 256 heaps, and at most 256 passes are made. Each heap keeps the room that its items once took, and
-/// beside the heaps the accounts of the passes alone grow. A `pop` takes the top of one heap as it is when that heap is locked; nothing is said of the order
-/// of the items that it gives, nor of how long a call waits for a lock.
+/// It has 1 to 256 heaps, and at most 256 passes are made. Each heap keeps the room that its items once took, and beside
+/// the heaps the accounts of the passes alone grow. A `pop` takes the top of one heap as it is when that heap is locked;
+/// nothing is said of the order of the items that it gives, nor of how long a call waits for a lock.
 #[derive(Drop)]
 pub struct MultiQueue {
     heaps: Vec<Mutex<Heap>>,

@@ -11,8 +11,8 @@
 //! - [`Record`], what a book of rows keeps of one, and [`Token`], which shows where.
 //!
 //! The promise of the layer is in the contracts of [`Overlay::start`], [`Overlay::plan`] and [`Overlay::apply`]: the rows
-//! are those of the state that the contractions so far lead to. [`prepare`] makes the rows of a change before its overlay is at
-//! hand, by rows that were read, and [`Overlay::plan_by`] ends it.
+//! are those of the state that the contractions so far lead to. [`prepare`] makes the rows of a change before its overlay
+//! is at hand, by rows that were read, and [`Overlay::plan_by`] ends it.
 //!
 //! A contraction is planned, and then put in, with a version for each row that it changes. Here node 0 of the arcs 1 to 0
 //! and 0 to 2 goes, for a shortcut from 1 to 2, and versions 0 to 2 are those of the start:

@@ -34,8 +34,8 @@ impl Model for Prepared {
 /// Returns the new rows of a contraction of `node` that puts these shortcuts in, made by the node's row and those of its
 /// neighbours, `near`, each with its node. No overlay is looked at, so rows can be made by what was read of one.
 ///
-/// There is at most one shortcut for each pair, and the lists of the neighbours' rows rise. Takes memory for the rows; sorts
-/// the shortcuts, and is linear in the entries of the rows otherwise.
+/// There is at most one shortcut for each pair, and the lists of the neighbours' rows rise. Takes memory for the rows;
+/// sorts the shortcuts, and is linear in the entries of the rows otherwise.
 pub fn prepare(
     alloc: Global,
     node: u32,

@@ -23,8 +23,8 @@ const KEPT: usize = 1 << 16;
 ///
 /// The marks are made once, and take 4 bytes a node, and 32 more for each that a query sees. The queue is ordered by the
 /// lengths of the labels, and for equal lengths by the ranks. That is enough: a side climbs, so of two nodes with labels of
-/// one length only that of the lower rank can lead on to the other. The queue may hold older, longer entries of a node; they
-/// are passed over when they come up.
+/// one length only that of the lower rank can lead on to the other. The queue may hold older, longer entries of a node;
+/// they are passed over when they come up.
 #[derive(Drop)]
 pub struct Frontier {
     marks: MarkList,
@@ -73,8 +73,8 @@ impl Frontier {
         self.marks.clear();
     }
 
-    /// Forgets what was seen and frees the memory of the queue and of the list of seen nodes, where either has room for more
-    /// than 65,536 entries. Takes no memory.
+    /// Forgets what was seen and frees the memory of the queue and of the list of seen nodes, where either has room for
+    /// more than 65,536 entries. Takes no memory.
     pub fn give_back(&mut self)
         ensures { length self.new ≡ length self.old }
     {

@@ -17,11 +17,11 @@ const SETTLE: u32 = 64;
 
 /// Makes the hierarchy of a graph by the ranks of another hierarchy.
 ///
-/// `gr` gives the text of the graph and `hier` the file of the other hierarchy, of version 1 or 2, which are read whole in this
-/// order, and `out` gets the file that is made. Nothing of the old file is believed: whoever made it, the new one is right for the
-/// graph, and its bytes follow from the graph and the ranks. If the numbers of nodes differ, the outcome is [`Outcome::Wrong`].
-/// Then nothing is written, and neither at a refusal, unless it is the write that failed. The watch sees how many nodes are
-/// contracted.
+/// `gr` gives the text of the graph and `hier` the file of the other hierarchy, of version 1 or 2, which are read whole in
+/// this order, and `out` gets the file that is made. Nothing of the old file is believed: whoever made it, the new one is
+/// right for the graph, and its bytes follow from the graph and the ranks. If the numbers of nodes differ, the outcome is
+/// [`Outcome::Wrong`]. Then nothing is written, and neither at a refusal, unless it is the write that failed. The watch
+/// sees how many nodes are contracted.
 ///
 /// Takes memory for the graph and the old hierarchy, which is dropped when its ranks are known, and then that of
 /// [`build_by_ranks`](ch_sequential::build_by_ranks). A strange order of the nodes may take time and memory without limit.

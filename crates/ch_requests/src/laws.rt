@@ -7,8 +7,8 @@ use grfile::spelled_graphs_are_in_range;
 use hierfile::hierarchies_have_one_spelling;
 
 /// Services are exact: by the file of a hierarchy that was prepared from the text of a graph, each length is the least over
-/// all walks of that graph, each route is a least walk, and there is none exactly where there is no walk. In version 2 it is
-/// stated by paths: a route is a best one, a shortest path with the fewest arcs.
+/// all walks of that graph, each route is a least walk, and there is none exactly where there is no walk. In version 2 it
+/// is stated by paths: a route is a best one, a shortest path with the fewest arcs.
 pub fn services_are_exact()
     ensures fewest { ServicesHaveFewestArcs }
     ensures by_weight { ServicesAreExactByWeight }

@@ -23,15 +23,15 @@ use std::alloc::Global;
 /// Serves requests by the file of a hierarchy.
 ///
 /// `hier` gives the file. When it is read `out` gets a line `ready NODES LINKS VERSION`, and then `requests` is read to its
-/// end: each of its lines is a request, and gets one line, in order. After each read all lines that have ended are replied to,
-/// and the replies are written and flushed before the next read. Where the file was prepared from the text of a graph, lengths are least
-/// over all walks of that graph, and routes are shortest paths, in version 2 with the fewest arcs.
+/// end: each of its lines is a request, and gets one line, in order. After each read all lines that have ended are replied
+/// to, and the replies are written and flushed before the next read. Where the file was prepared from the text of a graph,
+/// lengths are least over all walks of that graph, and routes are shortest paths, in version 2 with the fewest arcs.
 ///
-/// A request that is refused, for a fault of its line or because memory ran out for its search, gets a line that says so, and
-/// the service continues. It ends with an error where the hierarchy is refused, where memory for it runs out, or where a reader
-/// or the writer fails; each of them is called 2^40 times at most, and the writer flushed 2^40 times at most. Takes memory for the hierarchy and once more for its
-/// links by their ends, and for one query at a time. Replies take none, however long they are; of a request 4,097 bytes are
-/// kept at most.
+/// A request that is refused, for a fault of its line or because memory ran out for its search, gets a line that says so,
+/// and the service continues. It ends with an error where the hierarchy is refused, where memory for it runs out, or where
+/// a reader or the writer fails; each of them is called 2^40 times at most, and the writer flushed 2^40 times at most.
+/// Takes memory for the hierarchy and once more for its links by their ends, and for one query at a time. Replies take
+/// none, however long they are; of a request 4,097 bytes are kept at most.
 pub fn serve<H: StepRead, Q: StepRead, W: StepFlush>(
     alloc: Global,
     hier: &mut H,

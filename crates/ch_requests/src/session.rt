@@ -72,8 +72,8 @@ impl<'a> Session<'a> {
         Ok(())
     }
 
-    // Reads once, replies to the lines that end in what came, and sends all replies; whether anything came before the reader's
-    // end.
+    // Reads once, replies to the lines that end in what came, and sends all replies; whether anything came before the
+    // reader's end.
     fn serve_piece<Q: StepRead, W: StepFlush>(
         &mut self,
         requests: &mut Q,

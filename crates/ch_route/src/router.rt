@@ -23,8 +23,8 @@ use ch_unpack::{UnpackError, unpack};
 use std::alloc::{AllocError, Global};
 use std::marker::Model;
 
-/// Answers pairs of nodes by one hierarchy, which it borrows or owns a share of, each with a shortest path or with its length
-/// alone.
+/// Answers pairs of nodes by one hierarchy, which it borrows or owns a share of, each with a shortest path or with its
+/// length alone.
 ///
 /// It holds what [`SearchOf`] holds: about 16 bytes a node and 16 a link, or 24 and 20 where there are 2^32 links or more,
 /// and what the largest call so far needed beside it. After a call that failed it works as a new one.

@@ -13,10 +13,11 @@ use std::sync::Wait;
 /// Contracts the nodes of a graph on the calling thread, by the turns of one worker, and makes a hierarchy of them.
 ///
 /// The contract is that of [`build`](ch_workers::build) with one worker, and so are the rules, the errors, and, with ample
-/// memory, hierarchy, log and receipts. The gate is passed at every point but `Refused`. `options.workers` isn't looked at: there
-/// has to be one list of estimators. The hierarchy has no index: [`Hierarchy::into_indexed`](ch_graph::Hierarchy::into_indexed)
-/// gives it one. Where memory runs out in a turn, a sweep contracts what is left. Takes memory for the rows of the nodes,
-/// shortcuts included, for the log, the receipts and the queue, and at the end for the links beside the rows.
+/// memory, hierarchy, log and receipts. The gate is passed at every point but `Refused`. `options.workers` isn't looked at:
+/// there has to be one list of estimators. The hierarchy has no index:
+/// [`Hierarchy::into_indexed`](ch_graph::Hierarchy::into_indexed) gives it one. Where memory runs out in a turn, a sweep
+/// contracts what is left. Takes memory for the rows of the nodes, shortcuts included, for the log, the receipts and the
+/// queue, and at the end for the links beside the rows.
 pub fn build_sequential<G: Gate, R: Wait>(
     rt: &R,
     alloc: Global,

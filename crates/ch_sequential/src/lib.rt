@@ -1,9 +1,9 @@
 //! The hierarchy of one worker without what workers share: no board, no book of rows, and no copy of the log.
 //!
-//! Builds on `ch_contract`, by whose ledger it contracts nodes, and on `ch_workers`, whose turns, options, gates and results it
-//! has: a [`Workplace`](ch_workers::Workplace) is all that differs. The promise of the layer is the contract of
-//! [`build_sequential`], which is that of [`build`](ch_workers::build) with one worker. With ample memory hierarchy, log and
-//! receipts are the same too, for less time and memory.
+//! Builds on `ch_contract`, by whose ledger it contracts nodes, and on `ch_workers`, whose turns, options, gates and
+//! results it has: a [`Workplace`](ch_workers::Workplace) is all that differs. The promise of the layer is the contract of
+//! [`build_sequential`], which is that of [`build`](ch_workers::build) with one worker. With ample memory hierarchy, log
+//! and receipts are the same too, for less time and memory.
 //!
 //! ```rust
 //! let mut leases = Leases::new(alloc)?;

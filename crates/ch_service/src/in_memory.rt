@@ -18,12 +18,11 @@ use std::thread::Threads;
 /// Returns the answers to the pairs of one text over the graph of another, by a hierarchy's file in memory.
 ///
 /// [`prepare`] writes the file from the text of the graph, and [`route`] reads it and answers the pairs: what a user does
-/// by two commands. The answers have one line for each pair, in order: a shortest path of the graph, of all shortest paths one
-/// with the fewest arcs, or that there is no path. This holds for all options and estimators, and however the workers'
-/// reads and commits fall. On every return the estimators were dropped, and no lease of
-/// `leases` is out. Time and memory are those of the two calls, with the bytes of the file and of the answers. So are the
-/// refusals, but that the file has no fault and no route is too long; where memory runs out for the file or for the answers
-/// it is a failed write.
+/// by two commands. The answers have one line for each pair, in order: a shortest path of the graph, of all shortest paths
+/// one with the fewest arcs, or that there is no path. This holds for all options and estimators, and however the workers'
+/// reads and commits fall. On every return the estimators were dropped, and no lease of `leases` is out. Time and memory
+/// are those of the two calls, with the bytes of the file and of the answers. So are the refusals, but that the file has no
+/// fault and no route is too long; where memory runs out for the file or for the answers it is a failed write.
 pub fn routes_in_memory<P: Gate, R: Threads + Wait + Sync>(
     rt: &R,
     alloc: Global,

@@ -13,8 +13,8 @@ use grfile::{
 };
 use hierfile::hierarchies_have_one_spelling;
 
-/// What answers by least walks with the fewest arcs, of texts that are read so, is one line of a best path for each pair, of
-/// texts that spell a graph and pairs; and such lines answer so. By this law other contracts promise the same as
+/// What answers by least walks with the fewest arcs, of texts that are read so, is one line of a best path for each pair,
+/// of texts that spell a graph and pairs; and such lines answer so. By this law other contracts promise the same as
 /// [`routes_in_memory`](crate::routes_in_memory).
 pub fn answers_are_best_routes()
     ensures { AnswersAreBestRoutes }

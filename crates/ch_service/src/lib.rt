@@ -1,14 +1,14 @@
 //! The work of the program `routecli`, over readers and writers of any kind.
 //!
-//! Uses `grfile` for the two texts, `ch_workers` for hierarchies and `hierfile` for their files, `ch_route` for routes
-//! and why they are least, `ch_answer` for the lines that name them, and `counted_io` for the calls of readers and
-//! writers. [`prepare`] writes a hierarchy of a graph, which workers build, and [`route`] answers pairs of nodes by it;
-//! [`answer`] and [`answer_joined`] build one for the call. [`ServiceError`] says why a call didn't do its work, and
-//! its [`Cause`] what that is to a user. The promise of the layer is the contract of these calls: what is written has
-//! one line for each pair, in order, with the least length over all walks of the text's graph and the nodes along a
-//! walk of exactly that length, or with none where there is no walk. For `prepare` and `route` together it is the
-//! clause `best` of [`routes_in_memory`], in the plain words of `best_routes`, and the law [`routes_are_exact`] for bytes that go through a file. After a
-//! refusal a contract says which text was at fault, or which first part of such answers the writer took.
+//! Uses `grfile` for the two texts, `ch_workers` for hierarchies and `hierfile` for their files, `ch_route` for routes and
+//! why they are least, `ch_answer` for the lines that name them, and `counted_io` for the calls of readers and writers.
+//! [`prepare`] writes a hierarchy of a graph, which workers build, and [`route`] answers pairs of nodes by it; [`answer`]
+//! and [`answer_joined`] build one for the call. [`ServiceError`] says why a call didn't do its work, and its [`Cause`]
+//! what that is to a user. The promise of the layer is the contract of these calls: what is written has one line for each
+//! pair, in order, with the least length over all walks of the text's graph and the nodes along a walk of exactly that
+//! length, or with none where there is no walk. For `prepare` and `route` together it is the clause `best` of
+//! [`routes_in_memory`], in the plain words of `best_routes`, and the law [`routes_are_exact`] for bytes that go through a
+//! file. After a refusal a contract says which text was at fault, or which first part of such answers the writer took.
 //!
 //! Nodes are numbered from 0 inside, and from 1 in every text.
 //!

@@ -11,8 +11,9 @@ use std::alloc::Global;
 use std::io::{Read, Write};
 use std::sync::Wait;
 
-/// Prepares a hierarchy as [`prepare`](crate::prepare) does with one worker, by [`build_sequential`](ch_sequential::build_sequential): the calling
-/// thread contracts the nodes. `options.workers` isn't looked at: there has to be one list of estimators.
+/// Prepares a hierarchy as [`prepare`](crate::prepare) does with one worker, by
+/// [`build_sequential`](ch_sequential::build_sequential): the calling thread contracts the nodes. `options.workers` isn't
+/// looked at: there has to be one list of estimators.
 pub fn prepare_sequential<G: Read, W: Write, P: Gate, R: Wait>(
     rt: &R,
     alloc: Global,

@@ -17,8 +17,8 @@ pub struct Summed {
     pub sum: u64,
 }
 
-/// Returns the least length of a path from the first node of the pair to the second, and what the numbers of the arcs of some
-/// path of that length sum to, or `None` where there is no path.
+/// Returns the least length of a path from the first node of the pair to the second, and what the numbers of the arcs of
+/// some path of that length sum to, or `None` where there is no path.
 ///
 /// The numbers are those of the search's hierarchy. Of several shortest paths it is one with the fewest arcs, in version 2.
 /// Takes the time of [`Search::distance`](ch_query::Search::distance).

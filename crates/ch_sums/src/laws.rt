@@ -2,8 +2,8 @@ ghost use Rattle.ch_sums.specs.Numbers.{SumsAreAlong};
 
 use best_routes::paths_are_walks;
 
-/// What a least rise-fall walk of a hierarchy that is right by weight unfolds to is a path of the least length, and the numbers
-/// of its arcs sum to those of the links. It does nothing when it runs.
+/// What a least rise-fall walk of a hierarchy that is right by weight unfolds to is a path of the least length, and the
+/// numbers of its arcs sum to those of the links. It does nothing when it runs.
 pub fn sums_are_along()
     ensures { SumsAreAlong }
 {

@@ -33,8 +33,8 @@ impl Model for Numbers {
 impl Numbers {
     /// Makes the numbers of all links of those that are given for the links without a middle, in the order of the links.
     ///
-    /// Fails with `Count` unless there is one for each of these, and with `TooGreat` where a link would have more than 2^36.
-    /// Takes the time of a sort of the links, and 16 bytes a link while it runs.
+    /// Fails with `Count` unless there is one for each of these, and with `TooGreat` where a link would have more than
+    /// 2^36. Takes the time of a sort of the links, and 16 bytes a link while it runs.
     pub fn new(alloc: Global, hierarchy: &Hierarchy, given: &[u32]) -> Result<Numbers, NumbersError>
         ensures count { IfOk result (λ numbers. length given.now ≡ count_arcs hierarchy.now.links) }
         ensures numbers { IfOk result (λ numbers. AreNumbersOf hierarchy.now given.now numbers) }

@@ -103,8 +103,8 @@ struct Marked {
 }
 
 impl Marked {
-    // Passes the first marked rank from this one on: it is listed with its links, and the nodes that these leave are marked.
-    // Returns the rank behind it, or that behind all.
+    // Passes the first marked rank from this one on: it is listed with its links, and the nodes that these leave are
+    // marked. Returns the rank behind it, or that behind all.
     fn pass<H: HierarchyRef>(
         &mut self,
         search: &SearchOf<H>,

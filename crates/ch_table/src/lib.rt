@@ -1,10 +1,10 @@
 //! Tables of lengths: from some nodes, or from one place, to very many nodes at a time.
 //!
 //! Uses of `ch_query` the two parts of a walk over ranks, climbs and falls, and the law that they are walks
-//! ([`ways_are_walks`](ch_query::ways_are_walks)). Its main type is [`Selection`]: the part of a hierarchy that walks to some targets
-//! fall through. The promise of the layer is the contract of [`Selection::lengths`]: each number of a table is the length of
-//! the value of the hierarchy for its source and its target, or stands for none exactly where there is none; and of
-//! [`Selection::lengths_from`], a row from several starts, within a limit.
+//! ([`ways_are_walks`](ch_query::ways_are_walks)). Its main type is [`Selection`]: the part of a hierarchy that walks to
+//! some targets fall through. The promise of the layer is the contract of [`Selection::lengths`]: each number of a table is
+//! the length of the value of the hierarchy for its source and its target, or stands for none exactly where there is none;
+//! and of [`Selection::lengths_from`], a row from several starts, within a limit.
 //!
 //! A call climbs from its starts once, gives each node that it came to a label, and then goes over the places of the
 //! selection from the highest rank to the lowest: the label of a node is the least of its own and of the labels of the

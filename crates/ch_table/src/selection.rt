@@ -17,11 +17,11 @@ const WIDE: usize = 65_536;
 
 /// The part of a hierarchy that walks to some targets fall through: the columns of tables.
 ///
-/// It is made once for its targets, and then gives any number of rows. It never changes, holds no reference, and is good for
-/// each search of its hierarchy, so that several threads may use one. It takes 4 bytes for each node of the hierarchy, 8 for
-/// each target, 8 for each node that is selected and 8 for each link that falls to one of these, or 12 for each of the last
-/// two where there are 2^32 such links or one is as long as that. Half of that may have room for as many again. Road networks
-/// have few such nodes: some 18,000 for 1,000 random targets among 264,346.
+/// It is made once for its targets, and then gives any number of rows. It never changes, holds no reference, and is good
+/// for each search of its hierarchy, so that several threads may use one. It takes 4 bytes for each node of the hierarchy,
+/// 8 for each target, 8 for each node that is selected and 8 for each link that falls to one of these, or 12 for each of
+/// the last two where there are 2^32 such links or one is as long as that. Half of that may have room for as many again.
+/// Road networks have few such nodes: some 18,000 for 1,000 random targets among 264,346.
 #[derive(Drop)]
 pub struct Selection {
     columns: Columns,
@@ -40,8 +40,8 @@ impl Selection {
     /// Selects what walks to these targets fall through, in the hierarchy of a search. A target may be among them more
     /// than once.
     ///
-    /// Looks once at each link of the selection, and at a byte for each node of the hierarchy. Until it returns it takes that
-    /// byte, and 8 bytes for each node and each link that is selected, with room for as many again.
+    /// Looks once at each link of the selection, and at a byte for each node of the hierarchy. Until it returns it takes
+    /// that byte, and 8 bytes for each node and each link that is selected, with room for as many again.
     pub fn new<H: HierarchyRef>(
         alloc: Global,
         search: &SearchOf<H>,
@@ -66,11 +66,11 @@ impl Selection {
     /// `rows[from + i * targets + k]`, of so many targets, or [`NO_LENGTH`] where there is no walk. The search is of the
     /// hierarchy that the selection was made for.
     ///
-    /// Each is the length of [`Search::cost`](ch_query::Search::cost). Eight rows are worked out together, or four where more
-    /// than 65,536 nodes are selected. Takes the time of a climb for each source, and then for each block of rows of a look at
-    /// each link of the selection; and for the call 8 bytes for each row of a block and each node of the selection, and 16 for
-    /// each node that a climb comes to. If that is refused, some first rows may be written, but not all: a single row is as
-    /// before.
+    /// Each is the length of [`Search::cost`](ch_query::Search::cost). Eight rows are worked out together, or four where
+    /// more than 65,536 nodes are selected. Takes the time of a climb for each source, and then for each block of rows of a
+    /// look at each link of the selection; and for the call 8 bytes for each row of a block and each node of the selection,
+    /// and 16 for each node that a climb comes to. If that is refused, some first rows may be written, but not all: a
+    /// single row is as before.
     pub fn lengths<H: HierarchyRef>(
         &self,
         search: &mut SearchOf<H>,
@@ -100,7 +100,8 @@ impl Selection {
     /// limit.
     ///
     /// Each is the length of [`Search::cost_between`](ch_query::Search::cost_between) to its target where that is within
-    /// the limit, and with a limit of 2^62 exactly that. The climb ends at the limit, and all of the selection is gone over.
+    /// the limit, and with a limit of 2^62 exactly that. The climb ends at the limit, and all of the selection is gone
+    /// over.
     pub fn lengths_from<H: HierarchyRef>(
         &self,
         search: &mut SearchOf<H>,

@@ -12,8 +12,8 @@ pub(crate) fn turned_is_well_made()
     ensures { TurnedIsWellMade }
 {}
 
-/// A graph that is turned is one of the same limits, and has the walks of the graph turned round, of the same costs. It does
-/// nothing when it runs.
+/// A graph that is turned is one of the same limits, and has the walks of the graph turned round, of the same costs. It
+/// does nothing when it runs.
 pub fn walks_turn()
     ensures graph { TurnedIsGraph }
     ensures walks { WalksTurn }

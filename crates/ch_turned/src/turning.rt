@@ -11,8 +11,8 @@ use std::alloc::{AllocError, Global};
 /// [`Hierarchy::into_indexed`] does.
 ///
 /// Where the hierarchy is right for a graph, this one is for the graph with each arc turned ([`turned_is_right`]): what is
-/// least from a node by the one is least to it by the other. Takes the memory of a hierarchy, and time for a sort of the links
-/// and for [`Hierarchy::into_indexed`]. It fails only where memory runs out.
+/// least from a node by the one is least to it by the other. Takes the memory of a hierarchy, and time for a sort of the
+/// links and for [`Hierarchy::into_indexed`]. It fails only where memory runs out.
 ///
 /// [`turned_is_right`]: crate::turned_is_right
 pub fn turn(alloc: Global, hierarchy: &Hierarchy) -> Result<Hierarchy, AllocError>

@@ -1,9 +1,10 @@
 //! Whether the file of a hierarchy is right for the graph of a text, whoever made it.
 //!
-//! Uses `grfile` and `hierfile` to read the two, `ch_check` to check one against the other, `ch_answer` for which bytes are the
-//! file of a right hierarchy, `counted_io` for the calls of the writer, and `outcomes` for the causes of refusals. [`verify`]
-//! carries the promise: if the [`Verdict`] is `Right`, the file is one as it is prepared from the text, by which routes are
-//! shortest paths of that graph; if it is `Wrong`, it isn't (`specs/Verdict.antt`). One line says what was found.
+//! Uses `grfile` and `hierfile` to read the two, `ch_check` to check one against the other, `ch_answer` for which bytes are
+//! the file of a right hierarchy, `counted_io` for the calls of the writer, and `outcomes` for the causes of refusals.
+//! [`verify`] carries the promise: if the [`Verdict`] is `Right`, the file is one as it is prepared from the text, by which
+//! routes are shortest paths of that graph; if it is `Wrong`, it isn't (`specs/Verdict.antt`). One line says what was
+//! found.
 //!
 //! Nodes are numbered from 0 inside, and from 1 in the text and in the line.
 //!

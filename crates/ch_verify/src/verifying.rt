@@ -19,8 +19,8 @@ use std::io::{Read, Write};
 /// `gr` gives the text of the graph and `hier` the file, which are read in this order, and `out` gets one line with what
 /// was found. The watch sees how many nodes are checked. Nothing of the file is believed: if the verdict is
 /// [`Verdict::Right`], it is one as `prepare` writes them of this text, and routes by it are shortest paths of the graph.
-/// Where the check ends at a pair of nodes, their distance in the graph is compared with that in the hierarchy, and if these
-/// differ the verdict is [`Verdict::Wrong`]. What a refutation and the doubt of the bound name is so of the two.
+/// Where the check ends at a pair of nodes, their distance in the graph is compared with that in the hierarchy, and if
+/// these differ the verdict is [`Verdict::Wrong`]. What a refutation and the doubt of the bound name is so of the two.
 ///
 /// A file of version 1, whose costs count no arcs, is refused ([`Cause::OldVersion`]). Nothing is written at a refusal,
 /// unless it is the write that failed. Takes memory for the graph, the hierarchy and the rows of

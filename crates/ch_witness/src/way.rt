@@ -16,6 +16,7 @@ pub struct Way {
 pub struct Found {
     /// For each target, in their order, the best way that the search has reached, or `None`.
     pub ways: Vec<Option<Way>>,
-    /// The rows of the nodes that the search expanded, in its order: those of each node of a way but the last are among them.
+    /// The rows of the nodes that the search expanded, in its order: those of each node of a way but the last are among
+    /// them.
     pub seen: Vec<Seen>,
 }

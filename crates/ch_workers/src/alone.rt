@@ -20,11 +20,11 @@ use ch_graph::Graph;
 use std::alloc::Global;
 use std::sync::Wait;
 
-/// Contracts the nodes of a graph by the turns of one worker on the calling thread, at a workplace that it has alone, and makes
-/// a hierarchy of them. It has no index of its links.
+/// Contracts the nodes of a graph by the turns of one worker on the calling thread, at a workplace that it has alone, and
+/// makes a hierarchy of them. It has no index of its links.
 ///
-/// The turns, the sweep and the errors are those of [`build`](crate::build) with one worker. `options.workers` isn't looked at:
-/// there has to be one list of estimators.
+/// The turns, the sweep and the errors are those of [`build`](crate::build) with one worker. `options.workers` isn't looked
+/// at: there has to be one list of estimators.
 pub fn build_alone<P: OwnWorkplace, G: Gate, R: Wait>(
     rt: &R,
     alloc: Global,

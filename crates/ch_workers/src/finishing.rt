@@ -21,8 +21,8 @@ use std::marker::Brand;
 use std::sync::Wait;
 use std::thread::Threads;
 
-/// Contracts what the workers left, and makes the hierarchy, with no index. The rows are dropped beside what comes next. The
-/// queue is put in when it is closed.
+/// Contracts what the workers left, and makes the hierarchy, with no index. The rows are dropped beside what comes next.
+/// The queue is put in when it is closed.
 pub(crate) fn finish<R: Threads + Wait>(
     rt: &R,
     alloc: Global,

@@ -108,8 +108,8 @@ impl<S: Site> Shared<S> {
         }
     }
 
-    /// The board behind its lock, which is looked at for a while, in pauses that grow, and then waited for. It is tried only
-    /// where it seems free: each try takes the cache line of the lock from its holder.
+    /// The board behind its lock, which is looked at for a while, in pauses that grow, and then waited for. It is tried
+    /// only where it seems free: each try takes the cache line of the lock from its holder.
     fn lock<R: Wait>(&self, rt: &R) -> MutexGuard<'_, Board<S>> {
         let backoff = Backoff::new();
         'looks: for _ in 0..LOOKS {

@@ -11,8 +11,8 @@ use std::alloc::{AllocError, Global};
 /// Returns what the arguments of a command line ask for. The first one is the program's name.
 ///
 /// Arguments that ask for help or the version, and arguments that are refused, stop with the text for the user. One name
-/// for both files of `prepare` is refused: the hierarchy would take the place of the graph. So is a stint with an order that
-/// takes no turns.
+/// for both files of `prepare` is refused: the hierarchy would take the place of the graph. So is a stint with an order
+/// that takes no turns.
 pub fn command(alloc: Global, words: &[String]) -> Result<Call<'_>, Stop>
     ensures files { IfOk result (λ call. names_one_file call.job ≡ false) }
     ensures turns { IfOk result (λ call. is_out_of_turn call.job ≡ false) }

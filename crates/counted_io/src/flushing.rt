@@ -15,8 +15,8 @@ pub trait StepFlush: StepWrite {
     ghost use Rattle.std.specs.Io.KnownBytes.{Keeps};
     ghost use Rattle.std.specs.declared.io.Error.{Error};
 
-    /// How one flush leads from what the writer was to what it is, by the call's result. What it is for a writer is open, so
-    /// only a flush yields a step.
+    /// How one flush leads from what the writer was to what it is, by the call's result. What it is for a writer is open,
+    /// so only a flush yields a step.
     ghost flush_step: { Self → Self → Result ⊤ Error → Type 0 };
 
     /// One flush of the writer.

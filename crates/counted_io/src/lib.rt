@@ -1,14 +1,14 @@
 //! Reading and writing by a counted number of calls.
 //!
 //! A reader or a writer may give or take few bytes in a call, and may be interrupted time and again. So whoever reads or
-//! writes in a loop counts the calls, and ends where no more may be made. Uses std alone. [`ReadCalls`] has the
-//! one loop over readers, [`WriteCalls`] the one over writers, and [`FlushCalls`] the one that flushes them. An interrupted
-//! call is made again, and counts; a write that takes no byte is a failure. [`read_whole`] takes all that a reader gives, and a
-//! [`Sink`] gathers small parts for a writer and keeps its failure. The
-//! promise is in the contracts of [`ReadCalls::read`], [`WriteCalls::write`] and [`FlushCalls::flush`]: which bytes the reader
-//! gave or the writer took, to the byte, also at a failure; and which calls were made of it and what they returned, by its
-//! steps ([`StepRead`], [`StepWrite`], [`StepFlush`]). Those of [`Sink::put`] and [`Sink::finish`] carry it on to a text that
-//! is put in parts (`finishes` in `specs/Sinks/Laws.antt`).
+//! writes in a loop counts the calls, and ends where no more may be made. Uses std alone. [`ReadCalls`] has the one loop
+//! over readers, [`WriteCalls`] the one over writers, and [`FlushCalls`] the one that flushes them. An interrupted call is
+//! made again, and counts; a write that takes no byte is a failure. [`read_whole`] takes all that a reader gives, and a
+//! [`Sink`] gathers small parts for a writer and keeps its failure. The promise is in the contracts of [`ReadCalls::read`],
+//! [`WriteCalls::write`] and [`FlushCalls::flush`]: which bytes the reader gave or the writer took, to the byte, also at a
+//! failure; and which calls were made of it and what they returned, by its steps ([`StepRead`], [`StepWrite`],
+//! [`StepFlush`]). Those of [`Sink::put`] and [`Sink::finish`] carry it on to a text that is put in parts (`finishes` in
+//! `specs/Sinks/Laws.antt`).
 //!
 //! A reader is read by at most a hundred calls, into a buffer, until the result is 0:
 //!

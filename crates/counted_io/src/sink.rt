@@ -48,8 +48,8 @@ impl Sink {
         }
     }
 
-    /// Puts bytes behind those that wait. Where they have no room, the writer gets what waits, and more bytes than the buffer
-    /// holds directly. If it fails, the sink has failed from then on, and the writer isn't called again.
+    /// Puts bytes behind those that wait. Where they have no room, the writer gets what waits, and more bytes than the
+    /// buffer holds directly. If it fails, the sink has failed from then on, and the writer isn't called again.
     pub fn put<W: StepWrite>(&mut self, writer: &mut W, bytes: &[u8])
         ensures { Puts W.step W.contents self.old self.new writer.old writer.new bytes.now }
     {

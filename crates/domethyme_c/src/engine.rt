@@ -27,8 +27,8 @@ use std::marker::Model;
 use std::sync::Arc;
 
 /// What an open handle has: a router of a hierarchy, which other handles may share, the version of its file, the selection
-/// of the last table, for another table to the same targets, a share in the last one that any of these handles made, and what
-/// makes sums of the last numbers.
+/// of the last table, for another table to the same targets, a share in the last one that any of these handles made, and
+/// what makes sums of the last numbers.
 #[derive(Drop)]
 pub(crate) struct Engine {
     hierarchy: Arc<Hierarchy>,
@@ -160,8 +160,8 @@ impl Engine {
         self.router.between(starts, ends)
     }
 
-    /// Returns a selection of these targets, which is kept and shared then, or the code that says why there is none. The one
-    /// that is kept or shared is taken if it is of them, and their nodes aren't looked at again.
+    /// Returns a selection of these targets, which is kept and shared then, or the code that says why there is none. The
+    /// one that is kept or shared is taken if it is of them, and their nodes aren't looked at again.
     pub(crate) fn selection(
         &mut self,
         alloc: Global,
@@ -268,8 +268,8 @@ impl Engine {
         self.router.lengths_from(starts, most, selection, row, 0)
     }
 
-    /// Takes out what makes sums of these numbers, one for each link without a middle, or returns the code that says why there is
-    /// none. What is kept of the last numbers is taken if they are the same.
+    /// Takes out what makes sums of these numbers, one for each link without a middle, or returns the code that says why
+    /// there is none. What is kept of the last numbers is taken if they are the same.
     pub(crate) fn take_summing(&mut self, alloc: Global, given: &[u32]) -> Result<Summing, u32>
         ensures summing { IfOk result (IsSummingOf self.old given.now) }
         ensures refused { IfErr result (IsNumbersRefusal self.old given.now) }

@@ -1,7 +1,8 @@
 //! The router as a library for C: `libdomethyme`, whose header is `packaging/library/domethyme.h`.
 //!
-//! Each export gives C one call of `ch_route`, `ch_sums` or `hierfile`, with their clauses in one, `answer`. A [`Handle`] is the
-//! caller's, one pointer, and owns an engine on the heap or is closed. Codes are in `code.rt` and `specs/Codes.antt`.
+//! Each export gives C one call of `ch_route`, `ch_sums` or `hierfile`, with their clauses in one, `answer`. A [`Handle`]
+//! is the caller's, one pointer, and owns an engine on the heap or is closed. Codes are in `code.rt` and
+//! `specs/Codes.antt`.
 #![tactic(auto)]
 
 mod between;

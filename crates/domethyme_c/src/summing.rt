@@ -14,7 +14,8 @@ use ch_sums::{Numbers, sum_along};
 use std::alloc::{AllocError, Global};
 use std::sync::Arc;
 
-/// What makes sums: a search of a hierarchy, the numbers that were given for its links without a middle, and those of all links.
+/// What makes sums: a search of a hierarchy, the numbers that were given for its links without a middle, and those of all
+/// links.
 #[derive(Drop)]
 pub(crate) struct Summing {
     pub(crate) search: SearchOf<Arc<Hierarchy>>,

@@ -69,8 +69,8 @@ fn count_in_range(nodes: u32, line: u64, count: u64) -> Result<Size, GrError>
     })
 }
 
-/// Returns the pair that the fields behind the letter of this line name, of a graph of this many nodes, or the line's fault.
-/// The pair is numbered from 0. Takes no memory.
+/// Returns the pair that the fields behind the letter of this line name, of a graph of this many nodes, or the line's
+/// fault. The pair is numbered from 0. Takes no memory.
 pub fn pair_of(nodes: u32, line: u64, fields: Fields<'_>) -> Result<(u32, u32), GrError>
     ensures { result ≡ pair_of nodes line fields.entry }
 {

@@ -1,10 +1,10 @@
 //! Hierarchies in files.
 //!
 //! Builds on `ch_graph` for hierarchies and links, on `ch_cost` for lengths, and on `counted_io` for the calls of readers
-//! and for the sink that gathers what is written. [`write`] and [`read`] carry its promise: what is written is the spelling of the hierarchy (`bytes_of` in
-//! `specs/Spelling.antt`); what is read is a hierarchy whose spelling the bytes are, and what is refused has the
-//! first fault that is reported (`first_fault` in `specs/Fault.antt`). Files have two versions, and a hierarchy knows of
-//! which it is: both are read, and version 2 alone is written.
+//! and for the sink that gathers what is written. [`write`] and [`read`] carry its promise: what is written is the spelling
+//! of the hierarchy (`bytes_of` in `specs/Spelling.antt`); what is read is a hierarchy whose spelling the bytes are, and
+//! what is refused has the first fault that is reported (`first_fault` in `specs/Fault.antt`). Files have two versions, and
+//! a hierarchy knows of which it is: both are read, and version 2 alone is written.
 //!
 //! Three laws tie the two together. [`hierarchies_have_one_spelling`] says that a hierarchy is determined by its bytes,
 //! so that what is read is what was written, in its version. [`spellings_have_no_fault`] says that no spelling is

@@ -36,17 +36,17 @@ struct Head {
 
 /// Reads a hierarchy from a file's bytes, of version 1 or 2, to the end of the reader.
 ///
-/// On Ok the bytes were its spelling, and on an error this was their first fault: which bytes spell a hierarchy and
-/// how faults are ordered is described in `docs/REFERENCE.md`. A spelling has no fault, so only `Read` and `OutOfMemory`
-/// refuse one. The hierarchy is of the version that the file begins with; costs of version 1 count no arcs. `Read` is
-/// returned where the reader fails, also after 2^40 calls, and only where the bytes before have no fault but that they may
-/// end too early; an interrupted call is tried again. `OutOfMemory` is returned where memory runs out, and only where the
-/// bytes that were tested so far have no fault but that they may end too early, the halves of links aside, which are tested
-/// when all links have come and there is room for them. All bytes that came were tested, but for at most 64 KiB that were
-/// read ahead. Memory is taken as bytes come in, beside a buffer of 64 KiB: 4 bytes for each rank, and one for each node
-/// when a sixteenth of the ranks has come, about 30 for each link, and then, when all links have come, 8 bytes for each node
-/// and for each link, and 4 more for each node while halves are looked for. What the file announces takes none. Linear in
-/// the bytes, but for a binary search for each link with a middle, among the links that leave the middle, or two where there
+/// On Ok the bytes were its spelling, and on an error this was their first fault: which bytes spell a hierarchy and how
+/// faults are ordered is described in `docs/REFERENCE.md`. A spelling has no fault, so only `Read` and `OutOfMemory` refuse
+/// one. The hierarchy is of the version that the file begins with; costs of version 1 count no arcs. `Read` is returned
+/// where the reader fails, also after 2^40 calls, and only where the bytes before have no fault but that they may end too
+/// early; an interrupted call is tried again. `OutOfMemory` is returned where memory runs out, and only where the bytes
+/// that were tested so far have no fault but that they may end too early, the halves of links aside, which are tested when
+/// all links have come and there is room for them. All bytes that came were tested, but for at most 64 KiB that were read
+/// ahead. Memory is taken as bytes come in, beside a buffer of 64 KiB: 4 bytes for each rank, and one for each node when a
+/// sixteenth of the ranks has come, about 30 for each link, and then, when all links have come, 8 bytes for each node and
+/// for each link, and 4 more for each node while halves are looked for. What the file announces takes none. Linear in the
+/// bytes, but for a binary search for each link with a middle, among the links that leave the middle, or two where there
 /// are more than 2^32 links, and one for each of the first ranks, among those before it.
 pub fn read<R: StepRead>(alloc: Global, reader: &mut R) -> Result<Hierarchy, HierError>
     ensures reads { ReadsFile R.step R.remaining MOST_CALLS reader.old reader.new result }

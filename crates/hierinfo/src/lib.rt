@@ -1,8 +1,8 @@
 //! What a hierarchy file has, in a few lines of text.
 //!
 //! Uses `hierfile` to read the file, `ch_graph` for the hierarchy, `counted_io` for the calls of the writer, `outcomes` for
-//! the causes of refusals, and `itoa` for decimals. [`write_info`] carries the promise: what is written are the version, the
-//! numbers of nodes and links, the bound and the number of bytes of the one hierarchy that the bytes are the file of
+//! the causes of refusals, and `itoa` for decimals. [`write_info`] carries the promise: what is written are the version,
+//! the numbers of nodes and links, the bound and the number of bytes of the one hierarchy that the bytes are the file of
 //! (`specs/Info.antt`), and nothing is written where the file is refused.
 //!
 //! The file of the hierarchy of two nodes and one arc of weight 7 has 56 bytes:

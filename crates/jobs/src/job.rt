@@ -122,8 +122,8 @@ impl Job<'_> {
         }
     }
 
-    /// Returns the job, unless `prepare` or `renew` would make its file under the graph's own name: the hierarchy would take
-    /// the place of the graph.
+    /// Returns the job, unless `prepare` or `renew` would make its file under the graph's own name: the hierarchy would
+    /// take the place of the graph.
     pub fn of_two_files(self) -> Result<Self, Stop>
         ensures same { IfOk result (λ job. job ≡ self.entry) }
         ensures two { IfOk result (λ job. names_one_file job ≡ false) }

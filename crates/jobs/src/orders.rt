@@ -3,8 +3,9 @@ ghost use Rattle.jobs.specs.Orders as orders;
 
 use std::marker::Model;
 
-/// The table of orders, in the order of the enum: of each its variant, its name on a command line, and which nodes go first.
-/// The command line and its help take their lists from it; completions, pages, Python and tests are compared with the help.
+/// The table of orders, in the order of the enum: of each its variant, its name on a command line, and which nodes go
+/// first. The command line and its help take their lists from it; completions, pages, Python and tests are compared with
+/// the help.
 macro_rules! table {
     ($columns:ident) => {
         $columns! {

@@ -99,8 +99,8 @@ impl Cause {
         }
     }
 
-    /// Returns the exit status of the program. A route that is too long is a fault of the hierarchy, and bad options would be
-    /// one of the command line.
+    /// Returns the exit status of the program. A route that is too long is a fault of the hierarchy, and bad options would
+    /// be one of the command line.
     pub fn status(&self) -> u8
         ensures { result ≡ status_of self.now }
     {

@@ -1,11 +1,11 @@
 //! How a run of the program ends, as a value: what is printed, what is explained and the exit status follow from it.
 //!
-//! Uses `grfile`, `hierfile` and `counted_io` for the faults of texts, of files and of writes. A [`Cause`] is what a refusal
-//! comes of, and in which input: each layer above turns its own errors into one. An [`Outcome`] is the end of a job: done, a
-//! verdict, or a refusal with its cause. The promise is in the contracts of [`Cause::of_graph`], [`Cause::of_queries`] and
-//! [`Cause::of_hierarchy`], of [`Cause::status`] and [`Outcome::status`], which are the one table of statuses, and of
-//! [`Outcome::report`]. What upper contracts say of memory, reads and writes by these causes, and what it means that a
-//! writer took a text, is in `specs/Written.antt`.
+//! Uses `grfile`, `hierfile` and `counted_io` for the faults of texts, of files and of writes. A [`Cause`] is what a
+//! refusal comes of, and in which input: each layer above turns its own errors into one. An [`Outcome`] is the end of a
+//! job: done, a verdict, or a refusal with its cause. The promise is in the contracts of [`Cause::of_graph`],
+//! [`Cause::of_queries`] and [`Cause::of_hierarchy`], of [`Cause::status`] and [`Outcome::status`], which are the one table
+//! of statuses, and of [`Outcome::report`]. What upper contracts say of memory, reads and writes by these causes, and what
+//! it means that a writer took a text, is in `specs/Written.antt`.
 //!
 //! A fault of a text, and a read of that text that failed:
 //!

@@ -18,8 +18,8 @@ use std::thread::Threads;
 /// Answers the pairs of one text over the graph of another.
 ///
 /// `graph` gives the graph's text and `queries` that of the pairs. Answers go to `out`. No worker contracts nodes but the
-/// calling thread; other threads help with the parts of the hierarchy, and drop what isn't needed any more. Takes the time and
-/// memory of [`answer`].
+/// calling thread; other threads help with the parts of the hierarchy, and drop what isn't needed any more. Takes the time
+/// and memory of [`answer`].
 pub fn perform_answer<A: Read, B: Read, W: Write, R: Threads + Wait + Sync>(
     rt: &R,
     alloc: Global,

@@ -20,16 +20,17 @@ use std::io::{Read, Write};
 use std::sync::Wait;
 use std::thread::Threads;
 
-/// Does the job and returns the program's exit status, by [`perform_answer`], [`perform_joined`],
-/// [`perform_preparation`], [`perform_route`], [`perform_service`], [`perform_info`], [`perform_check`] or [`perform_renewal`]. A
-/// caller that knows its job calls that one.
+/// Does the job and returns the program's exit status, by [`perform_answer`], [`perform_joined`], [`perform_preparation`],
+/// [`perform_route`], [`perform_service`], [`perform_info`], [`perform_check`] or [`perform_renewal`]. A caller that knows
+/// its job calls that one.
 ///
-/// To answer, `first` gives the graph's text and `second` that of the pairs; where both are in one input, `first`
-/// gives it and `second` isn't read. To prepare, `first` gives the graph's text, `second` isn't read, and `out` gets
-/// the hierarchy. To route, `first` gives the hierarchy and `second` the query file; to serve, `second` gives the
-/// requests; to print what a hierarchy file has, `first` gives it and `second` isn't read; to check and to renew, `first` gives the graph's
-/// text and `second` the hierarchy; to renew, `out` gets the new one. Answers and verdicts go to `out`. Of a refusal one line goes to `err`. Threads are started
-/// only to prepare and to answer: the workers, and those that make the opening rows and the parts of the hierarchy at the end.
+/// To answer, `first` gives the graph's text and `second` that of the pairs; where both are in one input, `first` gives it
+/// and `second` isn't read. To prepare, `first` gives the graph's text, `second` isn't read, and `out` gets the hierarchy.
+/// To route, `first` gives the hierarchy and `second` the query file; to serve, `second` gives the requests; to print what
+/// a hierarchy file has, `first` gives it and `second` isn't read; to check and to renew, `first` gives the graph's text
+/// and `second` the hierarchy; to renew, `out` gets the new one. Answers and verdicts go to `out`. Of a refusal one line
+/// goes to `err`. Threads are started only to prepare and to answer: the workers, and those that make the opening rows and
+/// the parts of the hierarchy at the end.
 pub fn perform<A: Read, B: Read, W: Write, E: Write, R: Threads + Wait + Sync>(
     rt: &R,
     alloc: Global,

@@ -8,9 +8,9 @@ use ch_service::{answers_are_best_routes, routes_are_exact};
 
 /// Routes by a prepared file are exact. If [`prepare_whole`](crate::prepare_whole) for a destination, or
 /// [`perform_preparation`](crate::perform_preparation) from the text of a graph into an empty writer, is done, and
-/// [`perform_route`](crate::perform_route), reading the bytes that are there then, is too, each pair is answered by a shortest
-/// path of that graph, of all shortest paths one with the fewest arcs. So they are if [`renew_whole`](crate::renew_whole) for a
-/// destination is done, whatever the old file was.
+/// [`perform_route`](crate::perform_route), reading the bytes that are there then, is too, each pair is answered by a
+/// shortest path of that graph, of all shortest paths one with the fewest arcs. So they are if
+/// [`renew_whole`](crate::renew_whole) for a destination is done, whatever the old file was.
 pub fn prepared_routes_are_exact()
     ensures put { (before : Option (List ℕ)) → RoutesAreExactAfter
         (λ graph_text bytes. HasPrepared (Some graph_text) (Some before) (Some (Some bytes))) }
@@ -23,9 +23,9 @@ pub fn prepared_routes_are_exact()
     answers_are_best_routes();
 }
 
-/// Routes by a checked file are exact, whoever made it. If [`perform_check`](crate::perform_check) of a file against the text
-/// of a graph is done, and [`perform_route`](crate::perform_route), reading the same bytes, is too, each pair is answered as by
-/// a prepared file.
+/// Routes by a checked file are exact, whoever made it. If [`perform_check`](crate::perform_check) of a file against the
+/// text of a graph is done, and [`perform_route`](crate::perform_route), reading the same bytes, is too, each pair is
+/// answered as by a prepared file.
 pub fn checked_routes_are_exact()
     ensures { (before after : Option (List ℕ)) → RoutesAreExactAfter
         (λ graph_text bytes. TellsChecked Done (Some graph_text) (Some bytes) before after) }

@@ -1,13 +1,13 @@
 //! Does what a command line asks for, over readers and writers.
 //!
-//! Builds on `jobs`, on `ch_service` and `ch_renew`, which do the work, on `outcomes` for how it ended, and on `ch_workers` and
-//! `ch_estimate` for the workers that prepare a hierarchy and the orders in which they contract nodes. The file of a hierarchy
-//! is put in place whole by `whole_file`. Each job has a call and a contract of its own: [`perform_answer`] and
+//! Builds on `jobs`, on `ch_service` and `ch_renew`, which do the work, on `outcomes` for how it ended, and on `ch_workers`
+//! and `ch_estimate` for the workers that prepare a hierarchy and the orders in which they contract nodes. The file of a
+//! hierarchy is put in place whole by `whole_file`. Each job has a call and a contract of its own: [`perform_answer`] and
 //! [`perform_joined`], [`perform_route`], [`perform_service`], [`perform_info`], [`perform_check`], [`perform_preparation`]
-//! and [`perform_renewal`] into any writer, and [`prepare_whole`] and [`renew_whole`] for a destination. Each returns its [`Outcome`](outcomes::Outcome). If it is done,
-//! what was written answers all pairs, or what is at its destination is a hierarchy that is right for the graph; if it was
-//! refused, what was there before stays there. [`perform`] does any job by these calls, prints the line of a refusal and
-//! returns the program's exit status.
+//! and [`perform_renewal`] into any writer, and [`prepare_whole`] and [`renew_whole`] for a destination. Each returns its
+//! [`Outcome`](outcomes::Outcome). If it is done, what was written answers all pairs, or what is at its destination is a
+//! hierarchy that is right for the graph; if it was refused, what was there before stays there. [`perform`] does any job by
+//! these calls, prints the line of a refusal and returns the program's exit status.
 //!
 //! To answer, the job gets a reader for each of its two files, and writers for the answers and for a refusal:
 //!

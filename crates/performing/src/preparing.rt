@@ -53,9 +53,9 @@ pub fn perform_preparation<G: Read, W: Write, P: Gate, R: Threads + Wait + Sync>
     outcome_of(prepared)
 }
 
-/// Prepares a hierarchy of a graph by workers, each with an estimator for each of its orders, or on the calling thread. What the
-/// build needs no longer may still be dropped after it has returned: `disposal` waits for that. Takes memory for the estimators,
-/// and then that of `prepare_beside` or `prepare_sequential`.
+/// Prepares a hierarchy of a graph by workers, each with an estimator for each of its orders, or on the calling thread.
+/// What the build needs no longer may still be dropped after it has returned: `disposal` waits for that. Takes memory for
+/// the estimators, and then that of `prepare_beside` or `prepare_sequential`.
 pub(crate) fn prepare_by<G: Read, W: Write, P: Gate, R: Threads + Wait + Sync>(
     rt: &R,
     alloc: Global,

@@ -13,8 +13,8 @@ use whole_file::Destination;
 
 /// Makes the hierarchy of a graph by the ranks of another hierarchy.
 ///
-/// `graph` gives the graph's text and `hierarchy` the file of the other one, which is not believed. The file that is made goes to
-/// `out`. The watch sees how many nodes are contracted. Takes the time and memory of [`renew`].
+/// `graph` gives the graph's text and `hierarchy` the file of the other one, which is not believed. The file that is made
+/// goes to `out`. The watch sees how many nodes are contracted. Takes the time and memory of [`renew`].
 pub fn perform_renewal<A: Read, B: Read, W: Write, V: Watch>(
     alloc: Global,
     graph: &mut A,
@@ -30,8 +30,8 @@ pub fn perform_renewal<A: Read, B: Read, W: Write, V: Watch>(
 
 /// Makes the hierarchy of a graph by the ranks of another hierarchy, and puts it at its destination, whole.
 ///
-/// If it is done, the hierarchy file is at the destination, and else what was there before. The outcome says of the text and the
-/// file what it says in [`perform_renewal`]; where the file can't be put there, it is [`Cause::Flush`].
+/// If it is done, the hierarchy file is at the destination, and else what was there before. The outcome says of the text
+/// and the file what it says in [`perform_renewal`]; where the file can't be put there, it is [`Cause::Flush`].
 pub fn renew_whole<A: Read, B: Read, D: Destination, V: Watch>(
     alloc: Global,
     graph: &mut A,

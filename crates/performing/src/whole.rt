@@ -17,9 +17,9 @@ use whole_file::Destination;
 
 /// Prepares a hierarchy and puts it at its destination, whole.
 ///
-/// `graph` gives the graph's text. If it is done, the hierarchy file is at the destination, and else what was there
-/// before. The outcome says of the text what it says in [`perform_preparation`](crate::perform_preparation); where the file
-/// can't be put there, it is [`Cause::Flush`]. The workers pass the gate. Threads may still drop what the build needs no longer
+/// `graph` gives the graph's text. If it is done, the hierarchy file is at the destination, and else what was there before.
+/// The outcome says of the text what it says in [`perform_preparation`](crate::perform_preparation); where the file can't
+/// be put there, it is [`Cause::Flush`]. The workers pass the gate. Threads may still drop what the build needs no longer
 /// when it returns: nobody waits for them, and the process may end before they do.
 pub fn prepare_whole<G: Read, D: Destination, P: Gate, R: Threads + Wait + Sync>(
     rt: &R,

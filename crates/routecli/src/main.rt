@@ -1,4 +1,5 @@
-//! The program `routecli`: prepares hierarchies of road graphs, checks them, and answers pairs of nodes with shortest paths.
+//! The program `routecli`: prepares hierarchies of road graphs, checks them, and answers pairs of nodes with shortest
+//! paths.
 //!
 //! Uses `command_line`, which turns the program's arguments into a [`Job`], `performing`, which does it over readers
 //! and writers, `outcomes`, by which it ends, `whole_file`, by which the file of a hierarchy is whole or not there, and
@@ -244,8 +245,8 @@ fn prepare<'a, R: Files + AllocGlobal + Clock + Threads + Wait + Sync>(
     })
 }
 
-// Prepares a hierarchy of a graph's text. At a terminal a meter shows how far it has come, and at the end what was made, if that
-// is asked for.
+// Prepares a hierarchy of a graph's text. At a terminal a meter shows how far it has come, and at the end what was made, if
+// that is asked for.
 fn prepare_of<'a, R: Files + AllocGlobal + Clock + Threads + Wait + Sync, G: io::Read + Drop>(
     rt: &R,
     preparation: &Preparation<'a>,
@@ -327,8 +328,8 @@ fn renew<'a, R: Files + AllocGlobal + Clock, W: io::Write>(
     })
 }
 
-// Makes it of a graph's text and an old file. At a terminal a meter shows how far it has come, and at the end what was made, if
-// that is asked for.
+// Makes it of a graph's text and an old file. At a terminal a meter shows how far it has come, and at the end what was
+// made, if that is asked for.
 fn renew_of<'a, R: Files + AllocGlobal + Clock, G: io::Read + Drop, H: io::Read>(
     rt: &R,
     renewal: &Renewal<'a>,

@@ -6,8 +6,8 @@ use jobs::Job;
 use std::io::Write;
 use std::rt::Files;
 
-/// Ends a job: writes the line of a refusal and, if it `explains`, the lines of [`explain`], and returns the program's exit status.
-/// If it `is_silent`, nothing is written. Lines that can't be written are not reported.
+/// Ends a job: writes the line of a refusal and, if it `explains`, the lines of [`explain`], and returns the program's exit
+/// status. If it `is_silent`, nothing is written. Lines that can't be written are not reported.
 pub fn conclude<R: Files + AllocGlobal, E: Write>(
     rt: &R,
     job: &Job<'_>,

@@ -44,7 +44,8 @@ const NO_FILE: &str = "no file that prepare made";
 
 /// Explains how a job ended, in some lines below the one that the program prints at a refusal.
 ///
-/// The files of the job are read once more, if they are regular files. If nothing is known that would help, nothing is written.
+/// The files of the job are read once more, if they are regular files. If nothing is known that would help, nothing is
+/// written.
 pub fn explain<R: Files + AllocGlobal, E: Write>(
     rt: &R,
     job: &Job<'_>,
@@ -88,8 +89,8 @@ fn of_hierarchy(job: &Job<'_>, outcome: Outcome) -> Option<&'static str> {
     }
 }
 
-// Says of the file of the hierarchy what this is, and what may be done. If it is cut, and announces how long it is, that is said
-// too.
+// Says of the file of the hierarchy what this is, and what may be done. If it is cut, and announces how long it is, that is
+// said too.
 fn explain_hierarchy<R: Files + AllocGlobal, E: Write>(
     rt: &R,
     job: &Job<'_>,

@@ -5,8 +5,8 @@ use std::os::unix::fs::MetadataExt;
 use std::rt::Files;
 use whole_file::folder_of;
 
-/// Warns before the work if permissions keep the file of a job from being made: a file that is there can't be written, or no
-/// file can be made in its folder. Nothing is made or changed. Of a job that makes no file nothing is printed.
+/// Warns before the work if permissions keep the file of a job from being made: a file that is there can't be written, or
+/// no file can be made in its folder. Nothing is made or changed. Of a job that makes no file nothing is printed.
 pub fn warn_of<R: Files, E: Write>(rt: &R, job: &Job<'_>, err: &mut E) {
     let path = match job {
         Job::Prepare(preparation) => preparation.out,

@@ -1,8 +1,8 @@
 use crate::explaining::Failure;
 use std::io::{self, Error, ErrorKind, Read, Write};
 
-/// A reader or a writer whose last failure is kept, but for an interrupted call, which is made again. It gives and takes what
-/// the one behind it does, to the byte.
+/// A reader or a writer whose last failure is kept, but for an interrupted call, which is made again. It gives and takes
+/// what the one behind it does, to the byte.
 #[derive(Drop)]
 pub struct Kept<'a, T> {
     name: &'a str,

@@ -3,8 +3,8 @@ use std::io::Write;
 /// For how many milliseconds of contraction nothing is said of the time that is left: the first pace says little.
 const FIRST: u64 = 5_000;
 
-/// From how many of a hundred nodes on nothing is said of it: the last ones take longest, so that the second half takes several
-/// times as long as the first.
+/// From how many of a hundred nodes on nothing is said of it: the last ones take longest, so that the second half takes
+/// several times as long as the first.
 const LAST: u128 = 50;
 
 /// How far a preparation has come.
@@ -23,8 +23,8 @@ pub struct Progress {
 /// Writes how far a preparation has come, in one line, which takes the place of the line before.
 ///
 /// The terminal is asked to cut the line at its right edge rather than wrap it, so that each line stays one. If the number
-/// of nodes is known, the line has a percentage. From the sixth second of contraction on, up to the half of the nodes, it has
-/// the least time that is left: that by the pace so far, while each later node takes longer.
+/// of nodes is known, the line has a percentage. From the sixth second of contraction on, up to the half of the nodes, it
+/// has the least time that is left: that by the pace so far, while each later node takes longer.
 pub fn write_line<W: Write>(out: &mut W, progress: &Progress) {
     let Progress { done, nodes, .. } = *progress;
     let seconds = progress.millis / 1_000;

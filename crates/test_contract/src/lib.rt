@@ -1,8 +1,8 @@
-//! Worked cases of the layers from rows to hierarchies, and of the pure world: small networks, and what is to come of them by
-//! hand; and threads that read the rows of a book while another thread writes.
+//! Worked cases of the layers from rows to hierarchies, and of the pure world: small networks, and what is to come of them
+//! by hand; and threads that read the rows of a book while another thread writes.
 //!
-//! Builds on `ch_overlay`, `ch_rowbook`, `ch_witness`, `ch_contract` and `ch_core`, and has nothing but their tests. They are apart
-//! so that the proofs of the layers are made once.
+//! Builds on `ch_overlay`, `ch_rowbook`, `ch_witness`, `ch_contract` and `ch_core`, and has nothing but their tests. They
+//! are apart so that the proofs of the layers are made once.
 #![tactic(auto)]
 
 #[cfg(test)]

@@ -92,7 +92,8 @@ fn leads_to<S: Site, R: Wait>(
     comes_to(rt, alloc, &mut board, &mut reader, between, rows)
 }
 
-/// Whether the rows of this network are these once these nodes are contracted, and then node 0 by rows that were made before.
+/// Whether the rows of this network are these once these nodes are contracted, and then node 0 by rows that were made
+/// before.
 fn are_rows<R: Wait>(
     rt: &R,
     alloc: Global,

@@ -1,5 +1,5 @@
-//! What a check returns for a graph and a hierarchy, and which pairs refute the hierarchy. `tests/program/small` has graphs and files of
-//! all kinds, with the verdicts.
+//! What a check returns for a graph and a hierarchy, and which pairs refute the hierarchy. `tests/program/small` has graphs
+//! and files of all kinds, with the verdicts.
 use crate::checked::{DRAWN, DRAWN_RANKS, Given, hierarchy_of};
 use crate::graphs::{self, graph_of};
 use ch_check::{CheckError, Watch, check, check_watched, is_refuted_by};
@@ -78,7 +78,8 @@ fn old_hierarchy(alloc: Global) -> Result<Hierarchy, Fail> {
     Ok(hierarchy)
 }
 
-/// A number of nodes, a pair, and whether the pair refutes a hierarchy of two nodes without links for the graph of that many.
+/// A number of nodes, a pair, and whether the pair refutes a hierarchy of two nodes without links for the graph of that
+/// many.
 type Pair = (u32, u32, u32, bool);
 
 const PAIRS: &[Pair] = &[

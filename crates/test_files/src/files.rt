@@ -191,8 +191,8 @@ fn reads_numbers(rt: HostRuntime) -> Result<(), AllocError> {
     Ok(())
 }
 
-// Of 38 nodes each two are linked, by way of the node below the lower one, in the version of this magic. In version 2 a link
-// has as many arcs as it is long, or the greatest number that is kept.
+// Of 38 nodes each two are linked, by way of the node below the lower one, in the version of this magic. In version 2 a
+// link has as many arcs as it is long, or the greatest number that is kept.
 pub(crate) fn cascade(alloc: Global, magic: u32) -> Result<Vec<u32>, AllocError> {
     let mut words = Vec::new(alloc);
     words.extend_from_slice(&[magic, 38, 0, 1406, 36, 0xffff_ffdb])?;
@@ -286,8 +286,8 @@ fn is_read_in_pieces(alloc: Global, bytes: &[u8], readings: &[Reading]) -> bool 
 /// A file as numbers of four bytes, how many bytes of it the first fault takes, and that fault.
 type Hostile = (&'static [u32], u32, HierError);
 
-/// A wrong third byte, too many nodes, a rank that came before, a link from a node to itself, and a sum that isn't that of the
-/// halves.
+/// A wrong third byte, too many nodes, a rank that came before, a link from a node to itself, and a sum that isn't that of
+/// the halves.
 const HOSTILE: [Hostile; 5] = [
     (&[0x5243_5832, 0], 3, HierError::BadMagic),
     (&[MAGIC, 0x0200_0001, 0, 0, 0, 0, 0], 24, HierError::TooBig),

@@ -1,5 +1,5 @@
-//! What the readers and the queries over a file return where one growth is refused: `tests/program/refusals` runs each test once
-//! for each of its growths.
+//! What the readers and the queries over a file return where one growth is refused: `tests/program/refusals` runs each test
+//! once for each of its growths.
 //!
 //! A call that runs out of memory is made again, and has to give what it gives with ample memory. A growth of what a
 //! test sets up ends the test with that error.

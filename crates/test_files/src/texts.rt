@@ -332,8 +332,8 @@ fn fails_at_lines(alloc: Global) -> bool {
     true
 }
 
-/// Whether the fault of a line is reported by readers that fail behind it, and not by ones that fail in that line. They give
-/// a byte at each call, and are interrupted at each third one.
+/// Whether the fault of a line is reported by readers that fail behind it, and not by ones that fail in that line. They
+/// give a byte at each call, and are interrupted at each third one.
 fn faults_come_before(alloc: Global) -> bool {
     let text = b"c\nx\nc y\n".as_slice();
     let in_line = is_read_so(alloc, text, 5, MANY, Wanted::Fault(GrErrorKind::Read, 2));

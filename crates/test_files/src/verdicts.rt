@@ -1,5 +1,5 @@
-//! Checks of a file against the text of a graph by readers and a writer that fail. `tests/program/small` has texts and files with their
-//! verdicts.
+//! Checks of a file against the text of a graph by readers and a writer that fail. `tests/program/small` has texts and
+//! files with their verdicts.
 use ch_verify::{Unwatched, WriteFault, verify};
 use outcomes::{Cause, Input};
 use std::io::{self, ErrorKind, Read};

@@ -10,8 +10,8 @@ pub struct Uneven<'a> {
 }
 
 impl Uneven<'_> {
-    /// Reads a text. Each call whose number, from 1, `interrupted` divides is interrupted, and that of the number `fails_at`
-    /// fails, which is none for 0.
+    /// Reads a text. Each call whose number, from 1, `interrupted` divides is interrupted, and that of the number
+    /// `fails_at` fails, which is none for 0.
     pub fn new(text: &[u8], interrupted: u64, fails_at: u64) -> Uneven<'_> {
         Uneven {
             text,

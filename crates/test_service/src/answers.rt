@@ -233,9 +233,9 @@ fn are_told<R: Threads + Wait + Sync>(rt: &R, alloc: Global, cases: &[(u64, u64,
     true
 }
 
-/// Calls that fail of one input that holds both texts, behind its line `%`, and the line that is reported: in the first line
-/// of the pairs, and in the second. A byte comes at each call of odd number; the first three lines of the input have 19
-/// bytes, and the fourth 15.
+/// Calls that fail of one input that holds both texts, behind its line `%`, and the line that is reported: in the first
+/// line of the pairs, and in the second. A byte comes at each call of odd number; the first three lines of the input have
+/// 19 bytes, and the fourth 15.
 const BROKEN_BEHIND: [(u64, u64); 4] = [(37, 3), (39, 4), (67, 4), (69, 5)];
 
 /// Whether each of these is reported.

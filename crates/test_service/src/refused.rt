@@ -1,4 +1,5 @@
-//! What the commands return where one growth is refused: `tests/program/refusals` runs each test once for each of its growths.
+//! What the commands return where one growth is refused: `tests/program/refusals` runs each test once for each of its
+//! growths.
 //!
 //! A command either does all its work or reports that memory ran out, and has then written whole lines, `prepare`
 //! nothing. Made again it does its work. A growth of what a test sets up ends the test with that error. Writers have

@@ -1,5 +1,5 @@
-//! Command lines that name a job, and what is shown where memory runs out. `tests/program/small` has those that are refused or ask
-//! for help.
+//! Command lines that name a job, and what is shown where memory runs out. `tests/program/small` has those that are refused
+//! or ask for help.
 use command_line::command;
 use jobs::{Check, Job, Order, Preparation, Renewal, Stint, Stop, Workers, show_stop};
 use std::alloc::{AllocError, Global};

@@ -52,8 +52,8 @@ fn is_same(one: &Built, other: &Built) -> bool {
     holds & is_one(&one.hierarchy, &other.hierarchy)
 }
 
-/// Whether one worker and the calling thread alone build the same of a network, by two estimators of such keys, pass the same
-/// points, and tell the estimators as much.
+/// Whether one worker and the calling thread alone build the same of a network, by two estimators of such keys, pass the
+/// same points, and tell the estimators as much.
 fn is_built_twice<R: Threads + Wait + Sync>(
     rt: &R,
     alloc: Global,

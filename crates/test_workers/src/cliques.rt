@@ -30,8 +30,8 @@ pub(crate) fn cliques(alloc: Global, nodes: u32) -> Result<Graph, Fail> {
     Ok(graph)
 }
 
-/// How many shifts of a build were over by what its workers committed, and not by their end, at least. A shift is over
-/// once the commits of all workers in it weigh as much as the room, as docs/dev/ALGORITHM.md has both; so they weigh less than
+/// How many shifts of a build were over by what its workers committed, and not by their end, at least. A shift is over once
+/// the commits of all workers in it weigh as much as the room, as docs/dev/ALGORITHM.md has both; so they weigh less than
 /// the room and, for each worker, what its last commit weighs at most.
 pub(crate) fn shifts_of(built: &Built) -> u64 {
     let nodes = built.log.len() as u64;
@@ -63,8 +63,8 @@ fn weight_of(log: &[Contraction], receipt: Receipt, room: u64) -> u64 {
     arcs.saturating_mul(arcs.saturating_add(6)).min(room / 16)
 }
 
-/// What a single worker does on a network of cliques by the rules of docs/dev/ALGORITHM.md, where its queue has one heap, and
-/// what the sweep does then. Written anew and plainly: the nodes that wait are in a list of keys by node, of which the
+/// What a single worker does on a network of cliques by the rules of docs/dev/ALGORITHM.md, where its queue has one heap,
+/// and what the sweep does then. Written anew and plainly: the nodes that wait are in a list of keys by node, of which the
 /// least is looked for.
 #[derive(Drop)]
 pub(crate) struct Course {

@@ -77,8 +77,8 @@ impl Estimator for Counting {
     }
 }
 
-/// Two hubs, which are the last nodes, with an arc of weight 1 to each other node and one back. Where a node between them is
-/// contracted, a search has to settle another one to find as short a walk from hub to hub.
+/// Two hubs, which are the last nodes, with an arc of weight 1 to each other node and one back. Where a node between them
+/// is contracted, a search has to settle another one to find as short a walk from hub to hub.
 fn hubs(alloc: Global) -> Result<Graph, Fail> {
     let mut arcs = Vec::new(alloc);
     'nodes: for node in 0..BETWEEN {

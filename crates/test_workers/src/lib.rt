@@ -2,8 +2,8 @@
 //! and their leases; options and what is refused, the order of one worker, workers who overtake each
 //! other, what workers keep from shift to shift, stints, receipts and the costs of hierarchies.
 //!
-//! A crate of its own, so that `ch_multiqueue`, `ch_estimate` and `ch_workers` are proved once and nothing waits for their tests.
-//! It has no code but tests.
+//! A crate of its own, so that `ch_multiqueue`, `ch_estimate` and `ch_workers` are proved once and nothing waits for their
+//! tests. It has no code but tests.
 #![tactic(auto)]
 
 #[cfg(test)]

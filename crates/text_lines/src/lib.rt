@@ -1,8 +1,8 @@
 //! The lines of a text, the fields of a line, and the numbers in them.
 //!
 //! Uses `bstr`, which finds the bytes that it cuts at. [`first_line`] and [`without_return`] cut the lines, [`fields_of`]
-//! the fields of one, and [`number()`] reads a field. [`after_letter`] and [`number_before`] read a plain line from its front:
-//! a letter and numbers, with one space before each. What a text of them is about, other crates say.
+//! the fields of one, and [`number()`] reads a field. [`after_letter`] and [`number_before`] read a plain line from its
+//! front: a letter and numbers, with one space before each. What a text of them is about, other crates say.
 //!
 //! A text that comes in pieces is cut as one that comes whole: what has come of a line that hasn't ended is put before the
 //! first line of the next piece. That is in the contract of [`first_line`].

@@ -14,7 +14,8 @@ pub fn folder_of(path: &str) -> &str {
 
 /// Returns why no file can be made at this path, if that shows without making one: the path and why, or its folder and why.
 ///
-/// That is so if there is a folder at the path, or if the path's own folder is missing or is none. Permissions aren't looked at.
+/// That is so if there is a folder at the path, or if the path's own folder is missing or is none. Permissions aren't
+/// looked at.
 pub fn obstacle<'a, R: Files>(files: &R, path: &'a str) -> Option<(&'a str, Error)> {
     match fs::metadata(files, path) {
         Ok(found) if found.is_dir() => Some((path, Error::from(ErrorKind::IsADirectory))),

@@ -1,5 +1,5 @@
-//! What the plain search and the test of a hierarchy return where one growth is refused: `tests/program/refusals` runs each test
-//! here once for each of its growths.
+//! What the plain search and the test of a hierarchy return where one growth is refused: `tests/program/refusals` runs each
+//! test here once for each of its growths.
 ghost use Rattle.std.specs.Prelude.{◌≡◌, IfOk};
 
 use ch_cost::{Cost, NarrowCost};

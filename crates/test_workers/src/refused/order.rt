@@ -1,5 +1,5 @@
-//! What leases, estimators and queues return where one growth is refused: `tests/program/refusals` runs each test once for each
-//! of its growths.
+//! What leases, estimators and queues return where one growth is refused: `tests/program/refusals` runs each test once for
+//! each of its growths.
 //!
 //! A call that runs out of memory leaves its value as it was, is made again, and has to give what it gives with ample
 //! memory. A growth of what a test sets up ends the test with that error.
