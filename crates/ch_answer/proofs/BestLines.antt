@@ -9,7 +9,7 @@ use Rattle.ch_graph.specs.Walk.{visited}
 use Rattle.ch_route.specs.Routes.{Route, IsFewestWalk}
 use Rattle.best_routes.specs.BestRoutes.{IsAnswerLine, IsAnswerLine.route, IsAnswerLine.no_route, numbers_line, path_length}
 use Rattle.best_routes.specs.Walks.{PathsAreWalks, WalksArePaths, ends_of}
-use Rattle.ch_answer.specs.Line.{IsAnswer, line_of, named, told_along}
+use Rattle.ch_answer.specs.Line.{IsAnswer, line_of, named, route_fields}
 use Rattle.ch_answer.specs.BestLines.{AnswersAreLines, FewestWalksAreBestPaths, IsBestRoute}
 
 -- Routes
@@ -85,8 +85,8 @@ line_is : (pair : ℕ × ℕ) (r : Route) (path : List Road) → length_of r.cos
     → line_of pair (Some r) ≡ numbers_line (codes "r") ((pair.0 + 1) ∷ (pair.1 + 1) ∷ path_length path ∷ length path ∷ (pair.0 + 1) ∷ map (λ (arc : Road). arc.to + 1) path)
 line_is pair r path long nodes =
     let arcs : length (pair.0 ∷ ends_of path) - 1 ≡ length path = omega (arith, length-map path (λ (arc : Road). arc.to)) in
-    ap (λ (n : ℕ). codes "r" ++ named (pair.0 ∷ pair.1 ∷ []) ++ told_along n r.nodes ++ codes "\n") long
-    ∙ ap (λ (ns : List ℕ). codes "r" ++ named (pair.0 ∷ pair.1 ∷ []) ++ told_along (path_length path) ns ++ codes "\n") nodes
+    ap (λ (n : ℕ). codes "r" ++ named (pair.0 ∷ pair.1 ∷ []) ++ route_fields n r.nodes ++ codes "\n") long
+    ∙ ap (λ (ns : List ℕ). codes "r" ++ named (pair.0 ∷ pair.1 ∷ []) ++ route_fields (path_length path) ns ++ codes "\n") nodes
     ∙ ap (λ (n : ℕ). codes "r" ++ named (pair.0 ∷ pair.1 ∷ []) ++ (codes " " ++ decimal (path_length path) ++ codes " " ++ decimal n ++ named (pair.0 ∷ ends_of path)) ++ codes "\n") arcs
     ∙ ap (λ (ends : List ℕ). codes "r" ++ named (pair.0 ∷ pair.1 ∷ []) ++ (codes " " ++ decimal (path_length path) ++ codes " " ++ decimal (length path) ++ ((codes " " ++ decimal (pair.0 + 1)) ++ ends)) ++ codes "\n") (named_ends path)
     ∙ ap (λ (more : List ℕ). codes "r" ++ more ++ codes "\n") (regroup (codes " " ++ decimal (pair.0 + 1)) (codes " " ++ decimal (pair.1 + 1)) (decimal (path_length path)) (decimal (length path))

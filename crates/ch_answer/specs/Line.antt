@@ -9,12 +9,12 @@ abbrev pub named : List ℕ → List ℕ
 named nodes = concat (map (λ (n : ℕ). codes " " ++ decimal (n + 1)) nodes)
 
 -- a length, how many arcs there are from node to node, and the nodes
-abbrev pub told_along : ℕ → List ℕ → List ℕ
-told_along n nodes = codes " " ++ decimal n ++ codes " " ++ decimal (length nodes - 1) ++ named nodes
+abbrev pub route_fields : ℕ → List ℕ → List ℕ
+route_fields n nodes = codes " " ++ decimal n ++ codes " " ++ decimal (length nodes - 1) ++ named nodes
 
 -- what a line says of a route: its length, how many arcs it has, and its nodes
 abbrev pub told : Route → List ℕ
-told r = told_along (length_of r.cost) r.nodes
+told r = route_fields (length_of r.cost) r.nodes
 
 -- the line of a pair and its route, or that there is none
 abbrev pub line_of : ℕ × ℕ → Option Route → List ℕ

@@ -1,13 +1,13 @@
 ghost use Rattle.std.specs.Prelude.{◌≡◌, ◌≤◌, ◌++◌, [], ◌∷◌, codes, decimal, drop, length};
 ghost use Rattle.counted_io.specs.Sinks.{Puts};
-ghost use Rattle.ch_answer.specs.Line.{named, told_along, line_of};
+ghost use Rattle.ch_answer.specs.Line.{named, route_fields, line_of};
 
 use ch_route::Route;
 use counted_io::{Sink, StepWrite};
 use itoa::{Buffer, write_digits};
 
 /// How many nodes are written at a time.
-const FEW: usize = 32;
+const INLINE_NODES: usize = 32;
 
 /// How many bytes these take at most, at a space and ten digits for each.
 const ROOM: usize = 352;
@@ -33,7 +33,7 @@ pub fn put_line<W: StepWrite>(pair: (u32, u32), route: &Option<Route>, sink: &mu
 
 /// Puts a length, how many arcs there are from node to node, and the nodes. Takes no memory.
 pub fn put_along<W: StepWrite>(length: u64, nodes: &[u32], sink: &mut Sink, out: &mut W)
-    ensures { Puts W.step W.contents sink.old sink.new out.old out.new (told_along length nodes.now) }
+    ensures { Puts W.step W.contents sink.old sink.new out.old out.new (route_fields length nodes.now) }
 {
     put_number(length, sink, out);
     put_number(nodes.len().saturating_sub(1) as u64, sink, out);
@@ -47,7 +47,7 @@ pub fn put_nodes<W: StepWrite>(nodes: &[u32], sink: &mut Sink, out: &mut W)
     let mut text = [0; ROOM];
     let mut at = 0;
     'pieces: while at < nodes.len() {
-        let end = nodes.len().min(at + FEW);
+        let end = nodes.len().min(at + INLINE_NODES);
         let start = write_nodes(&nodes[at..end], &mut text);
         sink.put(out, &text[start..]);
         at = end;

@@ -17,7 +17,7 @@ use Rattle.ch_overlay.specs.Source as sources
 use Rattle.ch_witness.specs.declared.way.Way.{Way}
 use Rattle.ch_witness.specs.Kept.{Kept, AllNamed, AreKept}
 use Rattle.ch_witness.specs.Ways.{IsFound, way_at}
-use Rattle.ch_check.specs.declared.pairs.Task.{Task}
+use Rattle.ch_check.specs.declared.pairs.ContractionTask.{ContractionTask}
 use Rattle.ch_check.specs.declared.share.Share.{Share}
 use Rattle.ch_check.specs.declared.share.Share.TheVariants.{Spared, Put, Owed}
 
@@ -47,7 +47,7 @@ pub record IsOpenRow (o : Overlay) (x : ℕ) (r : Row) : Type 0 where
   pub starts : (e : Entry) → Contains r.inn e → HasArc o e.other x e.cost
 
 -- the rows are bounded, and the row of the node is open
-pub record IsTask (t : Task) : Type 0 where
+pub record IsTask (t : ContractionTask) : Type 0 where
   pub bound : IsBound t.overlay.now.bound
   pub row : IsOpenRow t.overlay.now t.node t.row.now
 

@@ -8,8 +8,8 @@ ghost use Rattle.ch_check.specs.Ranks.{AreInOrder};
 ghost use Rattle.ch_check.specs.Replay.{IsContracted};
 ghost use Rattle.ch_check.specs.declared.error.CheckError.TheVariants.{Bound, Nodes, Version};
 
+use crate::buffers::Buffers;
 use crate::comparing::{compare, compare_row};
-use crate::desk::Desk;
 use crate::error::CheckError;
 use crate::fault::Fault;
 use crate::ranks::nodes_by_rank;
@@ -111,10 +111,10 @@ fn contract_all<W: Watch>(
     ensures graph { OnOk result (replay.new.graph ≡ replay.old.graph) }
     ensures nodes { OnOk result (length replay.new.overlay.rows ≡ length replay.old.overlay.rows) }
 {
-    let mut desk = Desk::new(alloc, hierarchy.links().len());
+    let mut buffers = Buffers::new(alloc, hierarchy.links().len());
     let mut done = 0u32;
     'order: for node in order {
-        contract(alloc, replay, hierarchy, &mut desk, *node)?;
+        contract(alloc, replay, hierarchy, &mut buffers, *node)?;
         done = done.saturating_add(1);
         watch.contracted(done);
     }
@@ -126,14 +126,14 @@ fn contract(
     alloc: Global,
     replay: &mut Replay<'_>,
     hierarchy: &Hierarchy,
-    desk: &mut Desk,
+    buffers: &mut Buffers,
     node: u32,
 ) -> Result<(), Fault>
     requires { IsAlive (state_of replay.old.overlay) node }
     ensures { OnOk result (IsContracted replay.old node replay.new) }
 {
     compare_row(hierarchy, replay.overlay().row(node), node)?;
-    work_out(replay, hierarchy, desk, node)?;
-    replay.contract(alloc, node, &desk.shortcuts)?;
+    work_out(replay, hierarchy, buffers, node)?;
+    replay.contract(alloc, node, &buffers.shortcuts)?;
     Ok(())
 }

@@ -25,9 +25,9 @@
 //! ```
 #![tactic(auto)]
 
+mod buffers;
 mod checking;
 mod comparing;
-mod desk;
 mod error;
 mod fault;
 mod overlay_rows;

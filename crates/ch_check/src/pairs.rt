@@ -6,7 +6,7 @@ ghost use Rattle.ch_overlay.specs.Source.{IsBound};
 ghost use Rattle.ch_check.specs.Pairs.{AreSorted, CostMore, IsAdded, IsDue, IsOpenRow, IsTask};
 ghost use Rattle.ch_check.specs.Pairs.{LeadsBy, LeadsDirectly, LeadsOver};
 
-use crate::desk::NeighbourPairs;
+use crate::buffers::PairLists;
 use crate::overlay_rows::open_row;
 use crate::share::Share;
 use ch_graph::Hierarchy;
@@ -16,7 +16,7 @@ use std::alloc::AllocError;
 
 /// What the pairs by way of a node have in common.
 #[derive(Clone, Copy)]
-pub struct Task<'a> {
+pub struct ContractionTask<'a> {
     /// The rows as the contractions so far left them.
     pub overlay: &'a Overlay,
     /// Its links say which pairs are to get a shortcut.
@@ -30,10 +30,10 @@ pub struct Task<'a> {
 /// Finds what is due for each pair of an arc into the node and one of those out of it. `first` is the row of the neighbour
 /// that the arc into the node leaves. It takes the place of what was there.
 pub fn sort_pairs(
-    task: &Task<'_>,
+    task: &ContractionTask<'_>,
     first: &Row,
     into: &Entry,
-    pairs: &mut NeighbourPairs,
+    pairs: &mut PairLists,
 ) -> Result<(), AllocError>
     requires task { IsTask task.now }
     requires first { IsOpenRow task.now.overlay.now into.now.other first.now }
@@ -53,7 +53,7 @@ pub fn sort_pairs(
 
 /// What is due for the pair of two arcs. What the hierarchy says of it isn't relied on: a shortcut is put only where it is
 /// lawful, and what isn't put is owed a way.
-fn due(task: &Task<'_>, first: &Row, into: &Entry, out: &Entry) -> Share
+fn due(task: &ContractionTask<'_>, first: &Row, into: &Entry, out: &Entry) -> Share
     requires limit { IsBound task.now.overlay.now.bound }
     requires first { IsOpenRow task.now.overlay.now into.now.other first.now }
     requires start { into.now.other ≢ task.now.node }

@@ -23,7 +23,7 @@ use std::mem;
 const SETTLE: u32 = 1 << 16;
 
 /// How many nodes a search settles that made a hierarchy here: what it came to is found by as many.
-const FEW: u32 = 1 << 6;
+const FREE_SETTLES: u32 = 1 << 6;
 
 /// How many nodes all searches of a check settle at most: this many for each link, and so many more.
 const FOR_A_LINK: u64 = 1 << 8;
@@ -119,7 +119,7 @@ impl Finder {
         find_aims(owed, &mut self.aims)?;
         let some = self.search_ways(overlay, via, from, owed, SETTLE)?;
         self.aims.clear();
-        let few = self.search_ways(overlay, via, from, &some, FEW)?;
+        let few = self.search_ways(overlay, via, from, &some, FREE_SETTLES)?;
         Ok(few)
     }
 

@@ -233,7 +233,7 @@ impl<S: Site> Board<S> {
     {
         match self.accept(rt, proposal, ready) {
             Ok(receipt) => {
-                self.pen.tell(reader);
+                self.pen.synchronise(reader);
                 Ok(receipt)
             }
             Err(refused) => Err(refused),

@@ -90,7 +90,7 @@ fn propose_in<S: RowSource>(
     draft_all(alloc, source, desk, task, &row, &mut draft)?;
     let Draft { listed, shortcuts } = draft;
     let earlier = mem::replace(&mut desk.rests_on, Vec::new(alloc));
-    let rests_on = desk.searcher.rows.hand_out(&listed, earlier)?;
+    let rests_on = desk.searcher.rows.take_listed(&listed, earlier)?;
     desk.listed = listed;
     Ok(Proposal {
         bound: task.bound,

@@ -24,7 +24,7 @@ use Rattle.ch_query.specs.Meeting.{IsBestSoFar}
 use Rattle.ch_query.proofs.SeedPlaces.{among-from_get, get-from_among, seed-in}
 use Rattle.ch_query.proofs.BestMeetings.{best-none}
 
--- No seed is planted yet
+-- No seed is open yet
 
 pub begun-none : {h : Hierarchy} {seeds : List Seed} {bound : Cost} {n : ℕ} → n ≡ length h.ranks → {marks : List (Mark Label)} → marks ≡ replicate n Unseen → IsBegun h seeds bound 0 marks
 begun-none {n} nodes {marks} unseen = record {
@@ -32,7 +32,7 @@ begun-none {n} nodes {marks} unseen = record {
   none = λ r e closed. unseen-settled (sym (unseen_at r) ∙ closed);
   of_seed = λ r e has. absurd (unseen-label (mark marks r) e (unseen_at r) has);
   short = λ r e has. absurd (unseen-label (mark marks r) e (unseen_at r) has);
-  planted = λ k seed low is short. absurd (omega (arith, low));
+  seeded = λ k seed low is short. absurd (omega (arith, low));
 }
   where
     unseen_at : (r : ℕ) → mark marks r ≡ Unseen
@@ -41,23 +41,23 @@ begun-none {n} nodes {marks} unseen = record {
 -- One more is
 
 -- each label stays at most what it was
-planted-kept : {bound : Cost} {r : ℕ} {c : Cost} {old new : List (Mark Label)} → r < length old → IsPlanted bound r c old new → (q : ℕ) (d : Cost) → IsAtMost label_cost (mark old q) d → IsAtMost label_cost (mark new q) d
-planted-kept {r} {c} {old} within (inl put) q d most = subst (λ (ms : List (Mark Label)). IsAtMost label_cost (mark ms q) d) (sym put.2) (elim (cases_put (put-set old r (Open (record { cost = c; foot = r })) within) q) [
+seeded-kept : {bound : Cost} {r : ℕ} {c : Cost} {old new : List (Mark Label)} → r < length old → IsPlanted bound r c old new → (q : ℕ) (d : Cost) → IsAtMost label_cost (mark old q) d → IsAtMost label_cost (mark new q) d
+seeded-kept {r} {c} {old} within (inl put) q d most = subst (λ (ms : List (Mark Label)). IsAtMost label_cost (mark ms q) d) (sym put.2) (elim (cases_put (put-set old r (Open (record { cost = c; foot = r })) within) q) [
   | inl w ↦
       let e : Label = record { cost = c; foot = r } in
       let less = improves-below label_cost (mark old r) c d put.1 (subst (λ p. IsAtMost label_cost (mark old p) d) w.at most) in
       at_most-from_label label_cost (mark (set old r (Open e)) q) e d (label_open (mark (set old r (Open e)) q) e w.reads) less
   | inr k ↦ subst (λ (m : Mark Label). IsAtMost label_cost m d) (sym k.reads) most
 ])
-planted-kept within (inr kept) q d most = subst (λ (ms : List (Mark Label)). IsAtMost label_cost (mark ms q) d) (sym kept.1) most
+seeded-kept within (inr kept) q d most = subst (λ (ms : List (Mark Label)). IsAtMost label_cost (mark ms q) d) (sym kept.1) most
 
 -- and where the seed is short, that of its node is at most its cost
-planted-here : {bound : Cost} {r : ℕ} {c : Cost} {old new : List (Mark Label)} → r < length old → IsPlanted bound r c old new → IsNoLonger c bound → IsAtMost label_cost (mark new r) c
-planted-here {r} {c} {old} within (inl put) short =
+seeded-here : {bound : Cost} {r : ℕ} {c : Cost} {old new : List (Mark Label)} → r < length old → IsPlanted bound r c old new → IsNoLonger c bound → IsAtMost label_cost (mark new r) c
+seeded-here {r} {c} {old} within (inl put) short =
     let e : Label = record { cost = c; foot = r } in
     subst (λ (ms : List (Mark Label)). IsAtMost label_cost (mark ms r) c) (sym put.2)
     (at_most-from_label label_cost (mark (set old r (Open e)) r) e c (label_open (mark (set old r (Open e)) r) e (put-set old r (Open e) within).here) (at_most_refl c))
-planted-here {r} {c} within (inr kept) short = subst (λ (ms : List (Mark Label)). IsAtMost label_cost (mark ms r) c) (sym kept.1) (kept.0 short)
+seeded-here {r} {c} within (inr kept) short = subst (λ (ms : List (Mark Label)). IsAtMost label_cost (mark ms r) c) (sym kept.1) (kept.0 short)
 
 -- a label is an older one, or that of the seed
 record IsNew (bound : Cost) (r : ℕ) (c : Cost) (q : ℕ) (e : Label) : Type 0 where
@@ -66,8 +66,8 @@ record IsNew (bound : Cost) (r : ℕ) (c : Cost) (q : ℕ) (e : Label) : Type 0 
   foot : e.foot ≡ r
   short : IsNoLonger c bound
 
-planted-label : {bound : Cost} {r : ℕ} {c : Cost} {old new : List (Mark Label)} → r < length old → IsPlanted bound r c old new → {q : ℕ} {e : Label} → HasLabel (mark new q) e → HasLabel (mark old q) e ⊎ IsNew bound r c q e
-planted-label {r} {c} {old} within (inl put) {q} {e} has = elim (cases_put (put-set old r (Open (record { cost = c; foot = r })) within) q) [
+seeded-label : {bound : Cost} {r : ℕ} {c : Cost} {old new : List (Mark Label)} → r < length old → IsPlanted bound r c old new → {q : ℕ} {e : Label} → HasLabel (mark new q) e → HasLabel (mark old q) e ⊎ IsNew bound r c q e
+seeded-label {r} {c} {old} within (inl put) {q} {e} has = elim (cases_put (put-set old r (Open (record { cost = c; foot = r })) within) q) [
   | inl w ↦
       let first : Label = record { cost = c; foot = r } in
       let same : first ≡ e = one_label (mark (set old r (Open first)) q) first e (label_open (mark (set old r (Open first)) q) first w.reads) there in
@@ -77,17 +77,17 @@ planted-label {r} {c} {old} within (inl put) {q} {e} has = elim (cases_put (put-
   where
     there : HasLabel (mark (set old r (Open (record { cost = c; foot = r }))) q) e
     there = subst (λ (ms : List (Mark Label)). HasLabel (mark ms q) e) put.2 has
-planted-label within (inr kept) {q} {e} has = inl (subst (λ (ms : List (Mark Label)). HasLabel (mark ms q) e) kept.1 has)
+seeded-label within (inr kept) {q} {e} has = inl (subst (λ (ms : List (Mark Label)). HasLabel (mark ms q) e) kept.1 has)
 
-planted-none : {bound : Cost} {r : ℕ} {c : Cost} {old new : List (Mark Label)} → r < length old → IsPlanted bound r c old new → NoneSettled old → NoneSettled new
-planted-none {r} {c} {old} within (inl put) none q e closed = elim (cases_put (put-set old r (Open (record { cost = c; foot = r })) within) q) [
+seeded-none : {bound : Cost} {r : ℕ} {c : Cost} {old new : List (Mark Label)} → r < length old → IsPlanted bound r c old new → NoneSettled old → NoneSettled new
+seeded-none {r} {c} {old} within (inl put) none q e closed = elim (cases_put (put-set old r (Open (record { cost = c; foot = r })) within) q) [
   | inl w ↦ open-settled (sym w.reads ∙ there)
   | inr k ↦ none q e (sym k.reads ∙ there)
 ]
   where
     there : mark (set old r (Open (record { cost = c; foot = r }))) q ≡ Settled e
     there = subst (λ (ms : List (Mark Label)). mark ms q ≡ Settled e) put.2 closed
-planted-none within (inr kept) none q e closed = none q e (subst (λ (ms : List (Mark Label)). mark ms q ≡ Settled e) kept.1 closed)
+seeded-none within (inr kept) none q e closed = none q e (subst (λ (ms : List (Mark Label)). mark ms q ≡ Settled e) kept.1 closed)
 
 some_seed : {a b : Seed} → Some a ≡ Some b → a ≡ b
 some_seed is = cc
@@ -95,26 +95,26 @@ some_seed is = cc
 pub begun-more : {h : Hierarchy} {seeds : List Seed} {bound : Cost} {n : ℕ} {seed : Seed} {old new : List (Mark Label)}
     → slice_get seeds n ≡ Some seed → rank_of h seed.node < length h.ranks → length new ≡ length old
     → IsPlanted bound (rank_of h seed.node) seed.cost old new → IsBegun h seeds bound n old → IsBegun h seeds bound (n + 1) new
-begun-more {h} {seeds} {bound} {n} {seed} {old} {new} at rank_in count planted was = record {
+begun-more {h} {seeds} {bound} {n} {seed} {old} {new} at rank_in count seeded was = record {
   nodes = count ∙ was.nodes;
-  none = planted-none within planted was.none;
-  of_seed = λ q e has. elim (planted-label within planted has) [
+  none = seeded-none within seeded was.none;
+  of_seed = λ q e has. elim (seeded-label within seeded has) [
     | inl there ↦ was.of_seed q e there
     | inr is_new ↦ record {
       seed = record { seed = seed; among = among-from_get seeds n at; rank = sym is_new.at; cost = sym is_new.cost };
       foot = is_new.foot ∙ sym is_new.at;
     }
   ];
-  short = λ q e has. elim (planted-label within planted has) [
+  short = λ q e has. elim (seeded-label within seeded has) [
     | inl there ↦ was.short q e there
     | inr is_new ↦ subst (λ (d : Cost). IsNoLonger d bound) (sym is_new.cost) is_new.short
   ];
-  planted = λ k other low is short. elim (cases_lt k n) [
-    | inl before ↦ planted-kept within planted (rank_of h other.node) other.cost (was.planted k other before is short)
+  seeded = λ k other low is short. elim (cases_lt k n) [
+    | inl before ↦ seeded-kept within seeded (rank_of h other.node) other.cost (was.seeded k other before is short)
     | inr last ↦
         let here : k ≡ n = omega (arith, low, last) in
         let same : seed ≡ other = some_seed (sym at ∙ (ap (slice_get seeds) (sym here) ∙ is)) in
-        subst (λ (s : Seed). IsAtMost label_cost (mark new (rank_of h s.node)) s.cost) same (planted-here within planted (subst (λ (s : Seed). IsNoLonger s.cost bound) (sym same) short))
+        subst (λ (s : Seed). IsAtMost label_cost (mark new (rank_of h s.node)) s.cost) same (seeded-here within seeded (subst (λ (s : Seed). IsNoLonger s.cost bound) (sym same) short))
   ];
 }
   where
@@ -143,7 +143,7 @@ module _ {h : Hierarchy} (side : Side) {seeds : List Seed} (are : AreSeeds h see
       at_starts : (r : ℕ) (c : Cost) → IsSeedAt h seeds r c → CountsBelow bound limit c → IsAtMost label_cost (mark marks r) c
       at_starts r c is counts =
           let short : IsNoLonger is.seed.cost bound = subst (λ (d : Cost). IsNoLonger d bound) (sym is.cost) counts.short in
-          let there = begun.planted is.among.0 is.seed is.among.1 (get-from_among seeds is.among) short in
+          let there = begun.seeded is.among.0 is.seed is.among.1 (get-from_among seeds is.among) short in
           subst (λ (d : Cost). IsAtMost label_cost (mark marks r) d) is.cost (subst (λ q. IsAtMost label_cost (mark marks q) is.seed.cost) is.rank there)
 
   -- the sides haven't met yet

@@ -13,39 +13,39 @@ use Rattle.ch_graph.specs.declared.mark.Mark.TheVariants.{Unseen, Open, Settled}
 use Rattle.ch_graph.specs.Marks.{mark}
 use Rattle.ch_graph.specs.Marks.Laws.{unseen-open, unseen-settled}
 use Rattle.ch_query.specs.declared.label.Label.{Label}
-use Rattle.ch_query.specs.declared.mark_list.Seen.{Seen}
-use Rattle.ch_query.specs.Seen.{mark_in, mark_at, marks_in, ArePlaces}
+use Rattle.ch_query.specs.declared.mark_list.Touched.{Touched}
+use Rattle.ch_query.specs.Touched.{mark_in, mark_at, marks_in, ArePlaces}
 
 -- A list of nodes that were seen
 
-set_here : (xs : List Seen) (k : ℕ) (s : Seen) → k < length xs → slice_get (set xs k s) k ≡ Some s
-set_here xs k s low = slice_get-get_or (set xs k s) k s (omega (arith, low, length-set xs k s)) ∙ ap (λ (t : Seen). Some t) (get_or-set_same xs k s s low)
+set_here : (xs : List Touched) (k : ℕ) (s : Touched) → k < length xs → slice_get (set xs k s) k ≡ Some s
+set_here xs k s low = slice_get-get_or (set xs k s) k s (omega (arith, low, length-set xs k s)) ∙ ap (λ (t : Touched). Some t) (get_or-set_same xs k s s low)
 
-set_other : (xs : List Seen) (k j : ℕ) (s : Seen) → (j ≡ k → ⊥) → slice_get (set xs k s) j ≡ slice_get xs j
+set_other : (xs : List Touched) (k j : ℕ) (s : Touched) → (j ≡ k → ⊥) → slice_get (set xs k s) j ≡ slice_get xs j
 set_other xs k j s other = elim (cases_lt j (length xs)) [
-  | inl low ↦ slice_get-get_or (set xs k s) j s (omega (arith, low, length-set xs k s)) ∙ ap (λ (t : Seen). Some t) (get_or-set_other xs k j s s other) ∙ sym (slice_get-get_or xs j s low)
+  | inl low ↦ slice_get-get_or (set xs k s) j s (omega (arith, low, length-set xs k s)) ∙ ap (λ (t : Touched). Some t) (get_or-set_other xs k j s s other) ∙ sym (slice_get-get_or xs j s low)
   | inr past ↦ slice_get_past (set xs k s) j (omega (arith, past, length-set xs k s)) ∙ sym (slice_get_past xs j past)
 ]
 
-push_here : (xs : List Seen) (s : Seen) → slice_get (xs ++ s ∷ []) (length xs) ≡ Some s
-push_here xs s = slice_get-get_or (xs ++ s ∷ []) (length xs) s (omega (arith, length-append xs (s ∷ []))) ∙ ap (λ (t : Seen). Some t) (get_or-append_seam xs s [] s)
+push_here : (xs : List Touched) (s : Touched) → slice_get (xs ++ s ∷ []) (length xs) ≡ Some s
+push_here xs s = slice_get-get_or (xs ++ s ∷ []) (length xs) s (omega (arith, length-append xs (s ∷ []))) ∙ ap (λ (t : Touched). Some t) (get_or-append_seam xs s [] s)
 
-push_before : (xs : List Seen) (s : Seen) (k : ℕ) → k < length xs → slice_get (xs ++ s ∷ []) k ≡ slice_get xs k
-push_before xs s k low = slice_get-get_or (xs ++ s ∷ []) k s (omega (arith, low, length-append xs (s ∷ []))) ∙ ap (λ (t : Seen). Some t) (get_or_append_left xs (s ∷ []) s k low) ∙ sym (slice_get-get_or xs k s low)
+push_before : (xs : List Touched) (s : Touched) (k : ℕ) → k < length xs → slice_get (xs ++ s ∷ []) k ≡ slice_get xs k
+push_before xs s k low = slice_get-get_or (xs ++ s ∷ []) k s (omega (arith, low, length-append xs (s ∷ []))) ∙ ap (λ (t : Touched). Some t) (get_or_append_left xs (s ∷ []) s k low) ∙ sym (slice_get-get_or xs k s low)
 
-same_seen : {s t : Seen} → Some s ≡ Some t → s ≡ t
+same_seen : {s t : Touched} → Some s ≡ Some t → s ≡ t
 same_seen is = cc (is)
 
 -- Marks
 
-pub mark_read : (seen : List Seen) (places : List ℕ) (r : ℕ) → r < length places → mark (marks_in seen places) r ≡ mark_at seen (slice_index places r)
+pub mark_read : (seen : List Touched) (places : List ℕ) (r : ℕ) → r < length places → mark (marks_in seen places) r ≡ mark_at seen (slice_index places r)
 mark_read seen places r within = get_or-map (mark_at seen) places r 0 Unseen within
 
-pub as_many : (seen : List Seen) (places : List ℕ) → length (marks_in seen places) ≡ length places
+pub as_many : (seen : List Touched) (places : List ℕ) → length (marks_in seen places) ≡ length places
 as_many seen places = length-map places (mark_at seen)
 
 -- one mark is another, and the rest stay
-module _ (seen new_seen : List Seen) (places new_places : List ℕ) (r : ℕ) (m : Mark Label) (count : length new_places ≡ length places) (within : r < length places)
+module _ (seen new_seen : List Touched) (places new_places : List ℕ) (r : ℕ) (m : Mark Label) (count : length new_places ≡ length places) (within : r < length places)
     (is : mark_at new_seen (slice_index new_places r) ≡ m)
     (stay : (q : ℕ) → q < length places → (q ≡ r → ⊥) → mark_at new_seen (slice_index new_places q) ≡ mark_at seen (slice_index places q)) where
   abbrev before : List (Mark Label)
@@ -70,7 +70,7 @@ module _ (seen new_seen : List Seen) (places new_places : List ℕ) (r : ℕ) (m
 
 -- Nothing is seen
 
-pub unseen : (seen : List Seen) (places : List ℕ) → length seen ≡ 0 → marks_in seen places ≡ replicate {A = Mark Label} (length places) Unseen
+pub unseen : (seen : List Touched) (places : List ℕ) → length seen ≡ 0 → marks_in seen places ≡ replicate {A = Mark Label} (length places) Unseen
 unseen (s ∷ seen) places none = absurd (omega (arith, none))
 unseen [] places none = ext_get_or Unseen (marks_in [] places) (replicate {A = Mark Label} (length places) Unseen) (as_many [] places ∙ sym (length-replicate {A = Mark Label} (length places) Unseen)) read
   where
@@ -88,7 +88,7 @@ marked : (settled : Bool) (e : Label) → cond settled (Settled e) (Open e) ≡ 
 marked true e is = unseen-settled (sym is)
 marked false e is = unseen-open (sym is)
 
-pub none_listed : (nodes : ℕ) {places : List ℕ} {seen : List Seen} → ArePlaces places seen → marks_in seen places ≡ replicate {A = Mark Label} nodes Unseen → seen ≡ []
+pub none_listed : (nodes : ℕ) {places : List ℕ} {seen : List Touched} → ArePlaces places seen → marks_in seen places ≡ replicate {A = Mark Label} nodes Unseen → seen ≡ []
 none_listed nodes {seen = []} are none = refl
 none_listed nodes {places} {seen = s ∷ seen} are none =
     let within : s.rank < length places = are.within 0 s refl in
@@ -96,7 +96,7 @@ none_listed nodes {places} {seen = s ∷ seen} are none =
     let read : mark_at (s ∷ seen) (slice_index places s.rank) ≡ Unseen = sym (mark_read (s ∷ seen) places s.rank within) ∙ ap (λ (ms : List (Mark Label)). mark ms s.rank) none ∙ get_or-replicate {A = Mark Label} nodes s.rank Unseen Unseen fits in
     absurd (marked s.settled s.label (sym (ap (mark_at (s ∷ seen)) (are.here 0 s refl)) ∙ read))
 
-pub none_placed : (nodes : ℕ) {places : List ℕ} {seen : List Seen} → places ≡ replicate nodes 0 → seen ≡ [] → ArePlaces places seen
+pub none_placed : (nodes : ℕ) {places : List ℕ} {seen : List Touched} → places ≡ replicate nodes 0 → seen ≡ [] → ArePlaces places seen
 none_placed nodes {places} {seen} zeros none = record {
   within = λ k s is. absurd (past k s is);
   here = λ k s is. absurd (past k s is);
@@ -106,13 +106,13 @@ none_placed nodes {places} {seen} zeros none = record {
       absurd (omega (arith, at, is));
 }
   where
-    past : (k : ℕ) (s : Seen) → slice_get seen k ≡ Some s → ⊥
-    past k s is = omega (arith, slice_get_within seen k s is, ap (λ (xs : List Seen). length xs) none)
+    past : (k : ℕ) (s : Touched) → slice_get seen k ≡ Some s → ⊥
+    past k s is = omega (arith, slice_get_within seen k s is, ap (λ (xs : List Touched). length xs) none)
 
 -- A node that was seen is written once more
 
-module _ {places : List ℕ} {seen : List Seen} (are : ArePlaces places seen) (k : ℕ) (s : Seen) (within : s.rank < length places) (at : slice_index places s.rank ≡ suc k) where
-  owner : (t : Seen) × (slice_get seen k ≡ Some t) × (t.rank ≡ s.rank)
+module _ {places : List ℕ} {seen : List Touched} (are : ArePlaces places seen) (k : ℕ) (s : Touched) (within : s.rank < length places) (at : slice_index places s.rank ≡ suc k) where
+  owner : (t : Touched) × (slice_get seen k ≡ Some t) × (t.rank ≡ s.rank)
   owner = are.back s.rank k within at
 
   pub written-within : k < length seen
@@ -123,16 +123,16 @@ module _ {places : List ℕ} {seen : List Seen} (are : ArePlaces places seen) (k
   other_place q j low is other same =
       let b = are.back q j low is in
       let one : b.0 ≡ owner.0 = same_seen (sym b.1 ∙ ap (λ n. slice_get seen n) same ∙ owner.1) in
-      other (sym b.2 ∙ ap (λ (t : Seen). t.rank) one ∙ owner.2)
+      other (sym b.2 ∙ ap (λ (t : Touched). t.rank) one ∙ owner.2)
 
   pub placed-written : ArePlaces places (set seen k s)
   placed-written = record {
     within = λ j t is. elim (cases_eq j k) [
-      | inl same ↦ subst (λ (u : Seen). u.rank < length places) (here_is j t is same) within
+      | inl same ↦ subst (λ (u : Touched). u.rank < length places) (here_is j t is same) within
       | inr other ↦ are.within j t (sym (set_other seen k j s other) ∙ is)
     ];
     here = λ j t is. elim (cases_eq j k) [
-      | inl same ↦ subst (λ (u : Seen). slice_index places u.rank ≡ suc j) (here_is j t is same) (at ∙ ap (λ n. suc n) (sym same))
+      | inl same ↦ subst (λ (u : Touched). slice_index places u.rank ≡ suc j) (here_is j t is same) (at ∙ ap (λ n. suc n) (sym same))
       | inr other ↦ are.here j t (sym (set_other seen k j s other) ∙ is)
     ];
     back = λ q j low is. elim (cases_eq q s.rank) [
@@ -143,7 +143,7 @@ module _ {places : List ℕ} {seen : List Seen} (are : ArePlaces places seen) (k
     ];
   }
     where
-      here_is : (j : ℕ) (t : Seen) → slice_get (set seen k s) j ≡ Some t → j ≡ k → s ≡ t
+      here_is : (j : ℕ) (t : Touched) → slice_get (set seen k s) j ≡ Some t → j ≡ k → s ≡ t
       here_is j t is same = same_seen (sym (set_here seen k s written-within) ∙ ap (λ n. slice_get (set seen k s) n) (sym same) ∙ is)
 
   pub marks-written : marks_in (set seen k s) places ≡ set (marks_in seen places) s.rank (mark_in (Some s))
@@ -155,7 +155,7 @@ module _ {places : List ℕ} {seen : List Seen} (are : ArePlaces places seen) (k
 
 -- A node is seen
 
-module _ {places : List ℕ} {seen : List Seen} (are : ArePlaces places seen) (s : Seen) (within : s.rank < length places) (none : slice_index places s.rank ≡ 0) where
+module _ {places : List ℕ} {seen : List Touched} (are : ArePlaces places seen) (s : Touched) (within : s.rank < length places) (none : slice_index places s.rank ≡ 0) where
   abbrev more : List ℕ
   more = set places s.rank (suc (length seen))
 
@@ -166,10 +166,10 @@ module _ {places : List ℕ} {seen : List Seen} (are : ArePlaces places seen) (s
   read_other q other = get_or-set_other places s.rank q (suc (length seen)) 0 other
 
   -- what was seen before has another rank
-  apart : (j : ℕ) (t : Seen) → slice_get seen j ≡ Some t → t.rank ≡ s.rank → ⊥
+  apart : (j : ℕ) (t : Touched) → slice_get seen j ≡ Some t → t.rank ≡ s.rank → ⊥
   apart j t is same = omega (arith, are.here j t is, none, ap (λ n. slice_index places n) same)
 
-  last_is : (j : ℕ) (t : Seen) → slice_get (seen ++ s ∷ []) j ≡ Some t → length seen ≤ j → (j ≡ length seen) × (s ≡ t)
+  last_is : (j : ℕ) (t : Touched) → slice_get (seen ++ s ∷ []) j ≡ Some t → length seen ≤ j → (j ≡ length seen) × (s ≡ t)
   last_is j t is past =
       let same : j ≡ length seen = omega (arith, past, slice_get_within (seen ++ s ∷ []) j t is, length-append seen (s ∷ [])) in
       (same, same_seen (sym (push_here seen s) ∙ ap (λ n. slice_get (seen ++ s ∷ []) n) (sym same) ∙ is))
@@ -178,11 +178,11 @@ module _ {places : List ℕ} {seen : List Seen} (are : ArePlaces places seen) (s
   placed-pushed = record {
     within = λ j t is. elim (cases_lt j (length seen)) [
       | inl low ↦ omega (arith, are.within j t (sym (push_before seen s j low) ∙ is), length-set places s.rank (suc (length seen)))
-      | inr past ↦ subst (λ (u : Seen). u.rank < length more) (last_is j t is past).1 (omega (arith, within, length-set places s.rank (suc (length seen))))
+      | inr past ↦ subst (λ (u : Touched). u.rank < length more) (last_is j t is past).1 (omega (arith, within, length-set places s.rank (suc (length seen))))
     ];
     here = λ j t is. elim (cases_lt j (length seen)) [
       | inl low ↦ let old : slice_get seen j ≡ Some t = sym (push_before seen s j low) ∙ is in read_other t.rank (apart j t old) ∙ are.here j t old
-      | inr past ↦ let last = last_is j t is past in subst (λ (u : Seen). slice_index more u.rank ≡ suc j) last.1 (read_here ∙ ap (λ n. suc n) (sym last.0))
+      | inr past ↦ let last = last_is j t is past in subst (λ (u : Touched). slice_index more u.rank ≡ suc j) last.1 (read_here ∙ ap (λ n. suc n) (sym last.0))
     ];
     back = λ q j low is. elim (cases_eq q s.rank) [
       | inl own ↦
@@ -205,9 +205,9 @@ module _ {places : List ℕ} {seen : List Seen} (are : ArePlaces places seen) (s
 
   -- so there are fewer of them than places
   abbrev ranks : List ℕ
-  ranks = map (λ (t : Seen). t.rank) seen
+  ranks = map (λ (t : Touched). t.rank) seen
 
-  member : (xs : List Seen) (k d : ℕ) → k < length (map (λ (t : Seen). t.rank) xs) → (t : Seen) × (slice_get xs k ≡ Some t) × (get_or (map (λ (t : Seen). t.rank) xs) k d ≡ t.rank)
+  member : (xs : List Touched) (k d : ℕ) → k < length (map (λ (t : Touched). t.rank) xs) → (t : Touched) × (slice_get xs k ≡ Some t) × (get_or (map (λ (t : Touched). t.rank) xs) k d ≡ t.rank)
   member [] k d low = absurd (omega (arith, low))
   member (x ∷ xs) zero d low = (x, refl, refl)
   member (x ∷ xs) (suc k) d low = member xs k d (omega (arith, low))
@@ -225,21 +225,21 @@ module _ {places : List ℕ} {seen : List Seen} (are : ArePlaces places seen) (s
   below q (suc k, low, is) = let m = member seen k q (omega (arith, low)) in subst (λ n. n < length places) (sym m.2 ∙ is) (are.within k m.0 m.1)
 
   pub few_seen : length seen < length places
-  few_seen = omega (arith, length-map seen (λ (t : Seen). t.rank), length-le_from_distinct_below (s.rank ∷ ranks) (length places) (IsDistinct-from_AllPairs Decides-eqb (s.rank ∷ ranks) once) (λ q among. below q (Contains-from_any {eq = eqb} (λ x y. λ e. grind (arith, nat_tests, e)) q (s.rank ∷ ranks) among)))
+  few_seen = omega (arith, length-map seen (λ (t : Touched). t.rank), length-le_from_distinct_below (s.rank ∷ ranks) (length places) (IsDistinct-from_AllPairs Decides-eqb (s.rank ∷ ranks) once) (λ q among. below q (Contains-from_any {eq = eqb} (λ x y. λ e. grind (arith, nat_tests, e)) q (s.rank ∷ ranks) among)))
 
 -- The node that was seen last is forgotten
 
-module _ {places : List ℕ} {seen : List Seen} (are : ArePlaces places seen) (rest : List Seen) (s : Seen) (parts : seen ≡ rest ++ s ∷ []) where
+module _ {places : List ℕ} {seen : List Touched} (are : ArePlaces places seen) (rest : List Touched) (s : Touched) (parts : seen ≡ rest ++ s ∷ []) where
   last : slice_get seen (length rest) ≡ Some s
-  last = ap (λ (xs : List Seen). slice_get xs (length rest)) parts ∙ push_here rest s
+  last = ap (λ (xs : List Touched). slice_get xs (length rest)) parts ∙ push_here rest s
 
   pub popped-within : s.rank < length places
   popped-within = are.within (length rest) s last
 
-  among : (j : ℕ) (t : Seen) → slice_get rest j ≡ Some t → slice_get seen j ≡ Some t
-  among j t is = ap (λ (xs : List Seen). slice_get xs j) parts ∙ push_before rest s j (slice_get_within rest j t is) ∙ is
+  among : (j : ℕ) (t : Touched) → slice_get rest j ≡ Some t → slice_get seen j ≡ Some t
+  among j t is = ap (λ (xs : List Touched). slice_get xs j) parts ∙ push_before rest s j (slice_get_within rest j t is) ∙ is
 
-  other_rank : (j : ℕ) (t : Seen) → slice_get rest j ≡ Some t → t.rank ≡ s.rank → ⊥
+  other_rank : (j : ℕ) (t : Touched) → slice_get rest j ≡ Some t → t.rank ≡ s.rank → ⊥
   other_rank j t is same = omega (arith, slice_get_within rest j t is, are.here j t (among j t is), are.here (length rest) s last, ap (λ n. slice_index places n) same)
 
   pub placed-popped : ArePlaces (set places s.rank 0) rest
@@ -250,16 +250,16 @@ module _ {places : List ℕ} {seen : List Seen} (are : ArePlaces places seen) (r
       | inl own ↦ absurd (omega (arith, is, get_or-set_same places s.rank 0 0 popped-within, ap (λ n. slice_index (set places s.rank 0) n) own))
       | inr other ↦
           let b = are.back q j (omega (arith, low, length-set places s.rank 0)) (sym (get_or-set_other places s.rank q 0 0 other) ∙ is) in
-          let not_last : j ≡ length rest → ⊥ = λ same. other (sym b.2 ∙ ap (λ (t : Seen). t.rank) (same_seen (sym b.1 ∙ ap (λ n. slice_get seen n) same ∙ last))) in
+          let not_last : j ≡ length rest → ⊥ = λ same. other (sym b.2 ∙ ap (λ (t : Touched). t.rank) (same_seen (sym b.1 ∙ ap (λ n. slice_get seen n) same ∙ last))) in
           let low_too : j < length rest = elim (cases_lt j (length rest)) [
             | inl before ↦ before
-            | inr past ↦ absurd (not_last (omega (arith, past, slice_get_within seen j b.0 b.1, ap (λ (xs : List Seen). length xs) parts, length-append rest (s ∷ []))))
+            | inr past ↦ absurd (not_last (omega (arith, past, slice_get_within seen j b.0 b.1, ap (λ (xs : List Touched). length xs) parts, length-append rest (s ∷ []))))
           ] in
-          (b.0, sym (push_before rest s j low_too) ∙ ap (λ (xs : List Seen). slice_get xs j) (sym parts) ∙ b.1, b.2)
+          (b.0, sym (push_before rest s j low_too) ∙ ap (λ (xs : List Touched). slice_get xs j) (sym parts) ∙ b.1, b.2)
     ];
   }
 
 -- a node that is open has a place
-pub place_of_open : (seen : List Seen) {p : ℕ} {e : Label} → mark_at seen p ≡ Open e → 0 < p
+pub place_of_open : (seen : List Touched) {p : ℕ} {e : Label} → mark_at seen p ≡ Open e → 0 < p
 place_of_open seen {p = zero} is = absurd (unseen-open is)
 place_of_open seen {p = suc k} is = omega arith

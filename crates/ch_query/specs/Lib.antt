@@ -6,7 +6,7 @@ pub mod Climb
 pub mod Upward
 pub mod Counting
 pub mod Marks
-pub mod Seen
+pub mod Touched
 pub mod Front
 pub mod Ready
 pub mod Searching

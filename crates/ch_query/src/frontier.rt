@@ -75,7 +75,7 @@ impl Frontier {
 
     /// Forgets what was seen and frees the memory of the queue and of the list of seen nodes, where either has room for
     /// more than 65,536 entries. Takes no memory.
-    pub fn give_back(&mut self)
+    pub fn shrink(&mut self)
         ensures { length self.new ≡ length self.old }
     {
         if (self.queue.capacity() <= KEPT) & (self.marks.capacity() <= KEPT) {

@@ -42,19 +42,19 @@ impl Half<'_> {
     {
         marks.clear();
         'seeds: for at in 0..self.seeds.len() {
-            self.plant(self.seeds[at], marks)?;
+            self.open_seed(self.seeds[at], marks)?;
         }
         Ok(())
     }
 
     /// Opens the node of a seed with what the seed costs, if that is short and less than what is known of the node.
-    fn plant(&self, seed: Seed, marks: &mut Frontier) -> Result<(), AllocError>
+    fn open_seed(&self, seed: Seed, marks: &mut Frontier) -> Result<(), AllocError>
         requires half { IsHalf self.now }
         requires seed { IsSeed self.now.hierarchy.now seed }
         requires nodes { length marks.old ≡ length self.now.hierarchy.now.ranks }
         requires none { NoneSettled marks.old }
         ensures nodes { length marks.new ≡ length marks.old }
-        ensures planted { OnOk result (IsPlanted self.now.bound (rank_of self.now.hierarchy.now seed.node) seed.cost marks.old marks.new) }
+        ensures seeded { OnOk result (IsPlanted self.now.bound (rank_of self.now.hierarchy.now seed.node) seed.cost marks.old marks.new) }
     {
         let rank = self.hierarchy.rank(seed.node);
         let cost = seed.cost;

@@ -1,7 +1,7 @@
 ghost use Rattle.std.specs.Prelude.{◌≡◌, ◌<◌, [], length, replicate, slice_index, slice_set, vec_capacity, IfNone, IfOk, IfSome, OnErr, OnOk};
 ghost use Rattle.ch_graph.specs.declared.mark.Mark.TheVariants.{Unseen, Open, Settled};
 ghost use Rattle.ch_graph.specs.Marks.{mark, label_in};
-ghost use Rattle.ch_query.specs.Seen.{mark_in, mark_at};
+ghost use Rattle.ch_query.specs.Touched.{mark_in, mark_at};
 
 use crate::label::Label;
 use std::alloc::{AllocError, Global};
@@ -9,7 +9,7 @@ use std::marker::Model;
 
 /// A node that was seen.
 #[derive(Clone, Copy)]
-pub struct Seen {
+pub struct Touched {
     /// What is known of it.
     pub label: Label,
     /// Its rank.
@@ -26,14 +26,14 @@ pub struct Seen {
 pub struct MarkList {
     // For each rank the place of its node in the list, counted from 1, or 0 where it isn't seen.
     places: Vec<u32>,
-    seen: Vec<Seen>,
+    seen: Vec<Touched>,
 }
 
 impl Model for MarkList {
     ghost use Rattle.std.specs.Prelude.{◌<◌, ◌^◌, List, length};
     ghost use Rattle.ch_graph.specs.declared.mark.Mark.{Mark};
     ghost use Rattle.ch_query.specs.declared.label.Label.{Label};
-    ghost use Rattle.ch_query.specs.Seen.{marks_in, ArePlaces};
+    ghost use Rattle.ch_query.specs.Touched.{marks_in, ArePlaces};
 
     ghost Value = { List (Mark Label) };
 
@@ -92,7 +92,7 @@ impl MarkList {
         ensures opened { OnOk result (self.new ≡ slice_set self.old rank (Open label)) }
         ensures refused { OnErr result (self.new ≡ self.old) }
     {
-        let seen = Seen {
+        let seen = Touched {
             label,
             rank,
             settled: false,
@@ -120,7 +120,7 @@ impl MarkList {
             return None;
         }
         let place = self.places[rank as usize] as usize;
-        self.seen[place - 1] = Seen {
+        self.seen[place - 1] = Touched {
             label: seen.label,
             rank,
             settled: true,
@@ -130,7 +130,7 @@ impl MarkList {
 }
 
 /// The node of a rank, if it was seen.
-fn seen_at(places: &[u32], seen: &[Seen], rank: u32) -> Option<Seen>
+fn seen_at(places: &[u32], seen: &[Touched], rank: u32) -> Option<Touched>
     requires { rank < length places.now }
     ensures { mark_in result ≡ mark_at seen.now (slice_index places.now rank) }
 {
@@ -142,7 +142,7 @@ fn seen_at(places: &[u32], seen: &[Seen], rank: u32) -> Option<Seen>
 }
 
 // Takes all nodes out of a list, and frees its memory.
-fn free(seen: &mut Vec<Seen>)
+fn free(seen: &mut Vec<Touched>)
     ensures none { seen.new.items ≡ [] }
     ensures room { vec_capacity seen.new ≡ 0 }
 {

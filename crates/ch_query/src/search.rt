@@ -206,7 +206,7 @@ impl<H: HierarchyRef> SearchOf<H> {
         ensures walk { IfOk result (λ found. IfSome found (λ f. IsLeastWalkBetween self.old starts.now ends.now f.start f.end f.links.items f.cost)) }
         ensures kept { self.new ≡ self.old }
     {
-        let limit = Cost::of_walk(LONGEST, 0);
+        let limit = Cost::of_walk(SUM_LIMIT, 0);
         self.least_walk(starts, ends, limit)
     }
 
@@ -223,7 +223,7 @@ impl<H: HierarchyRef> SearchOf<H> {
         ensures value { IfOk result (IsValueBetween self.old starts.now ends.now longest) }
         ensures kept { self.new ≡ self.old }
     {
-        let most = Cost::of_walk(LONGEST, 0);
+        let most = Cost::of_walk(SUM_LIMIT, 0);
         self.least_cost(starts, ends, most)
     }
 
@@ -253,7 +253,7 @@ impl<H: HierarchyRef> SearchOf<H> {
             bound,
         };
         let climbed = half.climb(&mut self.up, climbs);
-        self.up.give_back();
+        self.up.shrink();
         climbed
     }
 
@@ -294,8 +294,8 @@ impl<H: HierarchyRef> SearchOf<H> {
             bound,
         };
         let found = query.found(&mut self.up, &mut self.down);
-        self.up.give_back();
-        self.down.give_back();
+        self.up.shrink();
+        self.down.shrink();
         found
     }
 
@@ -321,14 +321,14 @@ impl<H: HierarchyRef> SearchOf<H> {
             bound,
         };
         let found = query.cost(&mut self.up, &mut self.down);
-        self.up.give_back();
-        self.down.give_back();
+        self.up.shrink();
+        self.down.shrink();
         found
     }
 }
 
 /// The greatest length that a start, a walk and an end may have together.
-const LONGEST: u64 = 1 << 62;
+const SUM_LIMIT: u64 = 1 << 62;
 
 /// A node as a start or an end that costs nothing.
 fn free(node: u32) -> Seed

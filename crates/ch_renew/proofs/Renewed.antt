@@ -15,7 +15,7 @@ use Rattle.hierfile.specs.Fault.{first_fault}
 use Rattle.hierfile.specs.Spelling.{bytes_of}
 use Rattle.hierfile.specs.declared.error.HierError.{HierError}
 use Rattle.outcomes.specs.Causes.{text_case, file_case, of_graph, of_hierarchy}
-use Rattle.outcomes.specs.Written.{told_both, IfTold, Writes, WritesFirst}
+use Rattle.outcomes.specs.Written.{both_known, IfBothKnown, Writes, WritesFirst}
 use Rattle.outcomes.specs.declared.cause.Cause.TheVariants as causes
 use Rattle.outcomes.specs.declared.cause.Input.TheVariants as inputs
 use Rattle.ch_renew.specs.Renewal.{HaveOtherNodes, RefusesRenewing, Renews}
@@ -48,21 +48,21 @@ module _ {g : Graph} {old : Hierarchy} (graph file : Option (List ℕ)) (read : 
   }
 
   -- its file was written
-  pub writes : {new : Hierarchy} (before after : Option (List ℕ)) → IsNew g old new → Appends before after (bytes_of new) → IfTold graph file (λ text bytes. Writes (Renews text bytes) before after)
-  writes {new} before after is given = told_both graph file read.reads read.spelled (λ text bytes reads spelled. (bytes_of new, renews is reads spelled, given))
+  pub writes : {new : Hierarchy} (before after : Option (List ℕ)) → IsNew g old new → Appends before after (bytes_of new) → IfBothKnown graph file (λ text bytes. Writes (Renews text bytes) before after)
+  writes {new} before after is given = both_known graph file read.reads read.spelled (λ text bytes reads spelled. (bytes_of new, renews is reads spelled, given))
 
   -- or its first bytes were
   pub breaks : {new : Hierarchy} (before after : Option (List ℕ)) (fault : WriteFault) → IsNew g old new → Took before after fault.written (bytes_of new) → RefusesRenewing graph file before after (causes.Write fault)
-  breaks {new} before after fault is took = told_both graph file read.reads read.spelled (λ text bytes reads spelled. (bytes_of new, renews is reads spelled, took.0, took.1))
+  breaks {new} before after fault is took = both_known graph file read.reads read.spelled (λ text bytes reads spelled. (bytes_of new, renews is reads spelled, took.0, took.1))
 
   -- there are other nodes
-  pub others : length old.ranks ≢ g.nodes → IfTold graph file HaveOtherNodes
-  others other = told_both graph file read.reads read.spelled (λ text bytes reads spelled. record { graph = g; old = old; graph_reads = reads; old_spells = record { made = read.made; spelled = spelled }; other = other })
+  pub others : length old.ranks ≢ g.nodes → IfBothKnown graph file HaveOtherNodes
+  others other = both_known graph file read.reads read.spelled (λ text bytes reads spelled. record { graph = g; old = old; graph_reads = reads; old_spells = record { made = read.made; spelled = spelled }; other = other })
 
 -- the file was refused
 pub file_refused : (e : HierError) (g : Graph) (graph file old new : Option (List ℕ)) → IfSome graph (λ text. graph_of text ≡ Ok g) → IsFaultOf first_fault file e → Keeps old new → RefusesRenewing graph file old new (of_hierarchy e)
 file_refused e g graph file old new reads fault keeps =
-    file_case e (RefusesRenewing graph file old new) keeps (inr refl, keeps) (λ own. (told_both graph file reads (own (IfSome file (λ bytes. first_fault bytes ≡ Some e)) fault) (λ text bytes is fault. (g, is, fault)), keeps))
+    file_case e (RefusesRenewing graph file old new) keeps (inr refl, keeps) (λ own. (both_known graph file reads (own (IfSome file (λ bytes. first_fault bytes ≡ Some e)) fault) (λ text bytes is fault. (g, is, fault)), keeps))
 
 -- the text was
 pub text_refused : (fault : GrError) (graph file old new : Option (List ℕ)) → IfSome graph (λ text. FromText fault.kind (graph_of text ≡ Err fault)) → Keeps old new → RefusesRenewing graph file old new (of_graph fault)

@@ -9,12 +9,12 @@
 //! ```rust
 //! let mut graph = b"p sp 2 1\na 1 2 9\n".as_slice();
 //! let mut new = Vec::new(alloc);
-//! assert!(rt; renew(alloc, &mut graph, &mut old, &mut new, &Unwatched) == Outcome::Done);
+//! assert!(rt; renew(alloc, &mut graph, &mut old, &mut new, &Unwatched) == Ending::Done);
 //! ```
 #![tactic(auto)]
 
 mod renewing;
 
 pub use ch_check::{Unwatched, Watch};
-pub use outcomes::{Cause, Outcome};
+pub use outcomes::{Cause, Ending};
 pub use renewing::renew;

@@ -25,7 +25,7 @@ use Rattle.text_lines.specs.Fields.{fields_of}
 use Rattle.text_lines.specs.Lines.{cut_after}
 use Rattle.ch_requests.specs.declared.request.Request.TheVariants.{Comment, Fault, Route, Length, LineTooLong}
 use Rattle.ch_requests.specs.Requests.{asked_by, letter_b, letter_d, letter_of, request_by, IsInRange, of_ends, of_pair, request_of, AreSides, are_ends, behind_colon, colon_at, ends_from, ends_of, is_of_places, place_then, places_of, IsPlace, place_in_range, place_of}
-use Rattle.ch_requests.specs.declared.places.Place.{Place}
+use Rattle.ch_requests.specs.declared.places.SeedText.{SeedText}
 use Rattle.ch_requests.specs.declared.places.Sides.{Sides}
 use Rattle.ch_requests.specs.declared.places.Ends.{Ends}
 use Rattle.ch_requests.specs.declared.request.Request.{Request}
@@ -100,7 +100,7 @@ sides_are fields sides behind_are starts ends some more =
 
 -- The places on both sides
 
-pub ends_fail : (nodes : ℕ) {fields : List (List ℕ)} {sides : Sides} {starts : List Place} {e : GrError} → AreSides fields sides → places_of nodes (sides.starts / 2) fields ≡ Ok starts → places_of nodes (sides.ends / 2) (behind_colon fields) ≡ Err e → ends_of nodes fields ≡ Err e
+pub ends_fail : (nodes : ℕ) {fields : List (List ℕ)} {sides : Sides} {starts : List SeedText} {e : GrError} → AreSides fields sides → places_of nodes (sides.starts / 2) fields ≡ Ok starts → places_of nodes (sides.ends / 2) (behind_colon fields) ≡ Err e → ends_of nodes fields ≡ Err e
 ends_fail nodes {fields} {starts} {e} are told more =
     let here : places_of nodes (colon_at fields / 2) fields ≡ Ok starts =
     sym (ap (λ (k : ℕ). places_of nodes (k / 2) fields) are.starts) ∙ told in
@@ -108,7 +108,7 @@ ends_fail nodes {fields} {starts} {e} are told more =
     sym (ap (λ (k : ℕ). places_of nodes (k / 2) (behind_colon fields)) are.ends) ∙ more in
     rw (are.are, here, there) refl
 
-pub ends_told : (nodes : ℕ) {fields : List (List ℕ)} {sides : Sides} {starts ends : List Place} → AreSides fields sides → places_of nodes (sides.starts / 2) fields ≡ Ok starts → places_of nodes (sides.ends / 2) (behind_colon fields) ≡ Ok ends → ends_of nodes fields ≡ Ok (ends_from starts ends)
+pub ends_told : (nodes : ℕ) {fields : List (List ℕ)} {sides : Sides} {starts ends : List SeedText} → AreSides fields sides → places_of nodes (sides.starts / 2) fields ≡ Ok starts → places_of nodes (sides.ends / 2) (behind_colon fields) ≡ Ok ends → ends_of nodes fields ≡ Ok (ends_from starts ends)
 ends_told nodes {fields} {starts} {ends} are told more =
     let here : places_of nodes (colon_at fields / 2) fields ≡ Ok starts =
     sym (ap (λ (k : ℕ). places_of nodes (k / 2) fields) are.starts) ∙ told in
@@ -117,23 +117,23 @@ ends_told nodes {fields} {starts} {ends} are told more =
     rw (are.are, here, there) refl
 
 -- one place more
-onto_places : (places : List Place) (place : Place) (r : Result (List Place) GrError) → (place_then place r >>= (λ more. Ok (places ++ more))) ≡ (r >>= (λ more. Ok ((places ++ place ∷ []) ++ more)))
-onto_places places place (Ok more) = ap (λ (all : List Place). Ok all) (sym (append_assoc places (place ∷ []) more))
+onto_places : (places : List SeedText) (place : SeedText) (r : Result (List SeedText) GrError) → (place_then place r >>= (λ more. Ok (places ++ more))) ≡ (r >>= (λ more. Ok ((places ++ place ∷ []) ++ more)))
+onto_places places place (Ok more) = ap (λ (all : List SeedText). Ok all) (sym (append_assoc places (place ∷ []) more))
 onto_places places place (Err e) = refl
 
-pub placed : (nodes count i : ℕ) {whole : Result (List Place) GrError} (old new : List (List ℕ)) (places : List Place) (place : Place) → i < count
+pub placed : (nodes count i : ℕ) {whole : Result (List SeedText) GrError} (old new : List (List ℕ)) (places : List SeedText) (place : SeedText) → i < count
     → whole ≡ (places_of nodes (count - i) old >>= (λ more. Ok (places ++ more)))
     → places_of nodes (suc (count - (i + 1))) old ≡ place_then place (places_of nodes (count - (i + 1)) new)
     → whole ≡ (places_of nodes (count - (i + 1)) new >>= (λ more. Ok ((places ++ place ∷ []) ++ more)))
 placed nodes count i old new places place h is step =
     let one : count - i ≡ suc (count - (i + 1)) = omega arith in
-    is ∙ ap (λ (r : Result (List Place) GrError). r >>= (λ more. Ok (places ++ more))) (ap (λ (k : ℕ). places_of nodes k old) one ∙ step) ∙ onto_places places place (places_of nodes (count - (i + 1)) new)
+    is ∙ ap (λ (r : Result (List SeedText) GrError). r >>= (λ more. Ok (places ++ more))) (ap (λ (k : ℕ). places_of nodes k old) one ∙ step) ∙ onto_places places place (places_of nodes (count - (i + 1)) new)
 
-pub placed_not : (nodes count i : ℕ) {whole : Result (List Place) GrError} (old : List (List ℕ)) (places : List Place) {e : GrError} → i < count
+pub placed_not : (nodes count i : ℕ) {whole : Result (List SeedText) GrError} (old : List (List ℕ)) (places : List SeedText) {e : GrError} → i < count
     → whole ≡ (places_of nodes (count - i) old >>= (λ more. Ok (places ++ more))) → places_of nodes (suc (count - (i + 1))) old ≡ Err e → whole ≡ Err e
 placed_not nodes count i old places h is step =
     let one : count - i ≡ suc (count - (i + 1)) = omega arith in
-    is ∙ ap (λ (r : Result (List Place) GrError). r >>= (λ more. Ok (places ++ more))) (ap (λ (k : ℕ). places_of nodes k old) one ∙ step)
+    is ∙ ap (λ (r : Result (List SeedText) GrError). r >>= (λ more. Ok (places ++ more))) (ap (λ (k : ℕ). places_of nodes k old) one ∙ step)
 
 -- Requested nodes exist.
 
@@ -155,7 +155,7 @@ test_ends : (nodes : ℕ) (b : Bool) (r s : Result Ends GrError) → IsInRange n
 test_ends nodes true r s h k = h
 test_ends nodes false r s h k = k
 
-ends_both : (nodes : ℕ) (a b : Result (List Place) GrError) → IfOk a (AllByRecursion (IsPlace nodes)) → IfOk b (AllByRecursion (IsPlace nodes)) → IsInRange nodes (of_ends (a >>= (λ starts. b >>= (λ ends. Ok (record { starts = record { items = starts }; ends = record { items = ends } })))))
+ends_both : (nodes : ℕ) (a b : Result (List SeedText) GrError) → IfOk a (AllByRecursion (IsPlace nodes)) → IfOk b (AllByRecursion (IsPlace nodes)) → IsInRange nodes (of_ends (a >>= (λ starts. b >>= (λ ends. Ok (record { starts = record { items = starts }; ends = record { items = ends } })))))
 ends_both nodes (Ok starts) (Ok ends) h k = (All-from_recursion (IsPlace nodes) starts h, All-from_recursion (IsPlace nodes) ends k)
 ends_both nodes (Ok starts) (Err e) h k = tt
 ends_both nodes (Err e) b h k = tt

@@ -26,10 +26,10 @@ use Rattle.hierfile.specs.Bytes.{OfBytes, IsFaultOf}
 use Rattle.hierfile.specs.Fault.{first_fault}
 use Rattle.hierfile.specs.Spelling.{bytes_of}
 use Rattle.hierfile.specs.declared.error.HierError.{HierError}
-use Rattle.outcomes.specs.Written.{told_then, IfTold, Writes}
+use Rattle.outcomes.specs.Written.{known_then, IfBothKnown, Writes}
 use Rattle.ch_requests.specs.Requests.{IsPlace, seed_of, seeds_of, IsInRange, RequestsAreInRange, request_of, requests_of}
-use Rattle.ch_requests.specs.declared.places.Place.{Place}
-use Rattle.ch_requests.specs.Reply.{IsBetweenTold, OrOutOfMemory, Told, AreReplies, Gets, IsReply, by_hierarchy, over, nothing, one_more, ready}
+use Rattle.ch_requests.specs.declared.places.SeedText.{SeedText}
+use Rattle.ch_requests.specs.Reply.{IsBetweenLine, OrOutOfMemory, AnswerRules, AreReplies, Gets, IsReply, by_hierarchy, over, nothing, one_more, ready}
 use Rattle.ch_requests.specs.declared.request.Request.{Request}
 use Rattle.ch_requests.specs.declared.request.Request.TheVariants as asks
 use Rattle.ch_requests.specs.Serving.{ServicesAre, AreServed, Serves, ServesOver}
@@ -37,20 +37,20 @@ use Rattle.ch_requests.specs.Serving.{ServicesAre, AreServed, Serves, ServesOver
 -- Places of a request as starts and ends of a query, and what is said of the route between them.
 
 -- places of a hierarchy are starts or ends of it
-pub are_seeds : (h : Hierarchy) (places : List Place) → All (IsPlace (length h.ranks)) places → AreSeeds h (seeds_of places)
+pub are_seeds : (h : Hierarchy) (places : List SeedText) → All (IsPlace (length h.ranks)) places → AreSeeds h (seeds_of places)
 are_seeds h [] all = seeds-none h
 are_seeds h (p ∷ ps) all =
     let first = All-head (IsPlace (length h.ranks)) p ps all in
     seeds-cons h (seed_of p) (seeds_of ps) (seed-arc h p.node p.weight first.0 first.1) (are_seeds h ps (All-tail (IsPlace (length h.ranks)) p ps all))
 
-pub seeds_as : (h : Hierarchy) (places : List Place) {seeds : List Seed} → All (IsPlace (length h.ranks)) places → seeds ≡ seeds_of places → AreSeeds h seeds
+pub seeds_as : (h : Hierarchy) (places : List SeedText) {seeds : List Seed} → All (IsPlace (length h.ranks)) places → seeds ≡ seeds_of places → AreSeeds h seeds
 seeds_as h places all is = subst (AreSeeds h) (sym is) (are_seeds h places all)
 
 -- where seeds are given by an equation
-pub told_as : {W : Type 0} {step : W → W → Result ℕ Error → Type 0} {contents : W → Option (List ℕ)} {told : Told} {starts ends more others : List Seed} {x y : Gathered} {a b : W} → starts ≡ more → ends ≡ others
-    → PutsSome step contents (OrOutOfMemory ⊤ (IsBetweenTold told starts ends)) x y a b → PutsSome step contents (OrOutOfMemory ⊤ (IsBetweenTold told more others)) x y a b
+pub told_as : {W : Type 0} {step : W → W → Result ℕ Error → Type 0} {contents : W → Option (List ℕ)} {told : AnswerRules} {starts ends more others : List Seed} {x y : Gathered} {a b : W} → starts ≡ more → ends ≡ others
+    → PutsSome step contents (OrOutOfMemory ⊤ (IsBetweenLine told starts ends)) x y a b → PutsSome step contents (OrOutOfMemory ⊤ (IsBetweenLine told more others)) x y a b
 told_as {step = step} {contents} {told} {starts} {ends} {more} {others} {x} {y} {a} {b} first last h =
-    subst (λ (ls : List Seed). PutsSome step contents (OrOutOfMemory ⊤ (IsBetweenTold told more ls)) x y a b) last (subst (λ (ls : List Seed). PutsSome step contents (OrOutOfMemory ⊤ (IsBetweenTold told ls ends)) x y a b) first h)
+    subst (λ (ls : List Seed). PutsSome step contents (OrOutOfMemory ⊤ (IsBetweenLine told more ls)) x y a b) last (subst (λ (ls : List Seed). PutsSome step contents (OrOutOfMemory ⊤ (IsBetweenLine told ls ends)) x y a b) first h)
 
 -- Replies by a hierarchy that is right for a graph are replies over that graph.
 
@@ -64,10 +64,10 @@ pub record AnswersAs (IsRoute : Graph → ℕ → ℕ → Option Route → Type 
   pub short_between : (starts ends : List Seed) → AreSeeds h starts → AreSeeds h ends → HasTooLongBetween h starts ends → ⊥
 
 module _ {IsRoute : Graph → ℕ → ℕ → Option Route → Type 0} {g : Graph} {h : Hierarchy} (as_graph : AnswersAs IsRoute g h) where
-  places_in : (places : List Place) → All (IsPlace g.nodes) places → AreSeeds h (seeds_of places)
+  places_in : (places : List SeedText) → All (IsPlace g.nodes) places → AreSeeds h (seeds_of places)
   places_in places within = are_seeds h places (subst (λ (n : ℕ). All (IsPlace n) places) (sym as_graph.nodes) within)
 
-  between_over : (starts ends : List Seed) (reply : List ℕ) → AreSeeds h starts → AreSeeds h ends → IsBetweenTold (by_hierarchy h) starts ends reply → IsBetweenTold (over IsRoute g) starts ends reply
+  between_over : (starts ends : List Seed) (reply : List ℕ) → AreSeeds h starts → AreSeeds h ends → IsBetweenLine (by_hierarchy h) starts ends reply → IsBetweenLine (over IsRoute g) starts ends reply
   between_over starts ends reply begins stops (inl w) =
       inl (record { route = w.route; best = as_graph.between starts ends (Some w.route) begins stops w.best; start = w.start; stop = w.stop; begins = w.begins; stops = w.stops; tells = w.tells })
   between_over starts ends reply begins stops (inr (inl none)) = inr (inl (as_graph.between starts ends None begins stops none.0, none.1))
@@ -163,16 +163,16 @@ spelled hier h made is = IfSome_then hier is (λ bytes same. record { made = mad
 
 pub serves_told : {E : Type 0} (r : Result ⊤ E) (hier requests old new : Option (List ℕ)) (h : Hierarchy) → IfSome hier (λ bytes. Spells bytes h)
     → OnOk r (IfSome requests (λ text. Writes (AreServed (ready h) (by_hierarchy h) (requests_of (length h.ranks) text)) old new))
-    → OnOk r (IfTold hier requests (λ bytes text. Writes (Serves bytes text) old new))
+    → OnOk r (IfBothKnown hier requests (λ bytes text. Writes (Serves bytes text) old new))
 serves_told (Err e) hier requests old new h spells w = tt
 serves_told (Ok x) hier requests old new h spells w =
     IfSome_then hier spells (λ bytes is. IfSome_then requests w (λ text served. (served.0, record { hierarchy = h; spells = is; served = served.1 }, served.2)))
 
-pub serves_over : {Is : Graph → ℕ → ℕ → Option Route → Type 0} {E : Type 0} (v : Version) (r : Result ⊤ E) (hier requests old new : Option (List ℕ)) → ServicesAre Is v → OnOk r (IfTold hier requests (λ bytes text. Writes (Serves bytes text) old new))
-    → OnOk r (IfTold hier requests (λ bytes text. (graph_text : List ℕ) → PreparesIn v graph_text bytes → Writes (ServesOver Is graph_text text) old new))
+pub serves_over : {Is : Graph → ℕ → ℕ → Option Route → Type 0} {E : Type 0} (v : Version) (r : Result ⊤ E) (hier requests old new : Option (List ℕ)) → ServicesAre Is v → OnOk r (IfBothKnown hier requests (λ bytes text. Writes (Serves bytes text) old new))
+    → OnOk r (IfBothKnown hier requests (λ bytes text. (graph_text : List ℕ) → PreparesIn v graph_text bytes → Writes (ServesOver Is graph_text text) old new))
 serves_over v (Err e) hier requests old new are w = tt
 serves_over v (Ok x) hier requests old new are w =
-    told_then hier requests w (λ bytes text served graph_text p. (served.0, are graph_text bytes text served.0 p served.1, served.2))
+    known_then hier requests w (λ bytes text served graph_text p. (served.0, are graph_text bytes text served.0 p served.1, served.2))
 
 pub file_fault : (hier : Option (List ℕ)) (e : HierError) → IsFaultOf first_fault hier e → IfSome hier (λ bytes. OfBytes e (first_fault bytes ≡ Some e))
 file_fault None e fault = tt

@@ -15,7 +15,7 @@ use Rattle.grfile.specs.Letters.{letter_c, letter_q}
 use Rattle.grfile.specs.Pairs.{pair_of}
 use Rattle.grfile.specs.Reading.{IsPair}
 use Rattle.ch_requests.specs.declared.places.Ends.{Ends}
-use Rattle.ch_requests.specs.declared.places.Place.{Place}
+use Rattle.ch_requests.specs.declared.places.SeedText.{SeedText}
 use Rattle.ch_requests.specs.declared.places.Sides.{Sides}
 use Rattle.ch_requests.specs.declared.request.Request.{Request}
 use Rattle.ch_requests.specs.declared.request.Request.TheVariants.{Comment, Route, Length, Between, Fault, LineTooLong}
@@ -23,17 +23,17 @@ use Rattle.ch_requests.specs.declared.request.Request.TheVariants.{Comment, Rout
 -- Where a way may start and where it may end, as the fields of a line name it.
 
 -- a place: a node and the length that is added there
-abbrev pub place_in_range : ℕ → ℕ → ℕ → Result Place GrError
+abbrev pub place_in_range : ℕ → ℕ → ℕ → Result SeedText GrError
 place_in_range nodes node weight =
     if is_outside nodes node then fault NodeRange 0
     else if nat_lt (2 ^ 32 - 1) weight then fault WeightTooBig 0
     else Ok (record { node = node - 1; weight = weight })
 
-abbrev pub place_of : ℕ → List ℕ → List ℕ → Result Place GrError
+abbrev pub place_of : ℕ → List ℕ → List ℕ → Result SeedText GrError
 place_of nodes s c = number_in 0 s >>= (λ node. number_in 0 c >>= (λ weight. place_in_range nodes node weight))
 
 -- this many places, which are at the front of these fields, two fields each
-abbrev pub places_of : ℕ → ℕ → List (List ℕ) → Result (List Place) GrError
+abbrev pub places_of : ℕ → ℕ → List (List ℕ) → Result (List SeedText) GrError
 places_of nodes zero fields = Ok []
 places_of nodes (suc n) (s ∷ c ∷ more) = place_of nodes s c >>= (λ place. places_of nodes n more >>= (λ places. Ok (place ∷ places)))
 places_of nodes (suc n) fields = fault FieldCount 0
@@ -55,7 +55,7 @@ is_of_places n = n % 2 == 0 && nat_le 2 n && nat_le n 16
 abbrev pub are_ends : List (List ℕ) → Bool
 are_ends fields = is_of_places (colon_at fields) && is_of_places (length (behind_colon fields))
 
-abbrev pub ends_from : List Place → List Place → Ends
+abbrev pub ends_from : List SeedText → List SeedText → Ends
 ends_from starts ends = record { starts = record { items = starts }; ends = record { items = ends } }
 
 -- the fields after the b: where a way may start, a colon, and where it may end
@@ -71,20 +71,20 @@ pub record AreSides (fields : List (List ℕ)) (sides : Sides) : Type 0 where
   pub ends : sides.ends ≡ length (behind_colon fields)
 
 -- a place, and those behind it
-abbrev pub place_then : Place → Result (List Place) GrError → Result (List Place) GrError
+abbrev pub place_then : SeedText → Result (List SeedText) GrError → Result (List SeedText) GrError
 place_then place told = told >>= (λ places. Ok (place ∷ places))
 
 -- one of this many nodes, and a length as a text has it
-abbrev pub IsPlace : ℕ → Place → Type 0
+abbrev pub IsPlace : ℕ → SeedText → Type 0
 IsPlace nodes place = (place.node < nodes) × (place.weight < 2 ^ 32)
 
 -- Places of a request as starts and ends of a query.
 
 -- the node of the place, with the length that is added there
-abbrev pub seed_of : Place → Seed
+abbrev pub seed_of : SeedText → Seed
 seed_of place = record { node = place.node; cost = of_weight place.weight }
 
-abbrev pub seeds_of : List Place → List Seed
+abbrev pub seeds_of : List SeedText → List Seed
 seeds_of places = map seed_of places
 
 -- Requests of a service, one on each line, and how a text of them is read.

@@ -23,14 +23,14 @@ use Rattle.ch_requests.specs.Requests.{requests_of, requests_with}
 use Rattle.ch_requests.specs.declared.request.Request.{Request}
 use Rattle.ch_requests.specs.declared.error.ServeError.{ServeError}
 use Rattle.ch_requests.specs.declared.error.ServeError.TheVariants as stops
-use Rattle.ch_requests.specs.Reply.{AreReplies, Told, by_hierarchy, over, ready}
+use Rattle.ch_requests.specs.Reply.{AreReplies, AnswerRules, by_hierarchy, over, ready}
 use Rattle.ch_requests.specs.declared.sending.Output.{Output}
 use Rattle.ch_requests.specs.declared.session.Session.{Session}
 
 -- Replies to all requests of a text, by the file of a hierarchy.
 
 -- the text begins so, and then it is one reply to each of these requests, in order
-pub record AreServed (front : List ℕ) (told : Told) (requests : List Request) (text : List ℕ) : Type 0 where
+pub record AreServed (front : List ℕ) (told : AnswerRules) (requests : List Request) (text : List ℕ) : Type 0 where
   pub replies : List ℕ
   pub are : AreReplies told requests replies
   pub whole : text ≡ front ++ replies
@@ -124,7 +124,7 @@ ServicesAreExactByWeight = ServicesAre IsLeastWalk One
 -- those of the reader of the requests.
 
 -- The text has a reply to as many requests as lines have ended: the first of those that were to come, whatever bytes follow.
-pub record Replies (told : Told) (ended : ℕ) (before after : List ℕ → List Request) (text : List ℕ) : Type 0 where
+pub record Replies (told : AnswerRules) (ended : ℕ) (before after : List ℕ → List Request) (text : List ℕ) : Type 0 where
   pub asked : List Request
   pub cuts : (more : List ℕ) → before more ≡ asked ++ after more
   pub many : length asked ≡ ended

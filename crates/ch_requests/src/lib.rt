@@ -31,7 +31,7 @@ mod session;
 
 pub use error::ServeError;
 pub use laws::{requests_are_in_range, services_are_exact};
-pub use places::{Ends, Place};
+pub use places::{Ends, SeedText};
 pub use reader::{Asked, RequestReader};
 pub use request::Request;
 pub use serving::{serve, serve_by};

@@ -11,7 +11,7 @@ const MOST_FIELDS: usize = 16;
 
 /// Where a way may start or end: a node, and a length that is added to the way's.
 #[derive(Clone, Copy, Default)]
-pub struct Place {
+pub struct SeedText {
     /// The node, numbered from 0.
     pub node: u32,
     /// The length, in the unit of the weights.
@@ -22,9 +22,9 @@ pub struct Place {
 #[derive(Drop)]
 pub struct Ends {
     /// Where it may start.
-    pub starts: ArrayVec<Place, 8>,
+    pub starts: ArrayVec<SeedText, 8>,
     /// Where it may end.
-    pub ends: ArrayVec<Place, 8>,
+    pub ends: ArrayVec<SeedText, 8>,
 }
 
 // How many fields the places on each side of the colon have.
@@ -117,7 +117,7 @@ fn places_of(
     nodes: u32,
     count: usize,
     mut fields: Fields<'_>,
-) -> Result<ArrayVec<Place, 8>, GrError>
+) -> Result<ArrayVec<SeedText, 8>, GrError>
     requires { count ≤ 8 }
     ensures { MatchResult result (λ places. places_of nodes count fields.entry ≡ Ok places.items) (λ e. places_of nodes count fields.entry ≡ Err e) }
 {
@@ -130,7 +130,7 @@ fn places_of(
 }
 
 // The place at the front of the fields.
-fn next_place(nodes: u32, fields: &mut Fields<'_>) -> Result<Place, GrError>
+fn next_place(nodes: u32, fields: &mut Fields<'_>) -> Result<SeedText, GrError>
     ensures { (n : ℕ) → MatchResult result
         (λ place. places_of nodes (suc n) fields.old ≡ place_then place (places_of nodes n fields.new))
         (λ e. places_of nodes (suc n) fields.old ≡ Err e) }
@@ -145,7 +145,7 @@ fn next_place(nodes: u32, fields: &mut Fields<'_>) -> Result<Place, GrError>
 }
 
 // The place that two fields name.
-fn place_of(nodes: u32, node: &[u8], weight: &[u8]) -> Result<Place, GrError>
+fn place_of(nodes: u32, node: &[u8], weight: &[u8]) -> Result<SeedText, GrError>
     ensures { result ≡ place_of nodes node.now weight.now }
 {
     let node = number_in(0, node)?;
@@ -153,7 +153,7 @@ fn place_of(nodes: u32, node: &[u8], weight: &[u8]) -> Result<Place, GrError>
     place_in_range(nodes, node, weight)
 }
 
-fn place_in_range(nodes: u32, node: u64, weight: u64) -> Result<Place, GrError>
+fn place_in_range(nodes: u32, node: u64, weight: u64) -> Result<SeedText, GrError>
     ensures { result ≡ place_in_range nodes node weight }
 {
     if node == 0 || node > u64::from(nodes) {
@@ -162,7 +162,7 @@ fn place_in_range(nodes: u32, node: u64, weight: u64) -> Result<Place, GrError>
     if weight > u64::from(u32::MAX) {
         return Err(GrErrorKind::WeightTooBig.at(0));
     }
-    Ok(Place {
+    Ok(SeedText {
         node: (node - 1) as u32,
         weight: weight as u32,
     })

@@ -4,7 +4,7 @@ ghost use Rattle.grfile.specs.Reading.{IsPair};
 ghost use Rattle.ch_query.specs.Seeds.{AreSeeds};
 ghost use Rattle.ch_requests.specs.Requests.{IsInRange};
 ghost use Rattle.ch_requests.specs.declared.request.Request.TheVariants as asks;
-ghost use Rattle.ch_requests.specs.Reply.{IsBetweenTold, IsReply, OrOutOfMemory, by_hierarchy};
+ghost use Rattle.ch_requests.specs.Reply.{IsBetweenLine, IsReply, OrOutOfMemory, by_hierarchy};
 
 use crate::line::{put_length, put_refusal, put_way};
 use crate::places::Ends;
@@ -92,7 +92,7 @@ fn put_least<W: StepWrite>(
 )
     requires starts { AreSeeds router.old starts.now }
     requires ends { AreSeeds router.old ends.now }
-    ensures replies { PutsSome W.step W.contents (OrOutOfMemory ⊤ (IsBetweenTold (by_hierarchy router.old) starts.now ends.now)) sink.old sink.new out.old out.new }
+    ensures replies { PutsSome W.step W.contents (OrOutOfMemory ⊤ (IsBetweenLine (by_hierarchy router.old) starts.now ends.now)) sink.old sink.new out.old out.new }
     ensures kept { router.new ≡ router.old }
 {
     match router.between(starts, ends) {

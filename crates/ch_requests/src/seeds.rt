@@ -1,7 +1,7 @@
 ghost use Rattle.std.specs.Prelude.{◌≡◌, ◌≤◌, take, length};
 ghost use Rattle.ch_requests.specs.Requests.{seed_of, seeds_of};
 
-use crate::places::Place;
+use crate::places::SeedText;
 use ch_cost::Cost;
 use ch_route::Seed;
 
@@ -9,7 +9,7 @@ use ch_route::Seed;
 pub(crate) const MOST_PLACES: usize = 8;
 
 /// The places as starts or ends of a query, first in the array. What follows them means nothing.
-pub(crate) fn seeds_of(places: &[Place]) -> [Seed; MOST_PLACES]
+pub(crate) fn seeds_of(places: &[SeedText]) -> [Seed; MOST_PLACES]
     requires few { length places.now ≤ 8 }
     ensures { take (length places.now) result ≡ seeds_of places.now }
 {
@@ -25,7 +25,7 @@ pub(crate) fn seeds_of(places: &[Place]) -> [Seed; MOST_PLACES]
 }
 
 // The place as a start or an end.
-fn seed_of(place: Place) -> Seed
+fn seed_of(place: SeedText) -> Seed
     ensures { result ≡ seed_of place }
 {
     Seed {

@@ -6,7 +6,7 @@ ghost use Rattle.ch_route.specs.Routes.{IsLeastWalk};
 ghost use Rattle.ch_graph.specs.declared.version.Version.TheVariants.{One, Two};
 ghost use Rattle.ch_answer.specs.File.{PreparesIn};
 ghost use Rattle.ch_requests.specs.Sending.{IsSentWithin};
-ghost use Rattle.outcomes.specs.Written.{IfTold, Writes};
+ghost use Rattle.outcomes.specs.Written.{IfBothKnown, Writes};
 ghost use Rattle.hierfile.specs.declared.error.HierError.TheVariants as faults;
 ghost use Rattle.ch_requests.specs.Requests.{requests_of};
 ghost use Rattle.ch_requests.specs.declared.error.ServeError.TheVariants as stop;
@@ -38,13 +38,13 @@ pub fn serve<H: StepRead, Q: StepRead, W: StepFlush>(
     requests: &mut Q,
     out: &mut W,
 ) -> Result<(), ServeError>
-    ensures serves { OnOk result (IfTold (H.remaining hier.old) (Q.remaining requests.old)
+    ensures serves { OnOk result (IfBothKnown (H.remaining hier.old) (Q.remaining requests.old)
         (λ bytes text. Writes (Serves bytes text) (W.contents out.old) (W.contents out.new))) }
 
     // Where the bytes were prepared from the text of a graph.
-    ensures fewest { OnOk result (IfTold (H.remaining hier.old) (Q.remaining requests.old)
+    ensures fewest { OnOk result (IfBothKnown (H.remaining hier.old) (Q.remaining requests.old)
         (λ bytes text. (graph_text : List ℕ) → PreparesIn Two graph_text bytes → Writes (ServesOver IsBestRoute graph_text text) (W.contents out.old) (W.contents out.new))) }
-    ensures by_weight { OnOk result (IfTold (H.remaining hier.old) (Q.remaining requests.old)
+    ensures by_weight { OnOk result (IfBothKnown (H.remaining hier.old) (Q.remaining requests.old)
         (λ bytes text. (graph_text : List ℕ) → PreparesIn One graph_text bytes → Writes (ServesOver IsLeastWalk graph_text text) (W.contents out.old) (W.contents out.new))) }
 
     // Where it ends with an error.

@@ -89,8 +89,8 @@ length_between : (start stop : Seed) (way : Cost) → length_of (cost_between st
 length_between start stop way = omega (arith, length_of-sum (start.cost ⊕ way) stop.cost, length_of-sum start.cost way)
 
 -- a walk of one bound is one of any other that isn't shorter than it
-shortened : {h : Hierarchy} {starts ends : List Seed} {bound c : Cost} (other : Cost) → length_of c ≤ length_of other → HasWalkBetween h starts ends bound c → HasWalkBetween h starts ends other c
-shortened {c = c} other short walk = record {
+walk_between-within : {h : Hierarchy} {starts ends : List Seed} {bound c : Cost} (other : Cost) → length_of c ≤ length_of other → HasWalkBetween h starts ends bound c → HasWalkBetween h starts ends other c
+walk_between-within {c = c} other short walk = record {
   start = walk.start;
   stop = walk.stop;
   begins = walk.begins;
@@ -215,16 +215,16 @@ module _ (g : Graph) (h : Hierarchy) (right : IsRightByWeight g h) where
       | inl above ↦ above
       | inr low ↦ absurd (no_pair pair.start pair.stop pair.begins pair.stops pair.way pair.walk (λ e between no_longer.
           let sum = pair.sum in
-          none (cost_between pair.start e pair.stop) (shortened (of_walk limit 0) (omega (arith, low, sum, no_longer, length_between pair.start pair.stop e, length_of-of_walk limit 0)) between)))
+          none (cost_between pair.start e pair.stop) (walk_between-within (of_walk limit 0) (omega (arith, low, sum, no_longer, length_between pair.start pair.stop e, length_of-of_walk limit 0)) between)))
     ]
     least_within limit most (Some c) least =
         let no_longer = lengths-from_no_longer c (of_walk limit 0) least.0.short in
         let within : length_of c ≤ limit = omega (arith, no_longer, length_of-of_walk limit 0) in (
           least_length (Some c) (
-            shortened longest (omega (arith, within, most, length_of-of_walk (2 ^ 62) 0)) least.0,
+            walk_between-within longest (omega (arith, within, most, length_of-of_walk (2 ^ 62) 0)) least.0,
             λ d other. elim (cases_lt limit (length_of d)) [
               | inl far ↦ at_most-from_below (below-from_lengths c d (omega (arith, within, far)))
-              | inr near ↦ least.1 d (shortened (of_walk limit 0) (omega (arith, near, length_of-of_walk limit 0)) other)
+              | inr near ↦ least.1 d (walk_between-within (of_walk limit 0) (omega (arith, near, length_of-of_walk limit 0)) other)
             ],
           ),
           within,

@@ -18,7 +18,7 @@
 //! ```rust
 //! let (mut pen, mut reader) = open::<B, R>(rt, alloc, blank, rows)?;
 //! let version = pen.write(rt, 1, row)?;
-//! pen.tell(&mut reader);
+//! pen.synchronise(&mut reader);
 //! assert!(rt; reader.read(1)?.version == version);
 //! ```
 #![tactic(auto)]

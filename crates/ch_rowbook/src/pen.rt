@@ -159,13 +159,13 @@ impl<B: Book> Pen<B> {
     /// Gives a reader of the book all current versions, which become its front: what it reads next isn't older.
     ///
     /// Takes no memory, and doesn't wait.
-    pub fn tell(&mut self, reader: &mut Reader<B>)
+    pub fn synchronise(&mut self, reader: &mut Reader<B>)
         ensures same { self.new ≡ self.old }
         ensures front { (x : ℕ) → x < B.book.nodes → slice_index reader.new x ≡ slice_index self.old.versions x }
         ensures risen { IsBelow reader.old reader.new }
     {
         let front = self.shelf.part(&mut reader.seat);
-        self.shelf.hear(&mut self.seat, front);
+        self.shelf.join_reader(&mut self.seat, front);
         let current = self.shelf.part_of_pen(&mut self.seat);
         self.shelf.meet(&mut reader.seat, current);
     }

@@ -95,7 +95,7 @@ impl<B: Book> Shelf<B> {
     }
 
     /// Joins a reader's seat into the pen's: its front is nowhere above the words, as a load shows the pen.
-    pub(crate) fn hear(&self, seat: &mut Seat<(), KnownWords>, other: Seat<(), KnownWords>)
+    pub(crate) fn join_reader(&self, seat: &mut Seat<(), KnownWords>, other: Seat<(), KnownWords>)
         requires seat { IsPenSeat B.book seat.old }
         requires other { IsReaderSeat B.book other }
         ensures seat { IsPenSeat B.book seat.new }

@@ -31,9 +31,9 @@ use Rattle.hierfile.specs.declared.error.HierError.{HierError}
 use Rattle.hierfile.specs.Laws.{HierarchiesHaveOneSpelling, SpellingsHaveNoFault}
 use Rattle.hierfile.specs.declared.error.HierError.TheVariants as files
 use Rattle.hierfile.specs.Spelling.{bytes_of}
-use Rattle.outcomes.specs.Written.{told_both}
+use Rattle.outcomes.specs.Written.{both_known}
 use Rattle.ch_service.specs.Answer.{Route, IsAnswer, AreAnswers, line_of, nothing, one_more, IsRouteBy, Routed, StopsAtTooLong, HasTooLong, IsLeastWalk, AnswersBy, AnswersFirst, Spells, IsRightIn, Routes, RoutesFirst, RoutesToTooLong, PreparesIn, Prepares, RoutesAre, FirstRoutesAreExact}
-use Rattle.ch_service.specs.Outcome.{Writes, StopsShort, IsPairFault, AreTexts, IfTold, StopsAnswering, IsGraphText, StopsInMemory, WritesFirst, StopsRouting}
+use Rattle.ch_service.specs.Outcome.{Writes, StopsShort, IsPairFault, AreTexts, IfBothKnown, StopsAnswering, IsGraphText, StopsInMemory, WritesFirst, StopsRouting}
 use Rattle.ch_service.specs.Progress.{PutsPairs}
 use Rattle.ch_service.specs.declared.error.ServiceError.{ServiceError}
 use Rattle.ch_service.specs.declared.error.ServiceError.TheVariants.{Graph as GraphFault, Queries, Hierarchy as HierarchyFault, Build, Unpack, Write, OutOfMemory}
@@ -205,8 +205,8 @@ too_long-spelled {h} {pairs} pairs_text spells read stops = record {
 -- a refusal while pairs are answered comes only where both texts were read
 
 module _ (h : Hierarchy) (pairs : List (ℕ × ℕ)) (hier queries left old new : Option (List ℕ)) (spells : IfSome hier (λ bytes. Spells bytes h)) (read : IfSome queries (λ text. pairs_of (length h.ranks) text ≡ Ok pairs)) where
-  where_read : (R : List ℕ → List ℕ → Type 0) → ((bytes text : List ℕ) → Spells bytes h → pairs_of (length h.ranks) text ≡ Ok pairs → R bytes text) → IfTold hier queries R
-  where_read R f = told_both hier queries spells read f
+  where_read : (R : List ℕ → List ℕ → Type 0) → ((bytes text : List ℕ) → Spells bytes h → pairs_of (length h.ranks) text ≡ Ok pairs → R bytes text) → IfBothKnown hier queries R
+  where_read R f = both_known hier queries spells read f
 
   stopped : (e : ServiceError) → StopsShort (λ text. (count : ℕ) × Routed h (take count pairs) text) (StopsAtTooLong h pairs) old new e → StopsRouting hier queries left old new e
   stopped (Unpack unpacking.OutOfMemory) s = where_read _ (λ bytes text are reads. (s.0, first-spelled text s.0 are reads s.1, s.2))
@@ -221,19 +221,19 @@ module _ (h : Hierarchy) (pairs : List (ℕ × ℕ)) (hier queries left old new 
 
 -- routes by a hierarchy whose file is known of the reader
 pub routes-told : (h : Hierarchy) (pairs : List (ℕ × ℕ)) (hier queries old new : Option (List ℕ)) (r : Result ⊤ ServiceError) → IfSome hier (λ bytes. Spells bytes h) → IfSome queries (λ text. pairs_of (length h.ranks) text ≡ Ok pairs)
-    → OnOk r (Writes (Routed h pairs) old new) → OnOk r (IfTold hier queries (λ bytes pairs_text. Writes (Routes bytes pairs_text) old new))
+    → OnOk r (Writes (Routed h pairs) old new) → OnOk r (IfBothKnown hier queries (λ bytes pairs_text. Writes (Routes bytes pairs_text) old new))
 routes-told h pairs hier queries old new (Err e) spells read w = tt
 routes-told h pairs hier queries old new (Ok x) spells read w =
-    told_both hier queries spells read (λ bytes pairs_text are reads. (w.0, record { hierarchy = h; pairs = pairs; spells = are; pairs_read = reads; routed = w.1 }, w.2))
+    both_known hier queries spells read (λ bytes pairs_text are reads. (w.0, record { hierarchy = h; pairs = pairs; spells = are; pairs_read = reads; routed = w.1 }, w.2))
 
 -- answers by a hierarchy that is right for the graph whose text is known of the reader
 pub answers-told : {Is : Graph → ℕ → ℕ → Option Route → Type 0} → RightRoutesAre Two Is → {g : Graph} {h : Hierarchy} (pairs : List (ℕ × ℕ)) (gr queries old new : Option (List ℕ)) (r : Result ⊤ ServiceError)
     → IfSome gr (λ text. graph_of text ≡ Ok g) → IfSome queries (λ text. pairs_of g.nodes text ≡ Ok pairs)
-    → IsGraph g → IsRight g h → All (IsPair g.nodes) pairs → OnOk r (Writes (Routed h pairs) old new) → OnOk r (IfTold gr queries (λ graph_text pairs_text. Writes (AnswersBy Is graph_text pairs_text) old new))
+    → IsGraph g → IsRight g h → All (IsPair g.nodes) pairs → OnOk r (Writes (Routed h pairs) old new) → OnOk r (IfBothKnown gr queries (λ graph_text pairs_text. Writes (AnswersBy Is graph_text pairs_text) old new))
 answers-told are pairs gr queries old new (Err e) reads read graph right within w = tt
 answers-told are {g} {h} pairs gr queries old new (Ok x) reads read graph right within w =
     let answered = right-routes Two are g h pairs w.0 graph right within w.1 in
-    told_both gr queries reads read (λ text pairs_text is are. (w.0, record { graph = g; pairs = pairs; graph_reads = is; pairs_read = are; answered = answered }, w.2))
+    both_known gr queries reads read (λ text pairs_text is are. (w.0, record { graph = g; pairs = pairs; graph_reads = is; pairs_read = are; answered = answered }, w.2))
 
 first-answered : RoutesAreFewest → {g : Graph} {h : Hierarchy} {pairs : List (ℕ × ℕ)} (graph_text pairs_text text : List ℕ) → graph_of graph_text ≡ Ok g → pairs_of g.nodes pairs_text ≡ Ok pairs → IsGraph g → IsRight g h → All (IsPair g.nodes) pairs
     → ((count : ℕ) × Routed h (take count pairs) text) → AnswersFirst graph_text pairs_text text
@@ -250,15 +250,15 @@ first-answered law {g} {h} {pairs} graph_text pairs_text text reads read graph r
 module _ (g : Graph) (gr queries : Option (List ℕ)) (reads : IfSome gr (λ text. graph_of text ≡ Ok g)) where
   -- and the second refused
   pub pairs_refused : (fault : GrError) → IfSome queries (λ text. FromText fault.kind (pairs_of g.nodes text ≡ Err fault))
-      → IfTold gr queries (λ graph_text text. (k : Graph) × (graph_of graph_text ≡ Ok k) × FromText fault.kind (pairs_of k.nodes text ≡ Err fault))
-  pairs_refused fault wrong = told_both gr queries reads wrong (λ graph_text text is not. (g, is, not))
+      → IfBothKnown gr queries (λ graph_text text. (k : Graph) × (graph_of graph_text ≡ Ok k) × FromText fault.kind (pairs_of k.nodes text ≡ Err fault))
+  pairs_refused fault wrong = both_known gr queries reads wrong (λ graph_text text is not. (g, is, not))
 
   -- or read too
   module _ (pairs : List (ℕ × ℕ)) (read : IfSome queries (λ text. pairs_of g.nodes text ≡ Ok pairs)) where
-    known : (R : List ℕ → List ℕ → Type 0) → ((graph_text text : List ℕ) → graph_of graph_text ≡ Ok g → pairs_of g.nodes text ≡ Ok pairs → R graph_text text) → IfTold gr queries R
-    known R f = told_both gr queries reads read f
+    known : (R : List ℕ → List ℕ → Type 0) → ((graph_text text : List ℕ) → graph_of graph_text ≡ Ok g → pairs_of g.nodes text ≡ Ok pairs → R graph_text text) → IfBothKnown gr queries R
+    known R f = both_known gr queries reads read f
 
-    pub both_read : IfTold gr queries AreTexts
+    pub both_read : IfBothKnown gr queries AreTexts
     both_read = known AreTexts (λ graph_text text is are. (g, is, (pairs, are)))
 
     -- and a refusal came behind the build
@@ -293,8 +293,8 @@ queries-refused h hier queries left old new (Err fault) {told = Ok v} r spells r
 queries-refused h hier queries left old new (Err fault) {told = Err t} (Ok x) spells reads reached keeps cases was is = tt
 queries-refused h hier queries left old new (Err fault) {told = Err t} (Err x) spells reads reached keeps cases was is =
     let same : Queries fault ≡ x = cc in
-    let texts : IfTold hier queries (λ bytes text. (k : Hierarchy) × Spells bytes k × FromText fault.kind (pairs_of (length k.ranks) text ≡ Err fault)) =
-    told_both hier queries spells reads (λ bytes text are wrong. (h, are, wrong)) in
+    let texts : IfBothKnown hier queries (λ bytes text. (k : Hierarchy) × Spells bytes k × FromText fault.kind (pairs_of (length k.ranks) text ≡ Err fault)) =
+    both_known hier queries spells reads (λ bytes text are wrong. (h, are, wrong)) in
     subst (StopsRouting hier queries left old new) same (texts, reached, keeps)
 
 -- or the file was refused
@@ -357,9 +357,9 @@ module _ (v : Version) where
   -- what a call wrote by bytes that were prepared
   pub prepared-told : {Is : Graph → ℕ → ℕ → Option Route → Type 0} → RoutesAre Is v → (h : Hierarchy) (pairs : List (ℕ × ℕ)) (hier queries old new : Option (List ℕ)) (r : Result ⊤ ServiceError)
       → IfSome hier (λ bytes. Spells bytes h) → IfSome queries (λ text. pairs_of (length h.ranks) text ≡ Ok pairs)
-      → OnOk r (Writes (Routed h pairs) old new) → OnOk r (IfTold hier queries (λ bytes pairs_text. (graph_text : List ℕ) → PreparesIn v graph_text bytes → Writes (AnswersBy Is graph_text pairs_text) old new))
+      → OnOk r (Writes (Routed h pairs) old new) → OnOk r (IfBothKnown hier queries (λ bytes pairs_text. (graph_text : List ℕ) → PreparesIn v graph_text bytes → Writes (AnswersBy Is graph_text pairs_text) old new))
   prepared-told are h pairs hier queries old new (Err e) spells read w = tt
-  prepared-told are h pairs hier queries old new (Ok x) spells read w = told_both hier queries spells read (λ bytes pairs_text is reads graph_text p.
+  prepared-told are h pairs hier queries old new (Ok x) spells read w = both_known hier queries spells read (λ bytes pairs_text is reads graph_text p.
       (w.0, are graph_text bytes pairs_text w.0 p (record { hierarchy = h; pairs = pairs; spells = is; pairs_read = reads; routed = w.1 }), w.2))
 
   -- no route by them is too long

@@ -18,7 +18,7 @@ use Rattle.memchr.specs.Find.{Nowhere, Passes, is_byte}
 use Rattle.ch_service.specs.declared.error.ServiceError.{ServiceError}
 use Rattle.ch_service.specs.declared.error.ServiceError.TheVariants.{Graph, Queries, Build, Unpack, Write, OutOfMemory}
 use Rattle.ch_service.specs.Answer.{graph_part, pairs_part, ended_lines, is_percent}
-use Rattle.ch_service.specs.Outcome.{AreTexts, IfTold, StopsAnswering, StopsInJoined, of_fault, of_whole}
+use Rattle.ch_service.specs.Outcome.{AreTexts, IfBothKnown, StopsAnswering, StopsInJoined, of_fault, of_whole}
 
 -- Line feeds as they are counted, and the lines that are reached in a joined input.
 
@@ -71,7 +71,7 @@ module _ (had left first second old new : Option (List ℕ)) (input graph pairs 
   one : (part_of : List ℕ → List ℕ) {text : List ℕ} → text ≡ part_of input → (P : List ℕ → Type 0) → P text → IfSome (option_map part_of had) P
   one = part had (whole had left taken ended)
 
-  both : (R : List ℕ → List ℕ → Type 0) → R graph pairs → IfTold (option_map graph_part had) (option_map pairs_part had) R
+  both : (R : List ℕ → List ℕ → Type 0) → R graph pairs → IfBothKnown (option_map graph_part had) (option_map pairs_part had) R
   both R r = one graph_part graph_is (λ a. IfSome (option_map pairs_part had) (R a)) (one pairs_part pairs_are (R graph) r)
 
   failed : Keeps old new → StopsInJoined had left old new (Graph (read_behind input))

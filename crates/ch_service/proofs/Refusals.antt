@@ -5,7 +5,7 @@ use Rattle.std.proofs.lemmas.Option.{IfSome_then}
 use Rattle.grfile.specs.Reading.{graph_of, pairs_of}
 use Rattle.hierfile.specs.Fault.{first_fault}
 use Rattle.outcomes.specs.Causes.{text_case, file_case, of_text}
-use Rattle.outcomes.specs.Written.{told_all, told_first, told_then}
+use Rattle.outcomes.specs.Written.{all_known, first_known, known_then}
 use Rattle.outcomes.specs.declared.cause.Cause.TheVariants as causes
 use Rattle.outcomes.specs.declared.cause.Input.TheVariants as inputs
 use Rattle.ch_workers.specs.Options.{AreGood}
@@ -24,17 +24,17 @@ use Rattle.ch_service.specs.Refusals.{RefusesAnswers, RefusesPreparing, RefusesR
 module _ {o : Options} {lists : ℕ} (graph graph_left pairs pairs_left old new : Option (List ℕ)) where
   answers : (e : ServiceError) → (e ≡ Build building.BadOptions → AreGood o lists) → StopsAnswering o lists graph graph_left pairs pairs_left old new e → RefusesAnswers graph pairs old new (cause_of e)
   answers (Graph fault) good s =
-      text_case fault.kind inputs.Graph (causes.Graph fault) (RefusesAnswers graph pairs old new) (told_all graph pairs (λ g p. inl s.2)) (inl refl, s.2)
-      (λ own. (told_first graph pairs _ (IfSome_then graph s.0 (λ g. own (graph_of g ≡ Err fault))), s.2))
+      text_case fault.kind inputs.Graph (causes.Graph fault) (RefusesAnswers graph pairs old new) (all_known graph pairs (λ g p. inl s.2)) (inl refl, s.2)
+      (λ own. (first_known graph pairs _ (IfSome_then graph s.0 (λ g. own (graph_of g ≡ Err fault))), s.2))
   answers (Queries fault) good s =
-      text_case fault.kind inputs.Queries (causes.Queries fault) (RefusesAnswers graph pairs old new) (told_all graph pairs (λ g p. inl s.2)) (inr refl, s.2)
-      (λ own. (told_then graph pairs s.0 (λ g p h. (h.0, h.1, own (pairs_of h.0.nodes p ≡ Err fault) h.2)), s.2))
-  answers (Build building.OutOfMemory) good s = told_all graph pairs (λ g p. inl s.2)
+      text_case fault.kind inputs.Queries (causes.Queries fault) (RefusesAnswers graph pairs old new) (all_known graph pairs (λ g p. inl s.2)) (inr refl, s.2)
+      (λ own. (known_then graph pairs s.0 (λ g p h. (h.0, h.1, own (pairs_of h.0.nodes p ≡ Err fault) h.2)), s.2))
+  answers (Build building.OutOfMemory) good s = all_known graph pairs (λ g p. inl s.2)
   answers (Build building.BadOptions) good s = absurd (s.0.0 refl (good refl))
   answers (Build building.Mixed) good s = (s.1, s.2)
-  answers (Unpack unpacking.OutOfMemory) good s = told_then graph pairs s.1 (λ g p w. inr w)
+  answers (Unpack unpacking.OutOfMemory) good s = known_then graph pairs s.1 (λ g p w. inr w)
   answers (Write fault) good s = s.1
-  answers OutOfMemory good s = told_then graph pairs s.1 (λ g p w. w.1)
+  answers OutOfMemory good s = known_then graph pairs s.1 (λ g p w. w.1)
   answers e good s = absurd s
 
 pub answers-tell : AnswersTell
@@ -45,7 +45,7 @@ answers-tell o lists graph graph_left pairs pairs_left old new (Err e) good s = 
 
 unread : (graph pairs had left old new : Option (List ℕ)) (e : ServiceError) → StopsReading had left e → Keeps old new → RefusesAnswers graph pairs old new (cause_of e)
 unread graph pairs had left old new (Graph fault) s k = subst (λ kind. RefusesAnswers graph pairs old new (of_text kind inputs.Graph (causes.Graph fault))) (sym s.0) (inl refl, k)
-unread graph pairs had left old new OutOfMemory s k = told_all graph pairs (λ g p. inl k)
+unread graph pairs had left old new OutOfMemory s k = all_known graph pairs (λ g p. inl k)
 unread graph pairs had left old new e s k = absurd s
 
 plain_is_good : AreGood PLAIN 0
@@ -83,15 +83,15 @@ preparations-tell o lists graph left old new (Err e) good s = preparing {o = o} 
 -- and where pairs are answered by the file of one
 routes : (file pairs left old new : Option (List ℕ)) (e : ServiceError) → StopsRouting file pairs left old new e → RefusesRoutes file pairs old new (cause_of e)
 routes file pairs left old new (Queries fault) s =
-    text_case fault.kind inputs.Queries (causes.Queries fault) (RefusesRoutes file pairs old new) (told_all file pairs (λ b p. inl s.2)) (inr refl, s.2)
-    (λ own. (told_then file pairs s.0 (λ b p h. (h.0, h.1, own (pairs_of (length h.0.ranks) p ≡ Err fault) h.2)), s.2))
+    text_case fault.kind inputs.Queries (causes.Queries fault) (RefusesRoutes file pairs old new) (all_known file pairs (λ b p. inl s.2)) (inr refl, s.2)
+    (λ own. (known_then file pairs s.0 (λ b p h. (h.0, h.1, own (pairs_of (length h.0.ranks) p ≡ Err fault) h.2)), s.2))
 routes file pairs left old new (Hierarchy fault) s =
-    file_case fault (RefusesRoutes file pairs old new) (told_all file pairs (λ b p. inl s.1)) (inl refl, s.1)
-    (λ own. (told_first file pairs _ (own (IfSome file (λ bytes. first_fault bytes ≡ Some fault)) s.0), s.1))
-routes file pairs left old new (Unpack unpacking.OutOfMemory) s = told_then file pairs s (λ b p w. inr w)
+    file_case fault (RefusesRoutes file pairs old new) (all_known file pairs (λ b p. inl s.1)) (inl refl, s.1)
+    (λ own. (first_known file pairs _ (own (IfSome file (λ bytes. first_fault bytes ≡ Some fault)) s.0), s.1))
+routes file pairs left old new (Unpack unpacking.OutOfMemory) s = known_then file pairs s (λ b p w. inr w)
 routes file pairs left old new (Unpack unpacking.TooLong) s = s
 routes file pairs left old new (Write fault) s = s
-routes file pairs left old new OutOfMemory s = told_then file pairs s (λ b p w. w.1)
+routes file pairs left old new OutOfMemory s = known_then file pairs s (λ b p w. w.1)
 routes file pairs left old new e s = absurd s
 
 pub routes-tell : RoutesTell

@@ -1,7 +1,7 @@
 -- What a call has done where it refuses.
 use Rattle.std.specs.Prelude.{ℕ, ◌≡◌, ◌≢◌, ◌⊎◌, ◌↔◌, ⊤, List, Option, option_map, IfSome, Ok, Err, length}
 use Rattle.std.specs.Io.KnownBytes.{IsAtEnd, Keeps}
-pub use Rattle.outcomes.specs.Written.{IfTold, Writes, WritesFirst}
+pub use Rattle.outcomes.specs.Written.{IfBothKnown, Writes, WritesFirst}
 use Rattle.ch_graph.specs.Graph.{Graph}
 use Rattle.ch_graph.specs.Hierarchy.{Hierarchy}
 use Rattle.grfile.specs.Outcome.{FromText, next_line}
@@ -40,11 +40,11 @@ AreTexts graph_text pairs_text = (g : Graph) × (graph_of graph_text ≡ Ok g) �
 module _ (o : Options) (lists : ℕ) (graph graph_left pairs pairs_left old new : Option (List ℕ)) where
   abbrev pub StopsAnswering : ServiceError → Type 0
   StopsAnswering (GraphFault fault) = IfSome graph (λ text. FromText fault.kind (graph_of text ≡ Err fault)) × StopsAtReached graph graph_left fault × Keeps old new
-  StopsAnswering (Queries fault) = IfTold graph pairs (λ graph_text pairs_text. (g : Graph) × (graph_of graph_text ≡ Ok g) × FromText fault.kind (pairs_of g.nodes pairs_text ≡ Err fault)) × StopsAtReached pairs pairs_left fault × Keeps old new
-  StopsAnswering (Build e) = ((e ≡ BadOptions) ↔ AreBad o lists) × IfTold graph pairs AreTexts × Keeps old new
-  StopsAnswering (Unpack unpacking.OutOfMemory) = AreGood o lists × IfTold graph pairs (λ graph_text pairs_text. Writes (AnswersFirst graph_text pairs_text) old new)
-  StopsAnswering (Write fault) = AreGood o lists × IfTold graph pairs (λ graph_text pairs_text. WritesFirst (AnswersFirst graph_text pairs_text) old new fault.written)
-  StopsAnswering OutOfMemory = AreGood o lists × IfTold graph pairs (λ graph_text pairs_text. AreTexts graph_text pairs_text × (Keeps old new ⊎ Writes (AnswersFirst graph_text pairs_text) old new))
+  StopsAnswering (Queries fault) = IfBothKnown graph pairs (λ graph_text pairs_text. (g : Graph) × (graph_of graph_text ≡ Ok g) × FromText fault.kind (pairs_of g.nodes pairs_text ≡ Err fault)) × StopsAtReached pairs pairs_left fault × Keeps old new
+  StopsAnswering (Build e) = ((e ≡ BadOptions) ↔ AreBad o lists) × IfBothKnown graph pairs AreTexts × Keeps old new
+  StopsAnswering (Unpack unpacking.OutOfMemory) = AreGood o lists × IfBothKnown graph pairs (λ graph_text pairs_text. Writes (AnswersFirst graph_text pairs_text) old new)
+  StopsAnswering (Write fault) = AreGood o lists × IfBothKnown graph pairs (λ graph_text pairs_text. WritesFirst (AnswersFirst graph_text pairs_text) old new fault.written)
+  StopsAnswering OutOfMemory = AreGood o lists × IfBothKnown graph pairs (λ graph_text pairs_text. AreTexts graph_text pairs_text × (Keeps old new ⊎ Writes (AnswersFirst graph_text pairs_text) old new))
   StopsAnswering e = ⊥
 
 -- A whole input wasn't read: a read failed, which is a fault of the graph's text, of the line that was reached; or memory ran
@@ -123,9 +123,9 @@ AreRoutingTexts bytes pairs_text = (h : Hierarchy) × Spells bytes h × ((pairs 
 -- the first bytes of such lines, where a write fails.
 abbrev pub StopsRouting : (file pairs left old new : Option (List ℕ)) → ServiceError → Type 0
 StopsRouting file pairs left old new (HierarchyFault e) = IsFaultOf first_fault file e × Keeps old new
-StopsRouting file pairs left old new (Queries fault) = IfTold file pairs (λ bytes pairs_text. (h : Hierarchy) × Spells bytes h × FromText fault.kind (pairs_of (length h.ranks) pairs_text ≡ Err fault)) × StopsAtReached pairs left fault × Keeps old new
-StopsRouting file pairs left old new (Unpack unpacking.OutOfMemory) = IfTold file pairs (λ bytes pairs_text. Writes (RoutesFirst bytes pairs_text) old new)
-StopsRouting file pairs left old new (Unpack unpacking.TooLong) = IfTold file pairs (λ bytes pairs_text. Writes (RoutesToTooLong bytes pairs_text) old new)
-StopsRouting file pairs left old new (Write fault) = IfTold file pairs (λ bytes pairs_text. WritesFirst (RoutesFirst bytes pairs_text) old new fault.written)
-StopsRouting file pairs left old new OutOfMemory = IfTold file pairs (λ bytes pairs_text. AreRoutingTexts bytes pairs_text × (Keeps old new ⊎ Writes (RoutesFirst bytes pairs_text) old new))
+StopsRouting file pairs left old new (Queries fault) = IfBothKnown file pairs (λ bytes pairs_text. (h : Hierarchy) × Spells bytes h × FromText fault.kind (pairs_of (length h.ranks) pairs_text ≡ Err fault)) × StopsAtReached pairs left fault × Keeps old new
+StopsRouting file pairs left old new (Unpack unpacking.OutOfMemory) = IfBothKnown file pairs (λ bytes pairs_text. Writes (RoutesFirst bytes pairs_text) old new)
+StopsRouting file pairs left old new (Unpack unpacking.TooLong) = IfBothKnown file pairs (λ bytes pairs_text. Writes (RoutesToTooLong bytes pairs_text) old new)
+StopsRouting file pairs left old new (Write fault) = IfBothKnown file pairs (λ bytes pairs_text. WritesFirst (RoutesFirst bytes pairs_text) old new fault.written)
+StopsRouting file pairs left old new OutOfMemory = IfBothKnown file pairs (λ bytes pairs_text. AreRoutingTexts bytes pairs_text × (Keeps old new ⊎ Writes (RoutesFirst bytes pairs_text) old new))
 StopsRouting file pairs left old new e = ⊥

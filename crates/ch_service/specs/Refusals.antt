@@ -16,14 +16,14 @@ use Rattle.ch_service.specs.declared.error.ServiceError.{ServiceError}
 use Rattle.ch_service.specs.declared.error.ServiceError.TheVariants.{Build}
 use Rattle.ch_service.specs.Answer.{AnswersFirst, graph_part, pairs_part, Spells, Prepares, RoutesFirst, RoutesToTooLong}
 use Rattle.ch_service.specs.Cause.{cause_of}
-use Rattle.ch_service.specs.Outcome.{IfTold, Writes, IsGraphText, AreTexts, StopsAnswering, StopsInJoined, StopsRouting}
+use Rattle.ch_service.specs.Outcome.{IfBothKnown, Writes, IsGraphText, AreTexts, StopsAnswering, StopsInJoined, StopsRouting}
 use Rattle.ch_service.specs.Preparation.{StopsPreparing}
 
 -- where pairs are answered from the texts of a graph and of pairs
 abbrev pub RefusesAnswers : Option (List ℕ) → Option (List ℕ) → Option (List ℕ) → Option (List ℕ) → Cause → Type 0
-RefusesAnswers graph pairs old new (GraphFault fault) = IfTold graph pairs (λ graph_text pairs_text. graph_of graph_text ≡ Err fault) × Keeps old new
-RefusesAnswers graph pairs old new (Queries fault) = IfTold graph pairs (λ graph_text pairs_text. (g : Graph) × (graph_of graph_text ≡ Ok g) × (pairs_of g.nodes pairs_text ≡ Err fault)) × Keeps old new
-RefusesAnswers graph pairs old new Mixed = IfTold graph pairs AreTexts × Keeps old new
+RefusesAnswers graph pairs old new (GraphFault fault) = IfBothKnown graph pairs (λ graph_text pairs_text. graph_of graph_text ≡ Err fault) × Keeps old new
+RefusesAnswers graph pairs old new (Queries fault) = IfBothKnown graph pairs (λ graph_text pairs_text. (g : Graph) × (graph_of graph_text ≡ Ok g) × (pairs_of g.nodes pairs_text ≡ Err fault)) × Keeps old new
+RefusesAnswers graph pairs old new Mixed = IfBothKnown graph pairs AreTexts × Keeps old new
 RefusesAnswers graph pairs old new cause = OfResource true (IsEither inputs.Graph inputs.Queries) graph pairs AnswersFirst old new cause
 
 -- where a hierarchy is prepared from the text of a graph
@@ -34,9 +34,9 @@ RefusesPreparing graph old new cause = OfResource false (λ input. input ≡ inp
 
 -- where pairs are answered by the file of a hierarchy
 abbrev pub RefusesRoutes : Option (List ℕ) → Option (List ℕ) → Option (List ℕ) → Option (List ℕ) → Cause → Type 0
-RefusesRoutes file pairs old new (Queries fault) = IfTold file pairs (λ bytes pairs_text. (h : Hierarchy) × Spells bytes h × (pairs_of (length h.ranks) pairs_text ≡ Err fault)) × Keeps old new
-RefusesRoutes file pairs old new (HierarchyFault fault) = IfTold file pairs (λ bytes pairs_text. first_fault bytes ≡ Some fault) × Keeps old new
-RefusesRoutes file pairs old new TooLong = IfTold file pairs (λ bytes pairs_text. Writes (RoutesToTooLong bytes pairs_text) old new)
+RefusesRoutes file pairs old new (Queries fault) = IfBothKnown file pairs (λ bytes pairs_text. (h : Hierarchy) × Spells bytes h × (pairs_of (length h.ranks) pairs_text ≡ Err fault)) × Keeps old new
+RefusesRoutes file pairs old new (HierarchyFault fault) = IfBothKnown file pairs (λ bytes pairs_text. first_fault bytes ≡ Some fault) × Keeps old new
+RefusesRoutes file pairs old new TooLong = IfBothKnown file pairs (λ bytes pairs_text. Writes (RoutesToTooLong bytes pairs_text) old new)
 RefusesRoutes file pairs old new cause = OfResource true (IsEither inputs.Hierarchy inputs.Queries) file pairs RoutesFirst old new cause
 
 -- Why what the contracts say of a refusal shows this of its cause, unless bad options were refused.

@@ -1,6 +1,6 @@
 ghost use Rattle.std.specs.Prelude.{◌≡◌, [], All, OnOk, IfErr, IfSome, vec_len};
 ghost use Rattle.ch_service.specs.Answer.{Answers, AnswersByFewest, graph_part, pairs_part};
-ghost use Rattle.ch_service.specs.Outcome.{IfTold, StopsAnswering, StopsInJoined, Writes};
+ghost use Rattle.ch_service.specs.Outcome.{IfBothKnown, StopsAnswering, StopsInJoined, Writes};
 ghost use Rattle.ch_workers.specs.Options.{AreGood};
 
 use crate::error::ServiceError;
@@ -38,9 +38,9 @@ pub fn answer<G: Read, Q: Read, W: Write, P: Gate, R: Threads + Wait + Sync>(
     gate: &P,
 ) -> Result<(), ServiceError>
     requires untold { All (λ list. All (λ estimator. heard estimator ≡ []) list.items) lists.items }
-    ensures answers { OnOk result (IfTold (G.remaining gr.old) (Q.remaining queries.old)
+    ensures answers { OnOk result (IfBothKnown (G.remaining gr.old) (Q.remaining queries.old)
         (λ graph pairs. Writes (Answers graph pairs) (W.contents out.old) (W.contents out.new))) }
-    ensures fewest { OnOk result (IfTold (G.remaining gr.old) (Q.remaining queries.old)
+    ensures fewest { OnOk result (IfBothKnown (G.remaining gr.old) (Q.remaining queries.old)
         (λ graph pairs. Writes (AnswersByFewest graph pairs) (W.contents out.old) (W.contents out.new))) }
     ensures good { OnOk result (AreGood options (vec_len lists)) }
     ensures leases { leases.new ≡ record leases.old { out = 0 } }

@@ -1,7 +1,7 @@
 ghost use Rattle.std.specs.Prelude.{◌≡◌, ℕ, List, Err, OnOk, IfErr, IfSome};
 ghost use Rattle.ch_graph.specs.declared.version.Version.TheVariants.{One};
 ghost use Rattle.ch_service.specs.Answer.{Answers, AnswersByFewest, Prepares, PreparesIn, Routes};
-ghost use Rattle.ch_service.specs.Outcome.{IfTold, Writes, StopsRouting};
+ghost use Rattle.ch_service.specs.Outcome.{IfBothKnown, Writes, StopsRouting};
 ghost use Rattle.ch_service.specs.declared.error.ServiceError.TheVariants.{Unpack};
 ghost use Rattle.ch_unpack.specs.declared.error.UnpackError.TheVariants.{TooLong};
 
@@ -29,19 +29,19 @@ pub fn route<H: Read, Q: Read, W: Write>(
     queries: &mut Q,
     out: &mut W,
 ) -> Result<(), ServiceError>
-    ensures routes { OnOk result (IfTold (H.remaining hier.old) (Q.remaining queries.old)
+    ensures routes { OnOk result (IfBothKnown (H.remaining hier.old) (Q.remaining queries.old)
         (λ bytes pairs. Writes (Routes bytes pairs) (W.contents out.old) (W.contents out.new))) }
 
     // Where the bytes were prepared from the text of a graph.
-    ensures exact { OnOk result (IfTold (H.remaining hier.old) (Q.remaining queries.old)
+    ensures exact { OnOk result (IfBothKnown (H.remaining hier.old) (Q.remaining queries.old)
         (λ bytes pairs. (graph_text : List ℕ) → Prepares graph_text bytes → Writes (Answers graph_text pairs) (W.contents out.old) (W.contents out.new))) }
-    ensures fewest { OnOk result (IfTold (H.remaining hier.old) (Q.remaining queries.old)
+    ensures fewest { OnOk result (IfBothKnown (H.remaining hier.old) (Q.remaining queries.old)
         (λ bytes pairs. (graph_text : List ℕ) → Prepares graph_text bytes → Writes (AnswersByFewest graph_text pairs) (W.contents out.old) (W.contents out.new))) }
     ensures never_long { result ≡ Err (Unpack TooLong) → IfSome (H.remaining hier.old)
         (λ bytes. (graph_text : List ℕ) → Prepares graph_text bytes → ⊥) }
 
     // Where they were prepared from it in version 1.
-    ensures exact_by_weight { OnOk result (IfTold (H.remaining hier.old) (Q.remaining queries.old)
+    ensures exact_by_weight { OnOk result (IfBothKnown (H.remaining hier.old) (Q.remaining queries.old)
         (λ bytes pairs. (graph_text : List ℕ) → PreparesIn One graph_text bytes → Writes (Answers graph_text pairs) (W.contents out.old) (W.contents out.new))) }
     ensures never_long_by_weight { result ≡ Err (Unpack TooLong) → IfSome (H.remaining hier.old)
         (λ bytes. (graph_text : List ℕ) → PreparesIn One graph_text bytes → ⊥) }

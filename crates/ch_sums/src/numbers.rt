@@ -4,7 +4,7 @@ ghost use Rattle.ch_sums.specs.Numbers.{AreNumbersOf, IsNumbersFault, count_arcs
 ghost use Rattle.ch_sums.specs.Order.{AreOwn, IsAdded, IsPlace, IsRefused};
 
 use crate::error::NumbersError;
-use crate::order::{Place, by_lower_end};
+use crate::order::{LinkPlace, by_lower_end};
 use ch_graph::{Hierarchy, Link, LinkId, Parts, links_unfold};
 use std::alloc::Global;
 use std::marker::Model;
@@ -123,7 +123,7 @@ fn own_number(link: Link, given: &[u32], next: usize) -> u64
 // Puts the sum of its halves' numbers for the link at a place, if it has a middle.
 fn add_halves(
     hierarchy: &Hierarchy,
-    place: Place,
+    place: LinkPlace,
     numbers: &mut Vec<u64>,
 ) -> Result<(), NumbersError>
     requires place { IsPlace hierarchy.now place }

@@ -42,7 +42,7 @@ impl Columns {
         let Down { ranks, mut steps } = down_to(alloc, search, targets)?;
         let places = places_of(alloc, nodes, &ranks)?;
         let ends = ends_of(alloc, hierarchy, &ranks, &places, targets)?;
-        steps.find_places(&places);
+        steps.ranks_to_places(&places);
         let links = Links::new(alloc, steps)?;
         let mut kept = Vec::new(alloc);
         kept.extend_from_slice(targets)?;

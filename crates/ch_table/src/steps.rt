@@ -100,7 +100,7 @@ impl Steps<u64> {
     }
 
     /// Changes the ranks of the nodes that links leave for their places. `places` has for each rank its place and one more.
-    pub fn find_places(&mut self, places: &[u32])
+    pub fn ranks_to_places(&mut self, places: &[u32])
         requires ranks { All (λ r. r < length places.now) self.old.tails.items }
         requires placed { All (λ r. 0 < slice_index places.now r) self.old.tails.items }
         ensures tails { ArePlacesOf places.now self.old.tails.items self.new.tails.items }

@@ -20,10 +20,10 @@ use Rattle.outcomes.specs.Causes.{text_case, file_case, of_graph, of_hierarchy}
 use Rattle.outcomes.specs.declared.cause.Cause.{Cause}
 use Rattle.outcomes.specs.declared.cause.Cause.TheVariants as causes
 use Rattle.outcomes.specs.declared.cause.Input.TheVariants as inputs
-use Rattle.outcomes.specs.Written.{told_both, told_then, IfTold}
+use Rattle.outcomes.specs.Written.{both_known, known_then, IfBothKnown}
 use Rattle.ch_verify.specs.Verdict.{Judges, AreOf, Says, verdict_line, BreaksOff, RefusesCheck}
-use Rattle.ch_verify.specs.declared.verdict.Verdict.{Verdict}
-use Rattle.ch_verify.specs.declared.verdict.Verdict.TheVariants.{Right}
+use Rattle.ch_verify.specs.declared.verdict.FileVerdict.{FileVerdict}
+use Rattle.ch_verify.specs.declared.verdict.FileVerdict.TheVariants.{Right}
 
 -- the text of a graph, and the bytes of a hierarchy, that were read
 pub record AreRead (g : Graph) (h : Hierarchy) (graph file : Option (List ℕ)) : Type 0 where
@@ -41,7 +41,7 @@ are_of {g = g} {h} text reads spelled made of_version fact = record {
   spells = record { made = made; spelled = spelled };
 }
 
-says_of : (v : Verdict) {g : Graph} {h : Hierarchy} (text : List ℕ) {bytes : List ℕ} → graph_of text ≡ Ok g → bytes ≡ bytes_of h → IsWellMade h → h.version ≡ Two → Judges v g h → Says v text bytes
+says_of : (v : FileVerdict) {g : Graph} {h : Hierarchy} (text : List ℕ) {bytes : List ℕ} → graph_of text ≡ Ok g → bytes ≡ bytes_of h → IsWellMade h → h.version ≡ Two → Judges v g h → Says v text bytes
 says_of Right {g} {h} text reads spelled made two judged = record {
   graph = g;
   hierarchy = h;
@@ -53,19 +53,19 @@ says_of Right {g} {h} text reads spelled made two judged = record {
 says_of v text reads spelled made two judged = are_of text reads spelled made two judged
 
 -- what a verdict on the two says of the bytes
-pub says : (v : Verdict) (g : Graph) (h : Hierarchy) (graph file : Option (List ℕ)) → AreRead g h graph file → h.version ≡ Two → Judges v g h → IfTold graph file (Says v)
-says v g h graph file read two judged = told_both graph file read.reads read.spelled (λ text bytes reads spelled. says_of v text reads spelled read.made two judged)
+pub says : (v : FileVerdict) (g : Graph) (h : Hierarchy) (graph file : Option (List ℕ)) → AreRead g h graph file → h.version ≡ Two → Judges v g h → IfBothKnown graph file (Says v)
+says v g h graph file read two judged = both_known graph file read.reads read.spelled (λ text bytes reads spelled. says_of v text reads spelled read.made two judged)
 
 -- where the hierarchy is of version 1
-pub is_old : (g : Graph) (h : Hierarchy) (graph file : Option (List ℕ)) → AreRead g h graph file → h.version ≡ One → IfTold graph file (AreOf One (λ g h. ⊤))
+pub is_old : (g : Graph) (h : Hierarchy) (graph file : Option (List ℕ)) → AreRead g h graph file → h.version ≡ One → IfBothKnown graph file (AreOf One (λ g h. ⊤))
 is_old g h graph file read one =
-    told_both graph file read.reads read.spelled (λ text bytes reads spelled. are_of text reads spelled read.made one tt)
+    both_known graph file read.reads read.spelled (λ text bytes reads spelled. are_of text reads spelled read.made one tt)
 
 -- where the file was refused
 
 pub file_refused : (e : HierError) (g : Graph) (graph file old new : Option (List ℕ)) → IfSome graph (λ text. graph_of text ≡ Ok g) → IsFaultOf first_fault file e → Keeps old new → RefusesCheck graph file old new (of_hierarchy e)
 file_refused e g graph file old new reads fault keeps =
-    file_case e (RefusesCheck graph file old new) keeps (inr refl, keeps) (λ own. (told_both graph file reads (own (IfSome file (λ bytes. first_fault bytes ≡ Some e)) fault) (λ text bytes is fault. (g, is, fault)), keeps))
+    file_case e (RefusesCheck graph file old new) keeps (inr refl, keeps) (λ own. (both_known graph file reads (own (IfSome file (λ bytes. first_fault bytes ≡ Some e)) fault) (λ text bytes is fault. (g, is, fault)), keeps))
 
 -- where the text was
 
@@ -76,11 +76,11 @@ text_refused fault graph file old new told keeps =
 -- where the line was written, or not
 
 -- all of it
-pub whole : (v : Verdict) {old new : Option (List ℕ)} {line : List ℕ} {from written : ℕ} → line ≡ verdict_line v → HandsOn old new line [] from written → Appends old new (verdict_line v)
+pub whole : (v : FileVerdict) {old new : Option (List ℕ)} {line : List ℕ} {from written : ℕ} → line ≡ verdict_line v → HandsOn old new line [] from written → Appends old new (verdict_line v)
 whole v {old} {new} tells h = subst (λ (l : List ℕ). Appends old new l) (sym (h.parts ∙ append-nil h.taken) ∙ tells) h.given
 
 -- or a first part
-pub first_part : (v : Verdict) {old new : Option (List ℕ)} {line : List ℕ} {from written : ℕ} → line ≡ verdict_line v → from ≡ 0 → HandsOnPart old new line from written
+pub first_part : (v : FileVerdict) {old new : Option (List ℕ)} {line : List ℕ} {from written : ℕ} → line ≡ verdict_line v → from ≡ 0 → HandsOnPart old new line from written
     → (written < length (verdict_line v)) × Appends old new (take written (verdict_line v))
 first_part v {old} {new} {written} tells begins part =
     let taken : List ℕ = part.first.taken in
@@ -92,8 +92,8 @@ first_part v {old} {new} {written} tells begins part =
       subst (λ (l : List ℕ). Appends old new l) (sym same) part.first.given,
     )
 
-pub breaks : (v : Verdict) (graph file old new : Option (List ℕ)) (cause : Cause) → IfTold graph file (Says v) → BreaksOff v old new cause → RefusesCheck graph file old new cause
+pub breaks : (v : FileVerdict) (graph file old new : Option (List ℕ)) (cause : Cause) → IfBothKnown graph file (Says v) → BreaksOff v old new cause → RefusesCheck graph file old new cause
 breaks v graph file old new causes.Memory said off = off
 breaks v graph file old new (causes.Write fault) said off =
-    told_then graph file said (λ text bytes holds. (verdict_line v, (v, holds, refl), off.0, off.1))
+    known_then graph file said (λ text bytes holds. (verdict_line v, (v, holds, refl), off.0, off.1))
 breaks v graph file old new cause said off = absurd off

@@ -13,9 +13,9 @@ use Rattle.hierfile.specs.Fault.{first_fault}
 use Rattle.outcomes.specs.declared.cause.Cause.{Cause}
 use Rattle.outcomes.specs.declared.cause.Cause.TheVariants.{Graph as GraphFault, Hierarchy as HierarchyFault, OldVersion, Memory, Write}
 use Rattle.outcomes.specs.declared.cause.Input.TheVariants as inputs
-use Rattle.outcomes.specs.Written.{IsEither, OfResource, IfTold}
-use Rattle.ch_verify.specs.declared.verdict.Verdict.{Verdict}
-use Rattle.ch_verify.specs.declared.verdict.Verdict.TheVariants.{Right, Wrong, NotShown}
+use Rattle.outcomes.specs.Written.{IsEither, OfResource, IfBothKnown}
+use Rattle.ch_verify.specs.declared.verdict.FileVerdict.{FileVerdict}
+use Rattle.ch_verify.specs.declared.verdict.FileVerdict.TheVariants.{Right, Wrong, NotShown}
 use Rattle.ch_verify.specs.declared.verdict.Refutation.{Refutation}
 use Rattle.ch_verify.specs.declared.verdict.Refutation.TheVariants.{Nodes, Pair}
 use Rattle.ch_verify.specs.declared.verdict.Doubt.{Doubt}
@@ -37,7 +37,7 @@ Doubts (Way via from to) g h = ⊤
 Doubts (Link from to) g h = ⊤
 
 -- what a verdict says of a graph and a hierarchy: it is right for the graph, or it isn't, or neither
-abbrev pub Judges : Verdict → Graph → Hierarchy → Type 0
+abbrev pub Judges : FileVerdict → Graph → Hierarchy → Type 0
 Judges Right g h = IsRight g h
 Judges (Wrong refutation) g h = (IsRight g h → ⊥) × Refutes refutation g h
 Judges (NotShown doubt) g h = Doubts doubt g h
@@ -58,7 +58,7 @@ IsWrong refutation = AreOf Two (λ g h. (IsRight g h → ⊥) × Refutes refutat
 -- What a verdict says of the text of a graph and of bytes. They are the file of a hierarchy that is right for the graph, as
 -- those that are prepared from the text; or the file of one that isn't, as the refutation shows; or both were read, and what the
 -- doubt names is so.
-abbrev pub Says : Verdict → List ℕ → List ℕ → Type 0
+abbrev pub Says : FileVerdict → List ℕ → List ℕ → Type 0
 Says Right = PreparesIn Two
 Says (Wrong refutation) = IsWrong refutation
 Says (NotShown doubt) = AreOf Two (Doubts doubt)
@@ -75,17 +75,17 @@ doubt_text Work = codes "work"
 doubt_text (Way via from to) = codes "way " ++ decimal (from + 1) ++ codes " " ++ decimal (to + 1) ++ codes " by " ++ decimal (via + 1)
 doubt_text (Link from to) = codes "link " ++ decimal (from + 1) ++ codes " " ++ decimal (to + 1)
 
-abbrev pub verdict_text : Verdict → List ℕ
+abbrev pub verdict_text : FileVerdict → List ℕ
 verdict_text Right = codes "right"
 verdict_text (Wrong refutation) = codes "wrong: " ++ refutation_text refutation
 verdict_text (NotShown doubt) = codes "not shown: " ++ doubt_text doubt
 
-abbrev pub verdict_line : Verdict → List ℕ
+abbrev pub verdict_line : FileVerdict → List ℕ
 verdict_line v = verdict_text v ++ codes "\n"
 
 -- the line is that of a verdict that holds
 abbrev pub IsVerdictLine : List ℕ → List ℕ → List ℕ → Type 0
-IsVerdictLine graph_text bytes line = (v : Verdict) × Says v graph_text bytes × (line ≡ verdict_line v)
+IsVerdictLine graph_text bytes line = (v : FileVerdict) × Says v graph_text bytes × (line ≡ verdict_line v)
 
 -- Why there is no verdict.
 
@@ -94,12 +94,12 @@ IsVerdictLine graph_text bytes line = (v : Verdict) × Says v graph_text bytes �
 -- verdict that holds.
 abbrev pub RefusesCheck : Option (List ℕ) → Option (List ℕ) → Option (List ℕ) → Option (List ℕ) → Cause → Type 0
 RefusesCheck graph file old new (GraphFault fault) = IfSome graph (λ graph_text. graph_of graph_text ≡ Err fault) × Keeps old new
-RefusesCheck graph file old new (HierarchyFault e) = IfTold graph file (λ graph_text bytes. (g : Graph) × (graph_of graph_text ≡ Ok g) × (first_fault bytes ≡ Some e)) × Keeps old new
-RefusesCheck graph file old new OldVersion = IfTold graph file (AreOf One (λ g h. ⊤)) × Keeps old new
+RefusesCheck graph file old new (HierarchyFault e) = IfBothKnown graph file (λ graph_text bytes. (g : Graph) × (graph_of graph_text ≡ Ok g) × (first_fault bytes ≡ Some e)) × Keeps old new
+RefusesCheck graph file old new OldVersion = IfBothKnown graph file (AreOf One (λ g h. ⊤)) × Keeps old new
 RefusesCheck graph file old new cause = OfResource false (IsEither inputs.Graph inputs.Hierarchy) graph file IsVerdictLine old new cause
 
 -- where the line of a verdict isn't written: nothing of it, or its first bytes, and not all
-abbrev pub BreaksOff : Verdict → Option (List ℕ) → Option (List ℕ) → Cause → Type 0
+abbrev pub BreaksOff : FileVerdict → Option (List ℕ) → Option (List ℕ) → Cause → Type 0
 BreaksOff v old new Memory = Keeps old new
 BreaksOff v old new (Write fault) = (fault.written < length (verdict_line v)) × Appends old new (take fault.written (verdict_line v))
 BreaksOff v old new cause = ⊥

@@ -7,7 +7,7 @@ use std::fmt;
 ///
 /// What is shown of one is the line that the program prints. Nodes are numbered from 0 here, and from 1 in the line.
 #[derive(Clone, Copy, Debug, PartialEq, Eq)]
-pub enum Verdict {
+pub enum FileVerdict {
     /// The hierarchy is right for the graph: all answers by it are least walks of the graph.
     Right,
     /// It isn't.
@@ -57,14 +57,14 @@ pub enum Doubt {
     },
 }
 
-impl fmt::Display for Verdict {
+impl fmt::Display for FileVerdict {
     ghost output = { λ verdict. Some (verdict_text verdict) };
 
     fn fmt<W: fmt::Write>(&self, f: &mut fmt::Formatter<W>) -> fmt::Result {
         match self {
-            Verdict::Right => write!(f, "right"),
-            Verdict::Wrong(refutation) => write!(f, "wrong: {refutation}"),
-            Verdict::NotShown(doubt) => write!(f, "not shown: {doubt}"),
+            FileVerdict::Right => write!(f, "right"),
+            FileVerdict::Wrong(refutation) => write!(f, "wrong: {refutation}"),
+            FileVerdict::NotShown(doubt) => write!(f, "not shown: {doubt}"),
         }
     }
 }

@@ -1,11 +1,11 @@
 ghost use Rattle.std.specs.Prelude.{◌≡◌, OnOk, IfOk, IfErr, length};
 ghost use Rattle.std.specs.Io.KnownBytes.{Appends};
 ghost use Rattle.ch_graph.specs.declared.version.Version.TheVariants.{One, Two};
-ghost use Rattle.outcomes.specs.Written.{IfTold};
+ghost use Rattle.outcomes.specs.Written.{IfBothKnown};
 ghost use Rattle.outcomes.specs.declared.cause.Cause.TheVariants.{OldVersion};
 ghost use Rattle.ch_verify.specs.Verdict.{BreaksOff, RefusesCheck, Doubts, Judges, Says, verdict_line};
 
-use crate::verdict::{Doubt, Refutation, Verdict};
+use crate::verdict::{Doubt, FileVerdict, Refutation};
 use ch_check::{CheckError, Watch, check_watched, is_refuted_by};
 use ch_graph::{Graph, Hierarchy};
 use counted_io::{MOST_CALLS, WriteCalls};
@@ -18,9 +18,10 @@ use std::io::{Read, Write};
 ///
 /// `gr` gives the text of the graph and `hier` the file, which are read in this order, and `out` gets one line with what
 /// was found. The watch sees how many nodes are checked. Nothing of the file is believed: if the verdict is
-/// [`Verdict::Right`], it is one as `prepare` writes them of this text, and routes by it are shortest paths of the graph.
-/// Where the check ends at a pair of nodes, their distance in the graph is compared with that in the hierarchy, and if
-/// these differ the verdict is [`Verdict::Wrong`]. What a refutation and the doubt of the bound name is so of the two.
+/// [`FileVerdict::Right`], it is one as `prepare` writes them of this text, and routes by it are shortest paths of the
+/// graph. Where the check ends at a pair of nodes, their distance in the graph is compared with that in the hierarchy, and
+/// if these differ the verdict is [`FileVerdict::Wrong`]. What a refutation and the doubt of the bound name is so of the
+/// two.
 ///
 /// A file of version 1, whose costs count no arcs, is refused ([`Cause::OldVersion`]). Nothing is written at a refusal,
 /// unless it is the write that failed. Takes memory for the graph, the hierarchy and the rows of
@@ -31,8 +32,8 @@ pub fn verify<G: Read, H: Read, W: Write, V: Watch>(
     hier: &mut H,
     out: &mut W,
     watch: &V,
-) -> Result<Verdict, Cause>
-    ensures says { IfOk result (λ verdict. IfTold (G.remaining gr.old) (H.remaining hier.old) (Says verdict)) }
+) -> Result<FileVerdict, Cause>
+    ensures says { IfOk result (λ verdict. IfBothKnown (G.remaining gr.old) (H.remaining hier.old) (Says verdict)) }
     ensures written { IfOk result (λ verdict. Appends (W.contents out.old) (W.contents out.new) (verdict_line verdict)) }
     ensures refused { IfErr result (RefusesCheck (G.remaining gr.old) (H.remaining hier.old) (W.contents out.old) (W.contents out.new)) }
 {
@@ -63,7 +64,7 @@ fn refuse_old(hierarchy: &Hierarchy) -> Result<(), Cause>
 }
 
 // Writes the line of a verdict.
-fn write_line<W: Write>(alloc: Global, verdict: Verdict, out: &mut W) -> Result<(), Cause>
+fn write_line<W: Write>(alloc: Global, verdict: FileVerdict, out: &mut W) -> Result<(), Cause>
     ensures ok { OnOk result (Appends (W.contents out.old) (W.contents out.new) (verdict_line verdict)) }
     ensures err { IfErr result (BreaksOff verdict (W.contents out.old) (W.contents out.new)) }
 {
@@ -78,19 +79,19 @@ fn judge<V: Watch>(
     graph: &Graph,
     hierarchy: &Hierarchy,
     watch: &V,
-) -> Result<Verdict, AllocError>
+) -> Result<FileVerdict, AllocError>
     requires { hierarchy.now.version ≡ Two }
     ensures { IfOk result (λ verdict. Judges verdict graph.now hierarchy.now) }
 {
     let Err(error) = check_watched(alloc, graph, hierarchy, watch) else {
-        return Ok(Verdict::Right);
+        return Ok(FileVerdict::Right);
     };
     match error {
         CheckError::OutOfMemory => Err(AllocError),
-        CheckError::Nodes => Ok(Verdict::Wrong(Refutation::Nodes)),
+        CheckError::Nodes => Ok(FileVerdict::Wrong(Refutation::Nodes)),
         CheckError::Version => unreachable!(),
-        CheckError::Bound => Ok(Verdict::NotShown(Doubt::Bound)),
-        CheckError::Work => Ok(Verdict::NotShown(Doubt::Work)),
+        CheckError::Bound => Ok(FileVerdict::NotShown(Doubt::Bound)),
+        CheckError::Work => Ok(FileVerdict::NotShown(Doubt::Work)),
         CheckError::Way { via, from, to } => {
             refute(
                 alloc,
@@ -119,14 +120,14 @@ fn refute(
     hierarchy: &Hierarchy,
     pair: (u32, u32),
     doubt: Doubt,
-) -> Result<Verdict, AllocError>
+) -> Result<FileVerdict, AllocError>
     requires nodes { length hierarchy.now.ranks ≡ graph.now.nodes }
     requires doubt { Doubts doubt graph.now hierarchy.now }
     ensures { IfOk result (λ verdict. Judges verdict graph.now hierarchy.now) }
 {
     let (from, to) = pair;
     if is_refuted_by(alloc, graph, hierarchy, from, to)? {
-        return Ok(Verdict::Wrong(Refutation::Pair { from, to }));
+        return Ok(FileVerdict::Wrong(Refutation::Pair { from, to }));
     }
-    Ok(Verdict::NotShown(doubt))
+    Ok(FileVerdict::NotShown(doubt))
 }

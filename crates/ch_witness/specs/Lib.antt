@@ -1,4 +1,4 @@
-pub mod Before
+pub mod Parent
 pub mod FirstPlaces
 pub mod Frontier
 pub mod Kept

@@ -3,8 +3,8 @@ ghost use Rattle.ch_cost.specs.Cost.{IsInLimit};
 ghost use Rattle.ch_witness.specs.Tree.{labels_of};
 ghost use Rattle.ch_witness.specs.Frontier.{IsFollowed, AreFollowed};
 
-use crate::before::Before;
 use crate::frontier::Frontier;
+use crate::parent::Parent;
 use crate::rule::Rule;
 use ch_cost::Cost;
 use ch_laws::Entry;
@@ -16,7 +16,7 @@ pub fn follow(
     rule: Rule,
     entries: &[Entry],
     cost: Cost,
-    before: Before,
+    before: Parent,
     frontier: &mut Frontier,
 ) -> Result<(), AllocError>
     requires fits { IsInLimit cost }
@@ -34,7 +34,7 @@ fn follow_arc(
     rule: Rule,
     entry: Entry,
     cost: Cost,
-    before: Before,
+    before: Parent,
     frontier: &mut Frontier,
 ) -> Result<(), AllocError>
     requires fits { IsInLimit cost }

@@ -1,8 +1,8 @@
 ghost use Rattle.std.specs.Prelude.{◌≡◌, Some, false, length};
 
-use crate::before::Before;
 use crate::label::Label;
 use crate::node_index::NodeIndex;
+use crate::parent::Parent;
 use ch_cost::Cost;
 use std::alloc::{AllocError, Global};
 use std::cmp::Reverse;
@@ -27,7 +27,7 @@ pub struct Frontier {
 #[derive(Clone, Copy)]
 pub struct Reached {
     pub node: u32,
-    pub before: Before,
+    pub before: Parent,
     pub cost: Cost,
 }
 
@@ -60,7 +60,7 @@ impl Frontier {
         self.nodes.push(start)?;
         self.labels.push_reserved(Label {
             cost: Cost::ZERO,
-            before: Before::NONE,
+            before: Parent::NONE,
             settled: true,
         });
         Ok(())
@@ -76,7 +76,7 @@ impl Frontier {
 
     /// Offers a way of this cost to a node, and the step that it goes on from. It opens the node where it is better
     /// than what is known of it.
-    pub fn offer(&mut self, node: u32, cost: Cost, before: Before) -> Result<(), AllocError>
+    pub fn offer(&mut self, node: u32, cost: Cost, before: Parent) -> Result<(), AllocError>
         ensures { OnOk result (IsOffered (labels_of self.old) node cost before (labels_of self.new)) }
     {
         match self.nodes.find(node) {
@@ -91,7 +91,7 @@ impl Frontier {
         at: usize,
         node: u32,
         cost: Cost,
-        before: Before,
+        before: Parent,
     ) -> Result<(), AllocError>
         requires { IsFirstAt self.old.nodes node at }
         ensures { OnOk result (IsOffered (labels_of self.old) node cost before (labels_of self.new)) }
@@ -105,7 +105,7 @@ impl Frontier {
     }
 
     /// The same for a node that the search hasn't come to.
-    fn open(&mut self, node: u32, cost: Cost, before: Before) -> Result<(), AllocError>
+    fn open(&mut self, node: u32, cost: Cost, before: Parent) -> Result<(), AllocError>
         requires { (k : ℕ) → k < length self.old.nodes → slice_index self.old.nodes k ≢ node }
         ensures { OnOk result (IsOffered (labels_of self.old) node cost before (labels_of self.new)) }
     {
@@ -169,7 +169,7 @@ fn node_of(key: u128) -> u32 {
 }
 
 /// The label of a node that is open, by a way of this cost that goes on from this step.
-fn opened(cost: Cost, before: Before) -> Label
+fn opened(cost: Cost, before: Parent) -> Label
     ensures { result ≡ record { cost = cost; before = before; settled = false } }
 {
     Label {

@@ -1,7 +1,7 @@
 ghost use Rattle.std.specs.Prelude.{◌≡◌, ◌↔◌, IsTrue, false};
 ghost use Rattle.ch_cost.specs.Cost.{◌≺◌};
 
-use crate::before::Before;
+use crate::parent::Parent;
 use ch_cost::Cost;
 
 /// What a search knows of a node that it has come to. It takes 24 bytes.
@@ -10,7 +10,7 @@ pub struct Label {
     /// What the best way to it costs, so far.
     pub cost: Cost,
     /// The step that the way goes on from.
-    pub before: Before,
+    pub before: Parent,
     /// Whether the way is final.
     pub settled: bool,
 }

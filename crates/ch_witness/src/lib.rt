@@ -6,7 +6,7 @@
 //! - [`search`] makes one search and returns a [`Found`]: the ways, and the source's own answers that they rest on.
 //! - A [`Searcher`] makes several searches that rest on the same answers, in memory that is used again. It reads through
 //!   its [`Rows`], which ask the source for each row once and keep the answer; its steps say which rows they used, and
-//!   [`Rows::hand_out`] returns the answers at the end.
+//!   [`Rows::take_listed`] returns the answers at the end.
 //!
 //! The contracts of both carry the promise of the layer: each way follows rows that the source showed and that are
 //! returned with it, avoids the node, and costs what its arcs do.
@@ -23,13 +23,13 @@
 #![tactic(auto)]
 
 mod aim;
-mod before;
 mod error;
 mod follow;
 mod frontier;
 mod label;
 mod memory;
 mod node_index;
+mod parent;
 mod rows;
 mod rule;
 mod searcher;
@@ -40,8 +40,8 @@ mod tree;
 mod way;
 
 pub use aim::Aim;
-pub use before::Before;
 pub use error::SearchError;
+pub use parent::Parent;
 pub use rows::Rows;
 pub use rule::Rule;
 pub use searcher::{Searcher, Traced};

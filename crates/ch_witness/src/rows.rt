@@ -81,7 +81,11 @@ impl Rows {
 
     /// Moves out the answers that are kept for these nodes, in this order, each node's once and at its first place. Of
     /// those nodes no answer is kept any more. The list is made in the memory of an earlier one, whose items are dropped.
-    pub fn hand_out(&mut self, nodes: &[u32], earlier: Vec<Seen>) -> Result<Vec<Seen>, AllocError>
+    pub fn take_listed(
+        &mut self,
+        nodes: &[u32],
+        earlier: Vec<Seen>,
+    ) -> Result<Vec<Seen>, AllocError>
         requires nodes { OfTheirNodes (kept_of self.old) }
         ensures { IfOk result (λ listed. AreListed (kept_of self.old) nodes.now listed.items) }
     {

@@ -56,7 +56,7 @@ pub fn search<S: RowSource>(
     let none = Traced::new(alloc);
     let traced = searcher.search(alloc, source, rule, targets, &[], settle, none)?;
     let nodes = nodes_of(alloc, &traced.steps)?;
-    let seen = searcher.rows.hand_out(&nodes, Vec::new(alloc))?;
+    let seen = searcher.rows.take_listed(&nodes, Vec::new(alloc))?;
     let ways = traced.ways;
     Ok(Found { ways, seen })
 }

@@ -1,6 +1,6 @@
 ghost use Rattle.std.specs.Prelude.{◌≡◌};
 
-use crate::before::Before;
+use crate::parent::Parent;
 use ch_cost::Cost;
 use ch_overlay::Seen;
 use std::snapshot::Snapshot;
@@ -11,7 +11,7 @@ use std::snapshot::Snapshot;
 #[derive(Drop)]
 pub struct TreeNode {
     pub node: u32,
-    pub before: Before,
+    pub before: Parent,
     pub cost: Cost,
     pub seen: Snapshot<Seen>,
     ghost of_node: { node ≡ seen.value.node },

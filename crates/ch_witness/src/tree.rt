@@ -6,11 +6,11 @@ ghost use Rattle.ch_witness.specs.Kept.{kept_of, AllNamed, AreKept, FindsRows, I
 ghost use Rattle.ch_witness.specs.Tree.{labels_of, IsTree, IsNew, IsGoneOn, IsLater, IsStartSeen, AllAre, AllSeen};
 
 use crate::aim::Aim;
-use crate::before::Before;
 use crate::error::SearchError;
 use crate::follow::follow;
 use crate::frontier::{Frontier, Reached};
 use crate::memory::emptied;
+use crate::parent::Parent;
 use crate::rows::Rows;
 use crate::rule::Rule;
 use crate::step::TreeNode;
@@ -60,10 +60,10 @@ impl Tree {
         }
         let start = Reached {
             node: rule.from,
-            before: Before::NONE,
+            before: Parent::NONE,
             cost: Cost::ZERO,
         };
-        tree.go_on_from(source, rows, rule, start)?;
+        tree.expand(source, rows, rule, start)?;
         tree.grow(source, rows, rule, targets, aims, settle - 1)?;
         Ok(tree)
     }
@@ -98,7 +98,7 @@ impl Tree {
             if done >= targets.len() {
                 break;
             }
-            self.go_on_from(source, rows, rule, reached)?;
+            self.expand(source, rows, rule, reached)?;
         }
         Ok(())
     }
@@ -133,7 +133,7 @@ impl Tree {
 
     /// Goes on from a node that was settled: reads its row and, where that has no rank, makes it a step and follows
     /// its arcs.
-    pub fn go_on_from<S: RowSource>(
+    pub fn expand<S: RowSource>(
         &mut self,
         source: &mut S,
         rows: &mut Rows,
@@ -159,7 +159,7 @@ impl Tree {
         if seen.row.rank.is_some() {
             return Ok(());
         }
-        let before = Before::at(self.steps.len());
+        let before = Parent::at(self.steps.len());
         follow(
             rule,
             seen.row.out(),

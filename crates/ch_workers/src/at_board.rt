@@ -2,9 +2,9 @@ ghost use Rattle.std.specs.Prelude.{All, IfOk, IfSome};
 ghost use Rattle.ch_rowbook.specs.Books.{IsOfBook};
 ghost use Rattle.ch_contract.specs.Ready.{IsReadyFor};
 
+use crate::build_state::{BuildState, replaced_entries};
 use crate::gate::Gate;
 use crate::listener::Listener;
-use crate::shared::{Shared, weight};
 use crate::worker::{Hall, Worker, work};
 use crate::workplace::Workplace;
 use ch_contract::{
@@ -21,14 +21,14 @@ use std::sync::Wait;
 #[derive(Drop)]
 struct AtBoard<'a, S: Site, R: Wait> {
     rt: &'a R,
-    shared: &'a Shared<S>,
+    shared: &'a BuildState<S>,
     reader: &'a mut Reader<S>,
 }
 
 /// Lets a worker that hasn't ended work at a shared board.
 pub(crate) fn work_at<S: Site, E: Estimator, G: Gate, R: Wait>(
     rt: &R,
-    shared: &Shared<S>,
+    shared: &BuildState<S>,
     gate: &G,
     worker: &mut Worker<E>,
     reader: &mut Reader<S>,
@@ -78,17 +78,17 @@ impl<S: Site, R: Wait> Workplace for AtBoard<'_, S, R> {
     }
 
     fn is_over_with(&self, contracted: Option<Facts>) -> bool {
-        let weight = match contracted {
-            Some(facts) => weight(facts, self.shared.room),
+        let replaced_entries = match contracted {
+            Some(facts) => replaced_entries(facts, self.shared.room),
             None => 0,
         };
-        self.shared.is_over_with(weight)
+        self.shared.is_over_with(replaced_entries)
     }
 }
 
 /// Makes the new rows of a proposal, as far as the reader has the old ones. It takes no lock.
 fn ready_for<S: Site>(
-    shared: &Shared<S>,
+    shared: &BuildState<S>,
     reader: &mut Reader<S>,
     proposal: &Proposal,
 ) -> Result<Option<Ready>, AllocError>

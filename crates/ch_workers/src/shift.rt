@@ -2,10 +2,10 @@ ghost use Rattle.std.specs.Prelude.{◌≡◌, ◌<◌, ◌≤◌, IfOk, length,
 ghost use Rattle.ch_rowbook.specs.Blanks.{name_of};
 
 use crate::at_board::work_at;
+use crate::build_state::BuildState;
 use crate::disposal::Disposal;
 use crate::gate::Gate;
 use crate::good_options::CrewOptions;
-use crate::shared::Shared;
 use crate::trouble::Trouble;
 use crate::worker::Worker;
 use ch_contract::{Board, Ledger, Site};
@@ -86,7 +86,7 @@ fn shift_named<
     };
     let mut on_shift = begin(alloc, &mut reader, workers)?;
     drop(reader);
-    let shared = Shared::new(alloc, board, queue, crew);
+    let shared = BuildState::new(alloc, board, queue, crew);
     run_all(rt, &shared, gate, on_shift.as_mut_slice());
     let workers = end(alloc, on_shift)?;
     let (board, queue) = shared.into_parts();
@@ -138,7 +138,7 @@ fn run_all<
     S: Site + Send + Sync,
     G: Gate,
     R: Threads + Wait + Sync,
->(rt: &'s R, shared: &'s Shared<S>, gate: &'s G, on_shift: &'w mut [OnShift<S, E>]) {
+>(rt: &'s R, shared: &'s BuildState<S>, gate: &'s G, on_shift: &'w mut [OnShift<S, E>]) {
     thread::scope(thread::scope_env(), rt, |scope| {
         'workers: for one in on_shift.iter_mut() {
             if !one.worker.has_ended {

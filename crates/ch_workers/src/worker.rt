@@ -148,9 +148,9 @@ impl<E: Estimator> Worker<E> {
         let Some(proposal) = self.propose(hall, place, item.node)? else {
             return Ok(Turn::Taken(None));
         };
-        self.hear(place)?;
+        self.catch_up(place)?;
         let key = self.key(&proposal);
-        if self.put_back(hall, item, key)? {
+        if self.requeue(hall, item, key)? {
             self.scratch.keep(proposal);
             return Ok(Turn::Taken(None));
         }
@@ -188,7 +188,7 @@ impl<E: Estimator> Worker<E> {
     }
 
     /// Gives its current estimator, if it has one, what it hasn't received of the log.
-    fn hear<P: Workplace>(&mut self, place: &P) -> Result<(), Refused> {
+    fn catch_up<P: Workplace>(&mut self, place: &P) -> Result<(), Refused> {
         if let Some(listener) = self.listeners.current() {
             place.tell_all(&mut self.entry, listener)?;
         }
@@ -205,7 +205,7 @@ impl<E: Estimator> Worker<E> {
 
     /// Puts an item back with the key that its node has now, where that is greater and the worker hasn't put back as
     /// many items as it may since its last commit. Returns whether it did.
-    fn put_back<G: Gate, R: Wait>(
+    fn requeue<G: Gate, R: Wait>(
         &mut self,
         hall: &Hall<'_, G, R>,
         item: Item,

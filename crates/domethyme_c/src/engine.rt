@@ -207,7 +207,7 @@ impl Engine {
         ensures targets { IfOk result (λ s. (arc_value s).targets ≡ targets.now) }
         ensures kept { self.new ≡ self.old }
     {
-        self.let_go();
+        self.forget_selection();
         let selection = self.router.select(targets)?;
         let selection = Arc::new(alloc, selection)?;
         self.keep(&selection);
@@ -225,7 +225,7 @@ impl Engine {
     }
 
     /// Keeps and shares no selection.
-    pub(crate) fn let_go(&mut self)
+    pub(crate) fn forget_selection(&mut self)
         ensures { self.new ≡ self.old }
     {
         self.kept = None;

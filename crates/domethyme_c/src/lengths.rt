@@ -9,7 +9,7 @@ use ch_route::Selection;
 use std::alloc::{AllocError, Global};
 
 /// How many lengths a table has at most that is answered pair by pair.
-const FEW: usize = 64;
+const MAX_PAIRWISE: usize = 64;
 
 /// Two nodes.
 #[repr(C)]
@@ -144,7 +144,7 @@ fn answer_table(
     if !engine.has_all(sources) {
         return NODE_RANGE;
     }
-    if count <= FEW {
+    if count <= MAX_PAIRWISE {
         return answer_few(engine, sources, targets, count, lengths);
     }
     match engine.selection(alloc, targets) {
@@ -168,7 +168,7 @@ fn answer_few(
     ensures answer { IsTableAnswer engine.old sources.now targets.now result lengths.old lengths.new }
 {
     if targets.is_empty() {
-        engine.let_go();
+        engine.forget_selection();
     }
     if !engine.has_all(targets) {
         return NODE_RANGE;

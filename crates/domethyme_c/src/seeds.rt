@@ -9,7 +9,7 @@ use ch_route::Seed;
 use std::alloc::Global;
 
 // What a seed may cost at most.
-const LONGEST: u64 = 1 << 57;
+const MAX_SEED_LENGTH: u64 = 1 << 57;
 
 const MOST_ARCS: u64 = 1 << 25;
 
@@ -45,7 +45,7 @@ fn seed_of(engine: &Engine, info: &SeedInfo) -> Result<Seed, u32>
     if info.node >= engine.nodes() {
         return Err(NODE_RANGE);
     }
-    if (cost.length() > LONGEST) | (cost.arcs() > MOST_ARCS) {
+    if (cost.length() > MAX_SEED_LENGTH) | (cost.arcs() > MOST_ARCS) {
         return Err(SEED_COST);
     }
     Ok(Seed {

@@ -17,12 +17,12 @@ const TRIES: u32 = 64;
 
 /// What handles of a hierarchy share: a selection of it, or none. Contracts see which hierarchy that is.
 #[derive(Drop)]
-pub struct Shared {
+pub struct SharedSelection {
     selection: Option<Arc<Selection>>,
     of: Snapshot<RouterOf<Arc<Hierarchy>>>,
 }
 
-impl Model for Shared {
+impl Model for SharedSelection {
     ghost use Rattle.std.specs.Prelude.{IfSome, option_map};
     ghost use Rattle.std.specs.Arc.{arc_value};
     ghost use Rattle.ch_graph.specs.Hierarchy as hierarchies;
@@ -38,7 +38,7 @@ impl Model for Shared {
 /// The rule of what is shared: it is all of one hierarchy, which each handle that shares it knows.
 pub struct OneHierarchy;
 
-impl Protocol<Shared, Option<Hierarchy>> for OneHierarchy {
+impl Protocol<SharedSelection, Option<Hierarchy>> for OneHierarchy {
     ghost use Rattle.std.specs.Prelude.{None};
     ghost use Rattle.domethyme_c.specs.Engines.{AreOfOne};
 
@@ -50,21 +50,21 @@ impl Protocol<Shared, Option<Hierarchy>> for OneHierarchy {
 /// The first handle gets to know the hierarchy.
 struct Names;
 
-impl Outcome<Shared, Option<Hierarchy>> for Names {
+impl Outcome<SharedSelection, Option<Hierarchy>> for Names {
     ghost then = { λ known shared new. new ≡ Some shared };
 }
 
 /// A handle puts in what is of its hierarchy.
 struct Puts;
 
-impl Outcome<Shared, Option<Hierarchy>> for Puts {
+impl Outcome<SharedSelection, Option<Hierarchy>> for Puts {
     ghost then = { λ known shared new. new ≡ known };
 }
 
 /// What a handle takes out is of its hierarchy.
 struct Takes;
 
-impl Outcome<Shared, Option<Hierarchy>> for Takes {
+impl Outcome<SharedSelection, Option<Hierarchy>> for Takes {
     ghost then = { λ known shared new. (new ≡ known) × (known ≡ Some shared) };
 }
 
@@ -77,15 +77,15 @@ impl Split<Option<Hierarchy>> for Beside {
     ghost right = { λ known. known };
 }
 
-type Shelf = RuledArrayQueue<Shared, Option<Hierarchy>, OneHierarchy>;
+type Slot = RuledArrayQueue<SharedSelection, Option<Hierarchy>, OneHierarchy>;
 
 /// A handle's share in the last selection that any handle of its hierarchy made. Contracts see which hierarchy that is.
 ///
 /// No call waits for another handle. One that looks while others copy the selection may find none.
 #[derive(Drop)]
 pub(crate) struct Sharing {
-    shelf: Arc<Shelf>,
-    pass: Pass<Shared, Option<Hierarchy>>,
+    shelf: Arc<Slot>,
+    pass: Pass<SharedSelection, Option<Hierarchy>>,
 }
 
 impl Model for Sharing {
@@ -109,8 +109,8 @@ impl Sharing {
     ) -> Result<Sharing, AllocError>
         ensures { IfOk result (λ sharing. sharing ≡ Some router.now) }
     {
-        let (shelf, mut pass) = Shelf::ruled(alloc, 1)?;
-        let nothing = Shared {
+        let (shelf, mut pass) = Slot::ruled(alloc, 1)?;
+        let nothing = SharedSelection {
             selection: None,
             of: Snapshot::of(router),
         };
@@ -170,7 +170,7 @@ impl Sharing {
         requires selection { IfSome (option_map arc_value selection) (IsSelection router.now) }
         ensures { self.new ≡ self.old }
     {
-        let mut shared = Shared {
+        let mut shared = SharedSelection {
             selection,
             of: Snapshot::of(router),
         };
@@ -184,7 +184,11 @@ impl Sharing {
     }
 
     // Shares this in place of what is shared, or returns it.
-    fn replace(&mut self, router: &RouterOf<Arc<Hierarchy>>, shared: Shared) -> Result<(), Shared>
+    fn replace(
+        &mut self,
+        router: &RouterOf<Arc<Hierarchy>>,
+        shared: SharedSelection,
+    ) -> Result<(), SharedSelection>
         requires known { self.old ≡ Some router.now }
         requires same { shared ≡ router.now }
         ensures kept { self.new ≡ self.old }
@@ -196,7 +200,7 @@ impl Sharing {
     }
 }
 
-impl Shared {
+impl SharedSelection {
     // The selection, if it is one of these targets.
     fn copy(&self, targets: &[u32]) -> Option<Arc<Selection>>
         ensures selection { IfSome result (λ s. IsSelection self.now (arc_value s)) }

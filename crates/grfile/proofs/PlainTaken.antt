@@ -5,7 +5,7 @@ use Rattle.std.specs.Str.Lines.{strip_carriage_return}
 use Rattle.std.proofs.lemmas.Bool.{cases_Bool, cond-true, cond-false, ne_eqb}
 use Rattle.std.proofs.lemmas.List.{append-nil, append_assoc, length-append}
 use Rattle.grfile.specs.declared.listing.Listed.{Listed}
-use Rattle.grfile.specs.declared.listing.Progress.{Progress}
+use Rattle.grfile.specs.declared.listing.ListingProgress.{ListingProgress}
 use Rattle.grfile.specs.declared.form.Size.{Size}
 use Rattle.text_lines.specs.Fields.{fields_of}
 use Rattle.grfile.specs.Outcome.{next_line}
@@ -73,7 +73,7 @@ cut_more begun (b ∷ text) more none =
     let free = no_feed b text none in
     cond-false (eqb b 10) (begun ∷ cut_after [] (text ++ more)) (cut_after (begun ++ b ∷ []) (text ++ more)) free.0 ∙ cut_more (begun ++ b ∷ []) text more free.1 ∙ ap (λ (line : List ℕ). cut_after line more) (append_assoc begun (b ∷ []) text)
 
-pub told_begun : {E : Type 0} (grammar : Grammar E) (first old new : Progress E) (text last : List ℕ)
+pub told_begun : {E : Type 0} (grammar : Grammar E) (first old new : ListingProgress E) (text last : List ℕ)
     → ((more : List ℕ) → told_from grammar old (lines_after [] (last ++ more)) ≡ told_from grammar first (lines_after [] (text ++ more)))
     → (line_feeds last ≡ 0) × (new.line ≡ old.line) × (option_map listing_of new.listed ≡ option_map listing_of old.listed) → (more : List ℕ)
     → told_from grammar new (lines_after last more) ≡ told_from grammar first (lines_after [] (text ++ more))

@@ -4,7 +4,7 @@ use Rattle.grfile.specs.declared.error.GrError.{GrError}
 use Rattle.grfile.specs.declared.error.GrErrorKind.TheVariants.{ArcCount}
 use Rattle.std.specs.Option.{option_map}
 use Rattle.grfile.specs.declared.listing.Listed.{Listed}
-use Rattle.grfile.specs.declared.listing.Progress.{Progress}
+use Rattle.grfile.specs.declared.listing.ListingProgress.{ListingProgress}
 use Rattle.grfile.specs.Outcome.{◌>>=◌, fault}
 use Rattle.grfile.specs.Grammar.{Grammar, Listing, entries_after, listing_after}
 
@@ -24,5 +24,5 @@ entry_then grammar n listing fields lines =
     else grammar.entry_of listing.size n fields >>= (λ entry. listing_from grammar n (Some (record { size = listing.size; entries = listing.entries ++ entry ∷ [] })) lines)
 
 -- What the text says if these lines follow.
-abbrev pub told_from : {E : Type 0} → Grammar E → Progress E → List (List ℕ) → Result (Listing E) GrError
+abbrev pub told_from : {E : Type 0} → Grammar E → ListingProgress E → List (List ℕ) → Result (Listing E) GrError
 told_from grammar progress lines = listing_from grammar progress.line (option_map listing_of progress.listed) lines

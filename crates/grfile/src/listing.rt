@@ -43,7 +43,7 @@ fn take_entry<F: Form>(
 
 /// How far the lines of a text have been read.
 #[derive(Drop)]
-pub(crate) struct Progress<E> {
+pub(crate) struct ListingProgress<E> {
     /// The number of the line that was read last, 0 before the first.
     pub(crate) line: u64,
     /// What the lines have, once the problem line has come.
@@ -53,7 +53,7 @@ pub(crate) struct Progress<E> {
 /// Takes the next line of a text, which has neither its line feed nor the carriage return at its end.
 pub(crate) fn take_line<F: Form>(
     alloc: Global,
-    progress: &mut Progress<F::Entry>,
+    progress: &mut ListingProgress<F::Entry>,
     form: F,
     line: &[u8],
 ) -> Result<(), GrError>
@@ -140,7 +140,7 @@ fn take_plain_entry<'a, F: Form>(
 }
 
 /// What a text says that ends with this line.
-pub(crate) fn end<E: Drop>(progress: Progress<E>) -> Result<Listed<E>, GrError>
+pub(crate) fn end<E: Drop>(progress: ListingProgress<E>) -> Result<Listed<E>, GrError>
     ensures told { (grammar : Grammar E) → IsReading listing_of result (told_from grammar progress []) }
     ensures refused { IfErr result (λ e. (e.kind ≢ Read) × (e.kind ≢ OutOfMemory)) }
 {

@@ -15,7 +15,7 @@ ghost use Rattle.grfile.specs.declared.error.GrErrorKind.TheVariants.{OutOfMemor
 
 use crate::error::{GrError, GrErrorKind};
 use crate::form::Form;
-use crate::listing::{Listed, Progress, end, take_line, take_plain};
+use crate::listing::{Listed, ListingProgress, end, take_line, take_plain};
 use counted_io::{ReadCalls, StepRead};
 use std::alloc::Global;
 use text_lines::{first_line, without_return};
@@ -24,7 +24,7 @@ use text_lines::{first_line, without_return};
 #[derive(Drop)]
 pub(crate) struct Pieces<E> {
     /// What the lines say that have ended.
-    pub(crate) progress: Progress<E>,
+    pub(crate) progress: ListingProgress<E>,
     /// The bytes of the line that hasn't ended.
     pub(crate) begun: Vec<u8>,
     /// The refusal that was returned, if there was one.
@@ -37,7 +37,7 @@ impl<E> Pieces<E> {
         ensures { taken_of result ≡ record { line = 0; listing = None; begun = []; failed = None } }
     {
         Pieces {
-            progress: Progress {
+            progress: ListingProgress {
                 line: 0,
                 listed: None,
             },
@@ -72,7 +72,7 @@ pub(crate) fn feed<F: Form>(
 
 // Takes a piece after the bytes of a line that has begun.
 fn take<F: Form>(
-    progress: &mut Progress<F::Entry>,
+    progress: &mut ListingProgress<F::Entry>,
     begun: &mut Vec<u8>,
     form: F,
     piece: &[u8],
@@ -103,7 +103,7 @@ fn keep(begun: &mut Vec<u8>, line: u64, bytes: &[u8]) -> Result<(), GrError>
 
 // Takes the line that has begun, now that its last bytes have come.
 fn end_line<F: Form>(
-    progress: &mut Progress<F::Entry>,
+    progress: &mut ListingProgress<F::Entry>,
     begun: &mut Vec<u8>,
     form: F,
     last: &[u8],
@@ -126,7 +126,7 @@ fn end_line<F: Form>(
 // Takes the first line that ends in a text, and returns what follows it, or `None` where no line ends.
 fn take_first<'a, F: Form>(
     alloc: Global,
-    progress: &mut Progress<F::Entry>,
+    progress: &mut ListingProgress<F::Entry>,
     form: F,
     text: &'a [u8],
 ) -> Result<Option<&'a [u8]>, GrError>
@@ -150,7 +150,7 @@ fn take_first<'a, F: Form>(
 // Takes the lines that end in a text, and returns what follows the last of them.
 fn take_lines<'a, F: Form>(
     alloc: Global,
-    progress: &mut Progress<F::Entry>,
+    progress: &mut ListingProgress<F::Entry>,
     form: F,
     text: &'a [u8],
 ) -> Result<&'a [u8], GrError>

@@ -20,9 +20,9 @@
 //! ```
 #![tactic(auto)]
 
+mod byte_reader;
 mod error;
 mod guesses;
-mod input;
 mod laws;
 mod links;
 mod ranks;

@@ -11,9 +11,9 @@ ghost use Rattle.hierfile.specs.Fault.{cut, does_count, has_weight, is_in_order,
 ghost use Rattle.hierfile.specs.Bytes.{IsCut, IsCutOrWhole, OfBytes, Tells, NoneBelow, AreTold, IsWritable};
 ghost use Rattle.hierfile.specs.Reading.{Reads, ReadsValue, Refuses};
 
+use crate::byte_reader::ByteReader;
 use crate::error::HierError;
 use crate::guesses::Guesses;
-use crate::input::Input;
 use ch_cost::{Cost, NarrowCost};
 use ch_graph::{Link, LinkHalves, LinkId, LinkIndex, Middle, Parts, Version};
 use counted_io::StepRead;
@@ -25,7 +25,7 @@ pub const NO_MIDDLE: u32 = u32::MAX;
 /// Reads this many links, of a hierarchy of this version with these ranks and this bound.
 pub fn read_links<R: StepRead>(
     alloc: Global,
-    input: &mut Input,
+    input: &mut ByteReader,
     reader: &mut R,
     version: Version,
     ranks: &[u32],
@@ -50,7 +50,7 @@ pub fn read_links<R: StepRead>(
 
 // Reads one link, all of its bytes at a time.
 fn read_link<R: StepRead>(
-    input: &mut Input,
+    input: &mut ByteReader,
     reader: &mut R,
     version: Version,
 ) -> Result<Link, HierError>
@@ -72,7 +72,7 @@ fn link_size(version: Version) -> usize
 }
 
 // Takes a link from the bytes that wait.
-fn waiting_link(input: &mut Input, version: Version) -> Link
+fn waiting_link(input: &mut ByteReader, version: Version) -> Link
     requires { link_size version ≤ length input.old.waiting }
     ensures taken { input.old.waiting ≡ link_bytes version result ++ input.new.waiting }
     ensures left { input.new.left ≡ input.old.left }
@@ -92,7 +92,7 @@ fn waiting_link(input: &mut Input, version: Version) -> Link
 }
 
 // Takes the arcs of a link, which are in files of version 2 alone.
-fn waiting_arcs(input: &mut Input, version: Version) -> u32
+fn waiting_arcs(input: &mut ByteReader, version: Version) -> u32
     requires { arcs_size version ≤ length input.old.waiting }
     ensures taken { input.old.waiting ≡ arcs_bytes version result ++ input.new.waiting }
     ensures left { input.new.left ≡ input.old.left }

@@ -6,8 +6,8 @@ ghost use Rattle.hierfile.specs.Bytes.{OfBytes, NoneBelow};
 ghost use Rattle.hierfile.specs.Reading.{ReadsValue};
 ghost use Rattle.hierfile.specs.Taken.{AreTaken};
 
+use crate::byte_reader::ByteReader;
 use crate::error::HierError;
-use crate::input::Input;
 use crate::taken::Taken;
 use counted_io::StepRead;
 use std::alloc::Global;
@@ -16,7 +16,7 @@ use std::collections::BTreeSet;
 /// Reads the ranks of this many nodes.
 pub fn read_ranks<R: StepRead>(
     alloc: Global,
-    input: &mut Input,
+    input: &mut ByteReader,
     reader: &mut R,
     nodes: u32,
 ) -> Result<Vec<u32>, HierError>

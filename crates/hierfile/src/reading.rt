@@ -8,8 +8,8 @@ ghost use Rattle.hierfile.specs.Fault.{magic_fault, head_fault, size_fault, body
 ghost use Rattle.hierfile.specs.Bytes.{HasNoneButHalves, HasNoneSoFar, Tells, IsBodyOf};
 ghost use Rattle.hierfile.specs.Reading.{Reads, ReadsFile, ReadsValue, Refuses};
 
+use crate::byte_reader::ByteReader;
 use crate::error::HierError;
-use crate::input::Input;
 use crate::links::{find_halves, read_links};
 use crate::ranks::read_ranks;
 use ch_cost::Cost;
@@ -63,7 +63,7 @@ pub fn read_within<R: StepRead>(
 ) -> Result<Hierarchy, HierError>
     ensures reads { ReadsFile R.step R.remaining (min calls MOST_CALLS) reader.old reader.new result }
 {
-    let mut input = Input::new(alloc, calls)?;
+    let mut input = ByteReader::new(alloc, calls)?;
     let version = read_magic(&mut input, reader)?;
     let head = read_head(&mut input, reader)?;
     let hierarchy = read_body(alloc, &mut input, reader, version, head)?;
@@ -71,7 +71,7 @@ pub fn read_within<R: StepRead>(
 }
 
 // Reads the magic, and compares each byte as it comes. The last one gives the version.
-fn read_magic<R: StepRead>(input: &mut Input, reader: &mut R) -> Result<Version, HierError>
+fn read_magic<R: StepRead>(input: &mut ByteReader, reader: &mut R) -> Result<Version, HierError>
     ensures reads { ReadsValue R.step R.remaining input.old input.new reader.old reader.new magic_of magic_fault result }
 {
     'bytes: for wanted in &STEM {
@@ -87,7 +87,7 @@ fn read_magic<R: StepRead>(input: &mut Input, reader: &mut R) -> Result<Version,
 }
 
 // Reads the last byte of a magic.
-fn read_version<R: StepRead>(input: &mut Input, reader: &mut R) -> Result<Version, HierError>
+fn read_version<R: StepRead>(input: &mut ByteReader, reader: &mut R) -> Result<Version, HierError>
     ensures reads { ReadsValue R.step R.remaining input.old input.new reader.old reader.new (λ version. drop 3 (magic_of version)) (λ bytes. magic_fault (stem ++ bytes)) result }
 {
     let Some(byte) = input.byte(reader)? else {
@@ -101,7 +101,7 @@ fn read_version<R: StepRead>(input: &mut Input, reader: &mut R) -> Result<Versio
 }
 
 // Reads the numbers behind the magic.
-fn read_head<R: StepRead>(input: &mut Input, reader: &mut R) -> Result<Head, HierError>
+fn read_head<R: StepRead>(input: &mut ByteReader, reader: &mut R) -> Result<Head, HierError>
     ensures sizes { IfOk result (λ head. size_fault head.nodes head.links head.bound ≡ None) }
     ensures reads { ReadsValue R.step R.remaining input.old input.new reader.old reader.new (λ head. word head.nodes ++ long head.links ++ long head.bound) head_fault result }
 {
@@ -132,7 +132,7 @@ fn test_sizes(head: Head) -> Result<(), HierError>
 // Reads what follows the head, in a file of this version.
 fn read_body<R: StepRead>(
     alloc: Global,
-    input: &mut Input,
+    input: &mut ByteReader,
     reader: &mut R,
     version: Version,
     head: Head,
@@ -179,7 +179,7 @@ fn bound_arcs(version: Version, nodes: u32) -> u32
 }
 
 // Sees that nothing follows.
-fn read_end<R: StepRead>(input: &mut Input, reader: &mut R) -> Result<(), HierError>
+fn read_end<R: StepRead>(input: &mut ByteReader, reader: &mut R) -> Result<(), HierError>
     ensures reads { Reads R.step R.remaining input.old input.new reader.old reader.new (λ _ before _. IsAtEnd before) (Refuses end_fault (λ came. end_fault came ≡ None) (λ came. end_fault came ≡ None)) result }
 {
     match input.byte(reader)? {

@@ -7,8 +7,8 @@ use Rattle.outcomes.specs.declared.cause.Cause.TheVariants.{Memory, Read, Write}
 use Rattle.outcomes.specs.declared.cause.Input.{Input}
 
 -- a fact of two texts, where both are known
-abbrev pub IfTold : Option (List ℕ) → Option (List ℕ) → (List ℕ → List ℕ → Type 0) → Type 0
-IfTold first second P = IfSome first (λ first_text. IfSome second (λ second_text. P first_text second_text))
+abbrev pub IfBothKnown : Option (List ℕ) → Option (List ℕ) → (List ℕ → List ℕ → Type 0) → Type 0
+IfBothKnown first second P = IfSome first (λ first_text. IfSome second (λ second_text. P first_text second_text))
 
 -- the writer took a text of this kind, and nothing else
 abbrev pub Writes : (List ℕ → Type 0) → Option (List ℕ) → Option (List ℕ) → Type 0
@@ -26,20 +26,20 @@ if_some (Some a) f = f a
 
 module _ (first second : Option (List ℕ)) where
   -- what is so of all texts
-  pub told_all : {P : List ℕ → List ℕ → Type 0} → ((a b : List ℕ) → P a b) → IfTold first second P
-  told_all f = if_some first (λ a. if_some second (f a))
+  pub all_known : {P : List ℕ → List ℕ → Type 0} → ((a b : List ℕ) → P a b) → IfBothKnown first second P
+  all_known f = if_some first (λ a. if_some second (f a))
 
   -- what is so of the first
-  pub told_first : (P : List ℕ → Type 0) → IfSome first P → IfTold first second (λ a b. P a)
-  told_first P told = IfSome_then first told (λ a p. if_some second (λ b. p))
+  pub first_known : (P : List ℕ → Type 0) → IfSome first P → IfBothKnown first second (λ a b. P a)
+  first_known P told = IfSome_then first told (λ a p. if_some second (λ b. p))
 
   -- what follows of each
-  pub told_both : {P Q : List ℕ → Type 0} {R : List ℕ → List ℕ → Type 0} → IfSome first P → IfSome second Q → ((a b : List ℕ) → P a → Q b → R a b) → IfTold first second R
-  told_both told more f = IfSome_then first told (λ a p. IfSome_then second more (λ b q. f a b p q))
+  pub both_known : {P Q : List ℕ → Type 0} {R : List ℕ → List ℕ → Type 0} → IfSome first P → IfSome second Q → ((a b : List ℕ) → P a → Q b → R a b) → IfBothKnown first second R
+  both_known told more f = IfSome_then first told (λ a p. IfSome_then second more (λ b q. f a b p q))
 
   -- and of both
-  pub told_then : {P Q : List ℕ → List ℕ → Type 0} → IfTold first second P → ((a b : List ℕ) → P a b → Q a b) → IfTold first second Q
-  told_then told f = IfSome_then first told (λ a more. IfSome_then second more (λ b p. f a b p))
+  pub known_then : {P Q : List ℕ → List ℕ → Type 0} → IfBothKnown first second P → ((a b : List ℕ) → P a b → Q a b) → IfBothKnown first second Q
+  known_then told f = IfSome_then first told (λ a more. IfSome_then second more (λ b p. f a b p))
 
 -- What a call says where a resource is refused to it or fails: memory, a read or a write.
 
@@ -51,7 +51,7 @@ IsEither first second input = (input ≡ first) ⊎ (input ≡ second)
 -- or such a text. If a read failed, it was of one of its inputs, and nothing is written. If a write failed, the writer took
 -- the first `written` bytes of such a text, but not all. No other cause is of a resource.
 abbrev pub OfResource : (by_lines : Bool) (IsInput : Input → Type 0) (first second : Option (List ℕ)) (MayWrite : List ℕ → List ℕ → List ℕ → Type 0) (old new : Option (List ℕ)) → Cause → Type 0
-OfResource by_lines IsInput first second MayWrite old new Memory = MatchBool by_lines (IfTold first second (λ a b. Keeps old new ⊎ Writes (MayWrite a b) old new)) (Keeps old new)
+OfResource by_lines IsInput first second MayWrite old new Memory = MatchBool by_lines (IfBothKnown first second (λ a b. Keeps old new ⊎ Writes (MayWrite a b) old new)) (Keeps old new)
 OfResource by_lines IsInput first second MayWrite old new (Read input) = IsInput input × Keeps old new
-OfResource by_lines IsInput first second MayWrite old new (Write fault) = IfTold first second (λ a b. WritesFirst (MayWrite a b) old new fault.written)
+OfResource by_lines IsInput first second MayWrite old new (Write fault) = IfBothKnown first second (λ a b. WritesFirst (MayWrite a b) old new fault.written)
 OfResource by_lines IsInput first second MayWrite old new cause = ⊥

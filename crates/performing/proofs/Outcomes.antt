@@ -3,23 +3,23 @@ use Rattle.std.proofs.Common.{ℕ, ◌≡◌, List, Option, Bool, true, false, s
 use Rattle.std.specs.Prelude.{⊤, Some, None, option_map, MatchBool, Result, Ok, Err, OnOk, IfErr, IfSome, IsErrAnd, ◌⊎◌}
 use Rattle.std.specs.Io.KnownBytes.{Appends, Keeps}
 use Rattle.std.proofs.lemmas.Option.{IfSome_then}
-use Rattle.outcomes.specs.Outcomes.{Ends, outcome_after, status_after}
-use Rattle.outcomes.specs.Written.{told_all, told_then}
+use Rattle.outcomes.specs.Outcomes.{Ends, ending_after, status_after}
+use Rattle.outcomes.specs.Written.{all_known, known_then}
 use Rattle.outcomes.specs.declared.cause.Cause.{Cause}
 use Rattle.outcomes.specs.declared.cause.Cause.TheVariants as causes
-use Rattle.outcomes.specs.declared.outcome.Outcome.{Outcome}
-use Rattle.outcomes.specs.declared.outcome.Outcome.TheVariants.{Done, Refused, Wrong, NotShown}
+use Rattle.outcomes.specs.declared.ending.Ending.{Ending}
+use Rattle.outcomes.specs.declared.ending.Ending.TheVariants.{Done, Refused, Wrong, NotShown}
 use Rattle.outcomes.specs.Causes.{file_case}
 use Rattle.ch_service.specs.declared.error.ServiceError.{ServiceError}
 use Rattle.ch_service.specs.declared.error.ServiceError.TheVariants.{OutOfMemory}
 use Rattle.ch_service.specs.Answer.{AnswersByFewest, graph_part, pairs_part, Prepares, RoutesHaveFewestArcs}
 use Rattle.ch_service.specs.BestRoutes.{AnswersAreBestRoutes}
 use Rattle.ch_service.specs.Cause.{cause_of}
-use Rattle.ch_service.specs.Outcome.{IfTold, Writes, IsGraphText}
+use Rattle.ch_service.specs.Outcome.{IfBothKnown, Writes, IsGraphText}
 use Rattle.ch_service.specs.Refusals.{RefusesAnswers, RefusesPreparing, RefusesRoutes}
 use Rattle.ch_verify.specs.Verdict.{RefusesCheck, Says, verdict_line}
-use Rattle.ch_verify.specs.declared.verdict.Verdict.{Verdict}
-use Rattle.ch_verify.specs.declared.verdict.Verdict.TheVariants as verdicts
+use Rattle.ch_verify.specs.declared.verdict.FileVerdict.{FileVerdict}
+use Rattle.ch_verify.specs.declared.verdict.FileVerdict.TheVariants as verdicts
 use Rattle.ch_renew.specs.Renewal.{RefusesRenewing, Renews, TellsRenewed}
 use Rattle.jobs.specs.Job.{is_joined}
 use Rattle.jobs.specs.declared.job.Job.{Job}
@@ -28,7 +28,7 @@ use Rattle.ch_requests.specs.declared.error.ServeError.{ServeError}
 use Rattle.ch_requests.specs.declared.error.ServeError.TheVariants as stops
 use Rattle.ch_requests.specs.Cause.{stop_cause}
 use Rattle.hierinfo.specs.Info.{RefusesInfo}
-use Rattle.performing.specs.Status.{outcome_of, outcome_found, Tells, TellsAnswers, TellsChecked, StopsBy, TellsPrepared, TellsRouted, TellsServed, TellsInfo, IsAnsweringStatus, IsPreparingStatus, IsRoutingStatus, IsServingStatus, IsCheckingStatus, IsStatusOf, TellsPut, RoutesAreExactAfter, HasPrepared, HasRenewed, IsRenewingStatus, TellsRenewedPut, ZeroIsDone}
+use Rattle.performing.specs.Status.{outcome_of, ending_found, Tells, TellsAnswers, TellsChecked, StopsBy, TellsPrepared, TellsRouted, TellsServed, TellsInfo, IsAnsweringStatus, IsPreparingStatus, IsRoutingStatus, IsServingStatus, IsCheckingStatus, IsStatusOf, TellsPut, RoutesAreExactAfter, HasPrepared, HasRenewed, IsRenewingStatus, TellsRenewedPut, ZeroIsDone}
 
 -- What a call says by its outcome.
 
@@ -49,13 +49,13 @@ pub told : (r : Result ⊤ ServiceError) (IsDone : Type 0) (Refuses : Cause → 
 told (Ok x) IsDone Refuses done refused = is_done IsDone Refuses done
 told (Err e) IsDone Refuses done refused = is_refused IsDone Refuses refused
 
-pub told_after : (r : Result ⊤ Cause) (IsDone : Type 0) (Refuses : Cause → Type 0) → OnOk r IsDone → IfErr r Refuses → Ends (outcome_after r) IsDone Refuses
+pub told_after : (r : Result ⊤ Cause) (IsDone : Type 0) (Refuses : Cause → Type 0) → OnOk r IsDone → IfErr r Refuses → Ends (ending_after r) IsDone Refuses
 told_after (Ok x) IsDone Refuses done refused = is_done IsDone Refuses done
 told_after (Err cause) IsDone Refuses done refused = is_refused IsDone Refuses refused
 
 -- the same of an outcome that is that after the call
-pub after : {outcome ended : Outcome} {IsDone : Type 0} {Refuses : Cause → Type 0} → outcome ≡ ended → Ends ended IsDone Refuses → Ends outcome IsDone Refuses
-after {IsDone = IsDone} {Refuses = Refuses} is ends = subst (λ (o : Outcome). Ends o IsDone Refuses) (sym is) ends
+pub after : {outcome ended : Ending} {IsDone : Type 0} {Refuses : Cause → Type 0} → outcome ≡ ended → Ends ended IsDone Refuses → Ends outcome IsDone Refuses
+after {IsDone = IsDone} {Refuses = Refuses} is ends = subst (λ (o : Ending). Ends o IsDone Refuses) (sym is) ends
 
 -- where memory ran out before the call
 pub wants_memory : (r : Result ⊤ ServiceError) (IsDone : Type 0) (Refuses : Cause → Type 0) → IsErrAnd r (λ e. e ≡ OutOfMemory) → Refuses causes.Memory → Ends (outcome_of r) IsDone Refuses
@@ -63,7 +63,7 @@ wants_memory (Ok x) IsDone Refuses is memory = absurd is
 wants_memory (Err e) IsDone Refuses is memory = is_refused IsDone Refuses (subst (λ (x : ServiceError). Refuses (cause_of x)) (sym is) memory)
 
 pub unwritten : (graph pairs old new : Option (List ℕ)) → Keeps old new → RefusesAnswers graph pairs old new causes.Memory
-unwritten graph pairs old new k = told_all graph pairs (λ a b. inl k)
+unwritten graph pairs old new k = all_known graph pairs (λ a b. inl k)
 
 -- where both texts are in one input
 pub joined_told : (input old new : Option (List ℕ)) (r : Result ⊤ ServiceError) → OnOk r (IfSome input (λ text. Writes (AnswersByFewest (graph_part text) (pairs_part text)) old new))
@@ -74,7 +74,7 @@ joined_told (Some text) old new (Ok x) w f = is_done _ _ w
 joined_told (Some text) old new (Err e) w f = is_refused _ _ f
 
 -- a check that came to a verdict
-pub found : (v : Verdict) {outcome : Outcome} (graph file old new : Option (List ℕ)) → outcome ≡ outcome_found v → IfTold graph file (Says v) → Appends old new (verdict_line v) → TellsChecked outcome graph file old new
+pub found : (v : FileVerdict) {outcome : Ending} (graph file old new : Option (List ℕ)) → outcome ≡ ending_found v → IfBothKnown graph file (Says v) → Appends old new (verdict_line v) → TellsChecked outcome graph file old new
 found verdicts.Right graph file old new is says given = record {
   right = λ same. (says, given);
   wrong = λ same. absurd (cc);
@@ -105,13 +105,13 @@ unchecked why graph file old new refused = record {
 
 -- a job that answers, by whether its texts are in one input
 
-pub of_joined : (j : Job) (o : Outcome) (first second left old new : Option (List ℕ)) → is_joined j ≡ true → TellsAnswers o (option_map graph_part first) (option_map pairs_part first) old new → Tells j o first second left old new
+pub of_joined : (j : Job) (o : Ending) (first second left old new : Option (List ℕ)) → is_joined j ≡ true → TellsAnswers o (option_map graph_part first) (option_map pairs_part first) old new → Tells j o first second left old new
 of_joined (Answer graph queries) o first second left old new is t = record {
   of_job = subst (λ (b : Bool). MatchBool b (TellsAnswers o (option_map graph_part first) (option_map pairs_part first) old new) (TellsAnswers o first second old new)) (sym is) t;
 }
 of_joined j o first second left old new is t = absurd (cc)
 
-pub of_two : {j : Job} (graph queries : _) (o : Outcome) (first second left old new : Option (List ℕ)) → j ≡ Answer graph queries → is_joined j ≡ false → TellsAnswers o first second old new → Tells j o first second left old new
+pub of_two : {j : Job} (graph queries : _) (o : Ending) (first second left old new : Option (List ℕ)) → j ≡ Answer graph queries → is_joined j ≡ false → TellsAnswers o first second old new → Tells j o first second left old new
 of_two {j = Answer a b} graph queries o first second left old new is apart t = record {
   of_job = subst (λ (b : Bool). MatchBool b (TellsAnswers o (option_map graph_part first) (option_map pairs_part first) old new) (TellsAnswers o first second old new)) (sym apart) t;
 }
@@ -119,19 +119,19 @@ of_two graph queries o first second left old new is apart t = absurd (cc)
 
 -- Which statuses a job may end with, and that nothing was written where the workers don't agree.
 
-abbrev pub Ending : (ℕ → Type 0) → Option (List ℕ) → Option (List ℕ) → Outcome → Type 0
+abbrev pub Ending : (ℕ → Type 0) → Option (List ℕ) → Option (List ℕ) → Ending → Type 0
 Ending Is old new outcome = Is (status_after outcome) × (status_after outcome ≡ 8 → Keeps old new)
 
 -- what ends so with status 0, and so for each cause of its refusals
 module _ {IsDone : Type 0} {Refuses : Cause → Type 0} (Is : ℕ → Type 0) (old new : Option (List ℕ)) (done : Is 0) (refused : (cause : Cause) → Refuses cause → Ending Is old new (Refused cause)) where
-  ending : (outcome : Outcome) → Ends outcome IsDone Refuses → Ending Is old new outcome
+  ending : (outcome : Ending) → Ends outcome IsDone Refuses → Ending Is old new outcome
   ending Done t = (done, λ is. absurd (cc))
   ending Wrong t = absurd (t.no_verdict.0 refl)
   ending NotShown t = absurd (t.no_verdict.1 refl)
   ending (Refused cause) t = refused cause (t.refused cause refl)
 
 -- where pairs are answered over a graph
-pub answering_end : (outcome : Outcome) (graph pairs old new : Option (List ℕ)) → TellsAnswers outcome graph pairs old new → Ending IsAnsweringStatus old new outcome
+pub answering_end : (outcome : Ending) (graph pairs old new : Option (List ℕ)) → TellsAnswers outcome graph pairs old new → Ending IsAnsweringStatus old new outcome
 answering_end outcome graph pairs old new = ending IsAnsweringStatus old new (inl refl) by_cause outcome where
   by_cause : (cause : Cause) → RefusesAnswers graph pairs old new cause → Ending IsAnsweringStatus old new (Refused cause)
   by_cause (causes.Graph fault) r = (inr (inl refl), λ is. absurd (cc))
@@ -143,7 +143,7 @@ answering_end outcome graph pairs old new = ending IsAnsweringStatus old new (in
   by_cause cause r = absurd r
 
 -- where a hierarchy is prepared
-pub preparing_end : (outcome : Outcome) (graph old new : Option (List ℕ)) → TellsPrepared outcome graph old new → Ending IsPreparingStatus old new outcome
+pub preparing_end : (outcome : Ending) (graph old new : Option (List ℕ)) → TellsPrepared outcome graph old new → Ending IsPreparingStatus old new outcome
 preparing_end outcome graph old new = ending IsPreparingStatus old new (inl refl) by_cause outcome where
   by_cause : (cause : Cause) → RefusesPreparing graph old new cause → Ending IsPreparingStatus old new (Refused cause)
   by_cause (causes.Graph fault) r = (inr (inl refl), λ is. absurd (cc))
@@ -154,7 +154,7 @@ preparing_end outcome graph old new = ending IsPreparingStatus old new (inl refl
   by_cause cause r = absurd r
 
 -- where pairs are answered by one
-pub routing_end : (outcome : Outcome) (file pairs old new : Option (List ℕ)) → TellsRouted outcome file pairs old new → Ending IsRoutingStatus old new outcome
+pub routing_end : (outcome : Ending) (file pairs old new : Option (List ℕ)) → TellsRouted outcome file pairs old new → Ending IsRoutingStatus old new outcome
 routing_end outcome file pairs old new = ending IsRoutingStatus old new (inl refl) by_cause outcome where
   by_cause : (cause : Cause) → RefusesRoutes file pairs old new cause → Ending IsRoutingStatus old new (Refused cause)
   by_cause (causes.Queries fault) r = (inr (inr (inl refl)), λ is. absurd (cc))
@@ -166,7 +166,7 @@ routing_end outcome file pairs old new = ending IsRoutingStatus old new (inl ref
   by_cause cause r = absurd r
 
 -- where what one has is printed
-pub informing_end : (outcome : Outcome) (file old new : Option (List ℕ)) → TellsInfo outcome file old new → Ending IsServingStatus old new outcome
+pub informing_end : (outcome : Ending) (file old new : Option (List ℕ)) → TellsInfo outcome file old new → Ending IsServingStatus old new outcome
 informing_end outcome file old new = ending IsServingStatus old new (inl refl) by_cause outcome where
   by_cause : (cause : Cause) → RefusesInfo file old new cause → Ending IsServingStatus old new (Refused cause)
   by_cause (causes.Hierarchy fault) r = (inr (inl refl), λ is. absurd (cc))
@@ -176,7 +176,7 @@ informing_end outcome file old new = ending IsServingStatus old new (inl refl) b
   by_cause cause r = absurd r
 
 -- where one is checked
-pub checking_end : {outcome : Outcome} {graph file old new : Option (List ℕ)} → TellsChecked outcome graph file old new → Ending IsCheckingStatus old new outcome
+pub checking_end : {outcome : Ending} {graph file old new : Option (List ℕ)} → TellsChecked outcome graph file old new → Ending IsCheckingStatus old new outcome
 checking_end {outcome = Done} t = (inl refl, λ is. absurd (cc))
 checking_end {outcome = Wrong} t = (inr (inr (inr (inr (inr (inl refl))))), λ is. absurd (cc))
 checking_end {outcome = NotShown} t = (inr (inr (inr (inr (inr (inr refl))))), λ is. absurd (cc))
@@ -189,7 +189,7 @@ checking_end {outcome = Refused (causes.Write fault)} t = (inr (inr (inr (inr (i
 checking_end {outcome = Refused cause} t = absurd (t.refused cause refl)
 
 -- where one is made by the ranks of another one
-pub renewing_end : {outcome : Outcome} {graph file old new : Option (List ℕ)} → TellsRenewed outcome graph file old new → Ending IsRenewingStatus old new outcome
+pub renewing_end : {outcome : Ending} {graph file old new : Option (List ℕ)} → TellsRenewed outcome graph file old new → Ending IsRenewingStatus old new outcome
 renewing_end {outcome = Done} t = (inl refl, λ is. absurd (cc))
 renewing_end {outcome = Wrong} t = (inr (inr (inr (inr (inr refl)))), λ is. absurd (cc))
 renewing_end {outcome = NotShown} t = absurd (t.shown refl)
@@ -208,7 +208,7 @@ stop_end old new (stops.Hierarchy fault) =
 stop_end old new stops.OutOfMemory = (inr (inr (inl refl)), λ is. absurd (cc))
 stop_end old new e = (inr (inr (inr refl)), λ is. absurd (cc))
 
-pub serving_end : (outcome : Outcome) (file had left old new : Option (List ℕ)) → TellsServed outcome file had left old new → Ending IsServingStatus old new outcome
+pub serving_end : (outcome : Ending) (file had left old new : Option (List ℕ)) → TellsServed outcome file had left old new → Ending IsServingStatus old new outcome
 serving_end outcome file had left old new =
     ending IsServingStatus old new (inl refl) by_cause outcome
   where
@@ -217,11 +217,11 @@ serving_end outcome file had left old new =
 
 -- where a job is any of these
 
-answer_end : (joined : Bool) (outcome : Outcome) (graph pairs first second old new : Option (List ℕ)) → MatchBool joined (TellsAnswers outcome graph pairs old new) (TellsAnswers outcome first second old new) → Ending IsAnsweringStatus old new outcome
+answer_end : (joined : Bool) (outcome : Ending) (graph pairs first second old new : Option (List ℕ)) → MatchBool joined (TellsAnswers outcome graph pairs old new) (TellsAnswers outcome first second old new) → Ending IsAnsweringStatus old new outcome
 answer_end true outcome graph pairs first second old new t = answering_end outcome graph pairs old new t
 answer_end false outcome graph pairs first second old new t = answering_end outcome first second old new t
 
-pub job_end : (j : Job) (outcome : Outcome) (first second left old new : Option (List ℕ)) → Tells j outcome first second left old new → Ending (IsStatusOf j) old new outcome
+pub job_end : (j : Job) (outcome : Ending) (first second left old new : Option (List ℕ)) → Tells j outcome first second left old new → Ending (IsStatusOf j) old new outcome
 job_end (Answer graph queries) outcome first second left old new t = answer_end (is_joined (Answer graph queries)) outcome _ _ _ _ old new t.of_job
 job_end (Prepare preparation) outcome first second left old new t = preparing_end outcome first old new t.of_job
 job_end (Route hierarchy queries) outcome first second left old new t = routing_end outcome first second old new t.of_job
@@ -237,7 +237,7 @@ untold_file : (graph old new : Option (List ℕ)) → IfSome graph (λ text. Wri
 untold_file graph old new file = IfSome_then graph file (λ text put. (put.0, put.1, tt))
 
 -- what an outcome says of the text alone
-untold : (outcome : Outcome) (graph old new : Option (List ℕ)) → TellsPrepared outcome graph old new → TellsPut outcome graph
+untold : (outcome : Ending) (graph old new : Option (List ℕ)) → TellsPrepared outcome graph old new → TellsPut outcome graph
 untold Done graph old new t = is_done _ _ (untold_file graph old new (t.done refl))
 untold Wrong graph old new t = absurd (t.no_verdict.0 refl)
 untold NotShown graph old new t = absurd (t.no_verdict.1 refl)
@@ -254,14 +254,14 @@ is_text : (graph old new : Option (List ℕ)) → IfSome graph (λ text. Writes 
 is_text graph old new file = IfSome_then graph file (λ text put. (put.1.graph, put.1.graph_reads))
 
 -- what the outcome says of the text once the draft was put or thrown away, and its status
-pub finished : (graph old new : Option (List ℕ)) {prepared result : Outcome} → (result ≡ prepared) ⊎ ((prepared ≡ Done) × (result ≡ Refused causes.Flush)) → TellsPrepared prepared graph old new → TellsPut result graph × IsPreparingStatus (status_after result)
-finished graph old new {prepared} (inl is) t = subst (λ (o : Outcome). TellsPut o graph × IsPreparingStatus (status_after o)) (sym is) (untold prepared graph old new t, (preparing_end prepared graph old new t).0)
+pub finished : (graph old new : Option (List ℕ)) {prepared result : Ending} → (result ≡ prepared) ⊎ ((prepared ≡ Done) × (result ≡ Refused causes.Flush)) → TellsPrepared prepared graph old new → TellsPut result graph × IsPreparingStatus (status_after result)
+finished graph old new {prepared} (inl is) t = subst (λ (o : Ending). TellsPut o graph × IsPreparingStatus (status_after o)) (sym is) (untold prepared graph old new t, (preparing_end prepared graph old new t).0)
 finished graph old new (inr failed) t =
-    subst (λ (o : Outcome). TellsPut o graph × IsPreparingStatus (status_after o)) (sym failed.1)
+    subst (λ (o : Ending). TellsPut o graph × IsPreparingStatus (status_after o)) (sym failed.1)
     (is_text graph old new (t.done failed.0), inr (inr (inr (inl refl))))
 
 -- where it is done, so was the work
-pub was_done : {prepared result : Outcome} → (result ≡ prepared) ⊎ ((prepared ≡ Done) × (result ≡ Refused causes.Flush)) → result ≡ Done → prepared ≡ Done
+pub was_done : {prepared result : Ending} → (result ≡ prepared) ⊎ ((prepared ≡ Done) × (result ≡ Refused causes.Flush)) → result ≡ Done → prepared ≡ Done
 was_done (inl is) done = sym is ∙ done
 was_done (inr failed) done = failed.0
 
@@ -292,9 +292,9 @@ renewal_refused why graph file old new refused = record {
   refused = λ cause is. let same : why ≡ cause = cc in subst (RefusesRenewing graph file old new) same refused;
 }
 
-untold_renewed : (outcome : Outcome) (graph file old new : Option (List ℕ)) → TellsRenewed outcome graph file old new → TellsRenewedPut outcome graph file
+untold_renewed : (outcome : Ending) (graph file old new : Option (List ℕ)) → TellsRenewed outcome graph file old new → TellsRenewedPut outcome graph file
 untold_renewed Done graph file old new t = record {
-  done = λ is. told_then graph file (t.done refl) (λ text bytes put. (put.0, put.1, tt));
+  done = λ is. known_then graph file (t.done refl) (λ text bytes put. (put.0, put.1, tt));
   wrong = λ is. absurd (cc);
   shown = λ is. absurd (cc);
   refused = λ cause is. absurd (cc);
@@ -311,20 +311,20 @@ untold_renewed (Refused (causes.Hierarchy fault)) graph file old new t = renewal
 untold_renewed (Refused causes.Memory) graph file old new t = renewal_refused causes.Memory graph file None None tt
 untold_renewed (Refused (causes.Read input)) graph file old new t = renewal_refused (causes.Read input) graph file None None ((t.refused (causes.Read input) refl).0, tt)
 untold_renewed (Refused (causes.Write fault)) graph file old new t =
-    renewal_refused (causes.Write fault) graph file None None (told_then graph file (t.refused (causes.Write fault) refl) (λ text bytes part. (part.0, part.1, part.2, tt)))
+    renewal_refused (causes.Write fault) graph file None None (known_then graph file (t.refused (causes.Write fault) refl) (λ text bytes part. (part.0, part.1, part.2, tt)))
 untold_renewed (Refused cause) graph file old new t = absurd (t.refused cause refl)
 
-pub finished_renewed : (graph file old new : Option (List ℕ)) {renewed result : Outcome} → (result ≡ renewed) ⊎ ((renewed ≡ Done) × (result ≡ Refused causes.Flush)) → TellsRenewed renewed graph file old new
+pub finished_renewed : (graph file old new : Option (List ℕ)) {renewed result : Ending} → (result ≡ renewed) ⊎ ((renewed ≡ Done) × (result ≡ Refused causes.Flush)) → TellsRenewed renewed graph file old new
     → TellsRenewedPut result graph file × IsRenewingStatus (status_after result)
 finished_renewed graph file old new {renewed} (inl is) t =
-    subst (λ (o : Outcome). TellsRenewedPut o graph file × IsRenewingStatus (status_after o)) (sym is) (untold_renewed renewed graph file old new t, (renewing_end t).0)
+    subst (λ (o : Ending). TellsRenewedPut o graph file × IsRenewingStatus (status_after o)) (sym is) (untold_renewed renewed graph file old new t, (renewing_end t).0)
 finished_renewed graph file old new (inr failed) t =
-    subst (λ (o : Outcome). TellsRenewedPut o graph file × IsRenewingStatus (status_after o)) (sym failed.1)
-    (told_then graph file (t.done failed.0) (λ text bytes put. (put.0, put.1)), inr (inr (inr (inr (inl refl)))))
+    subst (λ (o : Ending). TellsRenewedPut o graph file × IsRenewingStatus (status_after o)) (sym failed.1)
+    (known_then graph file (t.done failed.0) (λ text bytes put. (put.0, put.1)), inr (inr (inr (inr (inl refl)))))
 
 pub has_renewed : (graph file : Option (List ℕ)) (stood : Option (Option (List ℕ))) {old : Option (List ℕ)} (new : Option (List ℕ)) {stands : Option (Option (List ℕ))} → old ≡ option_map (λ _. []) stood → stands ≡ option_map Some new
-    → IfTold graph file (λ text bytes. Writes (Renews text bytes) old new) → HasRenewed graph file stood stands
-has_renewed graph file stood new starts put made = told_then graph file made (λ text bytes written. stands_whole (Renews text bytes) stood new starts put written)
+    → IfBothKnown graph file (λ text bytes. Writes (Renews text bytes) old new) → HasRenewed graph file stood stands
+has_renewed graph file stood new starts put made = known_then graph file made (λ text bytes written. stands_whole (Renews text bytes) stood new starts put written)
 
 -- it may be prepared from the text of the graph
 pub renewed_is_prepared : (text bytes made : List ℕ) → Renews text bytes made → Prepares text made

@@ -9,7 +9,7 @@ use ch_estimate::Leases;
 use ch_service::{ServiceError, answer, answer_joined, causes_tell_refusals};
 use ch_workers::OpenGate;
 use jobs::{Stint, Workers};
-use outcomes::Outcome;
+use outcomes::Ending;
 use std::alloc::Global;
 use std::io::{Read, Write};
 use std::sync::Wait;
@@ -26,7 +26,7 @@ pub fn perform_answer<A: Read, B: Read, W: Write, R: Threads + Wait + Sync>(
     graph: &mut A,
     queries: &mut B,
     out: &mut W,
-) -> Outcome
+) -> Ending
     ensures told { TellsAnswers result (A.remaining graph.old) (B.remaining queries.old) (W.contents out.old) (W.contents out.new) }
     ensures status { IsAnsweringStatus (status_after result) }
 {
@@ -40,7 +40,7 @@ pub fn perform_joined<I: Read, W: Write, R: Threads + Wait + Sync>(
     alloc: Global,
     input: &mut I,
     out: &mut W,
-) -> Outcome
+) -> Ending
     ensures told { TellsAnswers result (option_map graph_part (I.remaining input.old)) (option_map pairs_part (I.remaining input.old)) (W.contents out.old) (W.contents out.new) }
     ensures status { IsAnsweringStatus (status_after result) }
 {

@@ -1,9 +1,9 @@
 ghost use Rattle.std.specs.Prelude.{◌≡◌};
 ghost use Rattle.outcomes.specs.Outcomes.{status_after};
-ghost use Rattle.performing.specs.Status.{IsCheckingStatus, TellsChecked, outcome_found};
+ghost use Rattle.performing.specs.Status.{IsCheckingStatus, TellsChecked, ending_found};
 
-use ch_verify::{Verdict, Watch, verify};
-use outcomes::Outcome;
+use ch_verify::{FileVerdict, Watch, verify};
+use outcomes::Ending;
 use std::alloc::Global;
 use std::io::{Read, Write};
 
@@ -17,23 +17,23 @@ pub fn perform_check<A: Read, B: Read, W: Write, V: Watch>(
     hierarchy: &mut B,
     out: &mut W,
     watch: &V,
-) -> Outcome
+) -> Ending
     ensures told { TellsChecked result (A.remaining graph.old) (B.remaining hierarchy.old) (W.contents out.old) (W.contents out.new) }
     ensures status { IsCheckingStatus (status_after result) }
 {
     match verify(alloc, graph, hierarchy, out, watch) {
-        Ok(verdict) => outcome_found(verdict),
-        Err(cause) => Outcome::Refused(cause),
+        Ok(verdict) => ending_found(verdict),
+        Err(cause) => Ending::Refused(cause),
     }
 }
 
 // The outcome of a verdict.
-fn outcome_found(verdict: Verdict) -> Outcome
-    ensures { result ≡ outcome_found verdict }
+fn ending_found(verdict: FileVerdict) -> Ending
+    ensures { result ≡ ending_found verdict }
 {
     match verdict {
-        Verdict::Right => Outcome::Done,
-        Verdict::Wrong(_) => Outcome::Wrong,
-        Verdict::NotShown(_) => Outcome::NotShown,
+        FileVerdict::Right => Ending::Done,
+        FileVerdict::Wrong(_) => Ending::Wrong,
+        FileVerdict::NotShown(_) => Ending::NotShown,
     }
 }

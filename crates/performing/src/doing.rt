@@ -14,7 +14,7 @@ use crate::serving::perform_service;
 use ch_verify::Unwatched;
 use ch_workers::OpenGate;
 use jobs::Job;
-use outcomes::Outcome;
+use outcomes::Ending;
 use std::alloc::Global;
 use std::io::{Read, Write};
 use std::sync::Wait;
@@ -59,7 +59,7 @@ fn outcome_of_job<A: Read, B: Read, W: Write, R: Threads + Wait + Sync>(
     first: &mut A,
     second: &mut B,
     out: &mut W,
-) -> Outcome
+) -> Ending
     ensures told { Tells job.now result (A.remaining first.old) (B.remaining second.old) (B.remaining second.new) (W.contents out.old) (W.contents out.new) }
     ensures unread { (is_joined job.now ≡ true) ⊎ IsPreparing job.now ⊎ IsInforming job.now → second.new ≡ second.old }
 {

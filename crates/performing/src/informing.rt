@@ -3,7 +3,7 @@ ghost use Rattle.outcomes.specs.Outcomes.{status_after};
 ghost use Rattle.performing.specs.Status.{IsServingStatus, TellsInfo};
 
 use hierinfo::write_info;
-use outcomes::Outcome;
+use outcomes::Ending;
 use std::alloc::Global;
 use std::io::{Read, Write};
 
@@ -11,9 +11,9 @@ use std::io::{Read, Write};
 ///
 /// `hierarchy` gives the file. Its version, how many nodes and links it has, its bound and how many bytes it has go to
 /// `out`. Takes the time and memory of [`write_info`].
-pub fn perform_info<A: Read, W: Write>(alloc: Global, hierarchy: &mut A, out: &mut W) -> Outcome
+pub fn perform_info<A: Read, W: Write>(alloc: Global, hierarchy: &mut A, out: &mut W) -> Ending
     ensures told { TellsInfo result (A.remaining hierarchy.old) (W.contents out.old) (W.contents out.new) }
     ensures status { IsServingStatus (status_after result) }
 {
-    Outcome::after(write_info(alloc, hierarchy, out))
+    Ending::after(write_info(alloc, hierarchy, out))
 }

@@ -1,7 +1,7 @@
 //! Laws, which do nothing when they run: what two jobs say together that are done, and that status 0 says so.
 
 ghost use Rattle.std.specs.Prelude.{ℕ, [], List, Option, Some};
-ghost use Rattle.outcomes.specs.declared.outcome.Outcome.TheVariants.{Done};
+ghost use Rattle.outcomes.specs.declared.ending.Ending.TheVariants.{Done};
 ghost use Rattle.performing.specs.Status.{HasPrepared, HasRenewed, RoutesAreExactAfter, TellsChecked, TellsPrepared, ZeroIsDone};
 
 use ch_service::{answers_are_best_routes, routes_are_exact};

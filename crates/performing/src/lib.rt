@@ -5,7 +5,7 @@
 //! hierarchy is put in place whole by `whole_file`. Each job has a call and a contract of its own: [`perform_answer`] and
 //! [`perform_joined`], [`perform_route`], [`perform_service`], [`perform_info`], [`perform_check`], [`perform_preparation`]
 //! and [`perform_renewal`] into any writer, and [`prepare_whole`] and [`renew_whole`] for a destination. Each returns its
-//! [`Outcome`](outcomes::Outcome). If it is done, what was written answers all pairs, or what is at its destination is a
+//! [`Ending`](outcomes::Ending). If it is done, what was written answers all pairs, or what is at its destination is a
 //! hierarchy that is right for the graph; if it was refused, what was there before stays there. [`perform`] does any job by
 //! these calls, prints the line of a refusal and returns the program's exit status.
 //!

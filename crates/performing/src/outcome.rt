@@ -2,14 +2,14 @@ ghost use Rattle.std.specs.Prelude.{◌≡◌};
 ghost use Rattle.performing.specs.Status.{outcome_of};
 
 use ch_service::ServiceError;
-use outcomes::Outcome;
+use outcomes::Ending;
 
 /// Returns the outcome after a call that prepares or answers.
-pub(crate) fn outcome_of(ended: Result<(), ServiceError>) -> Outcome
+pub(crate) fn outcome_of(ended: Result<(), ServiceError>) -> Ending
     ensures { result ≡ outcome_of ended }
 {
     match ended {
-        Ok(()) => Outcome::Done,
-        Err(error) => Outcome::Refused(error.cause()),
+        Ok(()) => Ending::Done,
+        Err(error) => Ending::Refused(error.cause()),
     }
 }

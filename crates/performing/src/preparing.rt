@@ -12,7 +12,7 @@ use ch_estimate::{Estimator, Lease, Leases};
 use ch_service::{ServiceError, causes_tell_refusals, prepare_beside, prepare_sequential};
 use ch_workers::{Disposal, Gate, Options};
 use jobs::{Order, Preparation, Stint, Workers};
-use outcomes::Outcome;
+use outcomes::Ending;
 use std::alloc::{AllocError, Global};
 use std::io::{Read, Write};
 use std::sync::Wait;
@@ -43,7 +43,7 @@ pub fn perform_preparation<G: Read, W: Write, P: Gate, R: Threads + Wait + Sync>
     graph: &mut G,
     out: &mut W,
     gate: &P,
-) -> Outcome
+) -> Ending
     ensures told { TellsPrepared result (G.remaining graph.old) (W.contents out.old) (W.contents out.new) }
     ensures status { IsPreparingStatus (status_after result) }
 {

@@ -1,12 +1,12 @@
 ghost use Rattle.std.specs.Prelude.{◌≡◌, ◌≢◌};
 ghost use Rattle.outcomes.specs.Outcomes.{status_after};
-ghost use Rattle.outcomes.specs.declared.outcome.Outcome.TheVariants.{Done};
+ghost use Rattle.outcomes.specs.declared.ending.Ending.TheVariants.{Done};
 ghost use Rattle.ch_renew.specs.Renewal.{TellsRenewed};
 ghost use Rattle.performing.specs.Status.{HasRenewed, IsRenewingStatus, TellsRenewedPut};
 
 use crate::whole::finish;
 use ch_renew::{Watch, renew};
-use outcomes::{Cause, Outcome};
+use outcomes::{Cause, Ending};
 use std::alloc::Global;
 use std::io::{Read, Write};
 use whole_file::Destination;
@@ -21,7 +21,7 @@ pub fn perform_renewal<A: Read, B: Read, W: Write, V: Watch>(
     hierarchy: &mut B,
     out: &mut W,
     watch: &V,
-) -> Outcome
+) -> Ending
     ensures told { TellsRenewed result (A.remaining graph.old) (B.remaining hierarchy.old) (W.contents out.old) (W.contents out.new) }
     ensures status { IsRenewingStatus (status_after result) }
 {
@@ -38,14 +38,14 @@ pub fn renew_whole<A: Read, B: Read, D: Destination, V: Watch>(
     hierarchy: &mut B,
     destination: &mut D,
     watch: &V,
-) -> Outcome
+) -> Ending
     ensures done { result ≡ Done → HasRenewed (A.remaining graph.old) (B.remaining hierarchy.old) (D.stands destination.old) (D.stands destination.new) }
     ensures kept { result ≢ Done → D.stands destination.new ≡ D.stands destination.old }
     ensures told { TellsRenewedPut result (A.remaining graph.old) (B.remaining hierarchy.old) }
     ensures status { IsRenewingStatus (status_after result) }
 {
     let Ok(mut draft) = destination.draft() else {
-        return Outcome::Refused(Cause::Memory);
+        return Ending::Refused(Cause::Memory);
     };
     let renewed = renew(alloc, graph, hierarchy, &mut draft, watch);
     finish(destination, draft, renewed)

@@ -4,7 +4,7 @@ ghost use Rattle.performing.specs.Status.{IsRoutingStatus, TellsRouted};
 
 use crate::outcome::outcome_of;
 use ch_service::{causes_tell_refusals, route};
-use outcomes::Outcome;
+use outcomes::Ending;
 use std::alloc::Global;
 use std::io::{Read, Write};
 
@@ -16,7 +16,7 @@ pub fn perform_route<A: Read, B: Read, W: Write>(
     hierarchy: &mut A,
     queries: &mut B,
     out: &mut W,
-) -> Outcome
+) -> Ending
     ensures told { TellsRouted result (A.remaining hierarchy.old) (B.remaining queries.old) (W.contents out.old) (W.contents out.new) }
     ensures status { IsRoutingStatus (status_after result) }
 {

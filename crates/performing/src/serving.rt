@@ -2,7 +2,7 @@ ghost use Rattle.outcomes.specs.Outcomes.{status_after};
 ghost use Rattle.performing.specs.Status.{IsServingStatus, TellsServed};
 
 use ch_requests::serve;
-use outcomes::Outcome;
+use outcomes::Ending;
 use std::alloc::Global;
 use std::io::{Read, Write};
 
@@ -15,12 +15,12 @@ pub fn perform_service<A: Read, B: Read, W: Write>(
     hierarchy: &mut A,
     requests: &mut B,
     out: &mut W,
-) -> Outcome
+) -> Ending
     ensures told { TellsServed result (A.remaining hierarchy.old) (B.remaining requests.old) (B.remaining requests.new) (W.contents out.old) (W.contents out.new) }
     ensures status { IsServingStatus (status_after result) }
 {
     match serve(alloc, hierarchy, requests, out) {
-        Ok(()) => Outcome::Done,
-        Err(error) => Outcome::Refused(error.cause()),
+        Ok(()) => Ending::Done,
+        Err(error) => Ending::Refused(error.cause()),
     }
 }

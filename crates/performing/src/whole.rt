@@ -1,14 +1,14 @@
 ghost use Rattle.std.specs.Prelude.{◌≡◌, ◌≢◌, ◌⊎◌, Some, option_map};
 ghost use Rattle.outcomes.specs.Outcomes.{status_after};
 ghost use Rattle.outcomes.specs.declared.cause.Cause.TheVariants.{Flush};
-ghost use Rattle.outcomes.specs.declared.outcome.Outcome.TheVariants.{Done, Refused};
+ghost use Rattle.outcomes.specs.declared.ending.Ending.TheVariants.{Done, Refused};
 ghost use Rattle.performing.specs.Status.{HasPrepared, IsPreparingStatus, TellsPut};
 
 use crate::outcome::outcome_of;
 use crate::preparing::prepare_by;
 use ch_workers::{Disposal, Gate};
 use jobs::Preparation;
-use outcomes::{Cause, Outcome};
+use outcomes::{Cause, Ending};
 use std::alloc::Global;
 use std::io::Read;
 use std::sync::Wait;
@@ -28,14 +28,14 @@ pub fn prepare_whole<G: Read, D: Destination, P: Gate, R: Threads + Wait + Sync>
     graph: &mut G,
     destination: &mut D,
     gate: &P,
-) -> Outcome
+) -> Ending
     ensures done { result ≡ Done → HasPrepared (G.remaining graph.old) (D.stands destination.old) (D.stands destination.new) }
     ensures kept { result ≢ Done → D.stands destination.new ≡ D.stands destination.old }
     ensures told { TellsPut result (G.remaining graph.old) }
     ensures status { IsPreparingStatus (status_after result) }
 {
     let Ok(mut draft) = destination.draft() else {
-        return Outcome::Refused(Cause::Memory);
+        return Ending::Refused(Cause::Memory);
     };
     let mut disposal = Disposal::new();
     let prepared = prepare_by(
@@ -54,18 +54,18 @@ pub fn prepare_whole<G: Read, D: Destination, P: Gate, R: Threads + Wait + Sync>
 pub(crate) fn finish<D: Destination>(
     destination: &mut D,
     draft: D::PendingFile,
-    prepared: Outcome,
-) -> Outcome
+    prepared: Ending,
+) -> Ending
     ensures done { result ≡ Done → D.stands destination.new ≡ option_map Some (D.PendingFile.contents draft) }
     ensures kept { result ≢ Done → D.stands destination.new ≡ D.stands destination.old }
     ensures outcome { (result ≡ prepared) ⊎ ((prepared ≡ Done) × (result ≡ Refused Flush)) }
 {
-    let Outcome::Done = prepared else {
-        destination.throw_away(draft);
+    let Ending::Done = prepared else {
+        destination.discard(draft);
         return prepared;
     };
     match destination.put(draft) {
-        Ok(()) => Outcome::Done,
-        Err(_) => Outcome::Refused(Cause::Flush),
+        Ok(()) => Ending::Done,
+        Err(_) => Ending::Refused(Cause::Flush),
     }
 }

@@ -15,7 +15,7 @@ use ch_check::{Unwatched, Watch};
 use ch_workers::{Gate, OpenGate};
 use command_line::command;
 use jobs::{Check, Job, Preparation, Renewal, Stop, show_stop};
-use outcomes::{Cause, Input, Outcome, WriteFault};
+use outcomes::{Cause, Ending, Input, WriteFault};
 use performing::{
     perform_answer, perform_check, perform_info, perform_joined, perform_route, perform_service,
     prepare_whole, renew_whole,
@@ -213,7 +213,7 @@ fn check_files<R: AllocGlobal + Clock, G: io::Read + Drop, H: io::Read, W: io::W
     hierarchy: &mut H,
     out: &mut W,
     terminal: Stderr,
-) -> Outcome
+) -> Ending
     ensures { IsCheckingStatus (status_after result) }
 {
     if terminal.is_terminal() {
@@ -273,10 +273,10 @@ fn show_end<R: Files + Clock>(
     rt: &R,
     out: &str,
     is_asked: bool,
-    outcome: Outcome,
+    outcome: Ending,
     meter: &Meter<'_, R>,
 ) {
-    if !is_asked || outcome != Outcome::Done {
+    if !is_asked || outcome != Ending::Done {
         return;
     }
     if let Ok(made) = fs::metadata(rt, out) {
@@ -319,7 +319,7 @@ fn renew<'a, R: Files + AllocGlobal + Clock, W: io::Write>(
     let second = open(rt, Input::Hierarchy, renewal.old);
     let (mut first, mut second) = (first?, second?);
     let ended = renew_of(rt, renewal, &mut first, &mut second, terminal);
-    if ended.outcome == Outcome::Wrong {
+    if ended.outcome == Ending::Wrong {
         let _ = out.write_all(b"wrong: nodes\n");
     }
     Ok(Ended {
@@ -379,7 +379,7 @@ fn ended_by_obstacle<'a, R: Files + AllocGlobal>(rt: &R, out: &'a str) -> Option
 {
     let (name, error) = obstacle(rt, out)?;
     Some(Ended {
-        outcome: Outcome::Refused(Cause::Write(WriteFault { written: 0 })),
+        outcome: Ending::Refused(Cause::Write(WriteFault { written: 0 })),
         failure: Some(Failure { name, error }),
     })
 }
@@ -400,11 +400,11 @@ fn open<'a, R: Files>(rt: &R, input: Input, name: &'a str) -> Result<Kept<'a, R:
     match fs::open(rt, name) {
         Ok(file) => Ok(Kept::new(name, file)),
         Err(error) if error.kind() == ErrorKind::OutOfMemory => Err(Ended {
-            outcome: Outcome::Refused(Cause::Memory),
+            outcome: Ending::Refused(Cause::Memory),
             failure: None,
         }),
         Err(error) => Err(Ended {
-            outcome: Outcome::Refused(Cause::Read(input)),
+            outcome: Ending::Refused(Cause::Read(input)),
             failure: Some(Failure { name, error }),
         }),
     }

@@ -6,7 +6,7 @@ use crate::sorts::{file_of, text_of};
 use grfile::GrError;
 use hierfile::HierError;
 use jobs::Job;
-use outcomes::{Cause, Input, Outcome};
+use outcomes::{Cause, Ending, Input};
 use std::fs;
 use std::io::{Error, Write};
 use std::rt::Files;
@@ -32,7 +32,7 @@ impl<'a> Failure<'a> {
 #[derive(Clone, Copy)]
 pub struct Ended<'a> {
     /// How it ended.
-    pub outcome: Outcome,
+    pub outcome: Ending,
     /// What failed, if something did.
     pub failure: Option<Failure<'a>>,
 }
@@ -55,7 +55,7 @@ pub fn explain<R: Files + AllocGlobal, E: Write>(
     if let Some(what) = of_hierarchy(job, ended.outcome) {
         return explain_hierarchy(rt, job, what, err);
     }
-    let Outcome::Refused(cause) = ended.outcome else {
+    let Ending::Refused(cause) = ended.outcome else {
         return;
     };
     match cause {
@@ -71,13 +71,13 @@ pub fn explain<R: Files + AllocGlobal, E: Write>(
 }
 
 // What is said of the file of a hierarchy, behind its name, if it is at fault and begins as a hierarchy does.
-fn of_hierarchy(job: &Job<'_>, outcome: Outcome) -> Option<&'static str> {
+fn of_hierarchy(job: &Job<'_>, outcome: Ending) -> Option<&'static str> {
     let cause = match outcome {
-        Outcome::Done => return None,
-        Outcome::Wrong if matches!(job, Job::Renew(_)) => return Some("has other nodes:"),
-        Outcome::Wrong => return Some("gives wrong answers: is it of another graph?"),
-        Outcome::NotShown => return Some("may be right or wrong:"),
-        Outcome::Refused(cause) => cause,
+        Ending::Done => return None,
+        Ending::Wrong if matches!(job, Job::Renew(_)) => return Some("has other nodes:"),
+        Ending::Wrong => return Some("gives wrong answers: is it of another graph?"),
+        Ending::NotShown => return Some("may be right or wrong:"),
+        Ending::Refused(cause) => cause,
     };
     match cause {
         Cause::OldVersion => Some("is of version 1, which can't be checked:"),

@@ -18,12 +18,12 @@
 //!
 //! **Explanations.** The program prints one line of its own at a refusal, and its status; that is fixed. At a terminal, or
 //! where it is asked for, [`explain`] says which file it was, which line of its text, what was expected, and what to do. It
-//! is given the [`Outcome`](outcomes::Outcome), and what failed at a read, a write or a flush, which [`Kept`] keeps
+//! is given the [`Ending`](outcomes::Ending), and what failed at a read, a write or a flush, which [`Kept`] keeps
 //! ([`Ended`]). A regular file is read once more by its name; a pipe isn't. [`warn_of`] warns before the work that a file
 //! can't be written.
 //!
 //! ```rust
-//! let outcome = Outcome::Refused(Cause::Graph(GrError { kind: GrErrorKind::NodeRange, line: 2 }));
+//! let outcome = Ending::Refused(Cause::Graph(GrError { kind: GrErrorKind::NodeRange, line: 2 }));
 //! explain(rt, &job, &Ended { outcome, failure: None }, &mut err);
 //! // net.gr:2: a 1 3 7
 //! //   node 3 isn't there: nodes are 1 to 2
@@ -48,5 +48,5 @@ pub use explaining::{Ended, Failure, explain};
 pub use files::warn_of;
 pub use kept::Kept;
 pub use meter::{Cleared, Meter};
-pub use progress::{Progress, write_end, write_line};
+pub use progress::{ProgressLine, write_end, write_line};
 pub use watched::Watched;

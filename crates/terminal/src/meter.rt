@@ -1,4 +1,4 @@
-use crate::progress::{Progress, write_line};
+use crate::progress::{ProgressLine, write_line};
 use ch_check::Watch;
 use ch_workers::{Gate, Point};
 use std::io::{self, Write};
@@ -101,7 +101,7 @@ impl<'a, R: Clock> Meter<'a, R> {
         {
             return;
         }
-        let progress = Progress {
+        let progress = ProgressLine {
             done,
             nodes: self.announced(),
             millis,

@@ -9,7 +9,7 @@ const LAST: u128 = 50;
 
 /// How far a preparation has come.
 #[derive(Clone, Copy)]
-pub struct Progress {
+pub struct ProgressLine {
     /// How many nodes are contracted.
     pub done: u64,
     /// How many there are, or 0 if that isn't known.
@@ -25,8 +25,8 @@ pub struct Progress {
 /// The terminal is asked to cut the line at its right edge rather than wrap it, so that each line stays one. If the number
 /// of nodes is known, the line has a percentage. From the sixth second of contraction on, up to the half of the nodes, it
 /// has the least time that is left: that by the pace so far, while each later node takes longer.
-pub fn write_line<W: Write>(out: &mut W, progress: &Progress) {
-    let Progress { done, nodes, .. } = *progress;
+pub fn write_line<W: Write>(out: &mut W, progress: &ProgressLine) {
+    let ProgressLine { done, nodes, .. } = *progress;
     let seconds = progress.millis / 1_000;
     let _ = write!(out, "\x1b[?7l\r");
     if nodes == 0 {

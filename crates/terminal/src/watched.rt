@@ -8,12 +8,12 @@ use std::time::Clock;
 pub struct Watched<'a, G, R> {
     graph: G,
     meter: &'a Meter<'a, R>,
-    place: Place,
+    place: Scan,
 }
 
 /// How far the text was looked at, for the number of nodes in its line `p sp N M`.
 #[derive(Clone, Copy, Debug, PartialEq, Eq)]
-enum Place {
+enum Scan {
     /// Between lines, or in the blanks at the head of one.
     Head,
     /// In a line of another kind.
@@ -24,29 +24,29 @@ enum Place {
     Behind,
 }
 
-impl Place {
+impl Scan {
     // The place after one more byte.
-    fn after(self, byte: u8) -> Place {
+    fn after(self, byte: u8) -> Scan {
         match (self, byte) {
-            (Place::Behind, _) => Place::Behind,
-            (_, b'\n') => Place::Head,
-            (Place::Head, b' ' | b'\t') => Place::Head,
-            (Place::Head, b'p') => Place::Problem(0),
-            (Place::Head | Place::Other, _) => Place::Other,
-            (Place::Problem(number), _) => in_problem(number, byte),
+            (Scan::Behind, _) => Scan::Behind,
+            (_, b'\n') => Scan::Head,
+            (Scan::Head, b' ' | b'\t') => Scan::Head,
+            (Scan::Head, b'p') => Scan::Problem(0),
+            (Scan::Head | Scan::Other, _) => Scan::Other,
+            (Scan::Problem(number), _) => in_problem(number, byte),
         }
     }
 }
 
 // The place in the line of the problem after one more byte. The number is the first that isn't 0.
-fn in_problem(number: u64, byte: u8) -> Place {
+fn in_problem(number: u64, byte: u8) -> Scan {
     match byte {
         b'0'..=b'9' => {
             let digit = u64::from(byte.saturating_sub(b'0'));
-            Place::Problem(number.saturating_mul(10).saturating_add(digit))
+            Scan::Problem(number.saturating_mul(10).saturating_add(digit))
         }
-        _ if number > 0 => Place::Behind,
-        _ => Place::Problem(0),
+        _ if number > 0 => Scan::Behind,
+        _ => Scan::Problem(0),
     }
 }
 
@@ -56,20 +56,20 @@ impl<'a, G: Read, R: Clock> Watched<'a, G, R> {
         Watched {
             graph,
             meter,
-            place: Place::Head,
+            place: Scan::Head,
         }
     }
 }
 
 // Looks at the next piece of the text from this place on, until the number is known, and returns the place behind it.
-fn look_at<R: Clock>(meter: &Meter<'_, R>, mut place: Place, piece: &[u8]) -> Place {
-    if place == Place::Behind {
+fn look_at<R: Clock>(meter: &Meter<'_, R>, mut place: Scan, piece: &[u8]) -> Scan {
+    if place == Scan::Behind {
         return place;
     }
     for byte in piece {
         let before = place;
         place = before.after(*byte);
-        if let (Place::Problem(nodes), Place::Behind) = (before, place) {
+        if let (Scan::Problem(nodes), Scan::Behind) = (before, place) {
             meter.announce(nodes);
             return place;
         }

@@ -203,7 +203,7 @@ fn searches_by_a_board_and_its_reader(rt: HostRuntime) -> Result<(), Fail> {
 fn hands_out(alloc: Global, searcher: &mut Searcher) -> Result<bool, AllocError>
     requires { OfTheirNodes (kept_of searcher.old.rows) }
 {
-    let listed = searcher.rows.hand_out(&[1, 2, 3, 1], Vec::new(alloc))?;
+    let listed = searcher.rows.take_listed(&[1, 2, 3, 1], Vec::new(alloc))?;
     Ok(are_of(&listed, &[1, 2]))
 }
 

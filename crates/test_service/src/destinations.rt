@@ -37,7 +37,7 @@ impl Destination for Shelf {
         Ok(())
     }
 
-    fn throw_away(&mut self, _draft: Vec<u8>) {}
+    fn discard(&mut self, _draft: Vec<u8>) {}
 }
 
 /// A writer that takes this many bytes, and then fails.
@@ -81,7 +81,7 @@ impl Destination for Bench {
         Ok(())
     }
 
-    fn throw_away(&mut self, _draft: Narrow) {
+    fn discard(&mut self, _draft: Narrow) {
         self.thrown_away = true;
     }
 }

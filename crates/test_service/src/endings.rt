@@ -1,5 +1,5 @@
 use jobs::Job;
-use outcomes::{Cause, Outcome};
+use outcomes::{Cause, Ending};
 use std::io::{self, ErrorKind, Write};
 use terminal::{Ended, Kept, explain};
 
@@ -23,7 +23,7 @@ fn a_failed_flush_is_explained(rt: HostRuntime) {
     assert!(rt; out.write(b"ready").is_ok() && out.failure().is_none());
     assert!(rt; out.flush().is_err());
     let ended = Ended {
-        outcome: Outcome::Refused(Cause::Flush),
+        outcome: Ending::Refused(Cause::Flush),
         failure: out.failure(),
     };
     let job = Job::Serve { hierarchy: "a.rch" };

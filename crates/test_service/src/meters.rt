@@ -3,7 +3,7 @@ use std::alloc::Global;
 use std::io::Read;
 use std::test::Fail;
 use std::time::Clock;
-use terminal::{Meter, Progress, Watched, write_end, write_line};
+use terminal::{Meter, ProgressLine, Watched, write_end, write_line};
 
 /// Commits, nodes, milliseconds, and those of contraction, and the line that shows them.
 const LINES: [([u64; 4], &[u8]); 9] = [
@@ -49,7 +49,7 @@ const LINES: [([u64; 4], &[u8]); 9] = [
 fn lines(rt: HostRuntime) {
     for ([done, nodes, millis, contracting], line) in LINES {
         let mut out = Vec::new(rt.alloc());
-        let progress = Progress {
+        let progress = ProgressLine {
             done,
             nodes,
             millis,

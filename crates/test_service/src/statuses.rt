@@ -5,7 +5,7 @@ use ch_service::{ServiceError, WriteFault, route};
 use ch_unpack::UnpackError;
 use ch_workers::BuildError;
 use jobs::{Check, Job, Order, Preparation, Renewal, Workers};
-use outcomes::Outcome;
+use outcomes::Ending;
 use performing::perform;
 use std::alloc::Global;
 use std::io::{self, ErrorKind, Read, Write};
@@ -273,7 +273,7 @@ const REPORTED: [(ServiceError, u8, &[u8]); 3] = [
 
 fn is_reported(alloc: Global, error: &ServiceError, status: u8, line: &[u8]) -> bool {
     let mut err = Vec::new(alloc);
-    let reported = Outcome::Refused(error.cause()).report(&mut err);
+    let reported = Ending::Refused(error.cause()).report(&mut err);
     (reported == status) & (err.as_slice() == line)
 }
 

@@ -24,6 +24,6 @@ pub trait Destination {
         ensures kept { OnErr result (stands self.new ≡ stands self.old) };
 
     /// Throws the draft away. What is there stays.
-    fn throw_away(&mut self, draft: Self::PendingFile)
+    fn discard(&mut self, draft: Self::PendingFile)
         ensures { stands self.new ≡ stands self.old };
 }

@@ -52,7 +52,7 @@ impl<'a, R: Files + AllocGlobal> Destination for OutFile<'a, R> {
         }
     }
 
-    fn throw_away(&mut self, mut draft: PendingFile<'a, R>) {
+    fn discard(&mut self, mut draft: PendingFile<'a, R>) {
         draft.remove();
         self.failure = draft.failure();
     }

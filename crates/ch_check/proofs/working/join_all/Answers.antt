@@ -10,8 +10,8 @@ inns-preserved c =
     let o = c.args.task.now.overlay.now in
     let v = c.args.task.now.node in
     let row = c.args.task.now.row.now in
-    let old = c.inns.desk.shortcuts.items in
-    let new = c.join_from.new.desk.shortcuts.items in
+    let old = c.inns.buffers.shortcuts.items in
+    let new = c.join_from.new.buffers.shortcuts.items in
     let items : c.inn-into-items.result.now ≡ row.inn =
     c.inn-into-items.ensures in
     record {

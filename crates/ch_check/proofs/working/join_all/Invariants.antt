@@ -5,6 +5,6 @@ use Rattle.ch_check.proofs.working.join_all.Given as goal
 
 abbrev pub invariant-inns : goal.invariant-inns
 invariant-inns l = record {
-  joined : AreJoined l.task.overlay.now l.task.node l.task.row.now (take l.into-index l.task.row.now.inn) l.desk.shortcuts.items;
-  kept : AreRowsOf l.task.overlay.now (kept_of l.desk.finder.searcher.rows);
+  joined : AreJoined l.task.overlay.now l.task.node l.task.row.now (take l.into-index l.task.row.now.inn) l.buffers.shortcuts.items;
+  kept : AreRowsOf l.task.overlay.now (kept_of l.buffers.finder.searcher.rows);
 }

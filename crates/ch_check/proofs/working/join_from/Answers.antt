@@ -20,7 +20,7 @@ returns-clause-joined c =
     let pairs = c.sort_pairs.new.pairs in
     record {
       put = pairs.put.items;
-      appends = c.in_ok-extend_from_slice.ensures.items ∙ ap (λ (ps : List Shortcut). c.args.desk.now.shortcuts.items ++ ps)
+      appends = c.in_ok-extend_from_slice.ensures.items ∙ ap (λ (ps : List Shortcut). c.args.buffers.now.shortcuts.items ++ ps)
           c.deref-2.ensures.value;
       joined = is_joined c.requires.task.row c.open_row-first.ensures c.requires.among c.in_ok-sort_pairs.ensures
           (subst (λ (ps : List Shortcut). HaveWays t.overlay.now t.node ps) c.deref.ensures.value

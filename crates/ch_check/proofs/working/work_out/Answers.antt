@@ -26,7 +26,7 @@ join_all-requires-clause-kept c = none_kept c.overlay-overlay.result.now _ c.cle
 pub returns : goal.returns
 returns c = on_ok_weaker c.join_all.result (λ joined.
     let row = c.open_row-row.result.now in
-    let put = c.join_all.new.desk.shortcuts.items in
+    let put = c.join_all.new.buffers.shortcuts.items in
     may_put c.verdicts_are_lawful.ensures c.holds.ensures
     (subst (λ (o : Overlay). IsOpenRow o c.args.node row) c.overlay-overlay.ensures c.open_row-row.ensures)
     (subst (λ (o : Overlay). AreJoined o c.args.node row row.inn put) c.overlay-overlay.ensures joined)) c.join_all.ensures

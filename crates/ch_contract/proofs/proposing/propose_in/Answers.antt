@@ -113,8 +113,8 @@ returns-in_err-rests_on g c =
     let p = err_from_is_err_and c.from_residual-in_err-rests_on.result c.from_residual-in_err-rests_on.ensures.1 in
     short _ p.0 p.1 p.2 (g.met.S.RowSource.stays_more c.args.source.now c.read.new.source c.draft_all.new.source c.in_ok-place.ensures.read.stays c.in_ok-draft_all.ensures.read.stays)
 
-pub hand_out-requires : goal.hand_out-requires
-hand_out-requires g c = record { nodes = λ x s is. (c.in_ok-draft_all.ensures.read.kept x s is).node }
+pub take_listed-requires : goal.take_listed-requires
+take_listed-requires g c = record { nodes = λ x s is. (c.in_ok-draft_all.ensures.read.kept x s is).node }
 
 pub invariant_of-result : goal.invariant_of-result
 invariant_of-result g c =

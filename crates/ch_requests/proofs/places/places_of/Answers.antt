@@ -2,7 +2,7 @@ use Rattle.std.proofs.Common.{◌≡◌, ◌-◌, ◌+◌, ◌++◌, List, Ok, s
 use Rattle.std.proofs.lemmas.Result.{err_from_is_err_and}
 use Rattle.grfile.specs.Outcome.{◌>>=◌}
 use Rattle.ch_requests.specs.Requests.{places_of}
-use Rattle.ch_requests.specs.declared.places.Place.{Place}
+use Rattle.ch_requests.specs.declared.places.SeedText.{SeedText}
 use Rattle.ch_requests.proofs.Asking.{placed, placed_not}
 use Rattle.ch_requests.proofs.places.places_of.Goals as goal
 
@@ -11,7 +11,7 @@ places-preserved c =
     let i = c.places.counter in
     record {
       room = omega (arith, c.push.ensures.len, c.places.invariant.room);
-      told = subst (λ (items : List Place). places_of c.args.nodes c.args.count c.args.fields ≡ (places_of c.args.nodes (c.args.count - (i + 1)) c.next_place.new.fields >>= (λ more. Ok (items ++ more)))) (sym c.push.ensures.items)
+      told = subst (λ (items : List SeedText). places_of c.args.nodes c.args.count c.args.fields ≡ (places_of c.args.nodes (c.args.count - (i + 1)) c.next_place.new.fields >>= (λ more. Ok (items ++ more)))) (sym c.push.ensures.items)
           (placed c.args.nodes c.args.count i c.places.fields _ c.places.places.items _ c.places-test.true c.places.invariant.told (c.in_ok-place.ensures (c.args.count - (i + 1))));
     }
 

@@ -5,8 +5,8 @@ use Rattle.ch_witness.proofs.HandedOut.{nodes_of, rows_still, start_still, ways_
 use Rattle.ch_witness.specs.Kept.{all_listed_are}
 use Rattle.ch_witness.proofs.searching.search.Goals as goal
 
-pub hand_out-requires : goal.hand_out-requires
-hand_out-requires g c = record { nodes = λ x s is. (c.in_ok-traced.ensures.read.kept x s is).node }
+pub take_listed-requires : goal.take_listed-requires
+take_listed-requires g c = record { nodes = λ x s is. (c.in_ok-traced.ensures.read.kept x s is).node }
 
 pub returns-clause-ways : goal.returns-clause-ways
 returns-clause-ways g c =

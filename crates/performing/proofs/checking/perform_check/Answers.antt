@@ -2,7 +2,7 @@ use Rattle.performing.proofs.Outcomes.{found, unchecked, checking_end}
 use Rattle.performing.proofs.checking.perform_check.Goals as goal
 
 tells : goal.returns-in-Ok-clause-told
-tells g c = found c.in-Ok.verdict _ _ _ _ c.outcome_found.ensures c.in-Ok.ensures.says c.in-Ok.ensures.written
+tells g c = found c.in-Ok.verdict _ _ _ _ c.ending_found.ensures c.in-Ok.ensures.says c.in-Ok.ensures.written
 
 pub returns-in-Ok-clause-told : goal.returns-in-Ok-clause-told
 returns-in-Ok-clause-told g c = tells g c

@@ -1,5 +1,5 @@
 use Rattle.std.proofs.Common.{[], ◌≡◌, refl, sym, subst, Some}
-use Rattle.outcomes.specs.declared.outcome.Outcome.TheVariants.{Done}
+use Rattle.outcomes.specs.declared.ending.Ending.TheVariants.{Done}
 use Rattle.ch_service.specs.Answer.{Prepares}
 use Rattle.performing.specs.Status.{HasPrepared, HasRenewed, TellsPrepared}
 use Rattle.performing.proofs.Outcomes.{joined, renewed_is_prepared}

@@ -10,4 +10,4 @@ pub seeds-preserved : goal.seeds-preserved
 seeds-preserved c =
     let seed = c.requires.half.seeds c.seeds.at _ c.seeds-test.true in
     begun-more (slice_get-get_or c.args.self.now.seeds.now c.seeds.at _ c.seeds-test.true)
-    (rank_below c.requires.half.made seed.node_in) c.plant.ensures.nodes c.in_ok-plant.ensures.planted c.seeds.invariant
+    (rank_below c.requires.half.made seed.node_in) c.open_seed.ensures.nodes c.in_ok-open_seed.ensures.seeded c.seeds.invariant

@@ -1,5 +1,5 @@
 use Rattle.std.proofs.Common.{◌≡◌, length}
-use Rattle.ch_query.specs.Seen.{ArePlaces}
+use Rattle.ch_query.specs.Touched.{ArePlaces}
 use Rattle.ch_query.proofs.mark_list.MarkList.clear.Given as goal
 
 abbrev pub invariant-seen : goal.invariant-seen

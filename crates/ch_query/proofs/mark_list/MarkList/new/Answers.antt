@@ -3,7 +3,7 @@ use Rattle.std.proofs.lemmas.List.{length-replicate}
 use Rattle.ch_graph.specs.declared.mark.Mark.{Mark}
 use Rattle.ch_graph.specs.declared.mark.Mark.TheVariants.{Unseen}
 use Rattle.ch_query.specs.declared.label.Label.{Label}
-use Rattle.ch_query.specs.declared.mark_list.Seen.{Seen}
+use Rattle.ch_query.specs.declared.mark_list.Touched.{Touched}
 use Rattle.ch_query.proofs.Seeing.{unseen, none_placed}
 use Rattle.ch_query.proofs.mark_list.MarkList.new.Goals as goal
 
@@ -15,5 +15,5 @@ invariant_of-result c =
 pub returns : goal.returns
 returns c =
     let zeros : c.in_ok-vec.field-0.items ≡ replicate c.args.nodes 0 = c.in_ok-vec.ensures.items_if_clones_equal (λ y e. e) in
-    unseen c.new.result.items c.in_ok-vec.field-0.items (ap (λ (xs : List Seen). length xs) c.new.ensures.items)
+    unseen c.new.result.items c.in_ok-vec.field-0.items (ap (λ (xs : List Touched). length xs) c.new.ensures.items)
     ∙ ap (λ n. replicate {A = Mark Label} n Unseen) (ap (λ (xs : List ℕ). length xs) zeros ∙ length-replicate {A = ℕ} c.args.nodes 0)

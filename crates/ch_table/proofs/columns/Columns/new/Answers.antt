@@ -7,16 +7,16 @@ use Rattle.ch_table.proofs.LayingDown.{selection-is}
 use Rattle.ch_table.proofs.Ordered.{placed-among}
 use Rattle.ch_table.proofs.columns.Columns.new.Goals as goal
 
-pub find_places-requires-clause-ranks : goal.find_places-requires-clause-ranks
-find_places-requires-clause-ranks g c k d low =
+pub ranks_to_places-requires-clause-ranks : goal.ranks_to_places-requires-clause-ranks
+ranks_to_places-requires-clause-ranks g c k d low =
     let ranks = c.in_ok-ranks.field-0.ranks.items in
     let tails = c.in_ok-ranks.field-0.steps.tails.items in
     let nodes : c.nodes-nodes.result ≡ length c.args.search.now.ranks = c.nodes-nodes.ensures.count ∙ ap (λ (h : Hierarchy). length h.ranks) c.hierarchy-hierarchy.ensures in
     let rank_in : get_or tails k d < length c.args.search.now.ranks = All-contains (λ r. r < length c.args.search.now.ranks) ranks (get_or tails k d) c.in_ok-ranks.ensures.above.in_range (c.in_ok-ranks.ensures.closed k d low) in
     omega (arith, rank_in, nodes, c.in_ok-places.ensures.count, ap (λ (xs : List ℕ). length xs) c.deref-4.ensures.value)
 
-pub find_places-requires-clause-placed : goal.find_places-requires-clause-placed
-find_places-requires-clause-placed g c k d low =
+pub ranks_to_places-requires-clause-placed : goal.ranks_to_places-requires-clause-placed
+ranks_to_places-requires-clause-placed g c k d low =
     let ranks = c.in_ok-ranks.field-0.ranks.items in
     let tails = c.in_ok-ranks.field-0.steps.tails.items in
     let placed = subst (λ (rs : List ℕ). ArePlaced c.nodes-nodes.result rs c.in_ok-places.places.items) c.deref.ensures.value c.in_ok-places.ensures in
@@ -31,6 +31,6 @@ returns-clause-selection g c =
     let nodes : c.nodes-nodes.result ≡ length c.args.search.now.ranks = c.nodes-nodes.ensures.count ∙ ap (λ (h : Hierarchy). length h.ranks) c.hierarchy-hierarchy.ensures in
     let placed = subst (λ n. ArePlaced n ranks places) nodes (subst (λ (rs : List ℕ). ArePlaced c.nodes-nodes.result rs places) c.deref.ensures.value c.in_ok-places.ensures) in
     let own = subst (λ (h : Hierarchy). AreEnds h c.args.targets.now ranks ends) c.hierarchy-hierarchy.ensures (subst (λ (rs : List ℕ). AreEnds c.hierarchy-hierarchy.result.now c.args.targets.now rs ends) c.deref-2.ensures.value c.in_ok-ends.ensures) in
-    let found = subst (λ (ts : List ℕ). ArePlacesOf places steps.tails.items ts) (sym c.in_ok-links.ensures.tails) (subst (λ (ps : List ℕ). ArePlacesOf ps steps.tails.items c.find_places.new.self.tails.items) c.deref-4.ensures.value c.find_places.ensures.tails) in
+    let found = subst (λ (ts : List ℕ). ArePlacesOf places steps.tails.items ts) (sym c.in_ok-links.ensures.tails) (subst (λ (ps : List ℕ). ArePlacesOf ps steps.tails.items c.ranks_to_places.new.self.tails.items) c.deref-4.ensures.value c.ranks_to_places.ensures.tails) in
     let kept : c.extend_from_slice.new.self.items ≡ c.args.targets.now = search rules in
-    selection-is c.args.search.now c.args.targets.now steps.first.items steps.tails.items steps.lengths.items c.in_ok-ranks.ensures placed own found kept (c.in_ok-links.ensures.first ∙ c.find_places.ensures.first) (c.in_ok-links.ensures.lengths ∙ c.find_places.ensures.lengths)
+    selection-is c.args.search.now c.args.targets.now steps.first.items steps.tails.items steps.lengths.items c.in_ok-ranks.ensures placed own found kept (c.in_ok-links.ensures.first ∙ c.ranks_to_places.ensures.first) (c.in_ok-links.ensures.lengths ∙ c.ranks_to_places.ensures.lengths)

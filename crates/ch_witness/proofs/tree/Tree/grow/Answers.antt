@@ -19,56 +19,56 @@ turns-init g c = record {
   whole = λ h k. k;
 }
 
-pub go_on_from-requires-clause-tree : goal.go_on_from-requires-clause-tree
-go_on_from-requires-clause-tree g c = tree_settled c.turns.self.steps.items (labels_of c.turns.self.frontier) (labels_of c.settle_next.new.self) c.in-Some.reached c.in-Some.ensures.settled c.turns.invariant.tree
+pub expand-requires-clause-tree : goal.expand-requires-clause-tree
+expand-requires-clause-tree g c = tree_settled c.turns.self.steps.items (labels_of c.turns.self.frontier) (labels_of c.settle_next.new.self) c.in-Some.reached c.in-Some.ensures.settled c.turns.invariant.tree
 
-pub go_on_from-requires-clause-new : goal.go_on_from-requires-clause-new
-go_on_from-requires-clause-new g c = settled_new c.turns.self.steps.items (labels_of c.turns.self.frontier) (labels_of c.settle_next.new.self) c.in-Some.reached c.in-Some.ensures.settled c.turns.invariant.tree
+pub expand-requires-clause-new : goal.expand-requires-clause-new
+expand-requires-clause-new g c = settled_new c.turns.self.steps.items (labels_of c.turns.self.frontier) (labels_of c.settle_next.new.self) c.in-Some.reached c.in-Some.ensures.settled c.turns.invariant.tree
 
-pub go_on_from-requires-clause-few : goal.go_on_from-requires-clause-few
-go_on_from-requires-clause-few g c = omega (arith, c.turns.invariant.few, c.requires.few, c.turns-test.true)
+pub expand-requires-clause-few : goal.expand-requires-clause-few
+expand-requires-clause-few g c = omega (arith, c.turns.invariant.few, c.requires.few, c.turns-test.true)
 
-pub go_on_from-requires-clause-cutoff : goal.go_on_from-requires-clause-cutoff
-go_on_from-requires-clause-cutoff g c = subst (λ (b : Cost). c.args.rule.cutoff ≼ b) (sym (g.met.S.RowSource.same_bound c.args.source.now c.turns.source c.turns.invariant.read.stays)) c.requires.cutoff
+pub expand-requires-clause-cutoff : goal.expand-requires-clause-cutoff
+expand-requires-clause-cutoff g c = subst (λ (b : Cost). c.args.rule.cutoff ≼ b) (sym (g.met.S.RowSource.same_bound c.args.source.now c.turns.source c.turns.invariant.read.stays)) c.requires.cutoff
 
-pub go_on_from-requires-clause-kept : goal.go_on_from-requires-clause-kept
-go_on_from-requires-clause-kept g c = c.turns.invariant.read.kept
+pub expand-requires-clause-kept : goal.expand-requires-clause-kept
+expand-requires-clause-kept g c = c.turns.invariant.read.kept
 
-pub returns-in_err-go_on_from-clause-read : goal.returns-in_err-go_on_from-clause-read
-returns-in_err-go_on_from-clause-read g c =
+pub returns-in_err-expand-clause-read : goal.returns-in_err-expand-clause-read
+returns-in_err-expand-clause-read g c =
     let inv = c.turns.invariant.read in
-    let step = c.in_err-go_on_from.ensures.read in
+    let step = c.in_err-expand.ensures.read in
     record {
       kept = step.kept;
       more = more_trans _ _ _ inv.more step.more;
-      stays = g.met.S.RowSource.stays_more c.args.source.now c.turns.source c.go_on_from.new.source inv.stays step.stays;
+      stays = g.met.S.RowSource.stays_more c.args.source.now c.turns.source c.expand.new.source inv.stays step.stays;
     }
 
-pub returns-in_err-go_on_from-clause-found : goal.returns-in_err-go_on_from-clause-found
-returns-in_err-go_on_from-clause-found g c = λ named all.
+pub returns-in_err-expand-clause-found : goal.returns-in_err-expand-clause-found
+returns-in_err-expand-clause-found g c = λ named all.
     let inv = c.turns.invariant in
     let p = err_from_is_err_and c.from_residual.result c.from_residual.ensures.1 in
     let same = p.2 in
-    let other = c.in_err-go_on_from.ensures.found (inv.names named all) (all_settled (g.S.RowSource.whole c.turns.source) c.in-Some.ensures.settled (inv.whole named all)) in
+    let other = c.in_err-expand.ensures.found (inv.names named all) (all_settled (g.S.RowSource.whole c.turns.source) c.in-Some.ensures.settled (inv.whole named all)) in
     finds_unless _ _ _ _ _ p.1 (λ unseen. other (cc (same, unseen)))
 
 pub turns-preserved : goal.turns-preserved
 turns-preserved g c =
     let now = c.in-Some.ensures.settled in
     let inv = c.turns.invariant in
-    let gone = c.in_ok-go_on_from.ensures.gone in
+    let gone = c.in_ok-expand.ensures.gone in
     record {
-      tree = c.in_ok-go_on_from.ensures.tree;
-      few = omega (arith, c.in_ok-go_on_from.ensures.few, c.turns.invariant.few);
-      later = later_more (later_more inv.later (later_settled c.turns.self.steps.items _ _ c.in-Some.reached now)) c.in_ok-go_on_from.ensures.later;
+      tree = c.in_ok-expand.ensures.tree;
+      few = omega (arith, c.in_ok-expand.ensures.few, c.turns.invariant.few);
+      later = later_more (later_more inv.later (later_settled c.turns.self.steps.items _ _ c.in-Some.reached now)) c.in_ok-expand.ensures.later;
       read = record {
-        kept = c.in_ok-go_on_from.ensures.read.kept;
-        more = more_trans _ _ _ inv.read.more c.in_ok-go_on_from.ensures.read.more;
-        stays = g.met.S.RowSource.stays_more c.args.source.now c.turns.source c.go_on_from.new.source inv.read.stays c.in_ok-go_on_from.ensures.read.stays;
+        kept = c.in_ok-expand.ensures.read.kept;
+        more = more_trans _ _ _ inv.read.more c.in_ok-expand.ensures.read.more;
+        stays = g.met.S.RowSource.stays_more c.args.source.now c.turns.source c.expand.new.source inv.read.stays c.in_ok-expand.ensures.read.stays;
       };
-      kept_rows = λ h. seen_gone (IsKept (kept_of c.go_on_from.new.rows)) gone.1 (λ k s is. kept_still (kept_of c.turns.rows) (kept_of c.go_on_from.new.rows) s.seen.value c.in_ok-go_on_from.ensures.read.more (inv.kept_rows h k s is)) gone.2;
-      names = λ h k. c.in_ok-go_on_from.ensures.found (inv.names h k) (all_settled (g.S.RowSource.whole c.turns.source) now (inv.whole h k));
-      whole = λ h k. c.in_ok-go_on_from.ensures.whole (inv.names h k) (all_settled (g.S.RowSource.whole c.turns.source) now (inv.whole h k));
+      kept_rows = λ h. seen_gone (IsKept (kept_of c.expand.new.rows)) gone.1 (λ k s is. kept_still (kept_of c.turns.rows) (kept_of c.expand.new.rows) s.seen.value c.in_ok-expand.ensures.read.more (inv.kept_rows h k s is)) gone.2;
+      names = λ h k. c.in_ok-expand.ensures.found (inv.names h k) (all_settled (g.S.RowSource.whole c.turns.source) now (inv.whole h k));
+      whole = λ h k. c.in_ok-expand.ensures.whole (inv.names h k) (all_settled (g.S.RowSource.whole c.turns.source) now (inv.whole h k));
     }
 
 pub returns-after-turns-clause-tree : goal.returns-after-turns-clause-tree

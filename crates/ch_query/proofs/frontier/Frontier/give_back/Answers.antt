@@ -1,6 +1,0 @@
-use Rattle.std.proofs.Common.{length}
-use Rattle.ch_query.proofs.Entries.{queue-unseen}
-use Rattle.ch_query.proofs.frontier.Frontier.give_back.Goals as goal
-
-pub invariant_of-self : goal.invariant_of-self
-invariant_of-self c = queue-unseen (length c.self.inside.marks) c.free-2.ensures c.free.ensures.queue c.free.ensures.order

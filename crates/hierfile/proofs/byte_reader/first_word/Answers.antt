@@ -1,0 +1,6 @@
+use Rattle.std.proofs.Common.{arith}
+use Rattle.hierfile.proofs.ReadParts.{four_bytes}
+use Rattle.hierfile.proofs.byte_reader.first_word.Goals as goal
+
+pub returns : goal.returns
+returns c = four_bytes c.args.bytes.now c.from_be_bytes.result c.requires (λ i. omega (arith, c.type_inv.bytes i)) c.from_be_bytes.ensures

@@ -1,6 +1,0 @@
-use Rattle.std.proofs.Common.{arith}
-use Rattle.hierfile.proofs.ReadParts.{eight_bytes}
-use Rattle.hierfile.proofs.input.first_long.Goals as goal
-
-pub returns : goal.returns
-returns c = eight_bytes c.args.bytes.now c.from_be_bytes.result c.requires (λ i. omega (arith, c.type_inv.bytes i)) c.from_be_bytes.ensures

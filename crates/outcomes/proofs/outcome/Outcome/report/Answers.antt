@@ -1,7 +1,0 @@
-use Rattle.std.proofs.Common.{subst}
-use Rattle.outcomes.specs.Outcomes.{IsQuiet}
-use Rattle.outcomes.proofs.Loud.{loud}
-use Rattle.outcomes.proofs.outcome.Outcome.report.Goals as goal
-
-pub returns-in-Refused-clause-quiet : goal.returns-in-Refused-clause-quiet
-returns-in-Refused-clause-quiet g c quiet = absurd (loud c.in-Refused.cause (subst IsQuiet c.status.ensures quiet))
