@@ -1,1 +1,2 @@
 mod Loud
+pub mod Sizes

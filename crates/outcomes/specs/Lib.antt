@@ -1,3 +1,4 @@
 pub mod Causes
+pub mod Info
 pub mod Outcomes
 pub mod Written

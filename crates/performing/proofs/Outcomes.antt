@@ -27,7 +27,7 @@ use Rattle.jobs.specs.declared.job.Job.TheVariants.{Answer, Prepare, Route, Serv
 use Rattle.ch_requests.specs.declared.error.ServeError.{ServeError}
 use Rattle.ch_requests.specs.declared.error.ServeError.TheVariants as stops
 use Rattle.ch_requests.specs.Cause.{stop_cause}
-use Rattle.hierinfo.specs.Info.{RefusesInfo}
+use Rattle.outcomes.specs.Info.{RefusesInfo}
 use Rattle.performing.specs.Status.{outcome_of, ending_found, Tells, TellsAnswers, TellsChecked, StopsBy, TellsPrepared, TellsRouted, TellsServed, TellsInfo, IsAnsweringStatus, IsPreparingStatus, IsRoutingStatus, IsServingStatus, IsCheckingStatus, IsStatusOf, TellsPut, RoutesAreExactAfter, HasPrepared, HasRenewed, IsRenewingStatus, TellsRenewedPut, ZeroIsDone}
 
 -- What a call says by its outcome.

@@ -21,7 +21,7 @@ use Rattle.ch_verify.specs.declared.verdict.Refutation.{Refutation}
 use Rattle.ch_verify.specs.declared.verdict.FileVerdict.{FileVerdict}
 use Rattle.ch_verify.specs.declared.verdict.FileVerdict.TheVariants as verdicts
 use Rattle.ch_renew.specs.Renewal.{Renews, TellsRenewed}
-use Rattle.hierinfo.specs.Info.{Informs, RefusesInfo}
+use Rattle.outcomes.specs.Info.{Informs, RefusesInfo}
 use Rattle.jobs.specs.Job.{is_joined}
 use Rattle.jobs.specs.declared.job.Job.{Job}
 use Rattle.jobs.specs.declared.job.Job.TheVariants.{Answer, Prepare, Route, Serve, Info, Check, Renew}

@@ -2,8 +2,7 @@ ghost use Rattle.std.specs.Prelude.{◌≡◌};
 ghost use Rattle.outcomes.specs.Outcomes.{status_after};
 ghost use Rattle.performing.specs.Status.{IsServingStatus, TellsInfo};
 
-use hierinfo::write_info;
-use outcomes::Ending;
+use outcomes::{Ending, write_info};
 use std::alloc::Global;
 use std::io::{Read, Write};
 

@@ -15,7 +15,7 @@ use Rattle.hierfile.specs.Fault.{first_fault}
 use Rattle.hierfile.specs.declared.error.HierError.{HierError}
 use Rattle.counted_io.specs.Handing.{HandsOnPart}
 use Rattle.outcomes.specs.Causes.{file_case, of_hierarchy}
-use Rattle.hierinfo.specs.Info.{Informs, RefusesInfo, info}
+use Rattle.outcomes.specs.Info.{Informs, RefusesInfo, info}
 
 -- How many bytes the file of a hierarchy has.
 

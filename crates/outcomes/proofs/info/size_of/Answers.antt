@@ -1,7 +1,7 @@
 use Rattle.std.proofs.Common.{List, ap, length, ◌∙◌}
 use Rattle.ch_graph.specs.declared.link.Link.{Link}
-use Rattle.hierinfo.proofs.Sizes.{size}
-use Rattle.hierinfo.proofs.info.size_of.Goals as goal
+use Rattle.outcomes.proofs.Sizes.{size}
+use Rattle.outcomes.proofs.info.size_of.Goals as goal
 
 pub returns : goal.returns
 returns c =

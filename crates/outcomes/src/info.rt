@@ -1,12 +1,12 @@
 ghost use Rattle.std.specs.Prelude.{◌≡◌, ◌++◌, ℕ, List, length, OnOk, IfOk, IfErr, IfSome};
 ghost use Rattle.std.specs.Io.KnownBytes.{Appends};
 ghost use Rattle.hierfile.specs.Spelling.{bytes_of};
-ghost use Rattle.hierinfo.specs.Info.{fact, info, Informs, RefusesInfo};
+ghost use Rattle.outcomes.specs.Info.{fact, info, Informs, RefusesInfo};
 
+use crate::cause::Cause;
 use ch_graph::Hierarchy;
 use counted_io::{MOST_CALLS, WriteCalls};
 use itoa::{Buffer, Integer};
-use outcomes::Cause;
 use std::alloc::{AllocError, Global};
 use std::io::{Read, Write};
 
