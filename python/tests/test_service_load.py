@@ -356,13 +356,15 @@ class NginxTests(NginxCase, LoadCase):
 
     def test_connections(self):
         """A public address has 100 connections, and others aren't kept from theirs."""
-        self.serve_behind_nginx()
-        ask = "POST /nothing HTTP/1.1\r\nHost: x\r\nX-Test-Address: 203.0.113.9\r\nContent-Length: 9\r\n\r\n"
+        self.serve_behind_nginx(instead={"client_body_timeout 10s": "client_body_timeout 300s"})
+        ask = "POST /nothing HTTP/1.1\r\nHost: x\r\nX-Test-Address: 203.0.113.9\r\nExpect: 100-continue\r\nContent-Length: 9\r\n\r\n"
         with contextlib.ExitStack() as opened:
             for _ in range(100):
                 stream = opened.enter_context(socket.create_connection(("127.0.0.1", self.port), SECONDS))
                 stream.sendall(ask.encode())
-            self.wait_for(lambda: self.ask("/nothing", headers={"X-Test-Address": "203.0.113.9"})[0] == 429)
+                # (nginx has counted the connection when it waits for the body)
+                self.assertIn(b" 100 ", stream.recv(64))
+            self.assertEqual(self.ask("/nothing", headers={"X-Test-Address": "203.0.113.9"})[0], 429)
             self.assertEqual(self.ask("/nothing", headers={"X-Test-Address": "203.0.113.10"})[0], 404)
         self.wait_for(lambda: self.ask("/nothing", headers={"X-Test-Address": "203.0.113.9"})[0] == 404)
 
