@@ -37,7 +37,7 @@ struct Head {
 /// Reads a hierarchy from a file's bytes, of version 1 or 2, to the end of the reader.
 ///
 /// On Ok the bytes were its spelling, and on an error this was their first fault: which bytes spell a hierarchy and how
-/// faults are ordered is described in `docs/REFERENCE.md`. A spelling has no fault, so only `Read` and `OutOfMemory` refuse
+/// faults are ordered is described in `docs/FORMATS.md`. A spelling has no fault, so only `Read` and `OutOfMemory` refuse
 /// one. The hierarchy is of the version that the file begins with; costs of version 1 count no arcs. `Read` is returned
 /// where the reader fails, also after 2^40 calls, and only where the bytes before have no fault but that they may end too
 /// early; an interrupted call is tried again. `OutOfMemory` is returned where memory runs out, and only where the bytes
