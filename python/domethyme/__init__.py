@@ -18,7 +18,7 @@ proved.
     domethyme.check("town.gr", "town.rch")                               # the file is right for the graph, or an error
 
 A hierarchy is a network that was prepared. Nodes are numbered from 0, as rows are; node n is node n + 1 of a file. Pass your own
-keys as `keys`, and all methods take and return them. Weights are whole numbers from 0 to 4,294,967,295 in a unit of the user's
+keys as `keys`, and all methods take and return them. Weights are integers from 0 to 4,294,967,295 in a unit of the user's
 own; those of a map are milliseconds, or centimetres. Lengths are sums of them.
 
 One question at a time (`length`, `route`, `between`) needs Python alone. Arrays and `nearest` need numpy, and frames

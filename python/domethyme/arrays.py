@@ -24,7 +24,7 @@ def whole_numbers(name: str, values: "ArrayLike | list[Hashable]", low: int, hig
         return array.astype(np.int64)
     if array.dtype.kind not in "iu" and not (array.dtype == object and all(type(value) is int for value in array.flat)):
         places = f": {OF_PLACES[name]}" if array.dtype.kind == "f" and name in OF_PLACES else ""
-        raise ValueError(f"{name} have to be whole numbers, and are {array.dtype}{places}")
+        raise ValueError(f"{name} have to be integers, and are {array.dtype}{places}")
     if array.min() < low or array.max() > high:
         raise ValueError(f"{name} have to be from {low} to {high}, and are from {array.min()} to {array.max()}")
     return array.astype(np.int64)

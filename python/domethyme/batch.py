@@ -26,7 +26,7 @@ RouteArrays = tuple[NDArray[np.int64], NDArray[np.int64], NDArray[np.int32]]
 def lengths(router: Router, pairs: NDArray[np.int64]) -> NDArray[np.int64]:
     """The least lengths of pairs of nodes, of shape (n, 2), NO_PATH where there is no path."""
     pairs_u32, found = np.ascontiguousarray(pairs, dtype=np.uint32), np.empty(len(pairs), np.int64)
-    map_chunks(router, lambda part, seat: seat.lengths(pairs_u32[part], found[part]), len(pairs))
+    map_chunks(router, lambda part, searcher: searcher.lengths(pairs_u32[part], found[part]), len(pairs))
     return found
 
 
@@ -34,7 +34,7 @@ def table(
     router: Router, sources: NDArray[np.int64], targets: NDArray[np.int64], progress: Progress = False
 ) -> NDArray[np.int64]:
     """The least lengths from each source to each target, NO_PATH where there is no path. A thread asks for whole rows, since its
-    seat keeps what the library has selected for the targets. Raises OutOfMemory for more than MAX_CELLS, before memory is taken."""
+    searcher keeps what the library has selected for the targets. Raises OutOfMemory for more than MAX_CELLS, before memory is taken."""
     if len(sources) * len(targets) > MAX_CELLS:
         size = f"a table of {len(sources)} x {len(targets)} lengths has more than {MAX_CELLS}"
         raise OutOfMemory(f"{router.name}: {size}: ask for fewer sources at a time", 6)
@@ -43,7 +43,7 @@ def table(
     if found.size:
         with reporting(progress) as on_progress:
             map_chunks(
-                router, lambda part, seat: seat.table(rows[part], columns, found[part]), len(rows), rows_at_a_time(*found.shape),
+                router, lambda part, searcher: searcher.table(rows[part], columns, found[part]), len(rows), rows_at_a_time(*found.shape),
                 lambda done: on_progress("matrix", done, len(rows))
             )
     return found
@@ -58,9 +58,9 @@ def table_sums(router: Router, numbers: NDArray[np.uint32], sources: NDArray[np.
     rows, columns = (np.ascontiguousarray(nodes, dtype=np.uint32) for nodes in (sources, targets))
     found = np.empty((len(rows), len(columns)), np.int64)
 
-    def sum_rows(part: slice, seat: Searcher) -> None:
+    def sum_rows(part: slice, searcher: Searcher) -> None:
         cells = np.empty((*found[part].shape, 2), np.int64)
-        seat.table_sums(numbers, rows[part], columns, cells)
+        searcher.table_sums(numbers, rows[part], columns, cells)
         found[part] = cells[..., 1]
 
     if found.size:
@@ -77,16 +77,16 @@ def rows_at_a_time(rows: int, columns: int) -> int:
 def reach(router: Router, starts: Sequence[tuple[int, int]], limit: int | None) -> NDArray[np.int64]:
     """The least length of each node from the nearest of several starts (node, added length); NO_PATH above the limit."""
     found = np.empty(router.nodes, np.int64)
-    with router.searcher() as seat:
-        seat.reach(seed_array(starts), limit, found)
+    with router.searcher() as searcher:
+        searcher.reach(seed_array(starts), limit, found)
     return found
 
 
 def routes(router: Router, pairs: NDArray[np.int64]) -> RouteArrays:
     """The routes of pairs of shape (n, 2): the length of each or NO_PATH, how many nodes it has, and all nodes."""
 
-    def query_chunk(part: slice, seat: Searcher) -> RouteArrays:
-        lengths, nodes = zip(*(route_arrays(seat, source, target) for source, target in pairs[part].tolist()))
+    def query_chunk(part: slice, searcher: Searcher) -> RouteArrays:
+        lengths, nodes = zip(*(route_arrays(searcher, source, target) for source, target in pairs[part].tolist()))
         return np.array(lengths, np.int64), np.array([*map(len, nodes)], np.int64), np.concatenate(nodes)
 
     none = np.empty(0, np.int64), np.empty(0, np.int64), np.empty(0, np.int32)
@@ -94,24 +94,24 @@ def routes(router: Router, pairs: NDArray[np.int64]) -> RouteArrays:
     return np.concatenate(lengths), np.concatenate(counts), np.concatenate(nodes)
 
 
-def route_arrays(seat: Searcher, source: int, target: int) -> tuple[int, NDArray[np.int32]]:
-    if not seat.route(source, target):
+def route_arrays(searcher: Searcher, source: int, target: int) -> tuple[int, NDArray[np.int32]]:
+    if not searcher.route(source, target):
         return NO_PATH, np.empty(0, np.int32)
-    info = seat.route_info
-    return info.length, np.frombuffer(memoryview(seat.nodes), np.int32, info.nodes).copy()
+    info = searcher.route_info
+    return info.length, np.frombuffer(memoryview(searcher.nodes), np.int32, info.nodes).copy()
 
 
 def map_chunks(
     router: Router, query_chunk: Callable[[slice, Searcher], T], count: int, at_a_time: int = CHUNK_SIZE,
     on_done: Callable[[int], object] = lambda done: None
 ) -> list[T]:
-    """What `query_chunk` returns for each part of so many questions, in order. Each part has a seat of its own while it is asked.
+    """What `query_chunk` returns for each part of so many questions, in order. Each part has a searcher of its own while it is asked.
     `on_done` receives how many questions are answered, in this thread."""
     parts = [slice(begin, begin + at_a_time) for begin in range(0, count, at_a_time)]
 
     def run_chunk(part: slice) -> T:
-        with router.searcher() as seat:
-            return query_chunk(part, seat)
+        with router.searcher() as searcher:
+            return query_chunk(part, searcher)
 
     def each_of(answers: Iterable[T]) -> Iterator[T]:
         for part, answer in zip(parts, answers):

@@ -180,7 +180,7 @@ def parse_float(
             doubt = ": write a comma for the point"
         elif re.fullmatch("[-+]?[0-9]+,[0-9]+", text):
             doubt = ": write a point for the comma" + ", or give --decimal ," * form.is_chosen
-        raise NetworkError(f"{what} {excerpt(text)} is no number{doubt}", path, row) from error
+        raise NetworkError(f"{what} {excerpt(text)} is not a number{doubt}", path, row) from error
     if not math.isfinite(value):
         raise NetworkError(f"{what} {excerpt(text)} is no finite number", path, row)
     if not low <= value <= high:

@@ -12,17 +12,17 @@ def warn_renamed(old: str, new: str, level: int = 3) -> None:
 
 
 def old_word(old: str, new: str) -> Any:
-    """A method by its old word, CLASS.METHOD, which warns and calls the new one."""
+    """A deprecated alias, which warns and calls the method CLASS.METHOD."""
     def call(owner: Any, *arguments: Any, **options: Any) -> Any:
         warn_renamed(old, new)
         return getattr(owner, new.partition(".")[2])(*arguments, **options)
 
-    call.__doc__ = f"The old word of `{new}`."
+    call.__doc__ = f"A deprecated alias of `{new}`."
     return call
 
 
 def check_by(by: str | None) -> None:
-    """Warns who says how `matrix` makes a table. Raises ValueError for a word that it never had."""
+    """Warns if `by` is passed to `matrix`. Raises ValueError for a word that it never had."""
     if by not in ("library", "sweeps", None):
         raise ValueError(f"a matrix is made by library or by sweeps, and not by {by!r}")
     if by is not None:

@@ -46,5 +46,5 @@ def need_network(network: "Network | None", own: "Network | None") -> "Network":
     """The network that is named, or else that of the hierarchy. Raises ValueError where there is neither."""
     found = own if network is None else network
     if found is None:
-        raise ValueError("there is no network to draw on: give one, or give Hierarchy the word network=")
+        raise ValueError("there is no network to draw on: give one, or pass network= to Hierarchy")
     return found

@@ -43,7 +43,7 @@ class Graph:
         self, from_nodes: "ArrayLike", to_nodes: "ArrayLike", weights: "ArrayLike", nodes: int | None = None,
         keys: Keys | None = None
     ) -> None:
-        """Nodes are whole numbers from 0, weights from 0 to 4294967295. Without `nodes` there are those up to the greatest
+        """Nodes are integers from 0, weights from 0 to 4294967295. Without `nodes` there are those up to the greatest
         of an arc. Raises ValueError for arrays that can't be meant so."""
         need("numpy")
         from .arrays import whole_numbers
@@ -68,7 +68,7 @@ class Graph:
         numbered in the order in which the keys come first, sources before targets.
 
         scale   weights are numbers of any kind, which are multiplied by it and rounded: 1000 makes milliseconds of seconds.
-                Without it they have to be whole numbers. Lengths are in the scaled unit; `unscaled` divides them. A warning
+                Without it they have to be integers. Lengths are in the scaled unit; `unscaled` divides them. A warning
                 (UserWarning) says how many positive weights become 0.
 
         Raises ValueError where an end has no key, the three aren't as long as one another, `scale` isn't above 0, or a weight
@@ -142,13 +142,13 @@ class Graph:
 
 
 def whole_or_scaled(weights: "ArrayLike", scale: float | None) -> "ArrayLike":
-    """The weights as whole numbers: times the scale, if there is one. Raises ValueError for others."""
+    """The weights as integers: times the scale, if there is one. Raises ValueError for others."""
     import numpy as np
 
     if scale is not None:
         return scaled(weights, scale)
     if np.asarray(weights).dtype.kind == "f":
-        raise ValueError("weights have to be whole numbers, and are floats: scale=1000 makes thousandths of them")
+        raise ValueError("weights have to be integers, and are floats: scale=1000 makes thousandths of them")
     return weights
 
 
@@ -197,7 +197,7 @@ def write_graph(
     """Writes the graph whose arc i leads from from_nodes[i] to to_nodes[i] and weighs weights[i], and which has `nodes`
     nodes, or else those up to the greatest of an arc. The file is whole; at an exception it is as it was before.
 
-    The arrays are of whole numbers and of shape (arcs,): nodes from 0 to 33554431, weights from 0 to 4294967295 in any one
+    The arrays are of integers and of shape (arcs,): nodes from 0 to 33554431, weights from 0 to 4294967295 in any one
     unit. For keys or weights that aren't whole use Graph.from_keys. Raises ValueError, and OSError for the file.
     """
     Graph(from_nodes, to_nodes, weights, nodes).write(path)

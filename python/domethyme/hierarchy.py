@@ -17,6 +17,7 @@ from .limits import DEFAULT_DEVIATION, DEFAULT_RADIUS
 from .network.tables import Side
 from .program import StrPath
 from .progress import Progress
+from .protocol import FAR, NO_PATH
 from .route import Route, Rows
 from .router import Router, RouterResult
 
@@ -51,7 +52,7 @@ class Hierarchy:
     raises WrongHierarchy for another file.
 
     Nodes are numbered from 0, as rows of arrays are: node n is node n + 1 of a file. With `keys` all methods take and give
-    the user's own keys in their place. Lengths are whole numbers in the unit of the graph's weights.
+    the user's own keys in their place. Lengths are integers in the unit of the graph's weights.
 
     path      the path, as it was given
     nodes     the number of nodes
@@ -146,7 +147,7 @@ class Hierarchy:
         """The shortest route from one of several nodes to one of several, None if there is no path.
 
         `starts` and `ends` are a node or more each: a mapping from nodes to the length that is added there, rows of (node, added
-        length), or nodes alone with 0 added; a row that is a key is that key. Added lengths are whole numbers from 0 to 4294967295. The route's source and target
+        length), or nodes alone with 0 added; a row that is a key is that key. Added lengths are integers from 0 to 4294967295. The route's source and target
         are those that were taken, and its length has what was added. Raises NoSuchNode and ValueError.
         """
         return self._route(self._router.between(self._ends("starts", starts), self._ends("ends", ends)))
@@ -285,7 +286,7 @@ class Hierarchy:
         if minutes is not None:
             limit = self._limit_of(minutes, limit)
         if limit is not None and not (is_whole(limit) and 0 <= limit <= MAX_LIMIT):
-            raise ValueError(f"limit has to be a whole number from 0 to 2^62, or None, and is {limit!r}")
+            raise ValueError(f"limit has to be an integer from 0 to 2^62, or None, and is {limit!r}")
         if isinstance(starts, (int, float)) and not isinstance(starts, bool):
             raise ValueError(f"starts are nodes in a list, as [{starts!r}]")
         lengths = batch.reach(self._towards() if towards else self._router, self._ends("starts", starts), limit)
@@ -403,6 +404,7 @@ class Hierarchy:
         from .network import directions
 
         found = directions.weights(self._router, self._need_network().roads, starts, ends)
+        found[found == FAR] = NO_PATH
         indices = [getattr(side, "index", None) for side in (sources, sources if targets is None else targets)]
         if all(index is None or callable(index) for index in indices):
             return arrays.filled(found, None, missing)
@@ -520,7 +522,7 @@ class Hierarchy:
 
     def _need_network(self) -> "Network":
         if self.network is None:
-            raise ValueError("the hierarchy has no network: give Hierarchy the word network=")
+            raise ValueError("the hierarchy has no network: pass network= to Hierarchy")
         return self.network
 
     def _node(self, node: Hashable) -> int:
@@ -529,7 +531,7 @@ class Hierarchy:
             return self.keys.node(node)
         if not is_whole(node):
             doubt = ": directions(places) takes places, and nearest(lon, lat) finds nodes" if isinstance(node, (tuple, float)) else ""
-            raise ValueError(f"{node!r} is no node: nodes are whole numbers, or keys where Hierarchy has keys={doubt}")
+            raise ValueError(f"{node!r} is no node: nodes are integers, or keys where Hierarchy has keys={doubt}")
         number = operator.index(node)  # type: ignore[arg-type]
         if not 0 <= number < self.nodes:
             raise NoSuchNode(f"there is no node {number}: the hierarchy has nodes 0 to {self.nodes - 1}", node)
@@ -544,7 +546,7 @@ class Hierarchy:
         for node, added in rows:
             number = self._node(node)
             if not is_whole(added):
-                raise ValueError(f"the lengths added at {name} have to be whole numbers, and {added!r} is none")
+                raise ValueError(f"the lengths added at {name} must be integers, not {added!r}")
             found.append((number, operator.index(added)))
         if not found:
             raise ValueError(f"{name} have to be a node or more")
@@ -570,5 +572,5 @@ def reopened(path: str, keys: Keys | None, network: "Network | None", compare_al
 
 
 def is_whole(value: Any) -> bool:
-    """Whether a value is a whole number, of Python or numpy, and no truth value."""
+    """Whether a value is an integer, of Python or numpy, and no truth value."""
     return hasattr(value, "__index__") and not isinstance(value, bool) and getattr(value, "dtype", None) != bool

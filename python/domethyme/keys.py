@@ -169,7 +169,7 @@ class Keys:
         return np.fromiter(map(self.node, as_list(keys)), np.int64)
 
     def of(self, nodes: "NDArray[np.integer[Any]]") -> "NDArray[Any]":
-        """The keys of many nodes: an array of int64 where all of them are whole numbers, else of objects."""
+        """The keys of many nodes: an array of int64 where all of them are integers, else of objects."""
         import numpy as np
 
         found = [self._names[node] for node in nodes.tolist()]
@@ -234,14 +234,14 @@ def index_keys(names: Sequence[Hashable]) -> tuple[dict[Any, int], set[Hashable]
 
 
 def parse_key(text: str) -> Hashable:
-    """The key that a field of a table means: a whole number as it is written plainly, another text, or none."""
+    """The key that a field of a table means: an integer as it is written plainly, another text, or none."""
     digits = text.removeprefix("-")
     is_plain = digits.isascii() and digits.isdigit() and (digits[0] != "0" or text == "0")
     return int(text) if is_plain else text or None
 
 
 def parse_keys(texts: Iterable[str]) -> list[Hashable]:
-    """The keys that the fields of a column mean: of one type, whole numbers if all are, else texts; None for an empty field."""
+    """The keys that the fields of a column mean: of one type, integers if all are, else texts; None for an empty field."""
     listed = list(texts)
     keys = [parse_key(text) for text in listed]
     return keys if all(type(key) is not str for key in keys) else [text or None for text in listed]

@@ -16,7 +16,7 @@ BUILT = HERE.parents[1] / "out/library" / NAME
 # The length of a pair without a path, and the limit of what is reached that is none.
 NO_LENGTH = (1 << 64) - 1
 # What calls return; from FIRST_FAULT on the faults of a file.
-OK, NO_PATH, NO_ROOM, OUT_OF_MEMORY, TOO_LONG, FIRST_FAULT = 0, 1, 4, 5, 6, 34
+OK, CODE_NO_PATH, NO_ROOM, OUT_OF_MEMORY, TOO_LONG, FIRST_FAULT = 0, 1, 4, 5, 6, 34
 # Bytes that the text of a code has at most.
 TEXT = 80
 

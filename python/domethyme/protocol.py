@@ -10,7 +10,8 @@ ERROR_REPLIES = {
     b"e TooLong": (HierarchyError, "the file is of no graph: a route by it would repeat a node (TooLong)", 4),
 }
 NOT_A_REPLY = "is no answer of routecli"
-NO_PATH = -1
+# The length of no path, and where lengths are added: no length is as great, nor its sum with some weights, and that sum doesn't wrap.
+NO_PATH, FAR = -1, 1 << 60
 
 
 class RouteReply(NamedTuple):

@@ -1,7 +1,7 @@
 """A hierarchy in the memory of this process, asked through the library libdomethyme.
 
-Several threads may ask at once, each by a seat: a handle of the library with room for its answers. A question borrows a seat.
-Where all are taken another one of the same hierarchy is made, beside the first, which is never lent. So a seat that an interrupt
+Several threads may ask at once, each by a searcher: a handle of the library with room for its answers. A question borrows a searcher.
+Where all are taken another one of the same hierarchy is made, beside the first, which is never lent. So a searcher that an interrupt
 loses on its way is no loss: its memory is freed with it. Other threads of Python go on while the library works. After a fork the
 child has its parent's hierarchy, in the same pages of memory. Nodes are numbered from 0. Needs Python alone.
 """
@@ -17,7 +17,7 @@ from typing import TYPE_CHECKING, Any, NamedTuple
 
 from .errors import HierarchyError, LibraryError, OutOfMemory
 from .library import (
-    FIRST_FAULT, NO_LENGTH, NO_PATH, NO_ROOM, OK, OUT_OF_MEMORY, TOO_LONG, BetweenInfo, Handle, RouteInfo, Seed,
+    CODE_NO_PATH, FIRST_FAULT, NO_LENGTH, NO_ROOM, OK, OUT_OF_MEMORY, TOO_LONG, BetweenInfo, Handle, RouteInfo, Seed,
     error_message, load_later_call, load_library
 )
 
@@ -25,9 +25,9 @@ if TYPE_CHECKING:
     import numpy as np
     from numpy.typing import NDArray
 
-# How many nodes of a route a seat has room for at first.
+# How many nodes of a route a searcher has room for at first.
 INITIAL_NODES = 1 << 10
-# Where there is no memory for a seat, how long one that is lent is waited for, and how often that is looked at, in seconds.
+# Where there is no memory for a searcher, how long one that is lent is waited for, and how often that is looked at, in seconds.
 PATIENCE, PAUSE = 60.0, 0.01
 
 
@@ -63,7 +63,7 @@ class Searcher:
         return number.value
 
     def clone(self) -> "Searcher | None":
-        """Another seat of the same hierarchy, None where there is no memory for one."""
+        """Another searcher of the same hierarchy, None where there is no memory for one."""
         other = Searcher(self.name)
         return None if self._library.domethyme_beside(self._at, other._at) else other
 
@@ -122,7 +122,7 @@ class Searcher:
 
     def _is_path(self, code: int) -> bool:
         """Whether a code says that there is a path. Raises the error of one that says neither."""
-        if code != NO_PATH:
+        if code != CODE_NO_PATH:
             self._check(code)
         return code == OK
 
@@ -138,7 +138,7 @@ class Searcher:
 
 
 class Router:
-    """A hierarchy of so many `nodes`, and its seats."""
+    """A hierarchy of so many `nodes`, and its searchers."""
 
     def __init__(self, data: bytes | bytearray, name: str, is_turned: bool = False) -> None:
         """Opens the bytes of a file that messages call `name`. With each link turned round it answers as of the graph whose arcs are
@@ -155,7 +155,7 @@ class Router:
         return self._is_closed
 
     def close(self) -> None:
-        """Frees the memory, that of a seat which is lent once it comes back. Questions then raise ValueError."""
+        """Frees the memory, that of a searcher which is lent once it comes back. Questions then raise ValueError."""
         self._is_closed = True
         with self._making:
             self._first.close()
@@ -163,40 +163,40 @@ class Router:
 
     @contextlib.contextmanager
     def searcher(self) -> Iterator[Searcher]:
-        """A seat that nobody else has, for a with-block."""
-        seat = self._acquire()
+        """A searcher that nobody else has, for a with-block."""
+        searcher = self._acquire()
         try:
-            yield seat
+            yield searcher
         finally:
-            self._release(seat)
+            self._release(searcher)
 
     def length(self, source: int, target: int) -> int | None:
         """The least length from one node to another, None where there is no path."""
-        seat = self._acquire()
+        searcher = self._acquire()
         try:
-            return seat.length(source, target)
+            return searcher.length(source, target)
         finally:
-            self._release(seat)
+            self._release(searcher)
 
     def route(self, source: int, target: int) -> RouterResult | None:
         """A shortest path, and of all of them one with the fewest arcs; None where there is none."""
-        with self.searcher() as seat:
-            if not seat.route(source, target):
+        with self.searcher() as searcher:
+            if not searcher.route(source, target):
                 return None
-            return RouterResult(source, target, seat.route_info.length, seat.nodes[: seat.route_info.nodes])
+            return RouterResult(source, target, searcher.route_info.length, searcher.nodes[: searcher.route_info.nodes])
 
     def between(self, starts: Sequence[tuple[int, int]], ends: Sequence[tuple[int, int]]) -> RouterResult | None:
         """The same from one of several nodes to one of several, of the least whole length, with what is added at each."""
         start_seeds, end_seeds = seed_array(starts), seed_array(ends)
-        with self.searcher() as seat:
-            if not seat.between(start_seeds, end_seeds):
+        with self.searcher() as searcher:
+            if not searcher.between(start_seeds, end_seeds):
                 return None
-            info = seat.between_info
+            info = searcher.between_info
             (source, before), (target, behind) = starts[info.start], ends[info.end]
-            return RouterResult(source, target, info.length, seat.nodes[: info.nodes], before + behind)
+            return RouterResult(source, target, info.length, searcher.nodes[: info.nodes], before + behind)
 
     def _acquire(self) -> Searcher:
-        """A seat: one that is idle, or another one; without memory for one it waits for one that is lent. Raises OutOfMemory."""
+        """A searcher: one that is idle, or another one; without memory for one it waits for one that is lent. Raises OutOfMemory."""
         end = 0.0
         while True:
             try:
@@ -216,8 +216,8 @@ class Router:
                 raise OutOfMemory(f"{self.name}: {error_message(OUT_OF_MEMORY)}", 6)
             time.sleep(PAUSE)
 
-    def _release(self, seat: Searcher) -> None:
-        self._idle.append(seat)
+    def _release(self, searcher: Searcher) -> None:
+        self._idle.append(searcher)
         if self._is_closed:
             self._idle.clear()
 
@@ -231,7 +231,7 @@ _routers: "weakref.WeakSet[Router]" = weakref.WeakSet()
 
 
 def _after_fork_in_child() -> None:
-    """Closes hierarchies of which another thread was making a seat, which is as it left it."""
+    """Closes hierarchies of which another thread was making a searcher, which is as it left it."""
     for each in list(_routers):
         each._is_closed, each._making = each._is_closed or each._making.locked(), threading.Lock()
 

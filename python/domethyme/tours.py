@@ -11,7 +11,6 @@ from typing import Literal
 import numpy as np
 from numpy.typing import NDArray
 
-from .protocol import NO_PATH
 
 Lengths = NDArray[np.int64]
 Order = list[int]
@@ -19,8 +18,8 @@ Source = Literal["any", "first"]
 Destination = Literal["any", "last"]
 # Places whose orders are all searched, and places of a tour.
 MAX_EXACT, MAX_PLACES = 12, 500
-# A length for no path: a tour with one is none. No sum of lengths below comes near the end of int64.
-FAR = 1 << 52
+# A length from which on there is no path: a tour with one is none. No sum of lengths below comes near the end of int64.
+TOO_FAR = 1 << 52
 # Places of a part that is moved, how often a tour is disturbed, and places of the parts that are exchanged then.
 MAX_PART, KICKS, KICK_PART = 10, 200, 50
 
@@ -28,13 +27,13 @@ MAX_PART, KICKS, KICK_PART = 10, 200, 50
 def best_order(lengths: Lengths, roundtrip: bool, source: Source, destination: Destination) -> Order | None:
     """The order of all places with the least sum of lengths, each from 0; None where there is none.
 
-    lengths       from each place to each other, NO_PATH for no path; at least one place
+    lengths       from each place to each other, FAR for no path; at least one place
     roundtrip     whether the way from the last place back to the first one counts
     source        "first": place 0 comes first
     destination   "last": the last place comes last
     """
     count, first, last = len(lengths), source == "first", destination == "last"
-    costs = np.where((lengths == NO_PATH) | (lengths >= FAR), FAR, lengths)
+    costs = np.minimum(lengths, TOO_FAR)
     if count == 1:
         return [0]
     if first and last:
@@ -55,7 +54,7 @@ def best_order(lengths: Lengths, roundtrip: bool, source: Source, destination: D
         closed = np.zeros((count + 1, count + 1), np.int64)
         closed[:count, :count] = costs
         order = rotated(least_tour(closed), count)[1:]
-    return order if tour_length(costs, order, roundtrip) < FAR else None
+    return order if tour_length(costs, order, roundtrip) < TOO_FAR else None
 
 
 def tour_length(costs: Lengths, order: Sequence[int], roundtrip: bool) -> int:
@@ -82,7 +81,7 @@ def exact_tour(costs: Lengths) -> Order:
         return list(range(len(costs)))
     between, sizes = costs[:count, :count], popcounts(count)
     # by the set of places that a way from the last one has gone through, and by the place at which it is
-    least = np.full((1 << count, count), FAR * (count + 1))
+    least = np.full((1 << count, count), TOO_FAR * (count + 1))
     before = np.zeros((1 << count, count), np.int8)
     least[1 << np.arange(count), np.arange(count)] = costs[count, :count]
     for size in range(1, count):
@@ -163,7 +162,7 @@ class Tour:
         along = costs[order, first] + costs[ends, behind] - steps
         against = costs[order, ends] + costs[first, behind] - steps + turned[sizes - 1, None]
         moved = np.stack((along, against)) - saved[:, None]
-        moved[:, (np.arange(count) < sizes[:, None]) | (np.arange(count) == count - 1)] = FAR * count
+        moved[:, (np.arange(count) < sizes[:, None]) | (np.arange(count) == count - 1)] = TOO_FAR * count
         best, turn = int(moved.argmin()), int(in_place[:-2].argmin())
         if min(moved.flat[best], in_place[turn]) >= 0:
             return []

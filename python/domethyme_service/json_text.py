@@ -16,7 +16,7 @@ Json = dict[str, Any]
 ENCODER = json.JSONEncoder(separators=(",", ":"), allow_nan=False, ensure_ascii=False, check_circular=False)
 # Rows of numbers that are written together.
 CHUNK = 1 << 14
-# All whole numbers up to this one are exact as numbers of Python.
+# All integers up to this one are exact as numbers of Python.
 MOST_EXACT = 1 << 53
 ZERO, POINT, MINUS, COMMA, OPEN, CLOSE = b"0.-,[]"
 NULL = np.frombuffer(b"null", np.uint8)
@@ -62,7 +62,7 @@ class Texts(NamedTuple):
 
 
 def number_texts(values: Ints, digits: int, is_null: NDArray[np.bool_] | None = None) -> Texts:
-    """Whole numbers of 10**-digits: with at least one decimal unless there are no digits, and null where they are none."""
+    """Integers of 10**-digits: with at least one decimal unless there are no digits, and null where they are none."""
     return joined_texts(values[:, None], digits, is_null)
 
 

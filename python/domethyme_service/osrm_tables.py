@@ -11,7 +11,7 @@ from domethyme.network.legs import find_leg
 from domethyme.network.network import Floats
 from domethyme.network.snapping import SnappedPoint
 from domethyme.network.sphere import great_circle_metres, unit_vectors
-from domethyme.protocol import NO_PATH
+from domethyme.protocol import FAR
 
 from .costs import Work
 from .errors import not_implemented, too_big
@@ -57,7 +57,7 @@ def rows_of_weights(
     """The rows of a table, some at a time, all of whose values are weights."""
     unit = UNITS_PER_OUTPUT_UNIT.get(engine.roads.unit, 1)
     for weights in weight_rows(engine.queries.table, engine.roads, starts, ends, NODE_CELLS):
-        values = np.where(weights == NO_PATH, np.nan, weights / unit)
+        values = np.where(weights == FAR, np.nan, weights / unit)
         yield {name: values.copy() for name in names}
 
 

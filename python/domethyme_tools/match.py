@@ -55,7 +55,7 @@ def column(trips: Trips, name: str, missing: float | None) -> list[float] | None
         try:
             found.append(missing if missing is not None and not text else plain_float(text))
         except ValueError:
-            raise ToolError(f"{name} {text[:40]!r} is no number", trips.path, row) from None
+            raise ToolError(f"{name} {text[:40]!r} is not a number", trips.path, row) from None
     return found
 
 

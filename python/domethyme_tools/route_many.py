@@ -71,7 +71,7 @@ def parse_args() -> argparse.Namespace:
 
 def positive_int(text: str) -> int:
     if re.fullmatch("[1-9][0-9]{0,8}", text) is None:
-        raise argparse.ArgumentTypeError("has to be a whole number from 1 to 999999999")
+        raise argparse.ArgumentTypeError("has to be an integer from 1 to 999999999")
     return int(text)
 
 

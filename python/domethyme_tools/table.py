@@ -36,6 +36,7 @@ from domethyme.network.leg_tables import NodeTable, weight_rows
 from domethyme.network.network import Network
 from domethyme.network.node_index import NodeIndex
 from domethyme.network.tables import Side, paths_of
+from domethyme.protocol import FAR, NO_PATH
 
 from .cli import ToolError, add_compare_all, argument_parser, current_arguments, refuse_overwriting
 from .nearest import OLD_RADIUS, Trips, add_radius, begins_of, nodes_at, read_places, too_far_error
@@ -108,7 +109,7 @@ def rows_on_roads(ask: NodeTable, network: Network, sources: Trips, targets: Tri
         list(snap_places(roads, ((row, "", place) for row, place in zip(table.rows, table.ends[0])), radius, table.path))
         for table in (sources, targets)
     )
-    return weight_rows(ask, roads, starts, ends, CELLS)
+    return (numpy.where(rows == FAR, NO_PATH, rows) for rows in weight_rows(ask, roads, starts, ends, CELLS))
 
 
 def write_csv(path: str, rows: Iterator[Ints], sources: list[str], targets: list[str]) -> None:

@@ -1,13 +1,13 @@
 """Makes the files of a network: of a table of nodes and a table of arcs, or of files of the DIMACS challenge.
 
 NODES is a CSV table with a row for each node and the columns lon and lat, in degrees. It may have the column node, by whose
-texts ARCS names the nodes; without it they are numbered from 1, by their rows. The columns osm, a whole number that answers
+texts ARCS names the nodes; without it they are numbered from 1, by their rows. The columns osm, an integer that answers
 show, and ends, as in NETWORK.nodes.csv of osm_to_gr, may be there too. Or it is a file X.co of the DIMACS challenge.
 
 ARCS is a CSV table with a row for each arc and the columns from and to. Other columns may be there or not:
 
   oneway    with this column a row is a road: 1 or yes is one arc, -1 one arc from `to` to `from`; 0, no or nothing both
-  weight    a whole number from 0 to 4294967295: routes have the least sum. Without it it is the milliseconds of seconds, or
+  weight    an integer from 0 to 4294967295: routes have the least sum. Without it it is the milliseconds of seconds, or
             with --weight length the centimetres of metres, at least 1
   metres    or km; without both the length of the line
   seconds   without it those of the metres at kmh kilometres an hour. An arc needs one of weight, seconds and kmh; with weight alone,

@@ -61,7 +61,7 @@ class ColumnTests(ToolCase):
             ("node;lon;lat\n", ARCS,
              "nodes.csv, row 1: has no columns lon, lat; its columns are node;lon;lat: fields have to be separated by commas"),
             ("", ARCS, "nodes.csv: is empty"), (NODES, "", "arcs.csv: is empty"),
-            ("lon,lat\n0,0\n0.001,0\n", ARCS, "arcs.csv, row 2: from 'depot' is no number, and nodes.csv has no column node, so its "
+            ("lon,lat\n0,0\n0.001,0\n", ARCS, "arcs.csv, row 2: from 'depot' is not a number, and nodes.csv has no column node, so its "
              "nodes are numbered by rows; its columns are lon, lat"),
         ]:
             self.write("nodes.csv", nodes)

@@ -23,6 +23,7 @@ import domethyme
 from domethyme import tours
 from domethyme.network import alternatives, directions
 from domethyme.network.legs import find_leg
+from domethyme.protocol import FAR
 
 SETTINGS = list(itertools.product((True, False), ("any", "first"), ("any", "last")))
 
@@ -214,10 +215,10 @@ def least_tour(weights: Any, roundtrip: bool, source: str, destination: str) -> 
 def test_orders_by_enumeration(data: Any) -> None:
     """Up to seven places by all orders, and twelve by another search of sets."""
     count = data.draw(st.sampled_from([1, 2, 3, 5, 7, 12]))
-    cell = st.one_of(st.integers(0, 40), st.integers(0, 40), st.just(-1))
+    cell = st.one_of(st.integers(0, 40), st.integers(0, 40), st.just(FAR))
     lengths = np.array(data.draw(st.lists(cell, min_size=count**2, max_size=count**2)), np.int64).reshape(count, count)
     np.fill_diagonal(lengths, 0)
-    weights = [[None if each < 0 else each for each in row] for row in lengths.tolist()]
+    weights = [[None if each == FAR else each for each in row] for row in lengths.tolist()]
     for setting in SETTINGS if count < 12 else [(True, "any", "any")]:
         order = tours.best_order(lengths, *setting)
         best = least_tour(weights, *setting) if count < 12 else least_round_trip(weights)
@@ -246,7 +247,7 @@ def test_long_tours() -> None:
     orders = [tours.best_order(lengths, True, "first", "any") for _ in range(2)]
     assert orders[0] == orders[1] and orders[0][0] == 0 and sorted(orders[0]) == list(range(count))
     assert tours.tour_length(lengths, orders[0], True) == count * lengths[drawn_order == 0][0][drawn_order == 1][0]
-    lengths[:, 7] = -1
+    lengths[:, 7] = FAR
     assert tours.best_order(lengths, True, "any", "any") is None
 
 

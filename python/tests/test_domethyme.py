@@ -21,7 +21,7 @@ SQUARE = ([0, 1, 0, 2, 3], [1, 2, 2, 0, 0], [3, 4, 9, 5, 6])
 @drawn(200)
 @given(st.lists(st.decimals(0, 40_000, places=2), min_size=1, max_size=4))
 def test_scaled_weights(values):
-    """Hundredths are whole numbers, whatever their floats are."""
+    """Hundredths are integers, whatever their floats are."""
     graph = domethyme.Graph.from_keys(range(len(values)), range(1, len(values) + 1), [float(value) for value in values], scale=100)
     assert graph.weights.tolist() == [int(100 * value) for value in values]
 
@@ -122,13 +122,13 @@ print(domethyme.Hierarchy("--help").length(0, 2))
     def test_arrays_that_cannot_be_meant(self):
         graph = self.folder / "square.gr"
         for wrong, says in [
-            (([0.0], [1], [1]), "from_nodes have to be whole numbers, and are float64"),
+            (([0.0], [1], [1]), "from_nodes have to be integers, and are float64"),
             (([0], [1], [-1]), "weights have to be from 0 to 4294967295, and are from -1 to -1"),
             (([0], [1], [4294967296]), "weights have to be from 0"),
             (([0], [-1], [1]), "to_nodes have to be from 0 to 33554431, and are from -1 to -1"),
             (([0], [2**63], [1]), "to_nodes have to be from 0"), (([1 << 25], [1], [1]), "from_nodes have to be from 0"),
             (([0], [1, 2], [1]), "as long as one another"), (([[0]], [[1]], [[1]]), "of one dimension"),
-            (([0], [1], ["x"]), "weights have to be whole numbers")
+            (([0], [1], ["x"]), "weights have to be integers")
         ]:
             with self.subTest(says=says), self.assertRaisesRegex(ValueError, says):
                 domethyme.write_graph(graph, *wrong)
@@ -137,7 +137,7 @@ print(domethyme.Hierarchy("--help").length(0, 2))
         self.assertEqual(self.contents(), {})
         hierarchy = self.square()
         for wrong, says in [
-            ([[0, 1, 2]], "rows of two nodes"), ([0, 1], "rows of two nodes"), ([[0.5, 1]], "whole numbers"),
+            ([[0, 1, 2]], "rows of two nodes"), ([0, 1], "rows of two nodes"), ([[0.5, 1]], "integers"),
             ([[0, -1]], "from 0"),
             ([[0, 1], [2, 3], [3, 4]], r"row 2 of the pairs, \[3, 4\], has a node that the hierarchy lacks")
         ]:
@@ -188,7 +188,7 @@ print(domethyme.Hierarchy("--help").length(0, 2))
                 hierarchy.route(node, 0)
         for starts, ends, says in [
             ([], [0], "a node or more"), ([0], {}, "a node or more"), ({0: -1}, [0], "from 0 to 4294967295"),
-            ({0: 1.5}, [0], "have to be whole numbers"), ([0], {0: 1 << 32}, "from 0 to 4294967295"), ([7], [0], "nodes 0 to 3"),
+            ({0: 1.5}, [0], "have to be integers"), ([0], {0: 1 << 32}, "from 0 to 4294967295"), ([7], [0], "nodes 0 to 3"),
         ]:
             with self.subTest(says=says), self.assertRaisesRegex(ValueError, says):
                 hierarchy.between(starts, ends)
@@ -268,7 +268,7 @@ print(domethyme.Hierarchy("--help").length(0, 2))
         with self.square() as hierarchy:
             self.assertEqual(hierarchy.lengths(frame[["from", "to"]]).tolist(), [3, 9])
             for missing in (pd.NA, None):
-                with self.assertRaisesRegex(ValueError, "whole numbers"):
+                with self.assertRaisesRegex(ValueError, "integers"):
                     hierarchy.lengths(pd.DataFrame({"from": [0, missing], "to": [1, 1]}, dtype="Int64"))
         frame.loc[1, "weight"] = pd.NA
         for scale in (None, 10):

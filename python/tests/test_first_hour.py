@@ -139,8 +139,8 @@ BOTH = "from,to,kmh,km,oneway\n7,8,50,0.2,no\n8,9,50,0.3,no\n9,10,30,90,1\n"
     (NODES, BOTH, ["--largest"], 0, ["and 1 don't", "metres of arcs, from the least by quartiles to the greatest: 200, 200, 250, 300, 300\n"]),
     (NODES.replace(",", ";"), BOTH, [], 1, ["fields have to be separated by commas, or give --delimiter ';'\n"]),
     (NODES, BOTH, ["--delimiter", "tab"], 1, ["fields have to be separated by tabs, or give --delimiter ,\n"]),
-    (NODES.replace("0.5,0.5", '"0,5",0'), BOTH, [], 1, ["lon '0,5' is no number: write a point for the comma, or give --decimal ,"]),
-    (NODES.replace(",", ";"), BOTH, ["--delimiter", ";", "--decimal", ","], 1, ["lon '0.001' is no number: write a comma for the point"]),
+    (NODES.replace("0.5,0.5", '"0,5",0'), BOTH, [], 1, ["lon '0,5' is not a number: write a point for the comma, or give --decimal ,"]),
+    (NODES.replace(",", ";"), BOTH, ["--delimiter", ";", "--decimal", ","], 1, ["lon '0.001' is not a number: write a comma for the point"]),
     (NODES, BOTH, ["--decimal", ","], 2, ["a comma is between fields too: give --delimiter, as ';'"]),
     (NODES, BOTH, ["--delimiter", "ab"], 2, ["no mark"]), (NODES, BOTH.replace("kmh", "kmh\u00df").encode("latin-1"), [], 1, ["save it as CSV UTF-8"]),
 ])

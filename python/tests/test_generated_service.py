@@ -225,7 +225,7 @@ def maneuvers(found: Any) -> list[Any]:
 
 
 def has_its_modifier(maneuver: Any) -> bool:
-    """Whether a turn's modifier is that of the degrees between its bearings, which are whole numbers."""
+    """Whether a turn's modifier is that of the degrees between its bearings, which are integers."""
     angle = (maneuver["bearing_after"] - maneuver["bearing_before"] + 180) % 360 - 180
     return maneuver["type"] not in ("turn", "new name", "continue") or maneuver["modifier"] == modifier_of(angle)
 

@@ -27,7 +27,7 @@ REFUSED = [
     ("0,-0.01,0,0", [], "--radius is 1000 m"), ("0,0,1,0\n1,0,0,0", [], "trips.csv, row 4: to_lon 1.0, to_lat 0.0 is 110,973 m"),
     ("9.5,95,0,0", [], "row 4: from_lat '95' isn't from -90 to 90: are longitude and latitude swapped?"),
     ("181,0,0,0", [], "row 4: from_lon '181' isn't from -180 to 180: are these degrees?"),
-    ("0,inf,0,0", [], "row 4: from_lat 'inf'"), ("0,north,0,0", [], "row 4: from_lat 'north' is no number"),
+    ("0,inf,0,0", [], "row 4: from_lat 'inf'"), ("0,north,0,0", [], "row 4: from_lat 'north' is not a number"),
     ("0,0,0", [], "trips.csv, row 4: has 3 fields"), ("from_lon,from_lat,to_lon\n", [], "trips.csv, row 1: has no column to_lat"),
     ("", [], "trips.csv: is empty"), ("lon,lat\n" + "0,0\n" * 11586, ["--matrix"], "trips.csv: has 11586 places"),
     (f"{HEAD},to_node\n0,0,0,0,9\n", ["--snapped", "s"], "trips.csv, row 1: --snapped would have two columns to_node"),

@@ -77,7 +77,7 @@ def test_a_town_road_by_road(towards):
 
 @pytest.mark.parametrize("starts, limit, says", [
     ([], 5, "a node or more"), ([True], 5, "no node"), (["a"], 5, "no node"), ({0: -1}, 5, "from 0 to"),
-    ({0: 1 << 32}, 5, "from 0 to"), ({0: 0.5}, 5, "whole numbers"), ([0], -1, "limit"), ([0], (1 << 62) + 1, "limit"),
+    ({0: 1 << 32}, 5, "from 0 to"), ({0: 0.5}, 5, "integers"), ([0], -1, "limit"), ([0], (1 << 62) + 1, "limit"),
     ([0], 1.5, "limit"), ([0], True, "limit"), ([0], "5", "limit"), ([6], 5, "nodes 0 to 5"),
 ])
 def test_what_cannot_be_reached(row, starts, limit, says):

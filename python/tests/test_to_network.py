@@ -77,7 +77,7 @@ class TableTests(ToolCase):
 
     def test_refusals(self):
         for nodes, arcs, says in [
-            ("lon,lat\n0,x\n", None, "nodes.csv, row 2: lat 'x' is no number"),
+            ("lon,lat\n0,x\n", None, "nodes.csv, row 2: lat 'x' is not a number"),
             ("lon,lat\n0,91\n", None, "nodes.csv, row 2: lat '91' isn't from -90 to 90"),
             ("lon,lat\n", None, "nodes.csv: has 0 nodes"),
             ("lon\n0\n", None, "nodes.csv, row 1: has no column lat"),

@@ -185,7 +185,7 @@ class Tables(SharedCase):
         )
         self.assert_fault("f, row 1: n 'nan' is no finite number", csv_tables.parse_float, "nan", "n", "f", 1)
         for text in ("x", "1_0", "\N{FULLWIDTH DIGIT FIVE}0"):
-            self.assert_fault(f"f, row 1: n {text!r} is no number", csv_tables.parse_float, text, "n", "f", 1)
+            self.assert_fault(f"f, row 1: n {text!r} is not a number", csv_tables.parse_float, text, "n", "f", 1)
 
 
 # A reader, the name and the text of a file, and what is said of it.

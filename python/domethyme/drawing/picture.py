@@ -252,7 +252,7 @@ def densify(line: Sequence[Point]) -> list[Point]:
 
 
 def draw_foot(attribution: str, view: View) -> Iterator[str]:
-    """A bar of a round length, at most a fifth of the picture, and what the data asks to be said, if anything."""
+    """A bar of a round length, at most a fifth of the picture, and the attribution, if there is one."""
     pixel = view.metres_of_a_pixel
     bar = scale_bar_metres(pixel * view.width / 5)
     length, bottom = bar / pixel, view.height - MARGIN

@@ -13,7 +13,7 @@ from .geometry import overlap_pieces, point_at_fraction, unwrapped
 COLOURS = ["#0072b2", "#d55e00", "#009e73", "#cc5f9c", "#b8860b", "#2b8fc7", "#7b3294", "#5b7a1f"]
 NARROWEST, STEP_OF_WIDTH, MAX_NESTED = 4.5, 4, 3
 TOO_LARGE = 1e12
-NO_PATH = "no path"
+CAPTION_OF_NONE = "no path"
 NO_NAME = "unnamed road"
 # The units of contours by their metrics, and a colour that an area may bring.
 CONTOURS = {"time": "min", "distance": "m"}
@@ -121,7 +121,7 @@ def make_route(feature: Any, place: FeatureRef, label: str | None, colour: str) 
         return make_area(properties, geometry, place, name, colour)
     name, line = f"route {place.number}" if name is None else name, read_line(geometry, place)
     if line is None:
-        return DrawnRoute(name, NO_PATH, colour)
+        return DrawnRoute(name, CAPTION_OF_NONE, colour)
     metres = read_number(properties, "metres", place)
     seconds = 0.0 if properties.get("seconds", 0.0) is None else read_number(properties, "seconds", place)
     figures = kilometres(metres) if metres and not seconds else f"{kilometres(metres)}, {minutes(seconds)}"

@@ -8,7 +8,7 @@
 Opening looks at the head, the tail and the sizes, whatever the arrays hold: it takes some milliseconds for a gigabyte. A block is
 verified when it is first read in a process, against its checksum and the least and greatest value that its array may have. So no
 byte of a damaged block comes to a caller, and no size in the file takes memory. CRC-32 finds each change of up to 32 bits in a
-row for sure, and others but for one in four milliards; it isn't made against forgery. A file is replaced by a rename: one that is
+row for sure, and others but for one in four billion; it isn't made against forgery. A file is replaced by a rename: one that is
 written in place is found by its times, where a block is verified and where `check_unchanged` is called. If it is the same file by its
 size and its checksum, as behind `touch` or a backup, all blocks are verified anew as they are read.
 """

@@ -220,7 +220,7 @@ class Field:
         halves = np.stack((west, np.where(west == NONE, west, east)), axis=1)
         of_nodes = halves.reshape(mesh.height // 2, mesh.width).repeat(2, axis=0)
         self.level = np.where(of_nodes == NONE, least[nearest], of_nodes)
-        # (whole numbers as great as allowances' squares are exact)
+        # (integers as great as allowances' squares are exact)
         away = np.square(rows, dtype=np.float32) + np.square(columns, dtype=np.float32)
         self.away = np.where(of_nodes == NONE, away, 0)
 
@@ -244,7 +244,7 @@ class Field:
         lines = contour_generator(z=values, fill_type=FillType.OuterOffset).filled(0.0, 9.0)
         corner = self.mesh.left + columns[0] - 0.5, self.mesh.bottom + rows[0] - 0.5
         for points, offsets in zip(*lines):
-            # (one of both is a whole number, but for last bits)
+            # (one of both is an integer, but for last bits)
             places = (points.round(9) + corner) * self._half
             yield [places[begin:end] for begin, end in zip(offsets, offsets[1:])]
 

@@ -207,7 +207,7 @@ def ask_router(router: Router, exits: SnapEnds, entries: SnapEnds) -> RouteReply
 
 
 def weights(router: Router, roads: RoadIndex, starts: Sequence[SnappedPoint], ends: Sequence[SnappedPoint]) -> Ints:
-    """The least weights from each start to each end, NO_PATH where there is no path."""
+    """The least weights from each start to each end, FAR where there is no path."""
     rows = list(weight_rows(functools.partial(table, router), roads, starts, ends, NODE_CELLS))
     return np.concatenate(rows) if rows else np.empty((0, len(ends)), np.int64)
 

@@ -53,7 +53,7 @@ NO_BLANKS = bytes.maketrans(b"\0\x1c\x1d\x1e\x1f", b"?????")
 
 
 def take_columns(table: Table, known: Mapping[str, tuple[str, ...]], needed: Iterable[str], say: Say) -> None:
-    """Gives the columns of a table the names by which they are known, in small letters, and says which aren't used.
+    """Gives the columns of a table the names by which they are known, in lower case, and says which aren't used.
     Raises NetworkError for those that are missing, all in one, and for two columns of one meaning."""
     small_letters = [column.lower() for column in table.columns]
     found: dict[str, str] = {}
@@ -90,7 +90,7 @@ class Nodes(NodeArrays):
         if self.rows is None:
             if self.columns and not name.lstrip("+-").isdecimal():
                 why = f"{self.path} has no column node, so its nodes are numbered by rows; its columns are {', '.join(self.columns)}"
-                raise fields.error(f"{column} {excerpt(name)} is no number, and {why}")
+                raise fields.error(f"{column} {excerpt(name)} is not a number, and {why}")
             return fields.read_int(column, 1, len(self.osm))
         if name not in self.rows:
             whole = name.removesuffix(".0")

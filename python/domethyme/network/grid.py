@@ -7,7 +7,7 @@ in a part of a band are one slice.
 
     keys     the cells in order: the band, and 32 bits for the column in it
     begins   things[begins[c]:begins[c + 1]] are those of cell c
-    things   whole numbers
+    things   integers
 """
 import functools
 import itertools

@@ -34,7 +34,7 @@ class Style(NamedTuple):
     generalize   simplified by this many metres (generalized)
     denoise      without parts and holes that are smaller than this share, from 0 to 1, of the largest part (denoised)
     colors       six hexadecimal digits for each contour, or nothing for those of COLORS
-    attribution  what the data asks to be said, "" for nothing
+    attribution  of the data, "" for none
     """
 
     shape: Shape = "polygons"

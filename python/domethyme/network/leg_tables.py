@@ -11,15 +11,13 @@ from typing import NamedTuple
 
 import numpy as np
 
-from ..protocol import NO_PATH
+from ..protocol import FAR, NO_PATH
 from .groups import Ints
 from .legs import leg_without_nodes
 from .snapping import RoadIndex, SnappedPoint
 
 # The lengths from each of some nodes, from 0, to each of others, NO_PATH for no path: a new array with a row for each of the first.
 NodeTable = Callable[[Ints, Ints], Ints]
-# No length is as great, nor its sum with the weights of two arcs, and that sum has no wrap.
-FAR = np.int64(1 << 60)
 # First points of the rows that are made together, at most.
 MAX_ROWS = 256
 
@@ -40,7 +38,7 @@ class Ends(NamedTuple):
 def weight_rows(
     ask: NodeTable, roads: RoadIndex, starts: Sequence[SnappedPoint], ends: Sequence[SnappedPoint], cells: int
 ) -> Iterator[Ints]:
-    """The least weights from each start to each end, NO_PATH for no path, some rows at a time. `ask` is called once for
+    """The least weights from each start to each end, FAR for no path, some rows at a time. `ask` is called once for
     these, for `cells` lengths or one row; memory is a few times as many numbers, and some for each end."""
     entries, columns = Ends.of([end.entries for end in ends]), collections.defaultdict[object, list[int]](list)
     for column, end in enumerate(ends):
@@ -53,14 +51,14 @@ def weight_rows(
         for row, start in zip(rows, some):
             for column in itertools.chain(*(columns.get(key, ()) for key in place_keys(start))):
                 leg = leg_without_nodes(roads, start, ends[column])
-                if leg is not None and not 0 <= row[column] <= leg.weight:
+                if leg is not None and leg.weight < row[column]:
                     row[column] = leg.weight
         yield rows
 
 
 def least_by_nodes(ask: NodeTable, exits: Ends, entries: Ends, shape: tuple[int, int]) -> Ints:
-    """The least weights by the nodes of points, for points of which some may have no nodes."""
-    found = np.full(shape, NO_PATH)
+    """The least weights by the nodes of points, of which some may have no nodes; FAR for no path."""
+    found = np.full(shape, FAR, np.int64)
     if not len(exits.nodes) or not len(entries.nodes):
         return found
     sources, row = np.unique(exits.nodes, return_inverse=True)
@@ -71,7 +69,7 @@ def least_by_nodes(ask: NodeTable, exits: Ends, entries: Ends, shape: tuple[int,
     starts, first_exit = np.unique(exits.points, return_index=True)
     ends, first_entry = np.unique(entries.points, return_index=True)
     least = np.minimum.reduceat(np.minimum.reduceat(lengths, first_exit, axis=0), first_entry, axis=1)
-    found[np.ix_(starts, ends)] = np.where(least < FAR, least, NO_PATH)
+    found[np.ix_(starts, ends)] = np.minimum(least, FAR)
     return found
 
 

@@ -22,7 +22,7 @@ import numpy as np
 from numpy.typing import NDArray
 
 from ..errors import NetworkError
-from ..protocol import NO_PATH
+from ..protocol import FAR
 from .bearings import BearingRange, bearing_at
 from .geo import Point, metres_between
 from .groups import Ints, expand, offsets
@@ -202,7 +202,7 @@ class Matcher:
         straight = great_circle_metres(start.vectors[:, None], end.vectors[None])
         low, high = np.maximum(straight, least * (weights - 2)), most * (weights + 2)
         off = np.maximum(np.maximum(low - apart, apart - high), 0)
-        off[(weights == NO_PATH) | (low - apart > MAX_DETOUR)] = np.inf
+        off[(weights == FAR) | (low - apart > MAX_DETOUR)] = np.inf
         is_known, columns = np.zeros(off.shape, bool), dict[int, list[int]]()
         for column, point in enumerate(end.points):
             columns.setdefault(point.edge, []).append(column)
@@ -219,7 +219,7 @@ class Matcher:
         if metres is None or metres < 0:
             return 0.0 if metres is not None and -metres < behind else None
         leg = leg_without_nodes(self._roads, start, end)
-        return metres if leg is not None and (weight == NO_PATH or leg.weight <= weight) else None
+        return metres if leg is not None and leg.weight <= weight else None
 
     def _metres(self, pairs: Sequence[tuple[SnappedPoint, SnappedPoint]]) -> Floats:
         """The metres along a shortest path through nodes between points, infinity for none: the arcs of all are found at once."""

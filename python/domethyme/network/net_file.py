@@ -64,8 +64,8 @@ class Arrays(NamedTuple):
     row_texts                rows of numbers of texts, in the order of TEXTS, and a zero (two in older files): different ones that arcs have, in the
                              order of these numbers
     edge_begin, points       the points of edge e are points[edge_begin[e]:edge_begin[e + 1]], of shape (.., 2), lon and lat
-    text_begin, text_bytes   text t is text_bytes[text_begin[t]:text_begin[t + 1]] in UTF-8; the first is what the data asks to
-                             be said, "" for nothing
+    text_begin, text_bytes   text t is text_bytes[text_begin[t]:text_begin[t + 1]] in UTF-8; the first is
+                             the attribution, "" for none
     node_texts               the numbers of the texts by which a user knows the nodes, their keys; of shape (0,) where they have none
     """
 
@@ -370,7 +370,7 @@ class MappedNetwork:
     NetworkError for a file that is refused, and where it is damaged, in all that reads it.
 
     about           the numbers of ABOUT, by their names
-    texts           the list of texts, of which the first is what the data asks to be said
+    texts           the list of texts, of which the first is the attribution
     out_begin, ..   as in index.py
     node_grid, edge_grid    nodes, counted from 0, and edges, by their places
     box             the bounding box in degrees: west, south, east, which may be beyond 180, and north

@@ -254,14 +254,14 @@ class Reach:
         lengths   the least length of each node from the nearest start, of shape (nodes,); below 0 for none, or for one
                   beyond the greatest limit. A place on a road starts at the nodes that it leads to, each with the weight
                   between added
-        limits    whole numbers from 0, each greater than the one before
+        limits    integers from 0, each greater than the one before
         places    the starts that lie on roads between nodes; what is reached of these roads from there is added
         towards   whether lengths are those to the starts instead, and what leads there is to be found
         """
         self.network, self.limits, self.towards = network, list(limits), towards
         self._lengths = np.asarray(lengths)
         if self._lengths.shape != (len(network.node_lon),) or self._lengths.dtype.kind != "i":
-            raise ValueError(f"lengths have to be whole numbers with a sign, one for each of {len(network.node_lon)} nodes")
+            raise ValueError(f"lengths have to be integers with a sign, one for each of {len(network.node_lon)} nodes")
         if not self.limits or self.limits[0] < 0 or any(low >= high for low, high in zip(self.limits, self.limits[1:])):
             raise ValueError("limits have to be numbers from 0, each greater than the one before")
         self._places = [place for place in places if 0 < place.fraction < 1]

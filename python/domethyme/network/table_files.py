@@ -43,7 +43,7 @@ def tables_there(names: Files, are_written: bool) -> list[str]:
 
 
 def write_graph_of(file: IO[bytes], arrays: net_file.Arrays, attribution: str) -> None:
-    """Writes the graph, with a comment of what the data asks to be said."""
+    """Writes the graph, with the attribution as a comment."""
     comments = [f"{ATTRIBUTION_COMMENT}{attribution}"] if attribution else []
     write_graph(file, len(arrays.node_osm), [arrays.arc_from, arrays.arc_to, arrays.arc_weight], comments)
 
