@@ -1,1 +1,1 @@
-pub mod FileVerdict
+pub mod Verdict

@@ -2,7 +2,7 @@ pub mod Letters
 pub mod Outcome
 pub mod Names
 pub mod Grammar
-pub mod ListingProgress
+pub mod Progress
 pub mod Roads
 pub mod Pairs
 pub mod Reading
