@@ -180,7 +180,8 @@ class Grid(NamedTuple):
             cells += some or ()
         bounds = iter(self.begins[np.searchsorted(self.keys[:], np.array(cells, np.int64))].tolist())
         pairs = zip(bounds, bounds)
-        found, sizes = list[NDArray[Any]](), list[int]()
+        found: list[NDArray[Any]] = []
+        sizes: list[int] = []
         for place, count in zip(places, counts):
             slices = self._slices_around(place, reach) if count < 0 else [*itertools.islice(pairs, count)]
             is_few = size_of(slices) <= MAX_CANDIDATES

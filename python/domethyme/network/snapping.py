@@ -18,7 +18,6 @@ from ..errors import NetworkError
 from .column_file import Column
 from .geo import Point, metres_between
 from .grid import Ints, concat_ranges
-from .groups import offsets
 from .net_file import NO_OSM, TEXTS, UNITS, MappedNetwork, load_network
 from .node_index import NodeIndex
 from .parallel import differs_from_previous
@@ -158,29 +157,29 @@ class RoadIndex:
         return self.find_edges([number])[number]
 
     def find_edges(self, numbers: Iterable[int]) -> dict[int, Edge]:
-        """Some edges by their numbers, and maybe others. What isn't kept is read by one look at each column."""
+        """Some edges by their numbers, and maybe others."""
         (of, kept), changes = self._kept, self.arrays.file.changes
         kept = kept if of == changes else {}
         if not (missing := [number for number in dict.fromkeys(numbers) if number not in kept]):
             return kept
-        read = dict(zip(missing, self._read_edges(np.array(missing))))
+        read = {number: self._read_edge(number) for number in missing}
         found = {**kept, **read}
         self._kept = changes, found if len(found) <= EDGE_CACHE_SIZE else dict(itertools.islice(read.items(), EDGE_CACHE_SIZE))
         return found
 
-    def _read_edges(self, numbers: Ints) -> Iterator[Edge]:
+    def _read_edge(self, number: int) -> Edge:
         arrays = self.arrays
-        lines, points = rows_of(numbers, arrays.edge_begin)
-        groups, rows = rows_of(numbers, arrays.edge_first)
-        arcs = arrays.edge_arcs[rows]
-        columns = (arrays.arc_from, arrays.arc_to, arrays.arc_weight, arrays.arc_along)
-        names = [self.texts[name] for name in arrays.arc_texts(arcs, NAME).tolist()]
-        of_arcs = [*zip(arcs.tolist(), *(column[arcs].tolist() for column in columns[:3]), names, columns[3][arcs].tolist())]
-        places = [(lon / UNITS, lat / UNITS) for lon, lat in arrays.points[points].tolist()]
-        for number, line, group in zip(numbers.tolist(), lines, groups):
-            metres = list(itertools.accumulate(segment_metres(places[line]), initial=0.0))
-            some = {arc: Arc(start, end, weight, name, number, is_along) for arc, start, end, weight, name, is_along in of_arcs[group]}
-            yield Edge(tuple(places[line]), metres, some, int(points[line.start]))
+        (first, behind), (begin, end) = (some[number : number + 2].tolist() for some in (arrays.edge_first, arrays.edge_begin))
+        points = [(lon / UNITS, lat / UNITS) for lon, lat in arrays.points[begin:end].tolist()]
+        metres = list(itertools.accumulate(segment_metres(points), initial=0.0))
+        arcs = {arc: self._read_arc(arc, number) for arc in arrays.edge_arcs[first:behind].tolist()}
+        return Edge(tuple(points), metres, arcs, begin)
+
+    def _read_arc(self, arc: int, edge: int) -> Arc:
+        arrays = self.arrays
+        name = self.texts[int(arrays.row_texts[int(arrays.arc_row[arc]), NAME])]
+        start, end, weight = (int(column[arc]) for column in (arrays.arc_from, arrays.arc_to, arrays.arc_weight))
+        return Arc(start, end, weight, name, edge, bool(arrays.arc_along[arc]))
 
     def nearest(
         self, place: Point, count: int = 1, step: Callable[[], object] = lambda: None, within: float = math.inf, is_any: bool = False
@@ -242,26 +241,19 @@ class RoadIndex:
     def _snap_nearby(self, places: Sequence[Point], reach: float, count: int, is_any: bool) -> dict[int, list[SnappedPoint]]:
         """By the index of their places the nearest points of the `count` nearest edges up to `reach` metres, for places that have any."""
         which, edges = self.arrays.edge_grid.candidates_of_each(places, reach)
-        if not len(edges):
-            return {}
         is_there = self._are_open(edges, is_any)
-        pairs = np.unique(which[is_there] << EDGE_BITS | edges[is_there])  # (an edge is in several cells)
+        pairs = np.sort(which[is_there] << EDGE_BITS | edges[is_there])
+        pairs = pairs[differs_from_previous(pairs)]  # (an edge is in several cells)
+        if not len(pairs):
+            return {}
         which, edges = pairs >> EDGE_BITS, pairs & (1 << EDGE_BITS) - 1
         ways = self.project(np.array(places)[which], edges)
-        order = np.lexsort((ways.rows, ways.metres, ways.which))
-        best = order[differs_from_previous(ways.which[order])]
-        best = best[ways.metres[best] <= reach]
-        place = which[ways.which[best]]
-        order = np.lexsort((ways.metres[best], place))  # (stable: edges rise)
-        best, place = best[order], place[order]
-        first = np.flatnonzero(differs_from_previous(place))
-        is_wanted = np.arange(len(place)) - first.repeat(np.diff(np.append(first, len(place)))) < count
-        found: dict[int, list[SnappedPoint]] = {}
-        chosen = best[is_wanted]
-        numbers: list[int] = edges[ways.which[chosen]].tolist()
-        lines = self.find_edges(numbers)
-        for number, edge, row in zip(place[is_wanted].tolist(), numbers, chosen.tolist()):
-            found.setdefault(number, []).append(self._snap_on_segment(edge, lines[edge], ways, row))
+        bounds: list[int] = which[ways.which].searchsorted(np.arange(len(places) + 1)).tolist()
+        chosen = [(number, way) for number, some in enumerate(itertools.pairwise(bounds)) for way in nearest_ways(ways, *some, count, reach)]
+        numbers = edges[ways.which[[way for _, way in chosen]]].tolist() if chosen else []
+        lines, found = self.find_edges(numbers), dict[int, list[SnappedPoint]]()
+        for (number, way), edge in zip(chosen, numbers):
+            found.setdefault(number, []).append(self._snap_on_segment(edge, lines[edge], ways, way))
         return found
 
     @functools.cached_property
@@ -356,11 +348,17 @@ class RoadIndex:
         return clip(edge, begin, end) if arc.is_along else clip(edge, 1.0 - end, 1.0 - begin)[::-1]
 
 
-def rows_of(groups: Ints, begins: Column) -> tuple[list[slice], Ints]:
-    """The rows of some groups, of which group k has begins[k]:begins[k + 1]: where those of each are among all of them, and these."""
-    first = begins[groups]
-    counts = begins[groups + 1] - first
-    return [slice(*pair) for pair in itertools.pairwise(offsets(counts).tolist())], concat_ranges(first, counts)[1]
+def nearest_ways(ways: SegmentProjections, low: int, high: int, count: int, reach: float) -> list[int]:
+    """Of the segments low:high, whose edges and rows rise, the nearest one of each of the `count` nearest edges up to `reach` metres."""
+    metres = ways.metres[low:high]
+    if low == high:
+        return []
+    found = dict[int, int]()
+    for way in [int(metres.argmin())] if count == 1 else np.argsort(metres, kind="stable").tolist():
+        if metres[way] > reach or len(found) == count:
+            break
+        found.setdefault(int(ways.which[low + way]), low + way)
+    return [*found.values()]
 
 
 def split_by_points(edges: Ints, begins: Column) -> Iterator[Ints]:
