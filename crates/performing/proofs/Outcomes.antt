@@ -119,21 +119,21 @@ of_two graph queries o first second left old new is apart t = absurd (cc)
 
 -- Which statuses a job may end with, and that nothing was written where the workers don't agree.
 
-abbrev pub Ending : (ℕ → Type 0) → Option (List ℕ) → Option (List ℕ) → Ending → Type 0
-Ending Is old new outcome = Is (status_after outcome) × (status_after outcome ≡ 8 → Keeps old new)
+abbrev pub EndsBy : (ℕ → Type 0) → Option (List ℕ) → Option (List ℕ) → Ending → Type 0
+EndsBy Is old new outcome = Is (status_after outcome) × (status_after outcome ≡ 8 → Keeps old new)
 
 -- what ends so with status 0, and so for each cause of its refusals
-module _ {IsDone : Type 0} {Refuses : Cause → Type 0} (Is : ℕ → Type 0) (old new : Option (List ℕ)) (done : Is 0) (refused : (cause : Cause) → Refuses cause → Ending Is old new (Refused cause)) where
-  ending : (outcome : Ending) → Ends outcome IsDone Refuses → Ending Is old new outcome
+module _ {IsDone : Type 0} {Refuses : Cause → Type 0} (Is : ℕ → Type 0) (old new : Option (List ℕ)) (done : Is 0) (refused : (cause : Cause) → Refuses cause → EndsBy Is old new (Refused cause)) where
+  ending : (outcome : Ending) → Ends outcome IsDone Refuses → EndsBy Is old new outcome
   ending Done t = (done, λ is. absurd (cc))
   ending Wrong t = absurd (t.no_verdict.0 refl)
   ending NotShown t = absurd (t.no_verdict.1 refl)
   ending (Refused cause) t = refused cause (t.refused cause refl)
 
 -- where pairs are answered over a graph
-pub answering_end : (outcome : Ending) (graph pairs old new : Option (List ℕ)) → TellsAnswers outcome graph pairs old new → Ending IsAnsweringStatus old new outcome
+pub answering_end : (outcome : Ending) (graph pairs old new : Option (List ℕ)) → TellsAnswers outcome graph pairs old new → EndsBy IsAnsweringStatus old new outcome
 answering_end outcome graph pairs old new = ending IsAnsweringStatus old new (inl refl) by_cause outcome where
-  by_cause : (cause : Cause) → RefusesAnswers graph pairs old new cause → Ending IsAnsweringStatus old new (Refused cause)
+  by_cause : (cause : Cause) → RefusesAnswers graph pairs old new cause → EndsBy IsAnsweringStatus old new (Refused cause)
   by_cause (causes.Graph fault) r = (inr (inl refl), λ is. absurd (cc))
   by_cause (causes.Queries fault) r = (inr (inr (inl refl)), λ is. absurd (cc))
   by_cause causes.Memory r = (inr (inr (inr (inl refl))), λ is. absurd (cc))
@@ -143,9 +143,9 @@ answering_end outcome graph pairs old new = ending IsAnsweringStatus old new (in
   by_cause cause r = absurd r
 
 -- where a hierarchy is prepared
-pub preparing_end : (outcome : Ending) (graph old new : Option (List ℕ)) → TellsPrepared outcome graph old new → Ending IsPreparingStatus old new outcome
+pub preparing_end : (outcome : Ending) (graph old new : Option (List ℕ)) → TellsPrepared outcome graph old new → EndsBy IsPreparingStatus old new outcome
 preparing_end outcome graph old new = ending IsPreparingStatus old new (inl refl) by_cause outcome where
-  by_cause : (cause : Cause) → RefusesPreparing graph old new cause → Ending IsPreparingStatus old new (Refused cause)
+  by_cause : (cause : Cause) → RefusesPreparing graph old new cause → EndsBy IsPreparingStatus old new (Refused cause)
   by_cause (causes.Graph fault) r = (inr (inl refl), λ is. absurd (cc))
   by_cause causes.Memory r = (inr (inr (inl refl)), λ is. absurd (cc))
   by_cause (causes.Read input) r = (inr (inr (inr (inl refl))), λ is. absurd (cc))
@@ -154,9 +154,9 @@ preparing_end outcome graph old new = ending IsPreparingStatus old new (inl refl
   by_cause cause r = absurd r
 
 -- where pairs are answered by one
-pub routing_end : (outcome : Ending) (file pairs old new : Option (List ℕ)) → TellsRouted outcome file pairs old new → Ending IsRoutingStatus old new outcome
+pub routing_end : (outcome : Ending) (file pairs old new : Option (List ℕ)) → TellsRouted outcome file pairs old new → EndsBy IsRoutingStatus old new outcome
 routing_end outcome file pairs old new = ending IsRoutingStatus old new (inl refl) by_cause outcome where
-  by_cause : (cause : Cause) → RefusesRoutes file pairs old new cause → Ending IsRoutingStatus old new (Refused cause)
+  by_cause : (cause : Cause) → RefusesRoutes file pairs old new cause → EndsBy IsRoutingStatus old new (Refused cause)
   by_cause (causes.Queries fault) r = (inr (inr (inl refl)), λ is. absurd (cc))
   by_cause (causes.Hierarchy fault) r = (inr (inl refl), λ is. absurd (cc))
   by_cause causes.TooLong r = (inr (inl refl), λ is. absurd (cc))
@@ -166,9 +166,9 @@ routing_end outcome file pairs old new = ending IsRoutingStatus old new (inl ref
   by_cause cause r = absurd r
 
 -- where what one has is printed
-pub informing_end : (outcome : Ending) (file old new : Option (List ℕ)) → TellsInfo outcome file old new → Ending IsServingStatus old new outcome
+pub informing_end : (outcome : Ending) (file old new : Option (List ℕ)) → TellsInfo outcome file old new → EndsBy IsServingStatus old new outcome
 informing_end outcome file old new = ending IsServingStatus old new (inl refl) by_cause outcome where
-  by_cause : (cause : Cause) → RefusesInfo file old new cause → Ending IsServingStatus old new (Refused cause)
+  by_cause : (cause : Cause) → RefusesInfo file old new cause → EndsBy IsServingStatus old new (Refused cause)
   by_cause (causes.Hierarchy fault) r = (inr (inl refl), λ is. absurd (cc))
   by_cause causes.Memory r = (inr (inr (inl refl)), λ is. absurd (cc))
   by_cause (causes.Read input) r = (inr (inr (inr refl)), λ is. absurd (cc))
@@ -176,7 +176,7 @@ informing_end outcome file old new = ending IsServingStatus old new (inl refl) b
   by_cause cause r = absurd r
 
 -- where one is checked
-pub checking_end : {outcome : Ending} {graph file old new : Option (List ℕ)} → TellsChecked outcome graph file old new → Ending IsCheckingStatus old new outcome
+pub checking_end : {outcome : Ending} {graph file old new : Option (List ℕ)} → TellsChecked outcome graph file old new → EndsBy IsCheckingStatus old new outcome
 checking_end {outcome = Done} t = (inl refl, λ is. absurd (cc))
 checking_end {outcome = Wrong} t = (inr (inr (inr (inr (inr (inl refl))))), λ is. absurd (cc))
 checking_end {outcome = NotShown} t = (inr (inr (inr (inr (inr (inr refl))))), λ is. absurd (cc))
@@ -189,7 +189,7 @@ checking_end {outcome = Refused (causes.Write fault)} t = (inr (inr (inr (inr (i
 checking_end {outcome = Refused cause} t = absurd (t.refused cause refl)
 
 -- where one is made by the ranks of another one
-pub renewing_end : {outcome : Ending} {graph file old new : Option (List ℕ)} → TellsRenewed outcome graph file old new → Ending IsRenewingStatus old new outcome
+pub renewing_end : {outcome : Ending} {graph file old new : Option (List ℕ)} → TellsRenewed outcome graph file old new → EndsBy IsRenewingStatus old new outcome
 renewing_end {outcome = Done} t = (inl refl, λ is. absurd (cc))
 renewing_end {outcome = Wrong} t = (inr (inr (inr (inr (inr refl)))), λ is. absurd (cc))
 renewing_end {outcome = NotShown} t = absurd (t.shown refl)
@@ -202,26 +202,26 @@ renewing_end {outcome = Refused cause} t = absurd (t.refused cause refl)
 
 -- where requests are replied to
 
-stop_end : (old new : Option (List ℕ)) (e : ServeError) → Ending IsServingStatus old new (Refused (stop_cause e))
+stop_end : (old new : Option (List ℕ)) (e : ServeError) → EndsBy IsServingStatus old new (Refused (stop_cause e))
 stop_end old new (stops.Hierarchy fault) =
-    file_case fault (λ (cause : Cause). Ending IsServingStatus old new (Refused cause)) (inr (inr (inl refl)), λ is. absurd (cc)) (inr (inr (inr refl)), λ is. absurd (cc)) (λ own. (inr (inl refl), λ is. absurd (cc)))
+    file_case fault (λ (cause : Cause). EndsBy IsServingStatus old new (Refused cause)) (inr (inr (inl refl)), λ is. absurd (cc)) (inr (inr (inr refl)), λ is. absurd (cc)) (λ own. (inr (inl refl), λ is. absurd (cc)))
 stop_end old new stops.OutOfMemory = (inr (inr (inl refl)), λ is. absurd (cc))
 stop_end old new e = (inr (inr (inr refl)), λ is. absurd (cc))
 
-pub serving_end : (outcome : Ending) (file had left old new : Option (List ℕ)) → TellsServed outcome file had left old new → Ending IsServingStatus old new outcome
+pub serving_end : (outcome : Ending) (file had left old new : Option (List ℕ)) → TellsServed outcome file had left old new → EndsBy IsServingStatus old new outcome
 serving_end outcome file had left old new =
     ending IsServingStatus old new (inl refl) by_cause outcome
   where
-    by_cause : (cause : Cause) → StopsBy file had left old new cause → Ending IsServingStatus old new (Refused cause)
-    by_cause cause why = subst (λ (c : Cause). Ending IsServingStatus old new (Refused c)) (sym why.1) (stop_end old new why.0)
+    by_cause : (cause : Cause) → StopsBy file had left old new cause → EndsBy IsServingStatus old new (Refused cause)
+    by_cause cause why = subst (λ (c : Cause). EndsBy IsServingStatus old new (Refused c)) (sym why.1) (stop_end old new why.0)
 
 -- where a job is any of these
 
-answer_end : (joined : Bool) (outcome : Ending) (graph pairs first second old new : Option (List ℕ)) → MatchBool joined (TellsAnswers outcome graph pairs old new) (TellsAnswers outcome first second old new) → Ending IsAnsweringStatus old new outcome
+answer_end : (joined : Bool) (outcome : Ending) (graph pairs first second old new : Option (List ℕ)) → MatchBool joined (TellsAnswers outcome graph pairs old new) (TellsAnswers outcome first second old new) → EndsBy IsAnsweringStatus old new outcome
 answer_end true outcome graph pairs first second old new t = answering_end outcome graph pairs old new t
 answer_end false outcome graph pairs first second old new t = answering_end outcome first second old new t
 
-pub job_end : (j : Job) (outcome : Ending) (first second left old new : Option (List ℕ)) → Tells j outcome first second left old new → Ending (IsStatusOf j) old new outcome
+pub job_end : (j : Job) (outcome : Ending) (first second left old new : Option (List ℕ)) → Tells j outcome first second left old new → EndsBy (IsStatusOf j) old new outcome
 job_end (Answer graph queries) outcome first second left old new t = answer_end (is_joined (Answer graph queries)) outcome _ _ _ _ old new t.of_job
 job_end (Prepare preparation) outcome first second left old new t = preparing_end outcome first old new t.of_job
 job_end (Route hierarchy queries) outcome first second left old new t = routing_end outcome first second old new t.of_job
