@@ -249,7 +249,7 @@ class SmallTests(BinaryCase):
         with open(self.path, "r+b") as file:
             file.seek(8)
             file.write(bytes([99]))
-        self.refused("has version 99 and not one from 2 to 5; convert the map again, or make it of its tables, as `to_network")
+        self.refused("has version 99 and not one from 2 to 6; convert the map again, or make it of its tables, as `to_network")
 
     def test_an_earlier_version(self):
         """A file of version 2, without checksums of tables, has what this one has."""

@@ -238,15 +238,18 @@ def read_places(
 class Runs(NamedTuple):
     """Runs of nodes of a road, from stop to stop, in order: their roads, the nodes at their ends, into how many parts they
     are cut, and the metres of a part. Points of the map and of cuts, in units of a degree; the parts of all runs are in
-    order the points from `begin` up to `end`, the last of one being the first of the next."""
+    order the points from `begin` up to `end`, the last of one being the first of the next. `nodes` has the nodes of the map before
+    and behind each point, of shape (points, 2): both are its own, unless a step is cut there. `osm` has the ids of these."""
 
     road: NDArray[np.uint32]
     ends: NDArray[np.uint32]
     parts: NDArray[np.uint32]
     metres: NDArray[np.float64]
     points: Int32s
+    nodes: NDArray[np.uint32]
     begin: NDArray[np.int64]
     end: NDArray[np.int64]
+    osm: NDArray[np.int64]
 
 
 def cut_runs(folder: Folder, counts: NDArray[np.uint32], places: NodeArrays, longest: float) -> Runs:
@@ -257,6 +260,6 @@ def cut_runs(folder: Folder, counts: NDArray[np.uint32], places: NodeArrays, lon
     folder.run("pieces", repr(float(longest)))
     return Runs(
         folder.array("run_road", "u4"), folder.array("run_ends", "u4", 2), folder.array("run_parts", "u4"),
-        folder.array("run_metres", "f8"), folder.array("points", "i4", 2), folder.array("piece_begin", "i8"),
-        folder.array("piece_end", "i8"),
+        folder.array("run_metres", "f8"), folder.array("points", "i4", 2), folder.array("point_nodes", "u4", 2),
+        folder.array("piece_begin", "i8"), folder.array("piece_end", "i8"), places.osm,
     )

@@ -234,7 +234,7 @@ def rounded_exactly(values: Floats, digits: int) -> Floats:
 
 def to_arrays(network: RoadNetwork, kind: str, rows_of: RowsOf, attribution: str, report: Report) -> net_file.Arrays:
     """The network in arrays; `rows_of` gives the texts of the rows that roads name."""
-    edge, along, edge_begin, points = edges_from_pieces(network)
+    edge, along, edge_metres, edge_begin, points, point_osm = edges_from_pieces(network)
     weight, seconds, metres, osm, row = arc_columns(network, kind, report)
     texts, row_texts, arc_row = texts_of(row, rows_of, attribution)
     del row
@@ -245,6 +245,7 @@ def to_arrays(network: RoadNetwork, kind: str, rows_of: RowsOf, attribution: str
         network.start + np.int32(1), network.end + np.int32(1), weight, seconds, metres, osm, arc_row,
         edge, along, row_texts, edge_begin, points,
         offsets(np.array([len(text) for text in encoded], np.int64)), np.frombuffer(b"".join(encoded), np.uint8),
+        point_osm=point_osm, edge_metres=edge_metres, arc_penalty=network.penalty,
     )
 
 
@@ -280,8 +281,8 @@ def texts_of(row_of_arc: NDArray[np.uint32], rows_of: RowsOf, attribution: str) 
     return [attribution, *number], *unique_text_rows(of_row, row_of_arc)
 
 
-def edges_from_pieces(network: RoadNetwork) -> tuple[Int32s, Bools, Ints, Int32s]:
-    """The edge of each arc and whether it leads along it, and the edges' points, as net_file.Arrays has them."""
+def edges_from_pieces(network: RoadNetwork) -> tuple[Int32s, Bools, Floats, Ints, Int32s, Ints]:
+    """The edge of each arc and whether it leads along it, and the edges' metres, points and ids, as net_file.Arrays has them."""
     runs, is_used = network.runs, mask(len(network.piece_run), network.piece)
     is_along, is_ring, keys = look_at_lines(network)
     is_same = np.zeros(len(keys), np.bool_)
@@ -302,7 +303,7 @@ def edges_from_pieces(network: RoadNetwork) -> tuple[Int32s, Bools, Ints, Int32s
     number = np.cumsum(is_edge, dtype=np.int32) - np.int32(1)
     number[list(first_of)] = number[list(first_of.values())]
     along = is_along[network.piece] ^ network.is_back | is_same[network.piece]
-    return number[network.piece], along, *chosen_lines(runs, is_edge, is_along)
+    return number[network.piece], along, runs.metres[network.piece_run[is_edge]], *chosen_lines(runs, is_edge, is_along)
 
 
 def look_at_lines(network: RoadNetwork) -> list[NDArray[Any]]:
@@ -323,19 +324,22 @@ def line_of(runs: Runs, piece: int) -> Int32s:
     return np.array(runs.points[runs.begin[piece] : runs.end[piece]])
 
 
-def chosen_lines(runs: Runs, chosen: Bools, is_along: Bools) -> tuple[Ints, Int32s]:
-    """The lines of chosen pieces one after the other, each along or against its points; and where they begin."""
+def chosen_lines(runs: Runs, chosen: Bools, is_along: Bools) -> tuple[Ints, Int32s, Ints]:
+    """The lines of chosen pieces one after the other, each along or against its points; where they begin; and the ids of the points,
+    as net_file.Arrays has them."""
     begin, end = runs.begin[chosen], runs.end[chosen]
     line_begin = offsets(end - begin)
-    found = np.empty((int(line_begin[-1]), 2), np.int32)
+    found, osm = np.empty((int(line_begin[-1]), 2), np.int32), np.empty(int(line_begin[-1]), np.int64)
     step = np.where(is_along[chosen], 1, -1).astype(np.int8)
     first = np.where(is_along[chosen], begin, end - 1)
-    del begin, end
+    del end
 
     def fill(part: slice) -> None:
         low, high = int(line_begin[part.start]), int(line_begin[part.stop])
         line = np.repeat(np.arange(part.start, part.stop), np.diff(line_begin[part.start : part.stop + 1]))
-        found[low:high] = runs.points[first[line] + step[line] * (np.arange(low, high) - line_begin[line])]
+        place = first[line] + step[line] * (np.arange(low, high) - line_begin[line])
+        found[low:high] = runs.points[place]
+        osm[low:high] = runs.osm[runs.nodes[place, (place > begin[line]).astype(np.int8)]]
 
     map_slices(fill, len(first))
-    return line_begin, found
+    return line_begin, found, osm

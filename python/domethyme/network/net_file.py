@@ -36,8 +36,8 @@ from .tables import (
 )
 from .zoom_levels import ROAD_CLASSES
 
-# Of the file, without and with the keys of nodes; and of files without checksums of tables.
-VERSION, WITH_KEYS = 4, 5
+# Of the file, without and with the keys of nodes, and with what `reweigh` needs of a map; and of files without checksums of tables.
+VERSION, WITH_KEYS, WITH_IDS = 4, 5, 6
 OLD_VERSION, OLD_WITH_KEYS = 2, 3
 UNITS = indexes.UNITS
 NO_OSM = -(1 << 63)
@@ -67,6 +67,10 @@ class Arrays(NamedTuple):
     text_begin, text_bytes   text t is text_bytes[text_begin[t]:text_begin[t + 1]] in UTF-8; the first is
                              the attribution, "" for none
     node_texts               the numbers of the texts by which a user knows the nodes, their keys; of shape (0,) where they have none
+    point_osm                the ids of OpenStreetMap of the points. An edge may begin or end between two points of the map: there it is
+                             the id of the one beyond its end. Of shape (0,), as the next two, where there is no map
+    edge_metres              the metres of an edge, which aren't rounded
+    arc_penalty              that of the turn that leads into an arc, in hundredths of a second
     """
 
     version: NDArray[np.int64]
@@ -90,6 +94,9 @@ class Arrays(NamedTuple):
     text_begin: NDArray[np.int64]
     text_bytes: NDArray[np.uint8]
     node_texts: NDArray[np.int32] = np.empty(0, np.int32)
+    point_osm: NDArray[np.int64] = np.empty(0, np.int64)
+    edge_metres: NDArray[np.float64] = np.empty(0)
+    arc_penalty: NDArray[np.int32] = np.empty(0, np.int32)
 
 
 @dataclasses.dataclass
@@ -218,7 +225,7 @@ def find_inconsistency(arrays: Arrays) -> str | None:
     fields = {"version": Field(I8, 1), "tables": Field(I8, 4), **fields_of(size)}
     for name, values in arrays._asdict().items():
         spec, rows, low, high, min_step = fields[name]
-        if name == "node_texts" and not len(values):
+        if name in Arrays._field_defaults and not len(values):
             continue
         if values.shape != (size[name] if rows is None else rows, *spec.row_shape):
             return f"{name} has another size"
@@ -282,14 +289,22 @@ def fields_of(size: "Counter[str]") -> dict[str, Field]:
         "step_begin": Field(I8, len(ROAD_CLASSES) + 1, 0, steps, 0), "step_codes": Field(ArraySpec("<u4")),
         "step_points": Field(I4, steps, 0, points - 2), "step_edges": Field(I4, steps, 0, edges - 1),
         "node_texts": Field(I4, nodes, 0, texts - 1), "key_nodes": Field(I4, nodes, 0, nodes - 1),
+        "point_osm": Field(I8, points), "edge_metres": Field(F8, edges, 0, 1e12), "arc_penalty": Field(I4, arcs, 0, MAX_WEIGHT),
     }
 
 
-SCHEMA_WITH_KEYS = {name: field.spec for name, field in fields_of(Counter()).items()}
-OLD_SCHEMA_WITH_KEYS = {name: spec for name, spec in SCHEMA_WITH_KEYS.items() if name != "key_nodes"}
-FILE_SCHEMA = {name: spec for name, spec in OLD_SCHEMA_WITH_KEYS.items() if name != "node_texts"}
+OF_KEYS, OF_MAP = ("node_texts", "key_nodes"), ("point_osm", "edge_metres", "arc_penalty")
+
+
+def schema_without(*left_out: str) -> column_file.Schema:
+    return {name: field.spec for name, field in fields_of(Counter()).items() if name not in left_out}
+
+
+FILE_SCHEMA, SCHEMA_WITH_KEYS = schema_without(*OF_KEYS, *OF_MAP), schema_without(*OF_MAP)
+OLD_SCHEMA_WITH_KEYS = schema_without("key_nodes", *OF_MAP)
 FORMS = {
-    OLD_VERSION: FILE_SCHEMA, OLD_WITH_KEYS: OLD_SCHEMA_WITH_KEYS, VERSION: FILE_SCHEMA, WITH_KEYS: SCHEMA_WITH_KEYS
+    OLD_VERSION: FILE_SCHEMA, OLD_WITH_KEYS: OLD_SCHEMA_WITH_KEYS, VERSION: FILE_SCHEMA, WITH_KEYS: SCHEMA_WITH_KEYS,
+    WITH_IDS: schema_without(*OF_KEYS),
 }
 
 
@@ -297,7 +312,7 @@ def write(file: IO[bytes], arrays: Arrays) -> None:
     """Writes a network's file to an empty file that can seek. Raises ValueError for arrays that don't fit together."""
     if problem := find_inconsistency(arrays):
         raise ValueError(problem)
-    version = WITH_KEYS if len(arrays.node_texts) else VERSION
+    version = WITH_KEYS if len(arrays.node_texts) else WITH_IDS if len(arrays.point_osm) else VERSION
     column_file.write(file, FORMS[version], version, iter_file_arrays(arrays))
 
 
@@ -314,7 +329,9 @@ def iter_file_arrays(arrays: Arrays) -> Iterator[tuple[str, NDArray[Any]]]:
         *shown_from, *arrays.tables[2:].tolist(),
     ]
     yield "about", np.array(numbers, dtype=np.int64)
-    yield from zip(Arrays._fields[2:-1], arrays[2:-1])  # (all but the version, the tables and node_texts)
+    for name in Arrays._fields[2:]:  # (all but the version, the tables, and what not each network has)
+        if name not in Arrays._field_defaults:
+            yield name, getattr(arrays, name)
     yield from zip(("out_begin", "out_arcs"), indexes.outgoing_arcs(arrays))
     yield "edge_first", offsets(np.bincount(arrays.arc_edge, minlength=len(arrays.edge_begin) - 1))
     yield "edge_arcs", np.argsort(arrays.arc_edge, kind="stable")
@@ -325,6 +342,8 @@ def iter_file_arrays(arrays: Arrays) -> Iterator[tuple[str, NDArray[Any]]]:
     if len(arrays.node_texts):
         yield "node_texts", arrays.node_texts
         yield "key_nodes", nodes_by_key(arrays)
+    elif len(arrays.point_osm):
+        yield from ((name, getattr(arrays, name)) for name in OF_MAP)
 
 
 def nodes_by_key(arrays: "Arrays | MappedNetwork") -> NDArray[np.int32]:
@@ -385,8 +404,7 @@ class MappedNetwork:
     def __init__(self, file: IO[bytes], path: str) -> None:
         self.path, self.file = path, MappedFile(file, path, FORMS, REMEDY)
         found = self.file.columns
-        vars(self).update(found)
-        self.node_texts: Any = found.get("node_texts", np.empty(0, np.int32))
+        vars(self).update({**Arrays._field_defaults, **found})
         self.has_keys = len(self.node_texts) > 0
         self.texts = Texts(self.text_begin, self.text_bytes)
         size = Counter({name: len(column) for name, column in found.items()})
