@@ -21,9 +21,10 @@ import numpy as np
 from numpy.typing import NDArray
 
 from ..errors import MapError
+from ..network.groups import mask
 from ..program import StrPath
 from ..progress import OnProgress, step
-from .turn_restrictions import Bools, Int32s, Member, mask
+from .turn_restrictions import Bools, Int32s, Member
 from .vehicle_profile import Tags
 
 SOURCE = pathlib.Path(__file__).resolve().parent / "converter" / "map_arrays.cpp"

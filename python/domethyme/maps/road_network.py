@@ -6,14 +6,15 @@ import numpy as np
 from numpy.typing import NDArray
 from ..network import net_file
 from ..network.components import in_largest
-from ..network.groups import Ints, first_of_equal, offsets
+from ..network.figures import PENALTY, rounded_exactly, seconds_of, whole_weights
+from ..network.groups import Ints, first_of_equal, mask, offsets
 from ..network.indexes import unique_text_rows
 from ..network.parallel import differs_from_previous as differs, map_slices
 from ..network.sphere import Floats
 
 from . import turn_restrictions
 from .map_arrays import NodeArrays, Runs
-from .turn_restrictions import Bools, Int32s, Report, Restriction, Turns, mask, splitmix64
+from .turn_restrictions import Bools, Int32s, Report, Restriction, Turns, splitmix64
 
 Rules = dict[int, list[Restriction]]
 # The texts of some rows, in the order of net_file.TEXTS.
@@ -21,7 +22,7 @@ RowsOf = Callable[[Ints], Iterable[tuple[str, ...]]]
 # Degrees by which a turn may be off the line of the road, and off the way back
 STRAIGHT, BACK = 45, 15
 # What a weight counts, and how much of it a hundredth of a second is, where turns have penalties.
-WEIGHTS = {"length": 0, "time": 10}
+WEIGHTS = {"length": 0, "time": PENALTY}
 # What the report says of nodes that are left out by keep_largest.
 OUTSIDE = "nodes outside the largest strongly connected component"
 
@@ -222,16 +223,6 @@ def metres_of_roads(network: RoadNetwork) -> float:
 # As it is written
 
 
-def rounded_exactly(values: Floats, digits: int) -> Floats:
-    """The values as Python's `round` rounds them: by their exact value, a tie to the even digit."""
-    scaled = values * 10.0**digits
-    found: Floats = np.rint(scaled)
-    near_ties = np.flatnonzero(np.abs(scaled - np.floor(scaled) - 0.5) < 1e-5)
-    found /= 10.0**digits
-    found[near_ties] = [round(value, digits) for value in values[near_ties].tolist()]
-    return found
-
-
 def to_arrays(network: RoadNetwork, kind: str, rows_of: RowsOf, attribution: str, report: Report) -> net_file.Arrays:
     """The network in arrays; `rows_of` gives the texts of the rows that roads name."""
     edge, along, edge_metres, edge_begin, points, point_osm = edges_from_pieces(network)
@@ -258,11 +249,10 @@ def arc_columns(network: RoadNetwork, kind: str, report: Report) -> list[NDArray
         run = network.piece_run[chunk.piece]
         road, metres = network.runs.road[run], network.runs.metres[run]
         milliseconds = metres * 3600 / np.where(chunk.is_back, network.roads.backward[road], network.roads.forward[road])
-        weights = np.rint(milliseconds if kind == "time" else metres * 100).astype(np.int64)
-        raised.append(int((weights == 0).sum()))
-        weights = np.maximum(weights, 1) + chunk.penalty * np.int64(WEIGHTS[kind])
-        seconds = rounded_exactly(milliseconds / 1000 + chunk.penalty / 100, 3)
-        return weights, seconds, rounded_exactly(metres, 2), network.roads.osm[road], network.roads.row[road]
+        amounts, penalty = milliseconds if kind == "time" else metres * 100, chunk.penalty.astype(np.int64)
+        raised.append(int((np.rint(amounts) == 0).sum()))
+        figures = whole_weights(amounts, penalty * WEIGHTS[kind]), seconds_of(milliseconds, penalty), rounded_exactly(metres, 2)
+        return *figures, network.roads.osm[road], network.roads.row[road]
 
     columns = by_slices(len(network.start), [np.int64, np.float64, np.float64, np.int64, np.uint32], fill)
     report["weights raised to 1"] = sum(raised)

@@ -19,7 +19,7 @@ from typing import Any, NamedTuple
 import numpy as np
 from numpy.typing import NDArray
 
-from ..network.groups import Ints, expand, first_of_equal, offsets
+from ..network.groups import Ints, expand, first_of_equal, mask, offsets
 from ..network.parallel import differs_from_previous as differs
 from ..network.tables import ENDS
 
@@ -31,14 +31,6 @@ NOT_LOOKED_AT = "turn restrictions not looked at: "
 START, PASSED, END = (ENDS.index(word) for word in ("from", "no", "to"))
 # The cost of a turn that may not be taken
 FORBIDDEN = -1
-
-
-def mask(count: int, *rows: Any) -> Bools:
-    """Which of so many rows are among these."""
-    found = np.zeros(count, np.bool_)
-    for some in rows:
-        found[some] = True
-    return found
 
 
 class Restriction(NamedTuple):

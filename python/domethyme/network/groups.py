@@ -18,6 +18,14 @@ def expand(counts: NDArray[Any]) -> tuple[Ints, Ints]:
     return group, np.arange(len(group)) - (counts.cumsum(dtype=np.int64) - counts).repeat(counts)
 
 
+def mask(count: int, *rows: Any) -> NDArray[np.bool_]:
+    """Which of so many rows are among these."""
+    found = np.zeros(count, np.bool_)
+    for some in rows:
+        found[some] = True
+    return found
+
+
 def first_of_equal(*columns: NDArray[Any]) -> Ints:
     """For each row of columns of one length the first row that has the same value in each."""
     order = np.lexsort(columns)  # (stable: equal rows stay in order)
