@@ -163,7 +163,8 @@ class Reach:
     @functools.cached_property
     def parts(self) -> tuple[Ints, Any]:
         """The part of each node, and the matrix of arcs between parts."""
-        starts, ends, size = self.network.arc_from[:], self.network.arc_to[:], len(self.network.node_osm) + 1
+        arcs, size = self.network.are_open(), len(self.network.node_osm) + 1
+        starts, ends = self.network.arc_from[arcs], self.network.arc_to[arcs]
         count, labels = connected_components(matrix_of(starts, ends, size), directed=True, connection="strong")
         return labels, matrix_of(labels[starts], labels[ends], count)
 

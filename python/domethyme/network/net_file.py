@@ -28,7 +28,7 @@ from . import column_file, indexes
 from .column_file import ArraySpec, Column, MappedFile
 from .geo import Point, parse_linestring
 from .grid import Grid, concat_ranges
-from .groups import Ints, expand, first_of_equal, offsets
+from .groups import Ints, expand, first_of_equal, mask, offsets
 from .parallel import map_slices
 from .tables import (
     ARC_COLUMNS, ENDS, NODE_COLUMNS, Arc, Files, Nodes, has_columns, iter_arc_rows, need_nodes, read_attribution,
@@ -279,8 +279,8 @@ def fields_of(size: "Counter[str]") -> dict[str, Field]:
         "edge_begin": Field(I8, None, 0, points, 2),
         "points": Field(ArraySpec("<i4", 2), None, -FAR_EAST, FAR_EAST),
         "text_begin": Field(I8, None, 0, size["text_bytes"], 0), "text_bytes": Field(U1),
-        "out_begin": Field(I8, nodes + 1, 0, arcs, 0), "out_arcs": Field(I4, arcs, 0, arcs - 1),
-        "edge_first": Field(I8, edges + 1, 0, arcs, 0), "edge_arcs": Field(I4, arcs, 0, arcs - 1),
+        "out_begin": Field(I8, nodes + 1, 0, size["out_arcs"], 0), "out_arcs": Field(I4, None, 0, arcs - 1),
+        "edge_first": Field(I8, edges + 1, 0, size["edge_arcs"], 0), "edge_arcs": Field(I4, size["out_arcs"], 0, arcs - 1),
         "degrees": Field(U1, nodes + 1),
         "node_keys": Field(I8), "node_cells": Field(I8, size["node_keys"] + 1, 0, nodes, 0),
         "node_things": Field(I4, nodes, 0, nodes - 1),
@@ -314,6 +314,14 @@ def write(file: IO[bytes], arrays: Arrays) -> None:
         raise ValueError(problem)
     version = WITH_KEYS if len(arrays.node_texts) else WITH_IDS if len(arrays.point_osm) else VERSION
     column_file.write(file, FORMS[version], version, iter_file_arrays(arrays))
+
+
+def write_view(file: IO[bytes], view: "MappedNetwork") -> None:
+    """Writes the file of a view of a network that is WITH_IDS, whose arrays are as long, but for arcs that are left out."""
+    def array_of(name: str) -> NDArray[Any]:
+        return np.array([*view.about.values()]) if name == "about" else np.asarray(getattr(view, name)[:])
+
+    column_file.write(file, FORMS[WITH_IDS], WITH_IDS, ((name, array_of(name)) for name in FORMS[WITH_IDS]))
 
 
 def iter_file_arrays(arrays: Arrays) -> Iterator[tuple[str, NDArray[Any]]]:
@@ -393,10 +401,10 @@ class MappedNetwork:
     out_begin, ..   as in index.py
     node_grid, edge_grid    nodes, counted from 0, and edges, by their places
     box             the bounding box in degrees: west, south, east, which may be beyond 180, and north
-    is_partial      whether arcs are left out, so an edge may have none (without)
+    is_partial      whether arcs are left out of out_arcs and edge_arcs, so an edge may have none (without, reweigh)
     """
 
-    is_partial = False
+    is_partial: bool
 
     if TYPE_CHECKING:
         def __getattr__(self, name: str) -> Column: ...
@@ -415,6 +423,9 @@ class MappedNetwork:
                 raise self.file.damaged_error(f"{name} has another size")
         if not size["text_begin"] > 1 or not size["edge_begin"]:
             raise self.file.damaged_error("it has no texts or edges")
+        if size["out_arcs"] > size["arc_from"]:
+            raise self.file.damaged_error("out_arcs has another size")
+        self.is_partial = size["out_arcs"] < size["arc_from"]
         about = found["about"][:].tolist()
         if len(about) not in (len(ABOUT), len(ABOUT) - 2):
             raise self.file.damaged_error("about has another size")
@@ -444,10 +455,16 @@ class MappedNetwork:
         parts = range(0, len(self.arc_seconds), SECONDS_AT_A_TIME)
         return any(bool(self.arc_seconds[begin : begin + SECONDS_AT_A_TIME].any()) for begin in parts)
 
+    def are_open(self) -> NDArray[np.bool_]:
+        """Whether each arc is one of those that aren't left out."""
+        return mask(len(self.arc_from), self.out_arcs[:])
+
     @property
     def checksum(self) -> str:
         """Eight digits that change with the ends and the weights of arcs."""
-        sums = [column.checksum for column in (self.arc_from, self.arc_to, self.arc_weight)]
+        columns = self.file.columns
+        closed = ["out_arcs"] * (len(columns["out_arcs"]) < len(columns["arc_from"]))
+        sums = [columns[name].checksum for name in ("arc_from", "arc_to", "arc_weight", *closed)]
         return f"{zlib.crc32(np.array(sums, '<u4').tobytes()):08x}"
 
     def key(self, node: int) -> str | None:

@@ -26,7 +26,7 @@ class NodeIndex:
         """What pairs of these nodes say of their network, whose name is given."""
         if not self._has_arcs:
             return belonging.Origin(name, len(self.lon))
-        return belonging.Origin(name, len(self.lon), len(self._arrays.arc_from), self._arrays.checksum)
+        return belonging.Origin(name, len(self.lon), len(self._arrays.out_arcs), self._arrays.checksum)
 
     def keys(self) -> Sequence[str]:
         return self._arrays.keys()

@@ -50,8 +50,9 @@ def arcs_from_net(arrays: "net_file.MappedNetwork") -> Iterator[Arc]:
 
     from .net_file import UNITS
 
-    for begin in range(0, len(arrays.arc_from), CHUNK):
-        part = np.arange(begin, min(begin + CHUNK, len(arrays.arc_from)))
+    arcs = np.flatnonzero(arrays.are_open())
+    for begin in range(0, len(arcs), CHUNK):
+        part = arcs[begin : begin + CHUNK]
         columns = (getattr(arrays, f"arc_{name}") for name in ("from", "to", "weight", "seconds", "metres", "osm"))
         figures = zip(*(column[part].tolist() for column in columns))
         begins, points = arrays.arc_lines(part)

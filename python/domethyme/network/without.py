@@ -46,12 +46,16 @@ def arcs_of(network: MappedNetwork, classes: Iterable[str]) -> NDArray[np.bool_]
 
 def without(network: MappedNetwork, classes: Iterable[str]) -> MappedNetwork:
     """The network without the roads of the classes, and without what they cut off. It takes some 15 bytes an arc."""
+    return with_arcs(network, network.are_open() & ~arcs_of(network, classes))
+
+
+def with_arcs(network: MappedNetwork, is_kept: NDArray[np.bool_]) -> MappedNetwork:
+    """The network with some of its arcs, and without what the others cut off."""
     from .components import in_largest  # (which needs scipy)
 
     starts, ends = network.arc_from[:] - 1, network.arc_to[:] - 1
-    is_kept = ~arcs_of(network, classes)
     is_in = in_largest(network.node_ends[:], starts[is_kept], ends[is_kept])
-    is_kept &= is_in[starts] & is_in[ends]
+    is_kept = is_kept & is_in[starts] & is_in[ends]
     view = copy.copy(network)
     for begins, arcs in (("out_begin", "out_arcs"), ("edge_first", "edge_arcs")):
         numbers = getattr(network, arcs)[:]
@@ -63,7 +67,7 @@ def without(network: MappedNetwork, classes: Iterable[str]) -> MappedNetwork:
 
 def write_graph_of_view(file: IO[bytes], view: MappedNetwork) -> Ints:
     """Writes the graph of a view; returns its arcs by number."""
-    arcs: Ints = np.sort(view.out_arcs)
+    arcs: Ints = np.flatnonzero(view.are_open())
     attribution = view.texts[0]
     comments = [f"{ATTRIBUTION_COMMENT}{attribution}"] if attribution else []
     write_graph(file, len(view.node_osm), [column[arcs] for column in (view.arc_from, view.arc_to, view.arc_weight)], comments)
