@@ -3,5 +3,5 @@
 The modules geo, tables and reading need nothing but Python's own library; contours, contour_shapes and isochrones need
 numpy, scipy, contourpy and shapely; the others numpy. `network` has domethyme.Network. net_file is a network in arrays, and
 its file: column_file is its form, indexes, grid and zoom_levels what is derived, and from_tables makes one of tables.
-snapping has the roads, and legs the least way between two places on them.
+snapping has the roads, and legs the least way between two places on them. without and reweigh make views of a network.
 """

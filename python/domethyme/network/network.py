@@ -27,6 +27,7 @@ from .matching import Trace
 from .net_file import NO_OSM, UNITS
 from .node_index import NodeIndex, load_node_index
 from .reading import arcs_from_net
+from .reweigh import Reweighed, read_speeds, speeds_of, write_reweighed
 from .snapping import RoadIndex, SnappedPoint
 from .sphere import Floats as Floats
 from .tables import ALL_ARC_COLUMNS, ENDS, KEY, Files, Side, arcs_file, need_nodes
@@ -234,6 +235,20 @@ class Network:
     def roads(self) -> RoadIndex:
         """Its roads, for points on them. Raises NetworkError where there are no arcs."""
         return RoadIndex(self._arrays)
+
+    def reweigh(self, speeds: Any, out: StrPath) -> Reweighed:
+        """Writes the files of the network with new speeds, OUT.gr and OUT.net, as the tool `reweigh` does; this one isn't changed. `renew`
+        makes their hierarchy by that of this network.
+
+        speeds   rows (from, to, kmh) with the ids of neighbouring points of the map, or rows (way, kmh), or a frame with these columns;
+                 or the path of a table of both. 0 closes a road
+
+        Returns how many arcs have changed, are closed, and are cut off by these, and the rows that match nothing: of a table their
+        numbers from 1, else their places from 0. Raises NetworkError for a network that isn't of a map, for a table, and where
+        no arc would be left, ValueError, and OSError. If roads are closed it needs scipy.
+        """
+        rows = read_speeds(speeds) if isinstance(speeds, (str, os.PathLike)) else speeds_of(speeds)
+        return write_reweighed(self._arrays, rows, out)
 
     def points_on_roads(
         self, places: Rows, radius: float = DEFAULT_RADIUS, *, bearings: Bearings = None, radiuses: Sequence[float | None] | None = None,

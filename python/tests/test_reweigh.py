@@ -1,0 +1,272 @@
+"""New speeds: a network with them has the bytes of one that is made of a map whose maxspeed says the same; what is closed; and what is
+refused. A thousandth of a degree is 111.195 m along the equator."""
+import csv
+import pathlib
+import tempfile
+from typing import Any, NamedTuple
+
+import numpy as np
+import pandas
+import pytest
+from draws import drawn, run_tool
+from hypothesis import given
+from hypothesis import strategies as st
+from model.sphere import Point, metres_between
+from tool_case import PYTHON, ToolCase
+
+import domethyme
+from domethyme.dimacs import read_graph
+from domethyme.network import column_file, net_file
+from domethyme.network.reweigh import read_speeds
+
+CAR = (PYTHON / "domethyme/maps/profiles/car.json").read_text(encoding="utf-8")
+TURNS = CAR.replace('{\n  "about"', '{\n  "turns": {"left": 700, "right": 250, "back": 2000},\n  "about"', 1)
+# A square, 1 2 5 4, with a bar in its middle, a road to 6 that nothing else leads to, and one that a car may not take.
+#
+#     4 -- 5 -- 6
+#     |    |
+#     1 -- 2 -- 3
+SQUARE = """<osm version='0.6'>
+<node id='1' lon='0' lat='0'/><node id='2' lon='0.001' lat='0'/><node id='3' lon='0.002' lat='0'/>
+<node id='4' lon='0' lat='0.001'/><node id='5' lon='0.001' lat='0.001'/><node id='6' lon='0.002' lat='0.001'/>
+<way id='11'><nd ref='1'/><nd ref='2'/><nd ref='3'/><tag k='highway' v='primary'/></way>
+<way id='12'><nd ref='1'/><nd ref='4'/><nd ref='5'/><tag k='highway' v='residential'/></way>
+<way id='13'><nd ref='2'/><nd ref='5'/><tag k='highway' v='residential'/></way>
+<way id='14'><nd ref='5'/><nd ref='6'/><tag k='highway' v='residential'/></way>
+<way id='15'><nd ref='3'/><nd ref='6'/><tag k='highway' v='footway'/></way></osm>"""
+
+
+class Way(NamedTuple):
+    """A way of a drawn map: the numbers of its points, its class, whether it is one-way, and its maxspeed along it and against it."""
+
+    points: tuple[int, ...]
+    highway: str
+    is_oneway: bool
+    speeds: tuple[float, float]
+
+
+class Map(NamedTuple):
+    points: list[Point]
+    ways: list[Way]
+
+    def text(self) -> str:
+        nodes = "".join(f"<node id='{100 + number}' lon='{lon}' lat='{lat}'/>" for number, (lon, lat) in enumerate(self.points))
+        ways = []
+        for number, way in enumerate(self.ways):
+            tags = {"highway": way.highway, "maxspeed:forward": f"{way.speeds[0]}", "maxspeed:backward": f"{way.speeds[1]}"}
+            tags |= {"oneway": "yes"} if way.is_oneway else {}
+            refs = "".join(f"<nd ref='{100 + point}'/>" for point in way.points)
+            ways.append(f"<way id='{number + 1}'>{refs}{''.join(f'<tag k={k!r} v={v!r}/>' for k, v in tags.items())}</way>")
+        return f"<osm version='0.6'>{nodes}{''.join(ways)}</osm>"
+
+
+SPEEDS = st.one_of(st.integers(1, 130), st.floats(1, 200).map(lambda value: round(value, 2)))
+
+
+@st.composite
+def maps(draw: Any) -> Map:
+    steps = st.tuples(st.integers(-40, 40), st.integers(-40, 40))
+    points = [(9.5 + east * 1e-4, 47.1 + north * 1e-4) for east, north in draw(st.lists(steps, min_size=3, max_size=12, unique=True))]
+    ways, end = [], 0
+    for _ in range(draw(st.integers(1, 6))):
+        line = [end]
+        for _ in range(draw(st.integers(1, 4))):
+            line.append(draw(st.integers(0, len(points) - 1).filter(lambda point: point != line[-1])))
+        end = draw(st.sampled_from(line))
+        ways.append(Way(tuple(line), draw(st.sampled_from(["primary", "residential"])), draw(st.integers(0, 4)) == 0, (draw(SPEEDS), draw(SPEEDS))))
+    return Map(points, ways)
+
+
+def convert(text: str, folder: pathlib.Path, name: str, *words: object) -> None:
+    (folder / f"{name}.osm").write_text(text)
+    run_tool("osm_to_gr", folder / f"{name}.osm", folder / name, "--keep-islands", *words)
+
+
+@drawn(40)
+@given(st.data())
+def test_as_the_map_says(data: Any) -> None:
+    """Byte for byte, graph and network: by rows of ways, or of all their steps, with penalties of turns or without, and cut or whole."""
+    before = data.draw(maps())
+    after = before._replace(ways=[way._replace(speeds=(data.draw(SPEEDS), data.draw(SPEEDS))) for way in before.ways])
+    profile, longest = data.draw(st.sampled_from([CAR, TURNS])), data.draw(st.sampled_from([70, 250, 100_000]))
+    rows = []
+    shared: dict[tuple[int, int], set[float]] = {}
+    for way in after.ways:
+        for here, there in zip(way.points, way.points[1:]):
+            for step, speed in (((here, there), way.speeds[0]), ((there, here), way.speeds[1])):
+                rows.append((*(100 + point for point in step), speed))
+                shared.setdefault(step, set()).add(speed)
+    is_by_way = any(len(speeds) > 1 for speeds in shared.values()) or data.draw(st.booleans())
+    if is_by_way:
+        after = after._replace(ways=[way._replace(speeds=way.speeds[:1] * 2) for way in after.ways])
+        rows = [(number + 1, way.speeds[0]) for number, way in enumerate(after.ways)]
+    with tempfile.TemporaryDirectory() as name:
+        folder = pathlib.Path(name)
+        (folder / "own.json").write_text(profile)
+        for each, text in (("before", before.text()), ("wanted", after.text())):
+            convert(text, folder, each, "--profile", folder / "own.json", "--longest-arc", longest)
+        with open(folder / "speeds.csv", "w", newline="") as file:
+            csv.writer(file).writerows(data.draw(st.permutations(rows)))
+        run_tool("reweigh", folder / "before", folder / "speeds.csv", folder / "found")
+        for ending in ("gr", "net"):
+            assert (folder / f"found.{ending}").read_bytes() == (folder / f"wanted.{ending}").read_bytes()
+
+
+@drawn(40)
+@given(st.data())
+def test_a_part_of_a_road(data: Any) -> None:
+    """A road whose steps have different new speeds, or none, takes as long as its steps do one after the other, to a rounding."""
+    steps = [(9.5 + 1e-4 * place, 47.1 + 1e-4 * data.draw(st.integers(0, 30))) for place in range(0, 8 * data.draw(st.integers(2, 6)), 8)]
+    old, longest = data.draw(SPEEDS), data.draw(st.sampled_from([40, 100_000]))
+    new = [data.draw(st.one_of(st.none(), SPEEDS)) for _ in steps[1:]]
+    of_way = data.draw(st.one_of(st.none(), SPEEDS))
+    with tempfile.TemporaryDirectory() as name:
+        folder = pathlib.Path(name)
+        convert(Map(steps, [Way(tuple(range(len(steps))), "primary", False, (old, old))]).text(), folder, "map", "--longest-arc", longest)
+        rows: list[tuple[float, ...]] = [] if of_way is None else [(1, of_way)]
+        rows += [(100 + place, 101 + place, speed) for place, speed in enumerate(new) if speed is not None]
+        (folder / "speeds.csv").write_text("".join(f"{','.join(map(str, row))}\n" for row in rows) or "way,kmh\n")
+        run_tool("reweigh", folder / "map", folder / "speeds.csv", folder / "new")
+        arcs = [domethyme.Network(folder / each).arcs_frame() for each in ("map", "new")]
+        first, last = steps[0], steps[-1]
+        metres = [metres_between(*step) for step in zip(steps, steps[1:])]
+        wanted = sum(3600 * step / (speed or of_way or old) for step, speed in zip(metres, new))
+        back = sum(3600 * step / (of_way or old) for step in metres)
+        frame = arcs[1].assign(is_along=[is_along(line, first, last) for line in arcs[1]["WKT"]])
+        sums = frame.groupby("is_along")["weight"].sum()
+        # (a weight is rounded to a millisecond, and the place of a cut to some centimetres of the road)
+        most = len(frame) * (1 + 0.02 * 3600 / min(filter(None, [old, of_way, *new])))
+        assert abs(sums[True] - wanted) <= most and abs(sums[False] - back) <= most
+        assert (frame["seconds"] - frame["weight"] / 1000).abs().max() <= 0.00051 and (arcs[0]["metres"] == arcs[1]["metres"]).all()
+
+
+def is_along(wkt: str, first: Point, last: Point) -> bool:
+    """Whether a line leads from the west to the east, as the road does."""
+    lons = [float(place.split()[0]) for place in wkt[12:-1].split(", ")]
+    return (lons[-1] - lons[0]) * (last[0] - first[0]) > 0
+
+
+class ToolTests(ToolCase):
+    def setUp(self):
+        super().setUp()
+        self.write("map.osm", SQUARE)
+        self.run_tool("osm_to_gr", "map.osm", "map", "--longest-arc", "100000")
+
+    def reweighed(self, speeds, *words):
+        """What the tool says, and the arcs of the graph by the ids of their nodes."""
+        self.write("speeds.csv", speeds)
+        said = self.run_tool("reweigh", "map", "speeds.csv", "new", *words).stderr.splitlines()
+        return said, self.arcs("new")
+
+    def arcs(self, name):
+        graph, osm = read_graph(self.folder / f"{name}.gr"), domethyme.Network(self.folder / name).keys()
+        return {(osm.key(start - 1), osm.key(end - 1)): weight for start, end, weight in zip(*graph[1:])}
+
+    def test_rows(self):
+        """By hand: 111.195 m are 13,343.4 ms at 30 km/h, 5,718.6 at 70 and 40,030.2 at 10; the last row counts."""
+        before = self.arcs("map")
+        self.assertEqual((before[1, 2], before[1, 5], before[2, 5]), (5719, 26687, 13343))
+        said, arcs = self.reweighed("FROM,TO,KMH\n1,2,30\n2,1,70\n13,20\n13,10\n1,4,10\n7,8,50\n3,6,50\n99,5\n1,5,50\n")
+        wanted = {**before, (1, 2): 13343, (2, 5): 40030, (5, 2): 40030, (1, 5): 53374}
+        self.assertEqual(arcs, wanted)
+        self.assertEqual(said, ["reweigh: speeds.csv: 4 of 9 rows match nothing: 7, 8, 9, 10", "reweigh: new: 4 arcs changed, 0 closed, and 0 cut off by these"])
+        self.assertEqual(self.arcs("map"), before)
+        said = self.reweighed("".join(f"{way},50\n" for way in range(100, 112)), "--unmatched", "rows")[0]
+        self.assertEqual(said[0], "reweigh: speeds.csv: 12 of 12 rows match nothing: 1, 2, 3, 4, 5, 6, 7, 8, 9, 10, ..")
+        self.assertEqual((self.folder / "rows").read_text(), "".join(f"{row}\n" for row in range(1, 13)))
+        for ending in ("gr", "net"):
+            self.assertEqual((self.folder / f"new.{ending}").read_bytes(), (self.folder / f"map.{ending}").read_bytes())
+
+    def test_closed(self):
+        """A direction, a road, and what it cuts off; in the graph, the network, and in another network that is made of that."""
+        before = self.arcs("map")
+        said, arcs = self.reweighed("2,1,0\n14,0\n1,2,35\n")
+        self.assertEqual(said, ["reweigh: new: 1 arcs changed, 3 closed, and 0 cut off by these"])
+        self.assertEqual(arcs, {**{ends: weight for ends, weight in before.items() if ends not in ((2, 1), (5, 6), (6, 5))}, (1, 2): 11437})
+        network = domethyme.Network(self.folder / "new")
+        frame = network.arcs_frame()
+        self.assertEqual((len(frame), frame["weight"].tolist()), (len(arcs), read_graph(self.folder / "new.gr").weights))
+        keys = network.keys()
+        self.assertEqual(keys.key(network.nearest(0.0019, 0.001)[0]), 5)
+        (point,) = network.points_on_roads((0.0018, 0.001))
+        self.assertEqual([round(each, 7) for each in (point.lon, point.lat)], [0.001, 0.001])
+        self.assertEqual(len(network.nodes_frame()), 5)
+        self.write("trips.csv", "from_lon,from_lat,to_lon,to_lat\n0.001,0,0,0\n")
+        line = self.run_tool("nearest", "new", "trips.csv").stdout.splitlines()[0]
+        self.assertIn(f" {len(arcs)} arcs, checksum ", line)
+        self.assertNotIn(line[-8:], self.run_tool("nearest", "map", "trips.csv").stdout)
+        self.run_tool("reweigh", "new", "speeds.csv", "again")
+        self.assertEqual(self.arcs("again"), arcs)
+        said, arcs = self.reweighed("13,0\n1,2,0\n2,1,0\n")
+        self.assertEqual((said[-1], sorted(arcs)), ("reweigh: new: 0 arcs changed, 4 closed, and 2 cut off by these", [(1, 5), (5, 1), (5, 6), (6, 5)]))
+        for kmh, says in ((0, "would have no arc that is open"), (0.00001, "would have an arc that weighs more than 4294967295")):
+            with self.assertRaisesRegex(domethyme.NetworkError, f"map.net: {says}"):
+                domethyme.Network(self.folder / "map").reweigh([(way, kmh) for way in range(11, 15)], self.folder / "other")
+
+    def test_refused(self):
+        self.write("speeds.csv", "11,50\n")
+        self.write("nodes.csv", "lon,lat\n0,0\n0.001,0\n")
+        self.write("arcs.csv", "from,to,kmh\n1,2,50\n2,1,50\n")
+        self.run_tool("to_network", "nodes.csv", "arcs.csv", "own")
+        self.run_tool("osm_to_gr", "map.osm", "length", "--weight", "length")
+        whole = net_file.read(self.folder / "map.net").file.columns
+        with open(self.folder / "old.net", "wb") as file:
+            column_file.write(file, net_file.FILE_SCHEMA, 4, ((name, whole[name][:]) for name in net_file.FILE_SCHEMA))
+        self.assertEqual(len(domethyme.Network(self.folder / "old").arcs_frame()), len(self.arcs("map")))
+        for network, says in (("own", "has no ids of the points"), ("old", "has no ids of the points"), ("length", "has weights that are no milliseconds")):
+            self.assert_refused("reweigh", network, "speeds.csv", "new", says=f"{network}.net: {says}")
+        self.run_tool("osm_to_gr", "map.osm", "tables", "--tables")
+        self.assert_refused("reweigh", "map", "speeds.csv", "tables", says="tables.nodes.csv: is there, and would be read in place of tables.net")
+        for out in ("map", ".", ""):
+            self.run_tool("reweigh", "map", "speeds.csv", out, status=2)
+        self.write("tables.nodes.csv", (self.folder / "tables.nodes.csv").read_text().replace("0.0010000", "0.0010001"))
+        self.assert_refused("reweigh", "tables", "speeds.csv", "new", says="tables: has no ids of the points")
+
+    def test_package(self):
+        """Rows, frames and files make the same network."""
+        network = domethyme.Network(self.folder / "map")
+        rows = [(1, 2, 30), (5, 4, 7.5), (8, 9, 10)]
+        self.reweighed("".join(f"{','.join(map(str, row))}\n" for row in rows))
+        frame = pandas.DataFrame(rows, columns=["from", "to", "kmh"])
+        for speeds, unmatched in ((rows, [2]), (np.array(rows), None), (frame, [2]), (self.folder / "speeds.csv", [3])):
+            if unmatched is None:
+                with self.assertRaisesRegex(ValueError, "ids have to be whole numbers"):
+                    network.reweigh(speeds, self.folder / "own")
+                continue
+            self.assertEqual(tuple(network.reweigh(speeds, self.folder / "own")), (2, 0, 0, unmatched))
+            for ending in ("gr", "net"):
+                self.assertEqual((self.folder / f"own.{ending}").read_bytes(), (self.folder / f"new.{ending}").read_bytes())
+        self.assertEqual(network.reweigh([(11, 35)], self.folder / "own").changed, 4)
+        self.assertEqual(network.reweigh(pandas.DataFrame({"kmh": [35.0], "way": [11]}), self.folder / "own").changed, 4)
+        self.assertEqual(network.reweigh([], self.folder / "own").changed, 0)
+        for speeds, says in (([(1, 2, 3, 4)], "speeds have to be rows"), ([(11, 1001)], "kmh isn't from 0 to 1000"), ([(11, np.nan)], "kmh isn't"),
+                             (frame.rename(columns={"from": "a"}), "a frame of speeds has to have the columns")):
+            with self.assertRaisesRegex(ValueError, says):
+                network.reweigh(speeds, self.folder / "own")
+        self.assertEqual(self.arcs("own"), self.arcs("map"))
+
+
+@pytest.mark.parametrize("rows, says", [
+    ("", ": is empty"), ("11,50\n11\n", ", row 2: has 1 fields, and a row is FROM,TO,KMH or WAY,KMH"), ("1,2,50,3\n", ", row 1: has 4 fields"),
+    ("11;50\n", ", row 1: has 1 fields, and a row is FROM,TO,KMH or WAY,KMH: fields have to be separated by commas"),
+    ("1,2,-1\n", ", row 1: kmh '-1' isn't from 0 to 1000"), ("11,1001\n", "isn't from 0 to 1000"), ("11,nan\n", "is no finite number"),
+    ("a,2,50\n", ", row 1: from 'a' isn't an integer"), ("11,50\n1.5,2,50\n", ", row 2: from '1.5' isn't an integer"),
+    ("way,kmh\n11,50\nway,kmh\n", ", row 3: way 'way' isn't an integer"),
+])
+def test_wrong_rows(tmp_path, rows, says):
+    (tmp_path / "speeds.csv").write_text(rows)
+    with pytest.raises(domethyme.NetworkError) as refused:
+        read_speeds(tmp_path / "speeds.csv")
+    assert f"speeds.csv{says}" in str(refused.value) if says[0] in ":," else says in str(refused.value)
+
+
+def test_damaged_sizes(tmp_path):
+    """A file that leaves arcs out of one index alone, or has more than there are, is refused."""
+    convert(SQUARE, tmp_path, "map")
+    whole = {name: column[:].copy() for name, column in net_file.read(tmp_path / "map.net").file.columns.items()}
+    for name, values in (("edge_arcs", whole["edge_arcs"][:-1]), ("out_arcs", np.append(whole["out_arcs"], 0)), ("arc_penalty", whole["arc_penalty"][:-1]),
+                         ("point_osm", whole["point_osm"][1:]), ("edge_metres", whole["edge_metres"][:0])):
+        with open(tmp_path / "map.net", "wb") as file:
+            column_file.write(file, net_file.FORMS[net_file.WITH_IDS], net_file.WITH_IDS, {**whole, name: values}.items())
+        with pytest.raises(domethyme.NetworkError, match="is damaged: .* has another size"):
+            net_file.read(tmp_path / "map.net")
