@@ -98,7 +98,7 @@ class RecipeTests(NginxCase):
         """A folder of commands: the tools as the package names them, routecli, and those that are given as lines of sh."""
         folder = self.folder / "bin"
         folder.mkdir()
-        for name in ("osm_to_gr", "to_network"):
+        for name in ("osm_to_gr", "reweigh", "to_network"):
             said["domethyme-" + name.replace("_", "-")] = f'exec {TOOLS}/{name} "$@"'
         said["routecli"] = f'exec {pathlib.Path(os.environ["ROUTECLI"]).resolve()} "$@"'
         for name, lines in said.items():
@@ -200,21 +200,29 @@ class RecipeTests(NginxCase):
         self.assertEqual({path: path.read_bytes() for path in held}, held)
 
     def test_each_hour(self):
-        """New speeds come as a map of the same roads, which takes the place of what `domethyme-reweigh` writes."""
+        """The village's own speeds, and then an hour in which all roads are slow and one is closed."""
         self.machine()
-        served = self.folder / "var/lib/domethyme"
-        self.run_tool("osm_to_gr", VILLAGE, served / "network")
-        domethyme.prepare(served / "network.gr", served / "network.rch", order="depth", workers=1).close()
+        served, asked = self.folder / "var/lib/domethyme", self.folder / "asked"
+        shutil.copy(ROOT / "packaging/domethyme-refresh.service", self.folder / "lib/systemd/system")
+        (night,), (hour,) = blocks(PAGE, "sed 's|domethyme/network|domethyme/map|'"), blocks(PAGE, "cd /var/lib/domethyme\ndomethyme-reweigh")
+        environment = self.commands(systemctl=f"echo $* >> {asked}")
+        self.run_program(["sh", "-euc", self.here(night)], environment=environment)
+        unit = (self.folder / "etc/systemd/system/domethyme-refresh.service").read_text()
+        self.assertIn("\nExecStart=/usr/libexec/domethyme/refresh $URL /var/lib/domethyme/map\n", unit)
+        self.run_tool("osm_to_gr", VILLAGE, served / "map")
+        domethyme.prepare(served / "map.gr", served / "map.rch", order="depth", workers=1).close()
+        (served / "speeds.csv").write_text("way,kmh\n")
+        self.run_program(["sh", "-euc", self.here(hour)], environment=environment)
         process = self.serve_network(served / "network")
-        before, ranks = self.ask(PLACE.format("car"))[1]["routes"][0]["duration"], ranks_in(served / "network.rch")
-        slow = self.write("slow.osm", re.sub(r"(<tag k='highway' v='[a-z_]+'/>)", r"\1<tag k='maxspeed' v='5'/>", VILLAGE.read_text(encoding="utf-8")))
-        (block,) = blocks(PAGE, "cd /var/lib/domethyme\ndomethyme-reweigh")
-        reweigh = {"domethyme-reweigh": f'exec {TOOLS}/osm_to_gr {slow} "$3"', "systemctl": f"echo $* >> {self.folder}/asked"}
-        self.run_program(["sh", "-euc", self.here(block)], environment=self.commands(**reweigh))
-        self.assertEqual((self.folder / "asked").read_text(), "reload domethyme-serve\n")
+        before = self.ask(PLACE.format("car"))[1]["routes"][0]["duration"]
 
+        ways = [f"{way},5\n" for way in re.findall(r"<way id='([0-9]+)'", VILLAGE.read_text(encoding="utf-8"))]
+        (served / "speeds.csv").write_text("".join([*ways, "1,61,0\n61,1,0\n"]))
+        self.run_program(["sh", "-euc", self.here(hour)], environment=environment)
+        self.assertEqual(asked.read_text(), "daemon-reload\n" + 2 * "reload domethyme-serve\n")
         domethyme.check(served / "network.gr", served / "network.rch", find_program())
-        self.assertEqual(ranks_in(served / "network.rch"), ranks)
+        self.assertEqual(ranks_in(served / "network.rch"), ranks_in(served / "map.rch"))
+        self.assertLess(len(read_graph(served / "network.gr").weights), len(read_graph(served / "map.gr").weights))
         process.send_signal(signal.SIGHUP)
         self.wait_for(lambda: self.value("reloads_total") == 1)
         self.assertGreater(self.ask(PLACE.format("car"))[1]["routes"][0]["duration"], before)
