@@ -102,8 +102,7 @@ class Tiles:
             once = unique_segments(begins, ends)
             begins, ends, kept = begins[once], ends[once], kept[once]
         # (the name of an edge is that of one of its arcs)
-        arcs = self.arrays.edge_arcs[np.minimum(self.arrays.edge_first[edges[kept]], len(self.arrays.edge_arcs) - 1)]
-        names = self.arrays.arc_texts(arcs, NAME_COLUMN)
+        names = self.arrays.arc_texts(self.arrays.first_arcs(edges[kept]), NAME_COLUMN)
         is_new = np.ones(len(kept), dtype=bool)
         is_new[1:] = (begins[1:] != ends[:-1]).any(axis=1) | (names[1:] != names[:-1])
         starts = np.flatnonzero(is_new).tolist()

@@ -90,7 +90,7 @@ def edges_in(arrays: MappedNetwork, box: Box | None) -> Ints:
 
 def styles_of(arrays: MappedNetwork, edges: Ints) -> Ints:
     """The styles of edges in the order of read_roads, by the class and structure of an arc of each."""
-    arcs = arrays.edge_arcs[numpy.minimum(arrays.edge_first[edges], len(arrays.edge_arcs) - 1)]
+    arcs = arrays.first_arcs(edges)
     highways, structures = (arrays.arc_texts(arcs, TEXTS.index(name)) for name in ("highway", "structure"))
     found = numpy.zeros(len(edges), numpy.int64)
     for text in numpy.unique(highways).tolist():

@@ -459,6 +459,17 @@ class MappedNetwork:
         """Whether each arc is one of those that aren't left out."""
         return mask(len(self.arc_from), self.out_arcs[:])
 
+    def first_arcs(self, edges: Any) -> NDArray[np.int64]:
+        """The first arc of each edge, whether it is left out or not."""
+        arcs = self._first_arcs[edges] if self.is_partial else self.edge_arcs[self.edge_first[edges]]
+        return np.asarray(arcs)
+
+    @functools.cached_property
+    def _first_arcs(self) -> Ints:
+        found = np.empty(len(self.edge_begin) - 1, np.int64)
+        found[self.arc_edge[::-1]] = np.arange(len(self.arc_edge))[::-1]
+        return found
+
     @property
     def checksum(self) -> str:
         """Eight digits that change with the ends and the weights of arcs."""

@@ -338,8 +338,7 @@ class Reach:
         network = self.network
         for edges in chunks_of(self._near(network.edge_grid, len(network.edge_begin) - 1, box, zone)):
             # (all arcs of an edge have its metres)
-            arcs = network.edge_arcs[np.minimum(network.edge_first[edges], len(network.edge_arcs) - 1)]
-            yield edges[network.arc_metres[arcs] > metres]
+            yield edges[network.arc_metres[network.first_arcs(edges)] > metres]
 
     def nodes_near(self, box: Box, zone: Zone | None = None) -> Iterator[tuple[Floats, Levels]]:
         """The nodes in a box, and in a zone, and others near there, some at a time: their points in the plane, and their levels."""

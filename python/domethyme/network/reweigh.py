@@ -1,4 +1,4 @@
-"""A network with new speeds on some of its roads, as a view of its mapped file, and its files. Needs numpy, and scipy where an arc is closed.
+"""A network with new speeds on some of its roads: a view of its mapped file, and its files. Needs numpy, and scipy if an arc is closed.
 
 Nodes, edges and arcs keep their numbers. An arc takes the time of its metres at the new speeds, as if the map had them, and the turn that
 leads into it costs what it did. What is closed is left out as `without` leaves roads out.
@@ -74,7 +74,7 @@ class Reweighed(NamedTuple):
 
 
 def read_speeds(path: StrPath) -> Speeds:
-    """The speeds of a CSV file with the rows FROM,TO,KMH or WAY,KMH, whose first row may have the names of the columns. Raises NetworkError."""
+    """The speeds of a CSV file with rows FROM,TO,KMH or WAY,KMH, of which the first may be these names. Raises NetworkError."""
     found = {count: (array.array("q"), array.array("d"), array.array("q")) for count in COLUMNS}
     with open_table(path, ()) as table:
         records = itertools.chain([table.columns], iter(table.next_record, None))
@@ -99,7 +99,7 @@ def speeds_of(rows: Any) -> Speeds:
     if is_pandas(rows):
         names = next((names for names in COLUMNS.values() if {*names} <= {*rows.columns}), None)
         if names is None:
-            raise ValueError(f"a frame of speeds has to have the columns from, to and kmh, or way and kmh, and has {', '.join(map(repr, rows.columns))}")
+            raise ValueError("a frame of speeds has to have the columns from, to and kmh, or way and kmh")
         columns = [rows[name].to_numpy() for name in names]
     else:
         if not {*map(len, rows)} <= {*COLUMNS} or len({*map(len, rows)}) > 1:

@@ -271,8 +271,7 @@ class RoadIndex:
         if self.arrays.is_partial:
             found &= first[edges] < first[edges + 1]
         if not is_any and self._ferry_rows.any():
-            arcs = self.arrays.edge_arcs[np.minimum(first[edges], len(self.arrays.edge_arcs) - 1)]
-            found &= ~self.are_ferries(arcs)
+            found &= ~self.are_ferries(self.arrays.first_arcs(edges))
         return found
 
     def project(self, places: Floats, edges: Ints) -> SegmentProjections:
