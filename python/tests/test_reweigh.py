@@ -2,16 +2,19 @@
 refused. A thousandth of a degree is 111.195 m along the equator."""
 import csv
 import pathlib
+import re
 import tempfile
 from typing import Any, NamedTuple
 
 import numpy as np
 import pandas
 import pytest
-from draws import drawn, run_tool
+from draws import drawn, model_of, run_tool
 from hypothesis import given
 from hypothesis import strategies as st
+from model.network import Network
 from model.sphere import Point, metres_between
+from test_without import without
 from tool_case import PYTHON, ToolCase
 
 import domethyme
@@ -146,6 +149,52 @@ def is_along(wkt: str, first: Point, last: Point) -> bool:
     return (lons[-1] - lons[0]) * (last[0] - first[0]) > 0
 
 
+def close_ways(data: Any, folder: pathlib.Path) -> Network | None:
+    """Draws a map and closes some of its ways, from `before` to `after`. Returns what is left by the model, None if that is nothing or
+    several parts are as large."""
+    drawn_map = data.draw(maps())
+    convert(drawn_map.text(), folder, "before")
+    roads, closed = model_of(folder / "before"), data.draw(st.sets(st.integers(1, len(drawn_map.ways))))
+    wanted = without(roads, lambda arc: arc.way in closed)
+    if wanted is not None:
+        (folder / "speeds.csv").write_text("way,kmh\n" + "".join(f"{way},0\n" for way in closed))
+        run_tool("reweigh", folder / "before", folder / "speeds.csv", folder / "after")
+    return wanted if closed else None
+
+
+@drawn(40)
+@given(st.data())
+def test_closed_ways(data: Any) -> None:
+    with tempfile.TemporaryDirectory() as name:
+        folder = pathlib.Path(name)
+        if (wanted := close_ways(data, folder)) is not None:
+            found = model_of(folder / "after")
+            assert found.arcs == wanted.arcs and [node.place for node in found.nodes] == [node.place for node in wanted.nodes]
+            graph = read_graph(folder / "after.gr")
+            assert list(zip(*graph[1:])) == [(arc.start + 1, arc.end + 1, arc.weight) for arc in wanted.arcs]
+
+
+@drawn(20)
+@given(st.data())
+def test_renewed(data: Any) -> None:
+    """Lengths of the hierarchy that `renew` makes are the model's; the old one is refused, unless each pair is as near as before."""
+    with tempfile.TemporaryDirectory() as name:
+        folder = pathlib.Path(name)
+        if (wanted := close_ways(data, folder)) is None:
+            return
+        domethyme.prepare(folder / "before.gr", folder / "before.rch", workers=0).close()
+        domethyme.renew(folder / "after.gr", folder / "before.rch", folder / "after.rch").close()
+        nodes = range(len(wanted.nodes))
+        lengths = [[wanted.lengths({node: 0}).get(other, -1) for other in nodes] for node in nodes]
+        with domethyme.Hierarchy(folder / "after.rch", network=folder / "after") as hierarchy:
+            assert hierarchy.matrix(list(nodes)).tolist() == lengths
+        with domethyme.Hierarchy(folder / "before.rch") as old:
+            is_same = old.matrix(list(nodes)).tolist() == lengths
+        if not is_same:
+            with pytest.raises(domethyme.WrongHierarchy):
+                domethyme.Hierarchy(folder / "before.rch", network=folder / "after")
+
+
 class ToolTests(ToolCase):
     def setUp(self):
         super().setUp()
@@ -251,6 +300,7 @@ class ToolTests(ToolCase):
     ("11;50\n", ", row 1: has 1 fields, and a row is FROM,TO,KMH or WAY,KMH: fields have to be separated by commas"),
     ("1,2,-1\n", ", row 1: kmh '-1' isn't from 0 to 1000"), ("11,1001\n", "isn't from 0 to 1000"), ("11,nan\n", "is no finite number"),
     ("a,2,50\n", ", row 1: from 'a' isn't an integer"), ("11,50\n1.5,2,50\n", ", row 2: from '1.5' isn't an integer"),
+    ("9" * 20 + ",2,50\n", "from 99999999999999999999 isn't from -9223372036854775808 to 9223372036854775807"), ("1,2.0,50\n", "to '2.0' isn't an integer"),
     ("way,kmh\n11,50\nway,kmh\n", ", row 3: way 'way' isn't an integer"),
 ])
 def test_wrong_rows(tmp_path, rows, says):
@@ -258,6 +308,18 @@ def test_wrong_rows(tmp_path, rows, says):
     with pytest.raises(domethyme.NetworkError) as refused:
         read_speeds(tmp_path / "speeds.csv")
     assert f"speeds.csv{says}" in str(refused.value) if says[0] in ":," else says in str(refused.value)
+
+
+@pytest.mark.parametrize("rows", ["", "1,2,50\n", "-1,2,7.5\n3,4,0\n1,2,.5\n", "5,10\n6,20.\n", "007,10\n"])
+def test_plain_rows(tmp_path, rows):
+    """Rows of plain numbers, which are read at once, are those that are read one by one: with quotes, and a blank line behind."""
+    for names in ("", "from,to,kmh\n"):
+        found = []
+        for number, text in enumerate((rows, re.sub(r"^([-0-9]+),", r'"\1",', rows, flags=re.M), f"{rows}\n")):
+            (tmp_path / f"{number}.csv").write_text(names + text)
+            if names or rows:
+                found.append([[(each.ids.tolist(), each.kmh.tolist(), each.number.tolist()) for each in read_speeds(tmp_path / f"{number}.csv")]])
+        assert all(each == found[0] for each in found)
 
 
 def test_damaged_sizes(tmp_path):

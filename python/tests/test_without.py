@@ -5,13 +5,14 @@ import pathlib
 import pickle
 import re
 import tempfile
+from collections.abc import Callable
 from typing import Any
 
 import pytest
 from draws import Drawn, drawn, networks, run_tool, write_network
 from hypothesis import given
 from hypothesis import strategies as st
-from model.network import Ambiguous, Network
+from model.network import Ambiguous, Arc, Network
 from test_generated_service import ask, check, requests
 from tool_case import ToolCase
 
@@ -29,9 +30,9 @@ def is_toll(arc: Any) -> bool:
     return arc.way % 4 == 1
 
 
-def without_toll(roads: Network) -> Network | None:
+def without(roads: Network, is_left_out: Callable[[Arc], bool]) -> Network | None:
     """The network of the other roads between nodes of the largest set that can all reach one another; None if there are several."""
-    arcs = [arc for arc in roads.arcs if not is_toll(arc)]
+    arcs = [arc for arc in roads.arcs if not is_left_out(arc)]
     plain = Network(roads.nodes, arcs)
     reached = [set(plain.lengths({node: 0})) for node in range(len(roads.nodes))]
     sets = {frozenset(other for other in reached[node] if node in reached[other]) for node in range(len(roads.nodes))}
@@ -48,7 +49,7 @@ def without_toll(roads: Network) -> Network | None:
 @given(st.data())
 def test_as_the_model(data: Any) -> None:
     made = data.draw(networks())
-    wanted = None if made.roads.forbidden else without_toll(made.roads)
+    wanted = None if made.roads.forbidden else without(made.roads, is_toll)
     if wanted is None:
         return
     with tempfile.TemporaryDirectory() as folder:

@@ -14,7 +14,7 @@ A turn that has a penalty is kept by the same nodes: arcs that lead from them we
 """
 import collections
 from collections.abc import Callable, Iterable, Sequence
-from typing import Any, NamedTuple
+from typing import NamedTuple
 
 import numpy as np
 from numpy.typing import NDArray

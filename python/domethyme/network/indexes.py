@@ -26,15 +26,15 @@ MIN_BAND_HEIGHT = 0.0025
 MAX_BAND_HEIGHT = 80.0
 
 
-def outgoing_arcs(arrays: "Arrays") -> tuple[Ints, NDArray[np.int32]]:
+def outgoing_arcs(starts: NDArray[np.int32], ends: NDArray[np.int32], weights: Ints, nodes: int) -> tuple[Ints, NDArray[np.int32]]:
     """The arcs from node n, counted from 1, are arcs[begins[n - 1]:begins[n]]: by the node they lead to, and then by weight."""
-    begins = np.cumsum(np.bincount(arrays.arc_from, minlength=len(arrays.node_osm) + 1))
-    arcs = parallel_argsort(arrays.arc_from)
+    begins = np.cumsum(np.bincount(starts, minlength=nodes + 1))
+    arcs = parallel_argsort(starts)
 
     def sort_slice(nodes: slice) -> None:
         part = slice(int(begins[nodes.start]), int(begins[nodes.stop]))
         chunk = arcs[part]
-        arcs[part] = chunk[argsort_arcs(arrays.arc_from[chunk], arrays.arc_to[chunk], arrays.arc_weight[chunk])]
+        arcs[part] = chunk[argsort_arcs(starts[chunk], ends[chunk], weights[chunk])]
 
     map_slices(sort_slice, len(begins) - 1)
     return begins, arcs

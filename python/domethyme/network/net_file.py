@@ -340,7 +340,8 @@ def iter_file_arrays(arrays: Arrays) -> Iterator[tuple[str, NDArray[Any]]]:
     for name in Arrays._fields[2:]:  # (all but the version, the tables, and what not each network has)
         if name not in Arrays._field_defaults:
             yield name, getattr(arrays, name)
-    yield from zip(("out_begin", "out_arcs"), indexes.outgoing_arcs(arrays))
+    outgoing = indexes.outgoing_arcs(arrays.arc_from, arrays.arc_to, arrays.arc_weight, len(arrays.node_osm))
+    yield from zip(("out_begin", "out_arcs"), outgoing)
     yield "edge_first", offsets(np.bincount(arrays.arc_edge, minlength=len(arrays.edge_begin) - 1))
     yield "edge_arcs", np.argsort(arrays.arc_edge, kind="stable")
     yield "degrees", indexes.node_degrees(arrays)

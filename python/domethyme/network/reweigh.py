@@ -5,7 +5,11 @@ leads into it costs what it did. What is closed is left out as `without` leaves 
 """
 import array
 import copy
+import dataclasses
+import functools
+import io
 import itertools
+import warnings
 from typing import Any, NamedTuple
 
 import numpy as np
@@ -13,7 +17,7 @@ from numpy.typing import NDArray
 
 from ..arrays import is_pandas
 from ..atomic_files import atomic_write_all
-from ..csv_tables import Row, open_table
+from ..csv_tables import Row, Table, open_input
 from ..errors import NetworkError
 from ..limits import MAX_WEIGHT
 from ..program import StrPath
@@ -32,7 +36,8 @@ FASTEST = 1000.0
 OF_TABLES = ("nodes_size", "arcs_size", "nodes_sum", "arcs_sum")
 
 
-class SpeedRows(NamedTuple):
+@dataclasses.dataclass
+class SpeedRows:
     """New speeds in km/h, 0 for closed: of ways by their ids, of shape (rows, 1), or from points to neighbouring ones, of shape (rows, 2).
     `number` is that of each row in its table. Of rows with the same ids the last one counts."""
 
@@ -40,16 +45,29 @@ class SpeedRows(NamedTuple):
     kmh: Floats
     number: Ints
 
+    @functools.cached_property
+    def known(self) -> Ints:
+        """The different ids, in order."""
+        return np.unique(self.ids)
+
+    @functools.cached_property
+    def _keys(self) -> Ints:
+        return self._key_of(*self.ids.T)
+
+    def _key_of(self, *ids: Ints) -> Ints:
+        """A number for each row of ids, another one for other ids; those that no row has are as one."""
+        found = np.zeros(len(ids[0]), np.int64)
+        for column in ids:
+            found = found * (len(self.known) + 1) + last_places(self.known, column) + 1
+        return found
+
     def places(self, *ids: Ints) -> Ints:
         """The place of the last row with each of some ids, -1 where there is none."""
-        known, own, wanted = np.unique(self.ids), np.zeros(len(self.ids), np.int64), np.zeros(len(ids[0]), np.int64)
-        for row, column in zip(self.ids.T, ids):
-            own, wanted = (numbers * (len(known) + 1) + last_places(known, some) + 1 for numbers, some in ((own, row), (wanted, column)))
-        return last_places(own, wanted)
+        return last_places(self._keys, self._key_of(*ids))
 
     def unmatched(self, used: Ints) -> list[int]:
         """The numbers of the rows that have other ids than all rows that are used, which are given by their places."""
-        found: list[int] = self.number[~mask(len(self.ids), used)[self.places(*self.ids.T)]].tolist()
+        found: list[int] = self.number[~mask(len(self.ids), used)[last_places(self._keys, self._keys)]].tolist()
         return found
 
 
@@ -75,23 +93,56 @@ class Reweighed(NamedTuple):
 
 def read_speeds(path: StrPath) -> Speeds:
     """The speeds of a CSV file with rows FROM,TO,KMH or WAY,KMH, of which the first may be these names. Raises NetworkError."""
+    with open_input(path) as stream:
+        whole = stream.read()
+    names, _, rest = whole.partition(b"\n")
+    has_names = names.rstrip().lower().endswith(b"kmh")
+    rows = plain_rows(rest if has_names else whole)
+    if rows is not None:
+        *ids, kmh = (rows[name] for name in rows.dtype.names or ())
+        return one_kind(np.column_stack(ids), kmh, np.arange(len(kmh)) + 1 + has_names)
+    return read_rows(Table(path, io.BytesIO(whole), ()), has_names)
+
+
+def read_rows(table: Table, has_names: bool) -> Speeds:
+    """The speeds of a table of rows of both kinds, of which the first may be names. Raises NetworkError for what is wrong."""
     found = {count: (array.array("q"), array.array("d"), array.array("q")) for count in COLUMNS}
-    with open_table(path, ()) as table:
-        records = itertools.chain([table.columns], iter(table.next_record, None))
-        for record in filter(None, records):
-            if (names := COLUMNS.get(len(record))) is None:
-                row = f"a row is FROM,TO,KMH or WAY,KMH{table.form.doubt(record)}"
-                raise NetworkError(f"has {len(record)} fields, and {row}", path, table.reader.line_num)
-            if table.reader.line_num == 1 and record[-1].lower() == "kmh":
-                continue
-            fields = Row(zip(names, record))
-            fields.path, fields.row, fields.form = path, table.reader.line_num, table.form
-            ids, kmh, number = found[len(record)]
-            ids.extend(fields.read_int(name, *INT64) for name in names[:-1])
-            kmh.append(fields.read_float("kmh", 0, FASTEST))
-            number.append(fields.row)
+    for record in filter(None, itertools.chain([table.columns], iter(table.next_record, None))):
+        if (columns := COLUMNS.get(len(record))) is None:
+            row = f"a row is FROM,TO,KMH or WAY,KMH{table.form.doubt(record)}"
+            raise NetworkError(f"has {len(record)} fields, and {row}", table.path, table.reader.line_num)
+        if table.reader.line_num == 1 and has_names:
+            continue
+        fields = Row(zip(columns, record))
+        fields.path, fields.row, fields.form = table.path, table.reader.line_num, table.form
+        ids, kmh, number = found[len(record)]
+        ids.extend(fields.read_int(name, *INT64) for name in columns[:-1])
+        kmh.append(fields.read_float("kmh", 0, FASTEST))
+        number.append(fields.row)
     rows = (SpeedRows(np.array(ids).reshape(-1, count - 1), np.array(kmh), np.array(number)) for count, (ids, kmh, number) in found.items())
     return Speeds(*rows)
+
+
+def plain_rows(text: bytes) -> NDArray[Any] | None:
+    """The rows of a table of plain numbers, with the fields of COLUMNS, in a tenth of the time; None for any other text."""
+    columns = COLUMNS.get(text.partition(b"\n")[0].count(b",") + 1)
+    if columns is None or text.translate(None, b"0123456789.,-\n") or b"\n\n" in text or not text.endswith(b"\n"):
+        return None
+    kind = np.dtype([(name, np.float64 if name == "kmh" else np.int64) for name in columns])
+    with warnings.catch_warnings():
+        warnings.simplefilter("error")
+        try:
+            rows = np.loadtxt(io.BytesIO(text), kind, delimiter=",", ndmin=1)
+        except (Warning, ValueError):
+            return None
+    return rows if ((rows["kmh"] >= 0) & (rows["kmh"] <= FASTEST)).all() else None
+
+
+def one_kind(ids: Ints, kmh: Floats, number: Ints) -> Speeds:
+    """The speeds of rows that have the ids of ways, or of two points."""
+    given = SpeedRows(ids.astype(np.int64), kmh, number)
+    none = SpeedRows(np.empty((0, 3 - ids.shape[1]), np.int64), np.empty(0), np.empty(0, np.int64))
+    return Speeds(given, none) if ids.shape[1] == 1 else Speeds(none, given)
 
 
 def speeds_of(rows: Any) -> Speeds:
@@ -111,9 +162,7 @@ def speeds_of(rows: Any) -> Speeds:
     speeds = kmh.astype(float)
     if not ((speeds >= 0) & (speeds <= FASTEST)).all():
         raise ValueError(f"kmh isn't from 0 to {FASTEST:g}")
-    given = SpeedRows(np.column_stack(ids).astype(np.int64), speeds, np.arange(len(speeds)))
-    none = SpeedRows(np.empty((0, 3 - len(ids)), np.int64), np.empty(0), np.empty(0, np.int64))
-    return Speeds(given, none) if len(ids) == 1 else Speeds(none, given)
+    return one_kind(np.column_stack(ids), speeds, np.arange(len(speeds)))
 
 
 def last_places(keys: Ints, values: Ints) -> Ints:
@@ -134,7 +183,7 @@ def rows_of_steps(network: MappedNetwork, rows: SpeedRows) -> tuple[NDArray[np.i
     first, edge = indexes.edge_segments(network.edge_begin[:])
     found, is_named = np.full((2, len(first)), -1, np.int32), np.zeros((2, len(network.edge_metres)), np.bool_)
     osm = network.point_osm[:]
-    is_known = last_places(np.unique(rows.ids), osm) >= 0
+    is_known = last_places(rows.known, osm) >= 0
     steps = np.flatnonzero(is_known[first] & is_known[first + 1])
     here, there = osm[first[steps]], osm[first[steps] + 1]
     for side, ends in enumerate(((there, here), (here, there))):
@@ -213,7 +262,7 @@ def reweigh(network: MappedNetwork, speeds: Speeds) -> tuple[MappedNetwork, Rewe
     changed = (weights != network.arc_weight[:]) | (seconds != network.arc_seconds[:])
     view = copy.copy(network)
     vars(view).update(arc_weight=weights, arc_seconds=seconds, about={**network.about, **dict.fromkeys(OF_TABLES, 0)})
-    begins, in_order = indexes.outgoing_arcs(view)
+    begins, in_order = indexes.outgoing_arcs(network.arc_from[:], network.arc_to[:], weights, len(network.node_osm))
     vars(view).update(out_begin=offsets(is_open[in_order])[begins], out_arcs=in_order[is_open[in_order]])
     if len(closed := arcs[is_closed]):
         view = without_closed(view, is_open & ~mask(len(is_open), closed))
