@@ -46,28 +46,37 @@ class SpeedRows:
     number: Ints
 
     @functools.cached_property
-    def known(self) -> Ints:
+    def _known(self) -> Ints:
         """The different ids, in order."""
         return np.unique(self.ids)
 
     @functools.cached_property
     def _keys(self) -> Ints:
-        return self._key_of(*self.ids.T)
+        return self._key_of(*(self.ranks(column) for column in self.ids.T))
 
-    def _key_of(self, *ids: Ints) -> Ints:
-        """A number for each row of ids, another one for other ids; those that no row has are as one."""
-        found = np.zeros(len(ids[0]), np.int64)
-        for column in ids:
-            found = found * (len(self.known) + 1) + last_places(self.known, column) + 1
-        return found
+    @functools.cached_property
+    def _last(self) -> tuple[Ints, Ints]:
+        """The different keys, in order, and the last row of each."""
+        keys, behind = np.unique(self._keys[::-1], return_index=True)
+        return keys, len(self._keys) - 1 - behind
 
-    def places(self, *ids: Ints) -> Ints:
-        """The place of the last row with each of some ids, -1 where there is none."""
-        return last_places(self._keys, self._key_of(*ids))
+    def _key_of(self, *ranks: Ints) -> Ints:
+        """A number for each row of ranks."""
+        return functools.reduce(lambda key, rank: key * (len(self._known) + 1) + rank, ranks)
+
+    def ranks(self, ids: Ints) -> Ints:
+        """The places of ids among those of the rows, from 1, and 0 for others."""
+        return places_in(self._known, ids) + 1
+
+    def places(self, *ranks: Ints) -> Ints:
+        """The place of the last row with the ids of these ranks, for each of them, -1 where there is none."""
+        keys, last = self._last
+        return np.append(last, -1)[places_in(keys, self._key_of(*ranks))]
 
     def unmatched(self, used: Ints) -> list[int]:
         """The numbers of the rows that have other ids than all rows that are used, which are given by their places."""
-        found: list[int] = self.number[~mask(len(self.ids), used)[last_places(self._keys, self._keys)]].tolist()
+        is_used = np.isin(self._keys, np.unique(self._keys[used]))
+        found: list[int] = self.number[~is_used].tolist()
         return found
 
 
@@ -165,13 +174,12 @@ def speeds_of(rows: Any) -> Speeds:
     return one_kind(np.column_stack(ids), speeds, np.arange(len(speeds)))
 
 
-def last_places(keys: Ints, values: Ints) -> Ints:
-    """The last place of each value among the keys, -1 for one that isn't there."""
-    if not len(keys):
+def places_in(known: Ints, values: Ints) -> Ints:
+    """The place of each value among different ones that rise, -1 for one that isn't there."""
+    if not len(known):
         return np.full(len(values), -1)
-    known, behind = np.unique(keys[::-1], return_index=True)
     found = np.minimum(np.searchsorted(known, values), len(known) - 1)
-    return np.where(known[found] == values, len(keys) - 1 - behind[found], -1)
+    return np.where(known[found] == values, found, -1)
 
 
 # The times of arcs
@@ -182,10 +190,9 @@ def rows_of_steps(network: MappedNetwork, rows: SpeedRows) -> tuple[NDArray[np.i
     those against the edge, and along it."""
     first, edge = indexes.edge_segments(network.edge_begin[:])
     found, is_named = np.full((2, len(first)), -1, np.int32), np.zeros((2, len(network.edge_metres)), np.bool_)
-    osm = network.point_osm[:]
-    is_known = last_places(rows.known, osm) >= 0
-    steps = np.flatnonzero(is_known[first] & is_known[first + 1])
-    here, there = osm[first[steps]], osm[first[steps] + 1]
+    ranks = rows.ranks(network.point_osm[:])
+    steps = np.flatnonzero((ranks[first] > 0) & (ranks[first + 1] > 0))
+    here, there = ranks[first[steps]], ranks[first[steps] + 1]
     for side, ends in enumerate(((there, here), (here, there))):
         found[side, steps] = rows.places(*ends)
         is_named[side, edge[found[side] >= 0]] = True
@@ -204,7 +211,7 @@ def steps_of(network: MappedNetwork, speeds: Speeds, is_open: NDArray[np.bool_])
     """The arcs that have a new speed anywhere, their steps, and the numbers of the rows that match nothing."""
     edges, side = network.arc_edge[:], network.arc_along[:].astype(np.int8)
     of_step, is_named = rows_of_steps(network, speeds.steps)
-    of_way = speeds.ways.places(network.arc_osm[:])
+    of_way = speeds.ways.places(speeds.ways.ranks(network.arc_osm[:]))
     arcs = np.flatnonzero(is_open & (is_named[side, edges] | (of_way >= 0)))
     begins = network.edge_begin[edges[arcs]]
     owner, position = expand(network.edge_begin[edges[arcs] + 1] - begins - 1)
