@@ -279,7 +279,7 @@ class ToolTests(ToolCase):
         frame = pandas.DataFrame(rows, columns=["from", "to", "kmh"])
         for speeds, unmatched in ((rows, [2]), (np.array(rows), None), (frame, [2]), (self.folder / "speeds.csv", [3])):
             if unmatched is None:
-                with self.assertRaisesRegex(ValueError, "ids have to be whole numbers"):
+                with self.assertRaisesRegex(ValueError, "ids have to be integers"):
                     network.reweigh(speeds, self.folder / "own")
                 continue
             self.assertEqual(tuple(network.reweigh(speeds, self.folder / "own")), (2, 0, 0, unmatched))

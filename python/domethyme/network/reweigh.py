@@ -167,7 +167,7 @@ def speeds_of(rows: Any) -> Speeds:
         columns = [np.array(column) for column in zip(*rows)] or [np.empty(0, np.int64)] * 2
     *ids, kmh = columns
     if any(column.dtype.kind not in "iu" for column in ids):
-        raise ValueError("ids have to be whole numbers")
+        raise ValueError("ids have to be integers")
     speeds = kmh.astype(float)
     if not ((speeds >= 0) & (speeds <= FASTEST)).all():
         raise ValueError(f"kmh isn't from 0 to {FASTEST:g}")
