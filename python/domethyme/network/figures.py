@@ -9,7 +9,7 @@ PENALTY = 10
 
 
 def whole_weights(amounts: Floats, added: Ints) -> Ints:
-    """Amounts as whole numbers, 1 or more, and what is added to each."""
+    """Amounts as integers, 1 or more, and what is added to each."""
     return np.asarray(np.maximum(np.rint(amounts), 1).astype(np.int64) + added)
 
 
