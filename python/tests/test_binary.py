@@ -37,7 +37,7 @@ class BinaryCase(ToolCase):
         self.run_tool("osm_to_gr", VILLAGE, "v", "--keep-islands", "--tables")
 
     def assert_same(self, one, other):
-        for name in net_file.Arrays._fields:
+        for name in (name for name in net_file.Arrays._fields if name not in net_file.OF_MAP):  # (which tables lack)
             values = [np.asarray(getattr(each, name)) for each in (one, other)]
             np.testing.assert_array_equal(*values, name)
             self.assertEqual(values[0].dtype, values[1].dtype, name)

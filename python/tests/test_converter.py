@@ -165,7 +165,7 @@ class ArraysTests(ToolCase):
                 for arc in table_files.arcs_in(arrays):
                     builder.add_arc(arc)
                 wanted = builder.build()
-                for name in net_file.Arrays._fields:
+                for name in (name for name in net_file.Arrays._fields if name not in net_file.OF_MAP):  # (which tables lack)
                     np.testing.assert_array_equal(getattr(arrays, name), getattr(wanted, name), name)
                     self.assertEqual(getattr(arrays, name).dtype, getattr(wanted, name).dtype, name)
                 self.assertGreater(len(arrays.arc_from), 20)
