@@ -4,7 +4,7 @@
 //
 //     hierarchy GRAPH PAIRS [OUT]    reads both, prepares, answers, and prints the times on standard error:
 //                                    seconds to prepare, links per arc, seconds to answer. Lines `r S T LENGTH ARCS` or
-//                                    `n S T`. The hierarchy's file goes to OUT, in the form of docs/REFERENCE.md.
+//                                    `n S T`. The hierarchy's file goes to OUT, in the form of docs/FORMATS.md.
 #include <algorithm>
 #include <chrono>
 #include <cstdint>

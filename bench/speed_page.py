@@ -32,6 +32,7 @@ KINDS = ["random", "near"]
 IN_CPP = {"plain": "Dijkstra", "boost": "Boost"}
 OTHERS = {"igraph": "igraph", "networkx": "NetworkX", "pgrouting": "pgRouting"}
 SMALL = 10_000
+BUSY = 0.5  # processors of other programs
 SHOWN = "sparse-"  # the networks of README and the picture
 
 # The figures of a job's rounds by their numbers.
@@ -146,15 +147,15 @@ def machine(measured: Measured) -> str:
     return filled(
         f"The machine has {measured.about['machine']}; {measured.about['system']}. The program is "
         f"`{measured.about['version']}`. It was measured from {first} to {last} (UTC), one program at a time. "
-        f"The load, the run included, was {min(loads):.1f} to {max(loads):.1f}, and other programs kept at most "
-        f"{max(others):.1f} processors busy. A run has {measured.counts['random']:,} random or {measured.counts['near']:,} near "
-        "pairs."
+        f"The load, the run included, was {min(loads):.1f} to {max(loads):.1f}. In {sum(each > BUSY for each in others)} of "
+        f"{len(others)} runs other programs kept more than half a processor busy. A run has "
+        f"{measured.counts['random']:,} random or {measured.counts['near']:,} near pairs."
     )
 
 
 def preparing(measured: Measured) -> str:
-    heads = ["Nodes", "`depth`, 1 worker", "4 workers", "4 / 1", "memory", "links an arc"]
-    heads += ["`edges`, 4 workers", "links an arc"]
+    heads = ["Nodes", "`depth`, 1 worker", "4 workers", "4 / 1", "memory", "links per arc"]
+    heads += ["`edges`, 4 workers", "links per arc"]
     rows = []
     for name in measured.large():
         one, four = (measured.rounds(name, f"prepare depth {workers}") for workers in (1, 4))
@@ -200,6 +201,16 @@ def pairs(measured: Measured) -> str:
     return table(heads, rows)
 
 
+def settled(measured: Measured) -> str:
+    """How many nodes a pair settles, by either order."""
+    rows = []
+    for name in measured.large():
+        found = measured.networks[name].get("settled", {})
+        counts = [found.get(f"{order} {kind}") for order in ("depth", "edges") for kind in KINDS]
+        rows.append([measured.title(name), *(NOT_MEASURED if count is None else f"{count:.0f}" for count in counts)])
+    return table(["Nodes", "`depth`, random", "near", "`edges`, random", "near"], rows)
+
+
 def tables(measured: Measured) -> str:
     """A row for each table: the first call and a later one, by the library and by rows.cpp."""
     heads = ["Nodes, table", "first call", "C++", "ratio", "instructions", "a later one", "C++", "ratio", "instructions"]
@@ -212,7 +223,7 @@ def tables(measured: Measured) -> str:
                 ours, theirs = (measured.rounds(name, f"{job} {call}") for job in jobs)
                 counted = measured.instructions(name, *(f"{job} {calls}" for job in jobs), str(calls - 1))
                 cells += [written(median(ours)), written(median(theirs)), ratio(ours, theirs), counted]
-            if measured.rounds(name, f"table {asked} first"):
+            if measured.rounds(name, f"table {asked} first") and "near" not in asked:
                 rows.append([f"{measured.nodes(name):,}, {asked}", *cells])
     return table(heads, rows)
 
@@ -256,14 +267,13 @@ def figures(measured: Measured) -> str:
         f"- **{measured.time(name, 'prepare depth 4')}** to prepare {measured.nodes(name):,} nodes and "
         f"{measured.networks[name]['arcs']:,} arcs with four workers, in {measured.memory(name, 'prepare depth 4')}.",
         f"- **{written(median(pair))}** for a random pair, {written(median(near))} for a near one: length and path.",
-        f"- **{ratio(measured.searched(name, 'boost', 'random'), pair)}** times as long takes Boost's search, "
-        "without a hierarchy.",
+        f"- Boost's search, without a hierarchy, takes **{ratio(measured.searched(name, 'boost', 'random'), pair)}** times as long.",
     ]
     return "\n".join(lines)
 
 
 TABLES = {"figures": figures, "machine": machine, "prepare": preparing, "beside": beside, "loading": loading,
-          "pairs": pairs, "slower": slower, "tables": tables, "reached": reached, "threads": threads}
+          "pairs": pairs, "settled": settled, "slower": slower, "tables": tables, "reached": reached, "threads": threads}
 
 
 def summary(measured: Measured) -> str:
@@ -279,8 +289,7 @@ def summary(measured: Measured) -> str:
         rows.append([f"{measured.nodes(name):,}", *cells, ratio(ours, theirs), boost])
     date = min(row["when"] for row in measured.rows)[:10]
     told = f"Measured on {date} by `--order depth` on synthetic networks, on a machine of {measured.about['machine']}. A "
-    told += "ratio is the median of the rounds' (lowest to highest). The ends of a near pair are at most 20 rows and 20 "
-    told += "columns of junctions apart."
+    told += "ratio is the median over the rounds (minimum to maximum). Boost's search was measured on another, faster machine."
     picture = "![Times of preparing and of a pair against the number of nodes](docs/speed.svg)"
     return f"{filled(told)}\n\n{table([*heads, 'Boost, no hierarchy'], rows)}\n\n{picture}\n"
 

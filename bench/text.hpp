@@ -1,8 +1,8 @@
-// The texts of docs/REFERENCE.md, road graphs and pairs of nodes, for the programs in C++ to compare with: read in pieces
+// The texts of docs/FORMATS.md, road graphs and pairs of nodes, for the programs in C++ to compare with: read in pieces
 // of 64 KiB and taken apart by hand.
 //
 // Nearly every line is a letter and numbers with one space between, so such lines are taken as they stand, eight digits
-// at a time. Each other line is cut into its fields, and its faults are told in the order of docs/REFERENCE.md.
+// at a time. Each other line is cut into its fields, and its faults are told in the order of docs/FORMATS.md.
 #pragma once
 
 #include <cstdint>

@@ -15,8 +15,8 @@
  * passed to another thread. Each call has the handle alone; calls with different handles may run at the same time, also with
  * handles of one hierarchy (domethyme_beside).
  *
- * No pointer is NULL, also with a count of 0. An array has the elements that its count says, and what a call writes overlaps
- * nothing else that it is given. No call is made from a signal handler, nor in the child of a fork by a process that has
+ * No pointer is NULL, also with a count of 0. Each array has at least as many elements as its count. Output arguments must not
+ * overlap any other argument. No call is made from a signal handler, nor in the child of a fork by a process that has
  * threads. malloc, realloc and free belong together.
  */
 #ifndef DOMETHYME_H
@@ -83,8 +83,8 @@ typedef struct domethyme_pair {
     uint32_t to;
 } domethyme_pair;
 
-/* Where a query may begin or end: a node, and what it costs to begin or to end there. A place inside an arc is a start at the
- * arc's head with the part of its weight behind the place and one arc, and an end at its tail with the part before it. */
+/* Where a query may begin or end: a node, and what it costs to begin or to end there. A place inside an arc u -> v of weight w, at
+ * fraction f: as a start it is node v with length w - round(f w), as an end node u with length round(f w); arcs is 1 in both. */
 typedef struct domethyme_seed {
     uint64_t length; /* at most 2^57 */
     uint32_t node;
@@ -139,8 +139,8 @@ uint32_t domethyme_version(domethyme *handle, uint32_t *version);
 /* The least length of a path. DOMETHYME_NO_PATH, DOMETHYME_NO_HANDLE, DOMETHYME_NODE_RANGE, DOMETHYME_OUT_OF_MEMORY. */
 uint32_t domethyme_length(domethyme *handle, uint32_t from, uint32_t to, uint64_t *length);
 
-/* A shortest path, and of all shortest paths one with the fewest arcs (in version 1 any). `nodes` gets its nodes. Where they
- * have no room the result is DOMETHYME_NO_ROOM, and `route` alone is written: it says how many there are. Also
+/* A shortest path, and of all shortest paths one with the fewest arcs (in version 1 any). `nodes` gets its nodes. If
+ * `room` is too small the result is DOMETHYME_NO_ROOM; only `route` is written, and route->nodes is the number needed. Also
  * DOMETHYME_NO_PATH, DOMETHYME_NO_HANDLE, DOMETHYME_NODE_RANGE, DOMETHYME_TOO_LONG, DOMETHYME_OUT_OF_MEMORY. */
 uint32_t domethyme_route(domethyme *handle, uint32_t from, uint32_t to, domethyme_route_info *route,
                          uint32_t *nodes, size_t room);
@@ -156,11 +156,11 @@ uint32_t domethyme_lengths(domethyme *handle, const domethyme_pair *pairs, size_
                            uint64_t *lengths, size_t room);
 
 /* The least length from each source to each target, row by row: that from source i to target j is lengths[i * target_count +
- * j]. As domethyme_lengths else.
+ * j]. Errors are those of domethyme_lengths.
  *
  * Above 64 lengths it first selects what paths to the targets take: 4 bytes for each node of the hierarchy, 8 for each target,
- * and 8 for each node that is selected and for each link to one, with room for up to as many again; 12 if there are 2^32 such
- * links or one is as long as that. The handle keeps that for the next table to the same targets, in the same order, until one to
+ * and 8 bytes for each selected node and each link into one (12 if there are 2^32 such links, or one has length 2^32 or more);
+ * allocations may be twice that. The handle keeps that for the next table to the same targets, in the same order, until one to
  * others comes. All handles of the hierarchy share the last one that any of them made, those opened earlier too, and the last
  * that has it frees it. A call with no targets lets both go. No call waits for another: of selections that are made at the same
  * time one is shared. */

@@ -19,7 +19,7 @@ export interface Between extends Route {
   end: number;
 }
 
-/** The library's names for what it refuses; faults of a file from `Read` on, as docs/REFERENCE.md has them. */
+/** The library's names for what it refuses; faults of a file from `Read` on, as docs/FORMATS.md has them. */
 export type Code =
   | "NoHandle" | "NodeRange" | "OutOfMemory" | "TooLong" | "SeedCost" | "BadLimit"
   | "Read" | "BadMagic" | "Truncated" | "TooBig" | "BoundTooBig" | "RankRange" | "RankTwice" | "LinkEnds" | "LinkOrder"

@@ -18,7 +18,7 @@ def from_osm(
     OUT.net and OUT.rch. At an exception the files are as they were before, or the network alone is new.
 
     path      a .osm, .osm.bz2 or .osm.pbf file, which is read twice
-    out       the beginning of the names of the files
+    out       the prefix of the output files
     profile   the vehicle: car, lorry, bicycle, foot, or the path of a profile of your own, NAME.json
     progress  True shows bars of tqdm; a callable receives what is being done, how much of it is done, and how much there is
     order     as for `prepare`

@@ -62,7 +62,7 @@ def argument_parser() -> argparse.ArgumentParser:
     add("hierarchy", metavar="HIERARCHY", help="the file of a hierarchy")
     graph = "the graph for which the hierarchy has to be right, proved at each start"
     add("--verify", metavar="GRAPH", help=graph)
-    add("--network", metavar="NETWORK", help="the beginning of its network's file names: places on roads, OSRM's API")
+    add("--network", metavar="NETWORK", help="prefix of the network's files (PREFIX.net); needed for coordinates, OSRM's API and the map")
     add("--towards", action="store_true", help="what leads to places too: reverse=true of isochrones, by a second hierarchy in memory")
     add("--exclude", metavar="CLASSES=HIERARCHY", type=parse_excluded, action="append", default=[],
         help="the hierarchy without these classes of roads, as `without` leaves them out, for exclude=CLASSES; several times")
@@ -84,7 +84,7 @@ def argument_parser() -> argparse.ArgumentParser:
     add("--allowed-host", metavar="NAME", action="append", default=[], help=host)
     add("--cors", metavar="ORIGIN", type=parse_origin, default="none", help="the origin whose pages may ask, * for any (none)")
     add("--access-log", action="store_true", help="a line of JSON on standard error for each request")
-    add("--log-places", action="store_true", help="with the path and the caller's address in it")
+    add("--log-places", action="store_true", help="also log the request's path and the client's address (implies --access-log)")
     for name, substitute in REMOVED_OPTIONS.items():
         refuse = functools.partial(refuse_option, parser, f"{name} is no longer an option: use {substitute}")
         add(name, type=refuse, nargs=1, help=argparse.SUPPRESS)

@@ -3,6 +3,7 @@ by it, and docs/SERVICE.md has what `python3 -m domethyme_service.endpoints` pri
 makes of it. An endpoint is added here alone, and its parameters in `parameters`."""
 import enum
 import functools
+import math
 import re
 from collections.abc import Callable, Iterator, Mapping
 from typing import Any, NamedTuple
@@ -94,28 +95,29 @@ NOWHERE = "there is no such parameter"
 NO_PARAMETERS = "this path has no parameters"
 ENDS = (FROM, TO, FROM_KEY, TO_KEY)
 SNAPPING = "PLACE*P + BEARING*B"
+OF_ROUTES: tuple[Parameter[Any], ...] = (ANNOTATIONS, OVERVIEW, GEOMETRIES, STEPS)
 ENDPOINTS = (
     Endpoint("/", "/", "the page", handlers.page_file, parameters=None, media="text/html"),
     Endpoint("/map/files", "/map/FILE", "its files", handlers.page_file, Kind.FILE, parameters=None, media="*/*"),
     Endpoint("/map/about", "/map/about", "the box of the roads, the attribution, and a number that changes with the network",
              handlers.about, schema="MapAbout", unknown=NOWHERE),
-    Endpoint("/map/roads", "/map/roads/ZOOM/X/Y", "the roads in a square tile, as maps of the web number them, to zoom 16",
+    Endpoint("/map/roads", "/map/roads/ZOOM/X/Y", "the roads of a slippy-map (XYZ) tile, up to zoom 16",
              handlers.tile, Kind.TILE, parameters=(any_text("v"),), cost="TILE", schema="MapTile", unknown=NOWHERE),
-    osrm_endpoint("route", "a route by two places or more, to 500, a leg for each two, and other routes between two", handlers.places(osrm.route),
+    osrm_endpoint("route", "a route through 2 to 500 places, with a leg between each two consecutive ones, and other routes between two", handlers.places(osrm.route),
                   range(2, 501), f"{SNAPPING} + PAIR*G + (NODE*W + POINT*V)*(1 + A) + U*(2*REACH*N + 20*PAIR)", "Routes",
-                  ALTERNATIVES, CONTINUE_STRAIGHT, unsupported("waypoints"), ANNOTATIONS, OVERVIEW, GEOMETRIES, STEPS),
+                  ALTERNATIVES, CONTINUE_STRAIGHT, unsupported("waypoints"), *OF_ROUTES),
     osrm_endpoint("nearest", "the nearest points of roads", handlers.places(osrm.nearest), range(1, 2),
                   f"{SNAPPING} + PLACE*K", "Nearest", NUMBER),
-    osrm_endpoint("table", "durations, distances and weights, by up to 2,000 places", handlers.places(osrm_tables.table),
+    osrm_endpoint("table", "durations, distances and weights between up to 2,000 places", handlers.places(osrm_tables.table),
                   range(1, 2001), f"{SNAPPING} + ROW*M*(1 + L/10000) + (CELL + 10*BYTE)*Z + PAIR*G + NODE*W", "Table",
                   FALLBACK_SPEED, FALLBACK_COORDINATE, SCALE_FACTOR, TABLE_ANNOTATIONS, SOURCES, DESTINATIONS),
-    osrm_endpoint("trip", "a round trip by two places or more, to 500, in an order of little weight", handlers.places(osrm_trip.trip),
+    osrm_endpoint("trip", "a round trip through 2 to 500 places, in an order of little weight", handlers.places(osrm_trip.trip),
                   range(2, 501), f"{SNAPPING} + ROW*M*(1 + L/10000) + CELL*Z + STOP*P + PAIR*G + NODE*W + POINT*V", "Trips",
-                  ROUNDTRIP, SOURCE, DESTINATION, ANNOTATIONS, OVERVIEW, GEOMETRIES, STEPS),
+                  ROUNDTRIP, SOURCE, DESTINATION, *OF_ROUTES),
     osrm_endpoint("match", "the way of a vehicle along roads, by 2 to 500 places where it was measured to be",
                   handlers.places(osrm_match.match), range(2, 501), "TRACE*P + PAIR*G + NODE*W + POINT*V", "Matchings",
-                  DEVIATIONS, TIMESTAMPS, GAPS, TIDY, unsupported("waypoints"), ANNOTATIONS, OVERVIEW, GEOMETRIES, STEPS),
-    Endpoint("/isochrone", "/isochrone/v1/PROFILE/PLACE", "what is reached within minutes or metres, or leads to a place, as GeoJSON",
+                  DEVIATIONS, TIMESTAMPS, GAPS, TIDY, unsupported("waypoints"), *OF_ROUTES),
+    Endpoint("/isochrone", "/isochrone/v1/PROFILE/PLACE", "isochrones: what is within minutes or metres of a place, or leads to it, as GeoJSON",
              handlers.places(isochrone.answer), Kind.PLACES, range(1, 2),
              (CONTOURS_MINUTES, CONTOURS_METERS, CONTOURS_COLORS, POLYGONS, GENERALIZE, DENOISE, RADIUSES, BEARINGS,
               any_text("access_token"), REVERSE, EXCLUDE, unsupported("depart_at")), f"{SNAPPING} + REACH*N + CONTOUR*C + DRAWN*R",
@@ -123,7 +125,7 @@ ENDPOINTS = (
     osrm_endpoint("tile", "", handlers.unsupported, range(0), "", ""),
     Endpoint("/nodes/route", "/nodes/route", "a route between nodes by their numbers, from 1", handlers.route, parameters=ENDS,
              cost="PAIR + NODE*W", schema="NodeRoute"),
-    Endpoint("/nodes/length", "/nodes/length", "its length alone; null if there is no path", handlers.length, parameters=ENDS,
+    Endpoint("/nodes/length", "/nodes/length", "only its length; null if there is no path", handlers.length, parameters=ENDS,
              cost="PAIR", schema="NodeLength"),
     Endpoint("/nodes/routes", "/nodes/routes", "a route for each line of the body, as a line of JSON", handlers.routes, Kind.LINES,
              cost="T*(LINE + PAIR) + NODE*W", schema="NodeRoutes", media=BATCH_TYPES[0], method="POST", unknown=NO_PARAMETERS),
@@ -169,23 +171,29 @@ def endpoint_list() -> list[str]:
 
 
 def cost_tables() -> list[str]:
-    """The lines of the tables of costs in docs/SERVICE.md: of endpoints, variables and prices."""
-    rows = ["| Request | Its cost, in units |", "|---|---|"]
-    rows += [f"| `{each.name}` | {shown(each.cost)} |" for each in ENDPOINTS if each.cost]
-    rows += ["", "| Price | of |", "|---|---|", *(f"| `{work.name}` {work.units:,g} | {work.text} |" for work in Work)]
-    return [*rows, "", "| Number | of |", "|---|---|", *(f"| {name} | {text} |" for name, text in costs.VARIABLES.items())]
+    """The lines of the tables of costs in docs/SERVICE.md: of endpoints and of variables."""
+    rows = ["|Request|Its cost, in units|", "|---|---|", *(f"|`{each.name}`|{shown(each.cost)}|" for each in ENDPOINTS if each.cost)]
+    return [*rows, "", "|Number|of|", "|---|---|", *(f"|{name}|{text}|" for name, text in costs.VARIABLES.items())]
 
 
 def shown(text: str) -> str:
-    """A formula as the documents show it."""
-    return f"`{text.replace('*', ' ')}`"
+    """A formula as the documents show it, with prices as numbers."""
+    return f"`{re.sub(r'[A-Z0-9]+([*][A-Z0-9]+)*', shown_product, text).replace('*', ' ')}`"
+
+
+def shown_product(found: re.Match[str]) -> str:
+    """A product of prices, numbers and variables, as one number and the variables."""
+    factors = found[0].split("*")
+    named = " ".join(each for each in factors if each in costs.VARIABLES)
+    number = math.prod(float(each) if each.isdigit() else Work[each].units for each in factors if each not in costs.VARIABLES)
+    return named if named and number == 1 else f"{number:,g} {named}".strip()
 
 
 def parameter_list() -> list[str]:
     """The lines of the list of the parameters of OSRM's API and Mapbox's in docs/SERVICE.md."""
-    lines = ["- OSRM's API", *map(parameter_line, COMMON)]
+    lines = ["- OSRM's API", *map(parameter_line, COMMON), "- `route`, `trip` and `match` also", *map(parameter_line, OF_ROUTES)]
     for name in ("route", "nearest", "table", "trip", "match"):
-        own = [each for each in BY_NAME[f"/{name}"].parameters or () if each not in COMMON]
+        own = [each for each in BY_NAME[f"/{name}"].parameters or () if each not in (*COMMON, *OF_ROUTES)]
         lines += [f"- `{name}` also", *map(parameter_line, own)]
     own = [each for each in BY_NAME["/isochrone"].parameters or () if each not in COMMON]
     return [*lines, "- `isochrone`, with `radiuses` and `bearings` of OSRM's", *map(parameter_line, own)]

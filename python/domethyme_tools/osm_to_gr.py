@@ -76,7 +76,7 @@ def parse_args() -> argparse.Namespace:
         __doc__, "%(prog)s country.osm.pbf out/country", "%(prog)s country.osm.pbf out/bicycle --profile bicycle"
     )
     parser.add_argument("map", metavar="MAP", help="a .osm, .osm.bz2 or .osm.pbf file")
-    parser.add_argument("out", metavar="OUT", help="the beginning of the names of the files")
+    parser.add_argument("out", metavar="OUT", help="prefix of the output files: OUT.gr, OUT.net")
     parser.add_argument("--profile", default="car", metavar="NAME|FILE.json",
                         help="the rules of the vehicle: car, lorry, bicycle, foot, or a file (car)")
     parser.add_argument("--weight", choices=sorted(WEIGHTS), default="time", help="what a weight counts (time)")

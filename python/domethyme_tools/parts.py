@@ -34,7 +34,7 @@ from domethyme.limits import MAX_LINES
 
 from .cli import ToolError
 
-# By docs/REFERENCE.md: spaces and tabs part the fields of a line, and one carriage return at its end is dropped.
+# By docs/FORMATS.md: spaces and tabs part the fields of a line, and one carriage return at its end is dropped.
 PAIR = re.compile(rb"[ \t]*q(?:[ \t]|\r?\n?\Z)")
 PROBLEM = re.compile(rb"[ \t]*p[ \t]+aux[ \t]+sp[ \t]+p2p[ \t]+0*([0-9]{1,9})[ \t]*\r?\n?")
 NAMES = re.compile(r"plan\.json(\..+\.new)?|whole\.pairs|\d{6,}\.(pairs|answers|new)|(drafts|gone)-[0-9a-f]{32}")

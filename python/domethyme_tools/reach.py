@@ -6,7 +6,7 @@ refused. PLACES is a CSV file with the columns lon and lat, in degrees (`-` is s
 nearest point of a road, in both directions.
 
 OUT is a collection with a feature for each number of --minutes, or of --metres, the greatest first: a polygon, its outlines with
---shape lines, or with --shape roads the lines of the roads that are reached, as far as they are. Its properties are those of
+--shape lines, or with --shape roads the reached parts of roads. Its properties are those of
 Mapbox's Isochrone API: contour (the number), metric (time or distance), color, opacity, and names by which other programs know
 these. A smaller contour lies within a larger one. Where nothing is reached there is no geometry.
 

@@ -61,7 +61,7 @@ def parse_args() -> argparse.Namespace:
     )
     parser.add_argument("nodes", metavar="NODES", help="the table of nodes, or a .co file")
     parser.add_argument("arcs", metavar="ARCS", help="the table of arcs, or a .gr file")
-    parser.add_argument("out", metavar="OUT", help="the beginning of the names of the files")
+    parser.add_argument("out", metavar="OUT", help="prefix of the output files: OUT.gr, OUT.net")
     parser.add_argument("--weight", choices=("time", "length"), default="time",
                         help="what a weight is without the column (time)")
     parser.add_argument("--delimiter", type=mark, default=",", metavar="MARK", help="what is between fields (,)")

@@ -1,4 +1,4 @@
-"""docs/RECIPES.md: its scripts and its lines for nginx do what the page says, in a folder in place of the machine's own."""
+"""The recipes of docs/OPERATING.md and docs/PYTHON.md do what the pages say, in a folder in place of the machine's own."""
 import fcntl
 import hashlib
 import json
@@ -25,7 +25,7 @@ sys.path.insert(0, str(ROOT / "packaging"))
 
 from readme_session import blocks  # noqa: E402
 
-PAGE = (ROOT / "docs" / "RECIPES.md").read_text(encoding="utf-8")
+PAGE, PYTHON_PAGE = ((ROOT / "docs" / name).read_text(encoding="utf-8") for name in ("OPERATING.md", "PYTHON.md"))
 PLACE = "/route/v1/{}/0.001,0;0.012,0?overview=false&generate_hints=false"
 REFRESH = ROOT / "packaging/container/refresh"
 
@@ -65,13 +65,13 @@ def test_from_osrm(tmp_path):
     assert {"tools/osm_to_gr", "tools/domethyme-serve", "routecli", "curl"} == typed
 
 
-@pytest.mark.parametrize("number", [
-    pytest.param(0, marks=pytest.mark.needs("import:networkx")), pytest.param(1, marks=pytest.mark.needs("import:osmnx")),
-    pytest.param(2, marks=[pytest.mark.needs("import:geopandas"), pytest.mark.needs("import:folium")]),
+@pytest.mark.parametrize("name", [
+    pytest.param("networkx", marks=pytest.mark.needs("import:networkx")), pytest.param("osmnx", marks=pytest.mark.needs("import:osmnx")),
+    pytest.param("folium", marks=[pytest.mark.needs("import:geopandas"), pytest.mark.needs("import:folium")]),
 ])
-def test_python(tmp_path, number):
+def test_python(tmp_path, name):
     """Each block prints what its comments say; the map is the village, moved to where the page asks."""
-    block = blocks(PAGE, "import domethyme")[number]
+    (block,) = blocks(PYTHON_PAGE, f"import domethyme\nimport {name}\n")
     (tmp_path / "out").mkdir()
     (tmp_path / "out/town.osm").write_text(TOWN)
     domethyme.from_osm(moved_village(tmp_path), tmp_path / "out/li").close()
@@ -80,7 +80,7 @@ def test_python(tmp_path, number):
     ran = subprocess.run(["/usr/bin/python3", "-c", code], cwd=tmp_path, env=environment, capture_output=True, text=True)
     assert ran.returncode == 0, ran.stderr
     assert ran.stdout.splitlines() == re.findall(r"print\(.*\) +# (.*)", block)
-    assert number != 2 or "geojson" in (tmp_path / "out/page.html").read_text().lower() and (tmp_path / "out/routes.gpkg").stat().st_size > 10_000
+    assert name != "folium" or "geojson" in (tmp_path / "out/page.html").read_text().lower() and (tmp_path / "out/routes.gpkg").stat().st_size > 10_000
 
 
 def ranks_in(path):

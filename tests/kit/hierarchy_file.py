@@ -1,4 +1,4 @@
-"""Spells hierarchy files in the form of docs/REFERENCE.md, for the scripts that need whole or broken files of their own."""
+"""Spells hierarchy files in the form of docs/FORMATS.md, for the scripts that need whole or broken files of their own."""
 import os
 import struct
 from collections.abc import Iterable, Sequence

@@ -1,4 +1,4 @@
-"""Slow and plain readers of the formats of docs/REFERENCE.md, written from that page alone, and what the answers have to be.
+"""Slow and plain readers of the formats of docs/FORMATS.md, written from that page alone, and what the answers have to be.
 
 They share no code with `routecli` and nothing of its ways: each looks at the whole file or text again for each question.
 A cost is a pair (weight, arcs); Python orders pairs by the first number and then by the second, as costs are ordered. In

@@ -12,7 +12,7 @@ from domethyme.errors import HierarchyError
 from domethyme.network.groups import Ints
 from domethyme.program import StrPath
 
-# By docs/REFERENCE.md, "Hierarchy file".
+# By docs/FORMATS.md, "Hierarchy file".
 MAGIC, NO_MIDDLE = b"RCH2", 0xFFFF_FFFF
 LINK = np.dtype([("start", ">u4"), ("end", ">u4"), ("weight", ">u8"), ("arcs", ">u4"), ("middle", ">u4")])
 
