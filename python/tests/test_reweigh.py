@@ -248,7 +248,8 @@ class ToolTests(ToolCase):
         self.assertEqual(self.arcs("again"), arcs)
         said, arcs = self.reweighed("13,0\n1,2,0\n2,1,0\n")
         self.assertEqual((said[-1], sorted(arcs)), ("reweigh: new: 0 arcs changed, 4 closed, and 2 cut off by these", [(1, 5), (5, 1), (5, 6), (6, 5)]))
-        for kmh, says in ((0, "would have no arc that is open"), (0.00001, "would have an arc that weighs more than 4294967295")):
+        heavy = "would have an arc that weighs more than 4294967295"
+        for kmh, says in ((0, "would have no arc that is open"), (0.00001, heavy), (1e-14, heavy), (1e-320, heavy)):
             with self.assertRaisesRegex(domethyme.NetworkError, f"map.net: {says}"):
                 domethyme.Network(self.folder / "map").reweigh([(way, kmh) for way in range(11, 15)], self.folder / "other")
 

@@ -224,13 +224,13 @@ def steps_of(network: MappedNetwork, speeds: Speeds, is_open: NDArray[np.bool_])
 
 
 def milliseconds_of(network: MappedNetwork, arcs: Ints, steps: Steps) -> Floats:
-    """The time of arcs at new speeds, without penalties; infinite for what is closed. Steps without a new speed take their share of the
+    """The time of arcs at new speeds, without penalties; NaN for what is closed. Steps without a new speed take their share of the
     old time."""
     counts = np.bincount(steps.owner, minlength=len(arcs))
     begins, metres = offsets(counts)[:-1], network.edge_metres[network.arc_edge[arcs]]
     least, most = np.minimum.reduceat(steps.kmh, begins), np.maximum.reduceat(steps.kmh, begins)
     is_closed, is_mixed = np.fmin.reduceat(steps.kmh, begins) == 0, ~(least == most)
-    with np.errstate(divide="ignore"):
+    with np.errstate(divide="ignore", over="ignore"):
         found: Floats = metres * 3600 / least
     chosen = np.flatnonzero(is_mixed[steps.owner])
     owner, point, kmh = (column[chosen] for column in steps)
@@ -239,10 +239,10 @@ def milliseconds_of(network: MappedNetwork, arcs: Ints, steps: Steps) -> Floats:
     whole = np.bincount(owner, along, len(arcs))[owner]
     shares = np.divide(along, whole, out=1 / counts[owner], where=whole > 0)
     old = network.arc_weight[arcs] - PENALTY * network.arc_penalty[arcs]
-    with np.errstate(divide="ignore", invalid="ignore"):
+    with np.errstate(divide="ignore", invalid="ignore", over="ignore"):
         times = shares * np.where(np.isnan(kmh), old[owner], metres[owner] * 3600 / kmh)
     found[is_mixed] = np.bincount(owner, times, len(arcs))[is_mixed]
-    found[is_closed] = np.inf
+    found[is_closed] = np.nan
     return found
 
 
@@ -259,13 +259,13 @@ def reweigh(network: MappedNetwork, speeds: Speeds) -> tuple[MappedNetwork, Rewe
     is_open = network.are_open()
     arcs, steps, unmatched = steps_of(network, speeds, is_open)
     times = milliseconds_of(network, arcs, steps)
-    is_closed = np.isinf(times)
+    is_closed = np.isnan(times)
     taken, times = arcs[~is_closed], times[~is_closed]
     penalty = network.arc_penalty[taken].astype(np.int64)
+    if (times + PENALTY * penalty).max(initial=0) > MAX_WEIGHT:
+        raise NetworkError(f"would have an arc that weighs more than {MAX_WEIGHT}", network.path)
     weights, seconds = network.arc_weight[:].copy(), network.arc_seconds[:].copy()
     weights[taken], seconds[taken] = whole_weights(times, PENALTY * penalty), seconds_of(times, penalty)
-    if weights.max() > MAX_WEIGHT:
-        raise NetworkError(f"would have an arc that weighs more than {MAX_WEIGHT}", network.path)
     changed = (weights != network.arc_weight[:]) | (seconds != network.arc_seconds[:])
     view = copy.copy(network)
     vars(view).update(arc_weight=weights, arc_seconds=seconds, about={**network.about, **dict.fromkeys(OF_TABLES, 0)})
