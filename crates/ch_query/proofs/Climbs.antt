@@ -1,5 +1,6 @@
 -- A half that climbs as far as its links lead lists the least climb to each node.
-use Rattle.std.proofs.Common.{ℕ, ◌≡◌, List, [], ◌∷◌, ◌++◌, length, get_or, None, All, ap, refl, sym, subst, ◌∙◌, inl, inr, arith}
+use Rattle.std.proofs.Common.{ℕ, ◌≡◌, ◌≢◌, ◌<◌, List, [], ◌∷◌, ◌++◌, length, get_or, None, All, ap, refl, sym, subst, ◌∙◌, inl, inr, arith}
+use Rattle.std.proofs.lemmas.Bool.{cases_lt}
 use Rattle.std.proofs.lemmas.List.{get_or_append_left, get_or_push, length-append}
 use Rattle.std.proofs.lemmas.List.Elements.{All-nil, All-push}
 use Rattle.ch_cost.specs.declared.cost.Cost.{Cost}
@@ -20,20 +21,25 @@ use Rattle.ch_query.specs.Beginning.{NoneSettled}
 use Rattle.ch_query.specs.Marks.{label_cost}
 use Rattle.ch_query.specs.Searching.{IsClimbing, IsSearching}
 use Rattle.ch_query.specs.Ways.{IsClimb, AreLeastClimbs}
+use Rattle.ch_query.proofs.Descents.{came_from}
 use Rattle.ch_query.proofs.Following.{counts-short}
 use Rattle.ch_query.proofs.LeastSum.{counts_less}
 
 -- nothing is listed where nothing is settled
 pub listed-none : {marks : List (Mark Label)} {climbs : List Climbed} → climbs ≡ [] → NoneSettled marks → AreListed marks climbs
-listed-none {marks} is none = record {
+listed-none {marks} {climbs} is none = record {
   each = subst (All (λ (c : Climbed). (e : Label) × (mark marks c.rank ≡ Settled e) × (c.length ≡ length_of e.cost))) (sym is) (All-nil (λ (c : Climbed). (e : Label) × (mark marks c.rank ≡ Settled e) × (c.length ≡ length_of e.cost)));
   all = λ r e closed. absurd (none r e closed);
+  before = λ k (c : Climbed) e low closed other. absurd (none (get_or climbs k c).rank e closed);
 }
 
+one_label : {m : Mark Label} {e d : Label} → m ≡ Settled e → m ≡ Settled d → e ≡ d
+one_label is other = cc
+
 -- and one more node with it
-pub listed-more : {old new : List (Mark Label)} {climbs : List Climbed} {c : Climbed} {e : Label} → IsClimbedOn c.rank e old new → c.length ≡ length_of e.cost
+pub listed-more : {h : Hierarchy} {side : Side} {seeds : List Seed} {bound : Cost} {old new : List (Mark Label)} {climbs : List Climbed} {c : Climbed} {e : Label} → IsSearching h side seeds bound new → IsClimbedOn c.rank e old new → c.length ≡ length_of e.cost
     → AreListed old climbs → AreListed new (climbs ++ c ∷ [])
-listed-more {new} {climbs} {c} {e} turn long was = record {
+listed-more {old = old} {new = new} {climbs = climbs} {c = c} {e = e} searching turn long was = record {
   each = All-push (λ (c : Climbed). (e : Label) × (mark new c.rank ≡ Settled e) × (c.length ≡ length_of e.cost)) climbs c
       (λ k d low. let one = was.each k d low in (one.0, turn.stays (get_or climbs k d).rank one.0 one.1, one.2)) (e, turn.here, long);
   all = λ r d closed. elim (turn.settled r d closed) [
@@ -41,6 +47,27 @@ listed-more {new} {climbs} {c} {e} turn long was = record {
     | inr before ↦
         let one = was.all r d before in
         (one.0, omega (arith, length-append climbs (c ∷ []), one.1), λ (b : Climbed). ap (λ (x : Climbed). x.rank) (get_or_append_left climbs (c ∷ []) b one.0 one.1) ∙ one.2 b)
+  ];
+  before = λ k (d : Climbed) (f : Label) low closed other. elim (cases_lt k (length climbs)) [
+    | inl earlier ↦
+        let same : get_or (climbs ++ c ∷ []) k d ≡ get_or climbs k d = get_or_append_left climbs (c ∷ []) d k earlier in
+        let one = was.each k d earlier in
+        let closed_here : mark new (get_or climbs k d).rank ≡ Settled f = subst (λ (b : Climbed). mark new b.rank ≡ Settled f) same closed in
+        let label : one.0 ≡ f = one_label (turn.stays (get_or climbs k d).rank one.0 one.1) closed_here in
+        let closed_before : mark old (get_or climbs k d).rank ≡ Settled f = subst (λ (l : Label). mark old (get_or climbs k d).rank ≡ Settled l) label one.1 in
+        let found = was.before k d f earlier closed_before (subst (λ (b : Climbed). f.foot ≢ b.rank) same other) in
+        (found.0, found.1, λ (b : Climbed). ap (λ (x : Climbed). x.rank) (get_or_append_left climbs (c ∷ []) b found.0 (omega (arith, found.1, earlier))) ∙ found.2 b)
+    | inr late ↦
+        let last : k ≡ length climbs = omega (arith, low, late, length-append climbs (c ∷ [])) in
+        let same : get_or (climbs ++ c ∷ []) k d ≡ c = get_or_push climbs c d k (sym last) in
+        let apart : f.foot ≢ c.rank = subst (λ (b : Climbed). f.foot ≢ b.rank) same other in
+        let comes = came_from searching (label_settled (mark new c.rank) f (subst (λ (b : Climbed). mark new b.rank ≡ Settled f) same closed)) apart in
+        elim (turn.settled f.foot comes.foot comes.settled) [
+          | inl here ↦ absurd (apart here)
+          | inr before ↦
+              let one = was.all f.foot comes.foot before in
+              (one.0, omega (arith, one.1, last), λ (b : Climbed). ap (λ (x : Climbed). x.rank) (get_or_append_left climbs (c ∷ []) b one.0 one.1) ∙ one.2 b)
+        ]
   ];
 }
 

@@ -97,14 +97,14 @@ came_from is {r} {e} label other = elim (is.origin r e label) [
   | inr comes ↦ comes
 ]
 
-came_first : {h : Hierarchy} {side : Side} {seeds : List Seed} {bound : Cost} {marks : List (Mark Label)} → IsSearching h side seeds bound marks → {r : ℕ} {e : Label} → HasLabel (mark marks r) e → e.foot ≡ r → IsOfSeed h seeds r e
+pub came_first : {h : Hierarchy} {side : Side} {seeds : List Seed} {bound : Cost} {marks : List (Mark Label)} → IsSearching h side seeds bound marks → {r : ℕ} {e : Label} → HasLabel (mark marks r) e → e.foot ≡ r → IsOfSeed h seeds r e
 came_first is {r} {e} label own = elim (is.origin r e label) [
   | inl first ↦ first
   | inr comes ↦ absurd (omega (arith, own, arc-rises comes.over.goes))
 ]
 
 -- two links of one side with the same ends are one
-one_link : {h : Hierarchy} → IsWellMade h → {side : Side} {f r k j : ℕ} → LeadsUp h side f r k → LeadsUp h side f r j → k ≡ j
+pub one_link : {h : Hierarchy} → IsWellMade h → {side : Side} {f r k j : ℕ} → LeadsUp h side f r k → LeadsUp h side f r j → k ≡ j
 one_link {h} made {side} {k} {j} first second = elim (cases_eq k j) [
   | inl e ↦ e
   | inr other ↦ elim (cases_lt k j) [

@@ -20,3 +20,4 @@ pub mod Results
 pub mod Climbs
 pub mod Falls
 pub mod WaysBetween
+pub mod Summing

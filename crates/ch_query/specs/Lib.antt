@@ -14,3 +14,4 @@ pub mod Ways
 pub mod Climbing
 pub mod Beginning
 pub mod Meeting
+pub mod Sums

@@ -1,5 +1,5 @@
 ghost use Rattle.std.specs.Prelude.{◌≡◌, length, IfNone, IfOk, IfSome, None, OnOk};
-ghost use Rattle.ch_query.specs.Climbing.{IsClimbedOn, IsEnd};
+ghost use Rattle.ch_query.specs.Climbing.{AreListed, IsClimbedOn, IsEnd};
 ghost use Rattle.ch_query.specs.Ready.{IsHalf};
 ghost use Rattle.ch_query.specs.Searching.{IsClimbing, IsSearching};
 ghost use Rattle.ch_query.specs.Ways.{AreLeastClimbs};
@@ -24,6 +24,8 @@ impl Half<'_> {
         requires nodes { length marks.old ≡ length self.now.hierarchy.now.ranks }
         ensures nodes { length marks.new ≡ length marks.old }
         ensures climbs { OnOk result (AreLeastClimbs self.now.hierarchy.now self.now.side self.now.seeds.now self.now.bound climbs.new.items) }
+        ensures searching { OnOk result (IsSearching self.now.hierarchy.now self.now.side self.now.seeds.now self.now.bound marks.new) }
+        ensures listed { OnOk result (AreListed marks.new climbs.new.items) }
     {
         climbs.clear();
         self.begin(marks)?;

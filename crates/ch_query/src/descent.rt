@@ -63,7 +63,7 @@ impl Half<'_> {
 }
 
 /// The rank of the node that the climb to the node of a rank came from, if it has a label and isn't where a side began.
-fn came_from(marks: &Frontier, rank: u32) -> Option<u32>
+pub fn came_from(marks: &Frontier, rank: u32) -> Option<u32>
     requires { rank < length marks.now }
     ensures some { IfSome result (λ foot. (e : Label) × (HasLabel (mark marks.now rank) e) × (e.foot ≡ foot) × (foot ≢ rank)) }
     ensures none { IfNone result ((e : Label) → HasLabel (mark marks.now rank) e → e.foot ≡ rank) }

@@ -42,6 +42,7 @@ mod query;
 mod search;
 mod seed;
 mod side;
+mod sum_climbs;
 mod turn;
 mod upward;
 

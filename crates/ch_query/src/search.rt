@@ -1,11 +1,13 @@
-ghost use Rattle.std.specs.Prelude.{◌≡◌, ◌<◌, length, option_map, Some, IfOk, IfSome, OnOk};
+ghost use Rattle.std.specs.Prelude.{◌≡◌, ◌<◌, ℕ, length, option_map, Some, IfOk, IfSome, OnOk};
 ghost use Rattle.ch_cost.specs.Cost.{zero_cost, IsSummable};
 ghost use Rattle.ch_graph.specs.Graph as graphs;
 ghost use Rattle.ch_graph.specs.Hierarchy.{IsRight, IsValue, IsWellMade};
 ghost use Rattle.ch_graph.specs.Unfolding.{Joined};
-ghost use Rattle.ch_query.specs.declared.side.Side.TheVariants.{Rise};
+ghost use Rattle.ch_query.specs.declared.side.Side.TheVariants.{Rise, Fall as falling};
+ghost use Rattle.ch_query.specs.Climb.{LeadsUp};
 ghost use Rattle.ch_query.specs.Places.{IsRiseFallAt};
 ghost use Rattle.ch_query.specs.Seeds.{AreSeeds, IsValueBetween, IsWalkBetween, IsLeastWalkBetween, IsDistanceBetween, longest};
+ghost use Rattle.ch_query.specs.Sums.{AreSumsOf, HaveNumbers};
 ghost use Rattle.ch_query.specs.Ways.{AreFallsTo, AreLeastClimbs};
 
 use crate::climb::Climbed;
@@ -255,6 +257,51 @@ impl<H: HierarchyRef> SearchOf<H> {
         let climbed = half.climb(&mut self.up, climbs);
         self.up.shrink();
         climbed
+    }
+
+    /// The same, and writes for the rank of each node that is listed what the numbers of the links of a climb to it sum to,
+    /// which is as long as is listed. There is a number for each link, of at most 2^36, and room for each node.
+    pub fn climb_summed(
+        &mut self,
+        starts: &[Seed],
+        bound: Cost,
+        numbers: &[u64],
+        climbs: &mut Vec<Climbed>,
+        sums: &mut [u64],
+    ) -> Result<(), AllocError>
+        requires starts { AreSeeds self.old starts.now }
+        requires bound { IsSummable bound }
+        requires numbers { HaveNumbers self.old numbers.now }
+        requires room { length sums.old ≡ length self.old.ranks }
+        ensures climbs { OnOk result (AreLeastClimbs self.old Rise starts.now bound climbs.new.items) }
+        ensures sums { OnOk result (AreSumsOf self.old numbers.now starts.now sums.new climbs.new.items) }
+        ensures room { length sums.new ≡ length sums.old }
+        ensures kept { self.new ≡ self.old }
+    {
+        let half = Half {
+            hierarchy: self.hierarchy.hierarchy(),
+            steps: &self.layout.rising,
+            side: Side::Rise,
+            seeds: starts,
+            bound,
+        };
+        let climbed = half.climb_summed(&mut self.up, numbers, climbs, sums);
+        self.up.shrink();
+        climbed
+    }
+
+    /// Returns the link that falls from the node of the rank `head` to that of the rank `foot`. There is one.
+    ///
+    /// Takes time by the number of links that fall to the latter.
+    pub fn link_down(&self, foot: u32, head: u32) -> LinkId
+        requires { (k : ℕ) × LeadsUp self.now falling foot head k }
+        ensures { (k : ℕ) → LeadsUp self.now falling foot head k → result.0 ≡ k }
+    {
+        let link = self
+            .layout
+            .falling
+            .link_between(self.hierarchy.hierarchy(), Side::Fall, foot, head);
+        LinkId(link)
     }
 
     /// Lists the links that fall to the node of a rank, in place of what the list had. A call that fails leaves any part

@@ -21,6 +21,11 @@ returns-in-None-clause-climbs c =
     climbs-listed c.in_ok-reached.ensures.searching c.in_ok-reached.ensures.climbing end.none
     (subst (λ ms. AreListed ms c.turns.climbs.items) (sym end.same) c.turns.invariant.listed)
 
+pub returns-in-None-clause-listed : goal.returns-in-None-clause-listed
+returns-in-None-clause-listed c =
+    let end : IsEnd c.turns.marks c.climb_on.new.marks = subst (λ (o : Option Reached). IfNone o (IsEnd c.turns.marks c.climb_on.new.marks)) c.in-None.is c.in_ok-reached.ensures.end in
+    subst (λ ms. AreListed ms c.turns.climbs.items) (sym end.same) c.turns.invariant.listed
+
 turned : (c : goal.In_ok-push-in-Some) → IsClimbedOn c.in-Some.reached.rank c.in-Some.reached.label c.turns.marks c.climb_on.new.marks
 turned c = subst (λ (o : Option Reached). IfSome o (λ (r : Reached). IsClimbedOn r.rank r.label c.turns.marks c.climb_on.new.marks)) c.in-Some.is c.in_ok-reached.ensures.settled
 
@@ -33,5 +38,5 @@ turns-preserved c =
       searching = c.in_ok-reached.ensures.searching;
       climbing = c.in_ok-reached.ensures.climbing;
       listed = subst (λ (cs : List Climbed). AreListed c.climb_on.new.marks cs) (sym c.in_ok-push-in-Some.ensures.items)
-          (listed-more (turned c) c.length-length.ensures c.turns.invariant.listed);
+          (listed-more c.in_ok-reached.ensures.searching (turned c) c.length-length.ensures c.turns.invariant.listed);
     }
