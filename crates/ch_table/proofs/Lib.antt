@@ -9,3 +9,6 @@ pub mod LayingDown
 pub mod Marked
 pub mod Ends
 pub mod Bounds
+pub mod StepLinks
+pub mod SumLanes
+pub mod SumRows

@@ -120,7 +120,7 @@ module _ {Is : ℕ → ℕ → ℕ → Type 0} {sources targets : List ℕ} {fro
 
 -- The label of a target's rank is its length
 module _ (walks : WaysAreWalks) (h : Hierarchy) (made : IsWellMade h) (starts : List Seed) (begins : AreSeeds h starts) (bound : Cost) (t : ℕ) (t_in : t < length h.ranks) where
-  value-from : (v : Option Cost) → IsLeastOrNone (IsWay h starts bound (rank_of h t)) v → IsValueBetween h starts (free t ∷ []) bound v
+  pub value-from : (v : Option Cost) → IsLeastOrNone (IsWay h starts bound (rank_of h t)) v → IsValueBetween h starts (free t ∷ []) bound v
   value-from None none = λ c walk. none c ((walks h starts bound t made begins t_in c).1 walk)
   value-from (Some c) least = ((walks h starts bound t made begins t_in c).0 least.0, λ d walk. least.1 d ((walks h starts bound t made begins t_in d).1 walk))
 

@@ -2,3 +2,4 @@ pub mod Lengths
 pub mod Labels
 pub mod Selection
 pub mod Laying
+pub mod Sums

@@ -139,8 +139,8 @@ impl<const N: usize> Lanes<N> {
     }
 }
 
-// A node as a start that costs nothing.
-fn free(node: u32) -> Seed
+/// A node as a start that costs nothing.
+pub fn free(node: u32) -> Seed
     ensures { result ≡ free node }
 {
     Seed {

@@ -17,7 +17,10 @@
 mod columns;
 mod lanes;
 mod selection;
+mod step_numbers;
 mod steps;
+mod sum_lanes;
+mod sum_table;
 mod table;
 
 pub use selection::Selection;

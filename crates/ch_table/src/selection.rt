@@ -1,11 +1,14 @@
 ghost use Rattle.std.specs.Prelude.{◌≡◌, ◌+◌, ◌*◌, ◌<◌, ◌≤◌, ◌^◌, length, All, Err, IfOk, OnErr, OnOk};
 ghost use Rattle.ch_cost.specs.Cost.{IsSummable, length_of, of_walk};
 ghost use Rattle.ch_query.specs.Seeds.{AreSeeds};
+ghost use Rattle.ch_query.specs.Sums.{HaveNumbers};
 ghost use Rattle.ch_table.specs.Lengths.{AreFirstRows, AreRows, IsExactLength, IsLengthFrom, IsLengthFromAny, IsRow};
 ghost use Rattle.ch_table.specs.Selection.{IsSelection, lists_of};
+ghost use Rattle.ch_table.specs.Sums.{AreStepNumbers, IsSumFrom};
 
 use crate::columns::Columns;
 use crate::lanes::Lanes;
+use crate::sum_lanes::SumLanes;
 use crate::table::Table;
 use ch_cost::Cost;
 use ch_query::{HierarchyRef, SearchOf, Seed, ways_are_walks};
@@ -130,6 +133,60 @@ impl Selection {
             from,
         )
     }
+
+    /// Lists the numbers of the links of the selection, of those of all links of the hierarchy: what [`Selection::sums`]
+    /// takes. They are 8 bytes each.
+    pub fn step_numbers<H: HierarchyRef>(
+        &self,
+        alloc: Global,
+        search: &SearchOf<H>,
+        numbers: &[u64],
+    ) -> Result<Vec<u64>, AllocError>
+        requires selection { IsSelection search.now self.now }
+        requires numbers { HaveNumbers search.now numbers.now }
+        ensures { IfOk result (λ steps. AreStepNumbers search.now numbers.now self.now steps.items) }
+    {
+        self.columns.step_numbers(alloc, search, numbers)
+    }
+
+    /// Writes the lengths of [`Selection::lengths`] from the first place on, and to the same places of `sums` what the
+    /// numbers of the links of some walk of that length sum to, or [`NO_LENGTH`](crate::NO_LENGTH) where there is no walk.
+    ///
+    /// `numbers` has a number for each link of the hierarchy, `steps` those of the links of the selection, and `kept` has
+    /// room for a number for each node. The sum is carried beside the label: it takes the time of `lengths` twice at most,
+    /// and 16 bytes for each row of a block and each node of the selection in place of 8.
+    pub fn sums<H: HierarchyRef>(
+        &self,
+        search: &mut SearchOf<H>,
+        numbers: &[u64],
+        steps: &[u64],
+        kept: &mut [u64],
+        sources: &[u32],
+        rows: &mut [u64],
+        sums: &mut [u64],
+    ) -> Result<(), AllocError>
+        requires selection { IsSelection search.old self.now }
+        requires numbers { HaveNumbers search.old numbers.now }
+        requires steps { AreStepNumbers search.old numbers.now self.now steps.now }
+        requires kept { length kept.old ≡ length search.old.ranks }
+        requires sources { All (λ s. s < length search.old.ranks) sources.now }
+        requires room { length sources.now * length self.now.targets ≤ length rows.old }
+        requires sum_room { length sources.now * length self.now.targets ≤ length sums.old }
+        ensures kept { length kept.new ≡ length kept.old }
+        ensures rows { OnOk result (AreRows (IsLengthFrom search.old) sources.now self.now.targets 0 (length sources.now) rows.old rows.new) }
+        ensures sums { OnOk result (AreRows (IsSumFrom search.old numbers.now) sources.now self.now.targets 0 (length sources.now) sums.old sums.new) }
+        ensures same { search.new ≡ search.old }
+    {
+        let columns = &self.columns;
+        match sources.len() {
+            0 => Ok(()),
+            1 => fill_sums::<1, H>(search, columns, numbers, steps, kept, sources, rows, sums),
+            _ if self.columns.ranks.len() > WIDE => {
+                fill_sums::<4, H>(search, columns, numbers, steps, kept, sources, rows, sums)
+            }
+            _ => fill_sums::<8, H>(search, columns, numbers, steps, kept, sources, rows, sums),
+        }
+    }
 }
 
 // A row from some starts within a bound. All memory is taken before the first number is written.
@@ -192,6 +249,46 @@ fn fill<const N: usize, H: HierarchyRef>(
         let count = (sources.len() - done).min(N);
         let block = &sources[done..done + count];
         lanes.write(search, columns, block, rows, from + done * width)?;
+        done += count;
+    }
+    Ok(())
+}
+
+// Rows of lengths and of sums of some sources, so many at a time.
+fn fill_sums<const N: usize, H: HierarchyRef>(
+    search: &mut SearchOf<H>,
+    columns: &Columns,
+    numbers: &[u64],
+    steps: &[u64],
+    kept: &mut [u64],
+    sources: &[u32],
+    rows: &mut [u64],
+    sums: &mut [u64],
+) -> Result<(), AllocError>
+    requires many { 0 < N }
+    requires few { N ≤ 8 }
+    requires selection { IsSelection search.old (lists_of columns.now) }
+    requires numbers { HaveNumbers search.old numbers.now }
+    requires steps { AreStepNumbers search.old numbers.now (lists_of columns.now) steps.now }
+    requires kept { length kept.old ≡ length search.old.ranks }
+    requires sources { All (λ s. s < length search.old.ranks) sources.now }
+    requires room { length sources.now * length columns.now.targets.items ≤ length rows.old }
+    requires sum_room { length sources.now * length columns.now.targets.items ≤ length sums.old }
+    ensures kept { length kept.new ≡ length kept.old }
+    ensures rows { OnOk result (AreRows (IsLengthFrom search.old) sources.now columns.now.targets.items 0 (length sources.now) rows.old rows.new) }
+    ensures sums { OnOk result (AreRows (IsSumFrom search.old numbers.now) sources.now columns.now.targets.items 0 (length sources.now) sums.old sums.new) }
+    ensures same { search.new ≡ search.old }
+{
+    let width = columns.targets.len();
+    let mut lanes = SumLanes::<N>::new(*columns.ranks.allocator());
+    let mut done = 0;
+    'blocks: while done < sources.len() {
+        let count = (sources.len() - done).min(N);
+        let block = &sources[done..done + count];
+        let from = done * width;
+        lanes.write(
+            search, columns, numbers, steps, kept, block, rows, sums, from,
+        )?;
         done += count;
     }
     Ok(())

@@ -114,6 +114,16 @@ impl Steps<u64> {
 }
 
 impl Links {
+    /// How many there are.
+    pub fn count(&self) -> usize
+        ensures { result ≡ length (steps_of self.now).tails.items }
+    {
+        match self {
+            Links::Short(steps) => steps.tails.len(),
+            Links::Long(steps) => steps.tails.len(),
+        }
+    }
+
     /// Keeps the links in short numbers where all fit.
     pub fn new(alloc: Global, steps: Steps<u64>) -> Result<Links, AllocError>
         ensures first { IfOk result (λ l. (steps_of l).first.items ≡ steps.first.items) }

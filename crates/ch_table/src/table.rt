@@ -45,6 +45,7 @@ impl Table<'_> {
         requires lanes { HaveLanes (length self.now.columns.now.ranks.items) N labels.old }
         ensures lanes { HaveLanes (length self.now.columns.now.ranks.items) N labels.new }
         ensures raised { (all : ℕ → List a_seed) → all lane ≡ starts.now → AreRaisedTo self.now.hierarchy.now all self.now.bound self.now.columns.now.ranks.items N labels.old lane → AreRaisedTo self.now.hierarchy.now all self.now.bound self.now.columns.now.ranks.items N labels.new (lane + 1) }
+        ensures others { (j p : ℕ) → (j ≡ lane → ⊥) → lane_of labels.new j p ≡ lane_of labels.old j p }
     {
         'climbs: for climbed in climbs {
             let place = self.columns.places[climbed.rank as usize];
