@@ -1,7 +1,9 @@
 -- The path that a rise-fall walk unfolds to, with what the numbers along it sum to.
-use Rattle.std.proofs.Common.{ℕ, ◌≡◌, ◌+◌, ◌<◌, ◌≤◌, List, [], ◌∷◌, ◌++◌, slice_index, Some, None, Contains, ap, refl, sym, subst, ◌∙◌, arith}
+use Rattle.std.proofs.Common.{ℕ, ◌≡◌, ◌+◌, ◌<◌, ◌≤◌, List, [], ◌∷◌, ◌++◌, length, slice_index, slice_index_or, Some, None, Contains, ap, refl, sym, subst, ◌∙◌, inl, inr, arith}
+use Rattle.std.proofs.lemmas.Bool.{cases_eq, cases_lt}
+use Rattle.std.proofs.lemmas.List.Elements.{All-contains, Contains-get_or}
 use Rattle.std.proofs.lemmas.List.Sums.{sum_by-cons, sum_by-append}
-use Rattle.std.proofs.lemmas.Option.{get_or_from_slice_get, slice_get_within}
+use Rattle.std.proofs.lemmas.Option.{get_or_from_slice_get, slice_get-get_or, slice_get_within}
 use Rattle.ch_cost.specs.declared.cost.Cost.{Cost}
 use Rattle.ch_cost.specs.Cost.{◌⊕◌, length_of}
 use Rattle.ch_cost.specs.Cost.Laws.{length_of-zero_cost, length_of-of_weight, length_of-sum}
@@ -9,14 +11,17 @@ use Rattle.ch_graph.specs.declared.road.Road.{Road}
 use Rattle.ch_graph.specs.declared.link.Link.{Link}
 use Rattle.ch_graph.specs.declared.hierarchy.LinkId.{LinkId}
 use Rattle.ch_graph.specs.Graph.{Graph}
-use Rattle.ch_graph.specs.Hierarchy.{Hierarchy, Chain, Chain.nothing, Chain.then, IsRising, IsFalling, IsRiseFall}
+use Rattle.ch_graph.specs.Hierarchy.{Hierarchy, Chain, Chain.nothing, Chain.then, IsLinkWellMade, IsRising, IsFalling, IsRiseFall, IsWellMade, rank_of}
 use Rattle.ch_graph.specs.Hierarchy.Chains.{chain-join, chain-weaker}
 use Rattle.ch_graph.specs.Unfolding.{IsAt, AreAt}
 use Rattle.ch_laws.specs.ByWeight.{IsArcByWeight, IsRightByWeight}
-use Rattle.ch_query.specs.Places.{IsRiseFallAt}
+use Rattle.ch_query.specs.declared.seed.Seed.{Seed}
+use Rattle.ch_query.specs.Places.{IsRiseFallAt, link_at}
+use Rattle.ch_query.specs.Sums.{IsSummedWay, IsSummedWay.begin, IsSummedWay.over}
+use Rattle.ch_query.specs.Ways.{free}
 use Rattle.best_routes.specs.BestRoutes.{IsPath, path_length}
 use Rattle.best_routes.specs.Walks.{PathsAreWalks}
-use Rattle.ch_sums.specs.Numbers.{AreSums, SumsAreAlong, links_number, path_number, sum_at}
+use Rattle.ch_sums.specs.Numbers.{AreSums, SummedWaysAreAlong, SumsAreAlong, links_number, path_number, sum_at}
 
 -- a path from x to y that is n long, and whose numbers sum to m
 record HasPath (g : Graph) (number : ℕ → ℕ → ℕ) (x y n m : ℕ) : Type 0 where
@@ -99,6 +104,57 @@ sums-along walks g h number numbers s t right are s_in t_in =
     let to_in : t < g.nodes = omega (arith, t_in, right.nodes) in (
       λ c places value walk.
           let found = walk-path right are walk in
+          let least = right.value s t (Some c) from_in to_in value in
+          record {
+            path = found.path;
+            leads = found.leads;
+            long = found.long;
+            least = λ other leads.
+                let along = walks g s t other leads in
+                subst (λ n. length_of c ≤ n) along.long (least.3 along.cost along.walk);
+            sums = sym found.sums;
+          },
+      λ value path leads.
+          let along = walks g s t path leads in
+          right.value s t None from_in to_in value along.cost along.walk,
+    )
+
+-- The path that links from one node unfold to
+one-start : (s : ℕ) (seed : Seed) → Contains (free s ∷ []) seed → seed ≡ free s
+one-start s seed among =
+    let first : among.0 ≡ 0 = omega (arith, among.1) in
+    sym (ap (λ k. slice_index_or (free s ∷ []) k seed) (sym first) ∙ among.2)
+
+module _ {g : Graph} {number : ℕ → ℕ → ℕ} {h : Hierarchy} (right : IsRightByWeight g h) (made : IsWellMade h) {numbers : List ℕ} (are : AreSums h number numbers) (s : ℕ) (s_in : s < length h.ranks) where
+  same-node : (x y : ℕ) → x < length h.ranks → y < length h.ranks → rank_of h x ≡ rank_of h y → x ≡ y
+  same-node x y x_in y_in same = elim (cases_eq x y) [
+    | inl e ↦ e
+    | inr other ↦ elim (cases_lt x y) [
+      | inl before ↦ absurd (made.once x y 0 before y_in same)
+      | inr after ↦ absurd (made.once y x 0 (omega (arith, after, other)) x_in (sym same))
+    ]
+  ]
+
+  way-path : {r n m : ℕ} → IsSummedWay h numbers (free s ∷ []) r n m → (x : ℕ) → x < length h.ranks → rank_of h x ≡ r → HasPath g number s x n m
+  way-path (begin seed among) x x_in at =
+      let is = one-start s seed among in
+      let here : x ≡ s = same-node x s x_in s_in (at ∙ ap (λ (p : Seed). rank_of h p.node) is) in
+      let none : length_of seed.cost ≡ 0 = ap (λ (p : Seed). length_of p.cost) is ∙ length_of-zero_cost in
+      subst (λ n. HasPath g number s x n 0) (sym none) (subst (λ y. HasPath g number s y 0 0) (sym here) (stay s))
+  way-path (over {q = q} {n = n} {m = m} k k_in from way) x x_in at =
+      let own : IsLinkWellMade h (link_at h k) = All-contains (IsLinkWellMade h) h.links (link_at h k) made.links (Contains-get_or h.links k _ k_in) in
+      let before : HasPath g number s (link_at h k).from n m = way-path way (link_at h k).from own.from_in from in
+      let id : LinkId = record { 0 = k } in
+      let last : HasPath g number (link_at h k).from (link_at h k).to (length_of (link_at h k).cost) (slice_index numbers k) = link-path right are id (link_at h k) (slice_get-get_or h.links k _ k_in) in
+      let here : (link_at h k).to ≡ x = sym (same-node x (link_at h k).to x_in own.to_in at) in
+      subst (λ y. HasPath g number s y (n + length_of (link_at h k).cost) (m + slice_index numbers k)) here (join before last)
+
+pub summed-along : PathsAreWalks → SummedWaysAreAlong
+summed-along walks g h number numbers s t right made are s_in t_in =
+    let from_in : s < g.nodes = omega (arith, s_in, right.nodes) in
+    let to_in : t < g.nodes = omega (arith, t_in, right.nodes) in (
+      λ c sum value way.
+          let found = way-path right made are s s_in way t t_in (λ i. rank_of h t) in
           let least = right.value s t (Some c) from_in to_in value in
           record {
             path = found.path;

@@ -1,5 +1,5 @@
 -- Numbers of arcs, and what they sum to along links and along paths.
-use Rattle.std.specs.Prelude.{ℕ, ◌≡◌, ◌<◌, ◌≤◌, ◌^◌, List, length, take, slice_index, slice_index_or, Option, Some, None, option_map, Contains}
+use Rattle.std.specs.Prelude.{ℕ, ◌≡◌, ◌<◌, ◌≤◌, ◌^◌, List, [], ◌∷◌, length, take, slice_index, slice_index_or, Option, Some, None, option_map, Contains}
 use Rattle.std.specs.List.{sum_by}
 use Rattle.ch_cost.specs.declared.cost.Cost.{Cost}
 use Rattle.ch_cost.specs.Cost.{length_of}
@@ -7,9 +7,11 @@ use Rattle.ch_graph.specs.declared.road.Road.{Road}
 use Rattle.ch_graph.specs.declared.link.Link.{Link}
 use Rattle.ch_graph.specs.declared.hierarchy.LinkId.{LinkId}
 use Rattle.ch_graph.specs.Graph.{Graph}
-use Rattle.ch_graph.specs.Hierarchy.{Hierarchy, IsValue, Unfolds}
+use Rattle.ch_graph.specs.Hierarchy.{Hierarchy, IsValue, IsWellMade, Unfolds, rank_of}
 use Rattle.ch_laws.specs.ByWeight.{IsRightByWeight}
 use Rattle.ch_query.specs.Places.{IsRiseFallAt}
+use Rattle.ch_query.specs.Sums.{IsSummedWay}
+use Rattle.ch_query.specs.Ways.{free}
 use Rattle.best_routes.specs.BestRoutes.{IsPath, path_length}
 use Rattle.ch_sums.specs.declared.along.Summed.{Summed}
 use Rattle.ch_sums.specs.declared.error.NumbersError.{NumbersError}
@@ -94,4 +96,11 @@ abbrev pub SumsAreAlong : Type 0
 SumsAreAlong =
     (g : Graph) (h : Hierarchy) (number : ℕ → ℕ → ℕ) (numbers : List ℕ) (s t : ℕ) → IsRightByWeight g h → AreSums h number numbers → s < length h.ranks → t < length h.ranks
     → ((c : Cost) (places : List LinkId) → IsValue h s t (Some c) → IsRiseFallAt h places s t c → SumIsAlong g number s t (length_of c) (sum_at numbers places))
+    × (IsValue h s t None → (path : List Road) → IsPath g s t path → ⊥)
+
+-- links from one node to another unfold to a path that is as long as they are, and whose numbers sum to theirs
+abbrev pub SummedWaysAreAlong : Type 0
+SummedWaysAreAlong =
+    (g : Graph) (h : Hierarchy) (number : ℕ → ℕ → ℕ) (numbers : List ℕ) (s t : ℕ) → IsRightByWeight g h → IsWellMade h → AreSums h number numbers → s < length h.ranks → t < length h.ranks
+    → ((c : Cost) (sum : ℕ) → IsValue h s t (Some c) → IsSummedWay h numbers (free s ∷ []) (rank_of h t) (length_of c) sum → SumIsAlong g number s t (length_of c) sum)
     × (IsValue h s t None → (path : List Road) → IsPath g s t path → ⊥)

@@ -27,5 +27,5 @@ mod order;
 
 pub use along::{Summed, sum_along};
 pub use error::NumbersError;
-pub use laws::sums_are_along;
+pub use laws::{summed_ways_are_along, sums_are_along};
 pub use numbers::Numbers;

@@ -50,6 +50,14 @@ impl Numbers {
         Ok(Numbers { links })
     }
 
+    /// Returns the numbers, in the order of the links.
+    pub fn as_slice(&self) -> &[u64]
+        ensures numbers { result.now ≡ self.now }
+        ensures small { All (λ x. x ≤ 2 ^ 36) self.now }
+    {
+        self.links.as_slice()
+    }
+
     /// Returns what the numbers of links sum to: of fewer than 2^26 of them.
     pub fn along(&self, links: &[LinkId]) -> u64
         requires links_in { All (λ (id : an_id). id.0 < length self.now) links.now }
