@@ -169,8 +169,7 @@ uint32_t domethyme_table(domethyme *handle, const uint32_t *sources, size_t sour
 
 /* The least length from each source to each target, row by row as domethyme_table has them, each with the sum of numbers of the
  * caller's along some path of that length: metres, money, or whatever counts for an arc. Lengths rest on no number. Of several
- * shortest paths the sum is that of one with the fewest arcs (in version 1 of any), which need not be the one of
- * domethyme_route.
+ * shortest paths the sum is that of any one, which need not be the one of domethyme_route.
  *
  * There is one number for each link of the file without a middle, in the order of the file. Such a link is the lightest arc from
  * its one node to its other; loops have none.
@@ -179,9 +178,10 @@ uint32_t domethyme_table(domethyme *handle, const uint32_t *sources, size_t sour
  * DOMETHYME_NODE_RANGE, DOMETHYME_NUMBER_COUNT, DOMETHYME_NUMBER_GREAT. After DOMETHYME_OUT_OF_MEMORY what was written of the
  * array isn't known.
  *
- * Each cell takes the time of domethyme_length. For other numbers than those of the last call, also those of another handle, it
- * first sums up those of each link and lays out the links, in the time of a sort of them. The handle keeps that for the next call
- * with the same numbers: 24 bytes a link, 24 a node, and 4 a number. Since 1.1. */
+ * It selects nodes and keeps that as domethyme_table does, and takes less than three times as long. For other numbers than those
+ * of the last call, also those of another handle, it first sums up those of each link and lays out the links, in the time of a
+ * sort of them. The handle keeps that for the next call with the same numbers: 24 bytes a link, 32 a node, and 4 a number. Since
+ * 1.1. */
 uint32_t domethyme_table_sums(domethyme *handle, const uint32_t *numbers, size_t number_count,
                               const uint32_t *sources, size_t source_count, const uint32_t *targets, size_t target_count,
                               domethyme_sum_info *cells, size_t room);

@@ -3,3 +3,4 @@ pub mod Handles
 pub mod Tables
 mod Cells
 pub mod Towards
+pub mod Bands

@@ -1,15 +1,24 @@
 -- What an engine keeps to make sums.
-use Rattle.std.specs.Prelude.{ℕ, ◌≡◌, List}
+use Rattle.std.specs.Prelude.{ℕ, ◌≡◌, ◌+◌, ◌<◌, ◌≤◌, List, length, slice_index, slice_index_or}
 use Rattle.ch_graph.specs.Hierarchy.{Hierarchy}
 use Rattle.ch_sums.specs.Numbers.{AreNumbersOf}
 use Rattle.domethyme_c.specs.declared.summing.Summing.{Summing}
+use Rattle.domethyme_c.specs.declared.sums.SumInfo.{SumInfo}
 
 -- it is of the hierarchy, and has the numbers of those that were given
 pub record IsSumming (h : Hierarchy) (s : Summing) : Type 0 where
   pub of : s.search ≡ h
   pub numbers : AreNumbersOf h s.given.items s.numbers
+  pub room : length s.kept.items ≡ length h.ranks
 
 -- and these were given
 pub record IsSummingOf (h : Hierarchy) (given : List ℕ) (s : Summing) : Type 0 where
   pub is : IsSumming h s
   pub same : s.given.items ≡ given
+
+-- lengths and sums, so many, are written as cells from a place on, and the others stay
+pub record ArePut (lengths sums : List ℕ) (count from : ℕ) (old new : List SumInfo) : Type 0 where
+  pub room : length new ≡ length old
+  pub each : (k : ℕ) (d : SumInfo) → k < count → slice_index_or new (from + k) d ≡ record { length = slice_index lengths k; sum = slice_index sums k }
+  pub before : (k : ℕ) (d : SumInfo) → k < from → slice_index_or new k d ≡ slice_index_or old k d
+  pub after : (k : ℕ) (d : SumInfo) → from + count ≤ k → slice_index_or new k d ≡ slice_index_or old k d

@@ -1,4 +1,5 @@
 ghost use Rattle.std.specs.Prelude.{◌≡◌, ◌*◌, ◌<◌, ◌≤◌, All, length};
+ghost use Rattle.ch_table.specs.Selection.{IsSelection};
 ghost use Rattle.domethyme_c.specs.Answers.{Answers};
 ghost use Rattle.domethyme_c.specs.Summing.{IsSumming};
 ghost use Rattle.domethyme_c.specs.Sums.{IsSumsAnswer};
@@ -7,6 +8,7 @@ use crate::code::{NO_HANDLE, NO_ROOM, NODE_RANGE, OK, OUT_OF_MEMORY};
 use crate::engine::Engine;
 use crate::handle::Handle;
 use crate::summing::Summing;
+use ch_route::Selection;
 use std::alloc::Global;
 
 /// How long a shortest path is, and what the numbers along it sum to.
@@ -65,35 +67,31 @@ fn answer_sums(
         Ok(summing) => summing,
         Err(code) => return code,
     };
-    let code = fill_sums(&mut summing, sources, targets, count, cells);
+    let code = match engine.selection(alloc, targets) {
+        Ok(selection) => fill_sums(alloc, &mut summing, &selection, sources, cells),
+        Err(code) => code,
+    };
     engine.keep_summing(summing);
     code
 }
 
-// Cell by cell.
+// Row by row.
 fn fill_sums(
+    alloc: Global,
     summing: &mut Summing,
+    selection: &Selection,
     sources: &[u32],
-    targets: &[u32],
-    count: usize,
     cells: &mut [SumInfo],
 ) -> u32
-    requires numbers { IsSumming summing.old.search summing.old }
+    requires summing { IsSumming summing.old.search summing.old }
+    requires selection { IsSelection summing.old.search selection.now }
     requires sources { All (λ v. v < length summing.old.search.ranks) sources.now }
-    requires targets { All (λ v. v < length summing.old.search.ranks) targets.now }
-    requires count { count ≡ length sources.now * length targets.now }
-    requires room { count ≤ length cells.old }
-    ensures search { summing.new.search ≡ summing.old.search }
-    ensures numbers { IsSumming summing.new.search summing.new }
-    ensures answer { IsSumsAnswer summing.old.search summing.old.given.items sources.now targets.now result cells.old cells.new }
+    requires room { length sources.now * length selection.now.targets ≤ length cells.old }
+    ensures summing { IsSumming summing.old.search summing.new }
+    ensures answer { IsSumsAnswer summing.old.search summing.old.given.items sources.now selection.now.targets result cells.old cells.new }
 {
-    'places: for place in 0..count {
-        let source = sources[place / targets.len()];
-        let target = targets[place % targets.len()];
-        match summing.cell(source, target) {
-            Ok(cell) => cells[place] = cell,
-            Err(_) => return OUT_OF_MEMORY,
-        }
+    match summing.fill(alloc, selection, sources, cells) {
+        Ok(()) => OK,
+        Err(_) => OUT_OF_MEMORY,
     }
-    OK
 }
