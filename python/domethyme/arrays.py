@@ -121,7 +121,7 @@ def like_axes(table: NDArray[Any], sources: Any, targets: Any, has_keys: bool, m
     return filled(table, (axis(sources), axis(targets)) if is_frame else None, missing)
 
 
-def filled(table: Numbers, axes: tuple[Any, Any] | None, missing: Any) -> Any:
+def filled(table: NDArray[Any], axes: tuple[Any, Any] | None, missing: Any) -> Any:
     """The table as a DataFrame with these axes, or without them as an array, with `missing` for no path as `like_axes` has it."""
     values = table if missing is None else np.where(table < 0, missing, table)
     if axes is None:

@@ -1,5 +1,6 @@
 """Lengths and routes of many pairs, tables, by as many threads as there are processors, and what is reached. Needs numpy."""
 import concurrent.futures
+import threading
 from collections.abc import Callable, Iterable, Iterator, Sequence
 from typing import TypeVar
 
@@ -17,8 +18,8 @@ from .router import Router, Searcher, seed_array
 # for the calls that are under way.
 CHUNK_SIZE = 512
 MAX_ROWS, MAX_CHUNK_CELLS = 256, 1 << 16
-# Cells of a table with sums, each of which is a search, that a thread asks for in one call.
-MAX_SUMMED_CELLS = 1 << 10
+# The same of a table with sums, which take a second: what is made of the targets is made in each call.
+MAX_SUMMED_CELLS = 1 << 20
 T = TypeVar("T")
 RouteArrays = tuple[NDArray[np.int64], NDArray[np.int64], NDArray[np.int32]]
 
@@ -49,23 +50,29 @@ def table(
     return found
 
 
-def table_sums(router: Router, numbers: NDArray[np.uint32], sources: NDArray[np.int64], targets: NDArray[np.int64]) -> NDArray[np.int64]:
-    """What the numbers, one for each link without a middle in order, sum to along a shortest path from each source to each target,
-    NO_PATH where there is none. Each thread has sums of its own for all links. Raises OutOfMemory as `table` does."""
-    if len(sources) * len(targets) > MAX_CELLS:
-        size = f"a table of {len(sources)} x {len(targets)} sums has more than {MAX_CELLS}"
-        raise OutOfMemory(f"{router.name}: {size}: ask for fewer sources at a time", 6)
-    rows, columns = (np.ascontiguousarray(nodes, dtype=np.uint32) for nodes in (sources, targets))
-    found = np.empty((len(rows), len(columns)), np.int64)
+class Summer:
+    """What numbers, one for each link without a middle in order, sum to along shortest paths; for one question at a time. It takes 40
+    bytes a link, of which nothing changes later, so processes that are forked share them; and a second for some four million links.
+    All raise OutOfMemory, and LibraryNotFound for a library that is older and lacks the call."""
 
-    def sum_rows(part: slice, searcher: Searcher) -> None:
-        cells = np.empty((*found[part].shape, 2), np.int64)
-        searcher.table_sums(numbers, rows[part], columns, cells)
-        found[part] = cells[..., 1]
+    def __init__(self, router: Router, numbers: NDArray[np.uint32]) -> None:
+        self._searcher, self._numbers, self._asking = router.clone(), np.ascontiguousarray(numbers, np.uint32), threading.Lock()
+        none = np.empty(0, np.int64)
+        self.table(none, none)  # (sums up all links)
 
-    if found.size:
-        map_chunks(router, sum_rows, len(rows), max(1, MAX_SUMMED_CELLS // len(columns)))
-    return found
+    def table(self, sources: NDArray[np.int64], targets: NDArray[np.int64]) -> NDArray[np.int64]:
+        """The least length from each source to each target, and the sum along a path of that length, of shape (2, sources, targets);
+        NO_PATH where there is none. More than MAX_CELLS are refused before memory is taken."""
+        if len(sources) * len(targets) > MAX_CELLS:
+            size = f"a table of {len(sources)} x {len(targets)} sums has more than {MAX_CELLS}"
+            raise OutOfMemory(f"{self._searcher.name}: {size}: ask for fewer sources at a time", 6)
+        rows, columns = (np.ascontiguousarray(nodes, dtype=np.uint32) for nodes in (sources, targets))
+        cells, at_a_time = np.empty((len(rows), len(columns), 2), np.int64), max(1, MAX_SUMMED_CELLS // max(1, len(columns)))
+        with self._asking:
+            for begin in range(0, max(1, len(rows)), at_a_time):
+                part = slice(begin, begin + at_a_time)
+                self._searcher.table_sums(self._numbers, rows[part], columns, cells[part])
+        return np.moveaxis(cells, 2, 0)
 
 
 def rows_at_a_time(rows: int, columns: int) -> int:

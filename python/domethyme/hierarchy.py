@@ -25,6 +25,7 @@ if TYPE_CHECKING:
     import numpy as np
     from numpy.typing import NDArray
 
+    from .batch import Summer
     from .network.directions import Directions, Match, Tour
     from .network.isochrones import Shape
     from .network.network import Bearings, Network
@@ -88,7 +89,7 @@ class Hierarchy:
             raise ValueError(f"Hierarchy takes the path of a file, and no {type(path).__name__}")
         self.path, self._name, self._checksum = path, os.fspath(path), checksum
         self._full_path = os.path.abspath(self._name)
-        self._metres: NDArray[np.uint32] | None = None
+        self._summer: Summer | None = None
         self._turned: Router | None = None
         with open_hierarchy_file(self._name) as file:
             self.nodes, self.links = read_header(file.fileno(), self._name)
@@ -130,6 +131,7 @@ class Hierarchy:
     def close(self) -> None:
         """Frees the memory. Questions then raise ValueError, as those of a closed file do."""
         self._router.close()
+        self._summer = None
         if self._turned is not None:
             self._turned.close()
 
@@ -212,8 +214,9 @@ class Hierarchy:
 
         The library computes all lengths, row by row, by as many threads as there are processors. Each thread selects what paths to
         the targets take, and keeps that: further rows to the same targets, in this call or in later ones, take less time. A table
-        has 8 bytes a cell, and 2^29 cells at most: ask for some of the sources at a time beyond that. Sums are found cell by cell,
-        each in the time of `length`, and need the network. Each thread first sums up all links, and keeps 24 bytes for each.
+        has 8 bytes a cell, and 2^29 cells at most: ask for some of the sources at a time beyond that. Sums need the
+        network, and one thread finds them, in some twice the time of lengths. The first ones take a second for four million links, of
+        which each then has 40 bytes more.
 
         Raises NoSuchNode, ValueError, and OutOfMemory for too many cells, before memory is taken. With sums also WrongHierarchy,
         if the file was replaced before the first ones, and LibraryNotFound for a library that is older and lacks the call.
@@ -231,11 +234,9 @@ class Hierarchy:
         ends = arrays.nodes_of("targets", targets, self.keys, self.nodes)
         table = batch.table(self._router, starts, ends, progress)
         lengths = arrays.like_axes(table, sources, targets, self.keys is not None, missing)
-        if not sums:
+        if not is_with_metres(sums):
             return lengths
-        if isinstance(sums, str) or [*sums] != ["metres"]:
-            raise ValueError(f'sums has to be ["metres"], and is {sums!r}')
-        found = batch.table_sums(self._router, self._millimetres(), starts, ends)
+        found = self._metres_summer().table(starts, ends)[1]
         without = float("nan") if missing is None else missing
         return {"length": lengths, "metres": arrays.like_axes(arrays.thousandths(found), sources, targets, self.keys is not None, without)}
 
@@ -385,7 +386,15 @@ class Hierarchy:
         found = directions.alternatives(self._router, roads, points[0], points[1], reached, count)
         return [each._replace(network=self.network) for each in found]
 
-    def table(self, sources: Any, targets: Any = None, *, radius: float = DEFAULT_RADIUS, missing: Any = None) -> Any:
+    @overload
+    def table(self, sources: Any, targets: Any = None, *, radius: float = DEFAULT_RADIUS, missing: Any = None) -> Any: ...
+    @overload
+    def table(
+        self, sources: Any, targets: Any = None, *, radius: float = DEFAULT_RADIUS, missing: Any = None, sums: Sequence[str]
+    ) -> dict[str, Any]: ...
+    def table(
+        self, sources: Any, targets: Any = None, *, radius: float = DEFAULT_RADIUS, missing: Any = None, sums: Sequence[str] = ()
+    ) -> Any:
         """The weights of shortest paths from each source to each target, places in degrees that are given as for `directions`: an array
         of int64 of shape (sources, targets), -1 if there is no path. Without targets they are the sources. If a side is a frame of
         pandas or geopandas, the table is a DataFrame of Int64, missing if there is no path, whose axes are the frames' own index, and
@@ -393,6 +402,8 @@ class Hierarchy:
 
         radius    how many metres away a road may be
         missing   as for `matrix`
+        sums      ["metres"]: the result is a dictionary. `weight` has the table, and `metres` one of floats, of the metres along some
+                  path of that weight, to the millimetre, NaN if there is no path
 
         One table of the library between the nodes of the roads has all lengths, and `matrix` says what it takes: some two rows and
         columns a place. The service's `/table` answers the same. Raises NoSuchNode if a road isn't near enough, ValueError and
@@ -403,13 +414,22 @@ class Hierarchy:
         from . import arrays
         from .network import directions
 
-        found = directions.weights(self._router, self._need_network().roads, starts, ends)
-        found[found == FAR] = NO_PATH
+        roads, found = self._need_network().roads, list["NDArray[Any]"]()
+        if is_with_metres(sums):
+            found += directions.weights_and_millimetres(self._metres_summer(), roads, starts, ends)
+        else:
+            found.append(directions.weights(self._router, roads, starts, ends))
+        for values in found:
+            values[values == FAR] = NO_PATH
         indices = [getattr(side, "index", None) for side in (sources, sources if targets is None else targets)]
-        if all(index is None or callable(index) for index in indices):
-            return arrays.filled(found, None, missing)
-        axes = [range(size) if index is None or callable(index) else index for index, size in zip(indices, found.shape)]
-        return arrays.filled(found, (axes[0], axes[1]), missing)
+        axes = None
+        if not all(index is None or callable(index) for index in indices):
+            rows, columns = (range(size) if index is None or callable(index) else index for index, size in zip(indices, found[0].shape))
+            axes = rows, columns
+        weights = arrays.filled(found[0], axes, missing)
+        if len(found) == 1:
+            return weights
+        return {"weight": weights, "metres": arrays.filled(arrays.thousandths(found[1]), axes, float("nan") if missing is None else missing)}
 
     def tour(
         self, places: Any, *, roundtrip: bool = True, source: "Source" = "any", destination: "Destination" = "any",
@@ -493,14 +513,16 @@ class Hierarchy:
 
         return isochrones.limits("duration" if self.network is None else self.network.roads.unit, [minutes])[0]
 
-    def _millimetres(self) -> "NDArray[np.uint32]":
-        """The whole millimetres of the network's lightest arc for each link without a middle, in the order of the file. Raises
-        ValueError where there is no network, and WrongHierarchy where the file was replaced."""
+    def _metres_summer(self) -> "Summer":
+        """What sums up the whole millimetres of the network's lightest arc for each link without a middle. Raises ValueError where there
+        is no network, and WrongHierarchy where the file was replaced."""
+        from .batch import Summer
+
         network = self._need_network()
-        if self._metres is None:
+        if self._summer is None:
             with self._open_again("its links can't be summed up") as file:
-                self._metres = network.millimetres(file.fileno(), self._name)
-        return self._metres
+                self._summer = Summer(self._router, network.millimetres(file.fileno(), self._name))
+        return self._summer
 
     def _towards(self) -> Router:
         """The router of the hierarchy with each link turned round, which is opened once. Raises WrongHierarchy where the file was
@@ -562,6 +584,13 @@ class Hierarchy:
             return None
         nodes: list[Any] = list(answer.nodes if self.keys is None else map(self.keys.key, answer.nodes))
         return Route(nodes[0], nodes[-1], answer.length, nodes, answer.nodes, answer.added, self.network)
+
+
+def is_with_metres(sums: Sequence[str]) -> bool:
+    """Whether a table has the metres along paths too. Raises ValueError for other sums."""
+    if sums and (isinstance(sums, str) or [*sums] != ["metres"]):
+        raise ValueError(f'sums has to be ["metres"], and is {sums!r}')
+    return bool(sums)
 
 
 def reopened(path: str, keys: Keys | None, network: "Network | None", compare_all: bool, checksum: int) -> Hierarchy:

@@ -1,16 +1,17 @@
 """The links of a hierarchy's file, in arrays, and how they differ from a network's arcs. Needs numpy."""
 import os
-from collections.abc import Iterator
+from collections.abc import Iterator, Sequence
 from typing import TYPE_CHECKING, Any, NamedTuple
 
 import numpy as np
 from numpy.typing import NDArray
 
-from .errors import HierarchyError
+from .errors import HierarchyError, NetworkError
 from .hierarchy_file import HEAD_BYTES, pread_all, read_header
 from .network.parallel import differs_from_previous
 
 if TYPE_CHECKING:
+    from .network.column_file import Column
     from .network.net_file import MappedNetwork
 
 FIELDS = [("start", ">u4"), ("end", ">u4"), ("weight", ">i8"), ("arcs", ">u4"), ("middle", ">u4")]
@@ -18,6 +19,8 @@ KINDS = {b"RCH1": np.dtype(FIELDS[:3] + FIELDS[4:]), b"RCH2": np.dtype(FIELDS)}
 # The middle of a link that is an arc of the graph.
 NO_MIDDLE = (1 << 32) - 1
 NO_ARC = -1
+# The greatest number of thousandths of an arc.
+MOST_THOUSANDTHS = (1 << 32) - 1
 # Links that are read at a time, and that are drawn at a time.
 AT_A_TIME, DRAWN = 1 << 20, 5_000
 # How often links are drawn, where many have a middle.
@@ -50,6 +53,17 @@ class Links(NamedTuple):
         ends = (part[part["middle"] == NO_MIDDLE] for part in self.parts())
         arcs = [network.lightest(part["start"].astype(np.int64) + 1, part["end"].astype(np.int64) + 1) for part in ends]
         return np.concatenate([np.empty(0, np.int64), *arcs])
+
+    def thousandths(self, network: "MappedNetwork", columns: Sequence["Column"]) -> list[NDArray[np.uint32]]:
+        """Of columns of the network's arcs, seconds or metres, the whole thousandths of its lightest arc for each link without a middle,
+        in order. Raises NetworkError for an arc of more than 4,294,967, which can't be summed."""
+        arcs, found = self.arcs(network), list[NDArray[np.uint32]]()
+        for column in columns:
+            some = np.rint(1000 * column[arcs])
+            if some.max(initial=0) > MOST_THOUSANDTHS:
+                raise NetworkError(f"has an arc of more than {MOST_THOUSANDTHS // 1000} seconds or metres, which can't be summed", network.path)
+            found.append(some.astype(np.uint32))
+        return found
 
     def rows(self, numbers: NDArray[np.int64]) -> NDArray[Any]:
         """The links of these numbers. Raises HierarchyError for one that can't be."""

@@ -146,7 +146,7 @@ class Router:
         self.name, self._first = name, Searcher(name)
         self.nodes = self._first.open(data, is_turned)
         self._idle: list[Searcher] = []
-        self._seats: "weakref.WeakSet[Searcher]" = weakref.WeakSet()
+        self._made: "weakref.WeakSet[Searcher]" = weakref.WeakSet()
         self._making, self._is_closed = threading.Lock(), False
         _routers.add(self)
 
@@ -195,6 +195,16 @@ class Router:
             (source, before), (target, behind) = starts[info.start], ends[info.end]
             return RouterResult(source, target, info.length, searcher.nodes[: info.nodes], before + behind)
 
+    def clone(self) -> Searcher:
+        """Another searcher, which is the caller's. Raises OutOfMemory, and ValueError if this is closed."""
+        with self._making:
+            if self._is_closed:
+                raise ValueError(f"the hierarchy {self.name} is closed")
+            made = self._first.clone()
+        if made is None:
+            raise OutOfMemory(f"{self.name}: {error_message(OUT_OF_MEMORY)}", 6)
+        return made
+
     def _acquire(self) -> Searcher:
         """A searcher: one that is idle, or another one; without memory for one it waits for one that is lent. Raises OutOfMemory."""
         end = 0.0
@@ -209,10 +219,10 @@ class Router:
                     raise ValueError(f"the hierarchy {self.name} is closed")
                 made = self._first.clone()
             if made is not None:
-                self._seats.add(made)
+                self._made.add(made)
                 return made
             end = end or time.monotonic() + PATIENCE
-            if not self._seats or time.monotonic() > end:
+            if not self._made or time.monotonic() > end:
                 raise OutOfMemory(f"{self.name}: {error_message(OUT_OF_MEMORY)}", 6)
             time.sleep(PAUSE)
 

@@ -40,6 +40,7 @@ class Work(enum.Enum):
     NODE = 1.3, "a node of a path"
     BEARING = 10_000, "a place with a bearing: the directions of roads around it"
     ROW = 2, "a row of a table of the library, and as much for each 10,000 links of its selection"
+    SUM = 2, "a cell of a table of the library with sums, for each sum"
     REACH = 0.1, "a node of the hierarchy, where what is reached is computed"
     CONTOUR = 200_000, "a contour that is drawn"
     DRAWN = 15, f"a node that is reached, for each contour, of {MOST_DRAWN:,} at most"
@@ -78,13 +79,14 @@ VARIABLES = {
     "P": "places",
     "B": "places with a bearing",
     "K": "points that are asked for (`number`)",
-    "G": "legs: one for each two places, or four with `continue_straight=true`, or one for each cell of a table that needs routes. "
+    "G": "legs: one for each two places, or four with `continue_straight=true`. "
     f"Of a trace one for each metre of a deviation, to {MOST_ASKED}",
     "W": "nodes of all legs, of each 2 √N or less by the distance of its places",
     "V": "points of all legs, by W, and as many more for each annotation, for steps and for the overview",
-    "M": "rows of a table that needs no routes: two for each different source, or place of a trip",
+    "M": "rows of a table: two for each different source, or place of a trip",
     "L": "links of a table's selection: those of the hierarchy, or 20 √N for each different destination, if these are fewer",
     "Z": "cells of a table",
+    "S": "sums between nodes for a table: four for each different source and destination, and each annotation that isn't the weight",
     "A": "other routes that are asked for (`alternatives`), to 3; 0 if none are searched for",
     "U": "1 if other routes are searched for, else 0",
     "C": "contours",
@@ -140,13 +142,13 @@ class Meter:
 
 def expected(size: Size, places: Sequence[Point], values: Values, unit: str) -> dict[str, float]:
     """The variables of a request with places; `unit` is that of the network's weights."""
-    found = {"P": len(places), "B": sum(map(bool, values[BEARINGS])), "K": values.get(NUMBER, 1), "N": size.nodes}
+    found: dict[str, float] = {"S": 0, "P": len(places), "B": sum(map(bool, values[BEARINGS])), "K": values.get(NUMBER, 1), "N": size.nodes}
     legs, rows, cells = [math.dist(*ends) for ends in itertools.pairwise(places)], 0, 0
     if SOURCES in values:
         sources, destinations = values[SOURCES], values[DESTINATIONS]
         different = len({*sources}), len({*destinations})
-        needs_routes = not {unit, "weight"}.issuperset(values[TABLE_ANNOTATIONS])
-        legs, rows = ([between_two(places)] * (different[0] * different[1]), 0) if needs_routes else ([], 2 * different[0])
+        sums = len({*values[TABLE_ANNOTATIONS]} - {unit, "weight"})
+        legs, rows, found["S"] = [], 2 * different[0], 4 * sums * different[0] * different[1]
         cells = len(sources) * len(destinations)
         found["L"] = selected_links(size.nodes, size.links, 2 * different[1])
     if ROUNDTRIP in values:

@@ -1,14 +1,17 @@
 """The dataset that workers serve: a hierarchy and its network. Its files are opened and compared with one another before the
 workers are forked, so they share its memory."""
+import contextlib
 import ctypes
 import signal
 import tempfile
 from collections.abc import Mapping
 from typing import NamedTuple
 
-from domethyme import belonging
+from domethyme import LibraryNotFound, belonging
+from domethyme.batch import Summer
 from domethyme.graphs import run_check
 from domethyme.hierarchy_file import FileStamp, file_stamp, open_hierarchy_file, pread_all, read_header
+from domethyme.links import Links
 from domethyme.network.grid import columns_per_band
 from domethyme.network.snapping import RoadIndex
 from domethyme.network.without import without, write_graph_of_view
@@ -38,7 +41,8 @@ class DatasetPaths(NamedTuple):
 
 class Dataset(NamedTuple):
     """The open files, the number of the hierarchy's links, the state of its file, the router of the hierarchy with each link turned
-    round, if what leads to places is answered, and what is served without some classes of roads, by these."""
+    round, if what leads to places is answered, what is served without some classes of roads, by these, and what sums up the
+    thousandths along paths, by the name of an annotation."""
 
     router: Router
     links: int
@@ -46,6 +50,7 @@ class Dataset(NamedTuple):
     stamp: FileStamp
     turned: Router | None = None
     excluded: "Mapping[frozenset[str], Dataset]" = {}
+    summers: Mapping[str, Summer] = {}
 
 
 def open_dataset(paths: DatasetPaths) -> Dataset:
@@ -78,15 +83,27 @@ def open_hierarchy(paths: DatasetPaths, hierarchy: str, graph: str | None, roads
             run_check(paths.program, graph, f"/proc/self/fd/{number}", hierarchy, [number], end_with_parent)
         data = pread_all(number, 0, stamp.size)
         router = Router(data, hierarchy)
-        turned = Router(data, hierarchy, is_turned=True) if paths.towards else None
+        turned, summers = Router(data, hierarchy, is_turned=True) if paths.towards else None, dict[str, Summer]()
         del data
         if roads is not None:
             # (what is computed here, before the fork, is in memory once for all workers)
             roads.roundabout_texts, roads.metres_of_weight
             belonging.compare(number, hierarchy, roads.arrays, paths.compare_all)
+            summers = open_summers(number, hierarchy, roads, router)
         if file_stamp(number) != stamp:
             raise StartupError(f"{hierarchy}: has changed while it was read")
-    return Dataset(router, links, roads, stamp, turned)
+    return Dataset(router, links, roads, stamp, turned, summers=summers)
+
+
+def open_summers(file: int, hierarchy: str, roads: RoadIndex, router: Router) -> dict[str, Summer]:
+    """What sums up along paths for tables, by the name of the annotation, what isn't the weight; nothing by an older library."""
+    columns = {"duration": roads.arrays.arc_seconds} if roads.has_seconds else {}
+    columns |= {"distance": roads.arrays.arc_metres}
+    columns.pop(roads.unit, None)
+    numbers = Links.of(file, hierarchy).thousandths(roads.arrays, [*columns.values()])
+    with contextlib.suppress(LibraryNotFound):
+        return {name: Summer(router, some) for name, some in zip(columns, numbers)}
+    return {}
 
 
 def end_with_parent(number: int = signal.SIGKILL) -> None:

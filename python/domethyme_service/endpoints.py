@@ -109,7 +109,7 @@ ENDPOINTS = (
     osrm_endpoint("nearest", "the nearest points of roads", handlers.places(osrm.nearest), range(1, 2),
                   f"{SNAPPING} + PLACE*K", "Nearest", NUMBER),
     osrm_endpoint("table", "durations, distances and weights between up to 2,000 places", handlers.places(osrm_tables.table),
-                  range(1, 2001), f"{SNAPPING} + ROW*M*(1 + L/10000) + (CELL + 10*BYTE)*Z + PAIR*G + NODE*W", "Table",
+                  range(1, 2001), f"{SNAPPING} + ROW*M*(1 + L/10000) + SUM*S + (CELL + 10*BYTE)*Z", "Table",
                   FALLBACK_SPEED, FALLBACK_COORDINATE, SCALE_FACTOR, TABLE_ANNOTATIONS, SOURCES, DESTINATIONS),
     osrm_endpoint("trip", "a round trip through 2 to 500 places, in an order of little weight", handlers.places(osrm_trip.trip),
                   range(2, 501), f"{SNAPPING} + ROW*M*(1 + L/10000) + CELL*Z + STOP*P + PAIR*G + NODE*W + POINT*V", "Trips",

@@ -1,16 +1,15 @@
-"""Tables of durations and distances between points on roads. Weights come of the library's tables, which are proved
-(domethyme.network.leg_tables); other values are sums along routes, with a query for each cell."""
+"""Tables of durations and distances between points on roads, of the library's tables, which are proved (domethyme.network.leg_tables):
+weights, and sums along paths of the least weight."""
 import collections
 from collections.abc import Iterator, Sequence
 
 import numpy as np
 
-from domethyme.network.leg_geometry import UNITS_PER_OUTPUT_UNIT, leg_totals
-from domethyme.network.leg_tables import weight_rows
-from domethyme.network.legs import find_leg
-from domethyme.network.network import Floats
+from domethyme.network.groups import Ints
+from domethyme.network.leg_geometry import UNITS_PER_OUTPUT_UNIT
+from domethyme.network.leg_tables import table_rows
 from domethyme.network.snapping import SnappedPoint
-from domethyme.network.sphere import great_circle_metres, unit_vectors
+from domethyme.network.sphere import Floats, great_circle_metres, unit_vectors
 from domethyme.protocol import FAR
 
 from .costs import Work
@@ -20,10 +19,10 @@ from .osrm import Engine, snap_places, waypoints
 from .osrm_request import Request
 from .parameters import DESTINATIONS, FALLBACK_COORDINATE, FALLBACK_SPEED, SCALE_FACTOR, SOURCES, TABLE_ANNOTATIONS
 
-# Cells of a table that needs routes.
-MAX_ROUTED_CELLS = 10_000
 # Lengths between nodes that are computed at once, in some ten milliseconds: an alarm is handled between two calls.
 NODE_CELLS = 1 << 16
+# The same with sums.
+SUMMED_CELLS = 1 << 15
 # Decimals of durations and distances, and of weights, by what they are.
 DIGITS = {"duration": 3, "distance": 2, "weight": 1}
 # Some rows of a table by the names of their values; NaN is none.
@@ -34,42 +33,33 @@ def table(engine: Engine, request: Request) -> str:
     """Tables of durations, distances or weights, null for pairs without a path. Raises RequestError."""
     values, roads = request.values, engine.roads
     sources, destinations, names = values[SOURCES], values[DESTINATIONS], values[TABLE_ANNOTATIONS]
-    needs_routes = not {roads.unit, "weight"}.issuperset(names)
     cells = len(sources) * len(destinations)
     if cells > engine.max_cells:
         raise too_big(f"a table may have {engine.max_cells} cells (--max-table-cells), and this one would have more")
     if "duration" in names and not roads.has_seconds:
         raise not_implemented("this network has no seconds, so no durations: ask annotations=weight or distance")
-    if needs_routes and cells > MAX_ROUTED_CELLS:
-        why = f"unless it is of annotations={roads.unit} or weight alone"
-        raise too_big(f"a table may have {MAX_ROUTED_CELLS} cells, {why}")
     points = snap_places(engine, request)
     # (what is named twice is computed once)
     starts, ends = ([points[number] for number in dict.fromkeys(side)] for side in (sources, destinations))
-    rows = (routed_rows if needs_routes else rows_of_weights)(engine, names, starts, ends)
-    members = table_members(engine, request, points, rows)
+    members = table_members(engine, request, points, rows_of(engine, names, starts, ends))
     return join_object({"code": '"Ok"', **members, **waypoints(request, points, sources=sources, destinations=destinations)})
 
 
-def rows_of_weights(
-    engine: Engine, names: list[str], starts: Sequence[SnappedPoint], ends: Sequence[SnappedPoint]
-) -> Iterator[Rows]:
-    """The rows of a table, some at a time, all of whose values are weights."""
-    unit = UNITS_PER_OUTPUT_UNIT.get(engine.roads.unit, 1)
-    for weights in weight_rows(engine.queries.table, engine.roads, starts, ends, NODE_CELLS):
-        values = np.where(weights == FAR, np.nan, weights / unit)
-        yield {name: values.copy() for name in names}
+def rows_of(engine: Engine, names: list[str], starts: Sequence[SnappedPoint], ends: Sequence[SnappedPoint]) -> Iterator[Rows]:
+    """The rows of a table, some at a time."""
+    roads, queries = engine.roads, engine.queries
+    summed = {"duration": roads.arrays.arc_seconds, "distance": roads.arrays.arc_metres}
+    some = [name for name in summed if name in names and name != roads.unit]
+    units = [UNITS_PER_OUTPUT_UNIT.get(roads.unit, 1), *(1000 for _ in some)]
 
+    def ask(sources: Ints, targets: Ints) -> list[Ints]:
+        return queries.table_sums(sources, targets, some) if some else [queries.table(sources, targets)]
 
-def routed_rows(
-    engine: Engine, names: list[str], starts: Sequence[SnappedPoint], ends: Sequence[SnappedPoint]
-) -> Iterator[Rows]:
-    """The same from a route for each cell, a row at a time."""
-    for start in starts:
-        legs = (find_leg(engine.queries.between, engine.roads, start, end) for end in ends)
-        totals = [(None, None, None) if leg is None else leg_totals(engine.roads, leg) for leg in legs]
-        columns = dict(zip(("weight", "duration", "distance"), np.array(totals, np.float64).T))
-        yield {name: columns[name].reshape(1, -1) for name in names}
+    cells = SUMMED_CELLS if some else NODE_CELLS
+    for found in table_rows(ask, roads, starts, ends, cells, [summed[name] for name in some]):
+        weights, *sums = (np.where(each == FAR, np.nan, each / unit) for each, unit in zip(found, units))
+        values = dict(zip(some, sums))
+        yield {name: values.get(name, weights).copy() for name in names}
 
 
 def table_members(engine: Engine, request: Request, points: list[SnappedPoint], rows: Iterator[Rows]) -> dict[str, str]:

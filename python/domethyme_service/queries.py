@@ -1,12 +1,13 @@
 """Queries to a hierarchy in this process's memory (domethyme.router), which the library proves. Nodes are numbered from 1."""
 import functools
 import json
-from collections.abc import Sequence
+from collections.abc import Mapping, Sequence
 from typing import TYPE_CHECKING
 
 import numpy as np
 
 from domethyme import LibraryNotFound, batch
+from domethyme.batch import Summer
 from domethyme.csv_tables import excerpt
 from domethyme.network.alternatives import MAX_ALTERNATIVES
 from domethyme.network.groups import Ints
@@ -62,10 +63,11 @@ class Queries:
 
     def __init__(
         self, router: Router, links: int, metrics: "SharedMetrics", meter: Meter, keys: NodeKeys = NodeKeys(),
-        turned: Router | None = None
+        turned: Router | None = None, summers: Mapping[str, Summer] = {}
     ) -> None:
         """`turned` is the router of the hierarchy with each link turned round, if what leads to places is answered. `alternatives` is how
-        many other routes are searched for at most."""
+        many other routes are searched for at most. `summers` are by names of annotations."""
+        self.summers = summers
         self.router, self.nodes, self.links, self._metrics, self.keys = router, router.nodes, links, metrics, keys
         self.meter, self.turned = meter, turned
         self.alternatives = MAX_ALTERNATIVES if turned is not None and self.nodes <= MAX_NODES_OF_ALTERNATIVES else 0
@@ -122,3 +124,14 @@ class Queries:
         with self.router.searcher() as searcher:
             searcher.table(rows, columns, out)
         return out
+
+    def table_sums(self, sources: Ints, targets: Ints, names: Sequence[str]) -> list[Ints]:
+        """The same, and what each of these sums to along a path of that length, in thousandths: "duration" or "distance"."""
+        found = list[Ints]()
+        for name in names:
+            if name not in self.summers:
+                raise not_implemented("the service's library is too old for these annotations")
+            self._count(len(sources), Work.SUM, len(sources) * len(targets))
+            lengths, sums = self.summers[name].table(sources, targets)
+            found += [sums] if found else [lengths, sums]
+        return found

@@ -70,7 +70,7 @@ class Service:
 
     def queries_of(self, dataset: Dataset, keys: NodeKeys) -> Queries:
         """The queries to a dataset's hierarchy, counted with all others."""
-        return Queries(dataset.router, dataset.links, self.metrics, self.meter, keys, dataset.turned)
+        return Queries(dataset.router, dataset.links, self.metrics, self.meter, keys, dataset.turned, dataset.summers)
 
     def engine_of(self, roads: RoadIndex, queries: Queries) -> Engine:
         """What answers requests by places on some roads."""

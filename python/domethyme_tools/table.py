@@ -13,6 +13,9 @@ name of TABLE ends in `.npy`, it is an array of numpy, of int64 and of shape (so
 is CSV. Its first row has the names of the targets behind the word `from`, and each other row begins with the name of its
 source; a field is empty for no path. Names are the numbers of places, from 1, or what the column --name of both tables has.
 
+With --metres FILE another table of the same form has the metres along a path of each length, to the millimetre; as an array of
+numpy it is of float64, with NaN for no path.
+
 The lengths between nodes are computed by the proved library; which nodes and points are nearest, and the parts of roads, are
 tested. Rows are written as they are made, so that a large table needs little memory; it has at most 2^29 lengths. A file that
 is written is whole or not there.
@@ -21,8 +24,9 @@ Exit status: 0; 1 for bad input or a failed write, with one line on standard err
 arguments that are refused.
 """
 import argparse
+import contextlib
 import csv
-from collections.abc import Iterator
+from collections.abc import Callable, Iterator, Sequence
 
 import numpy
 import tqdm
@@ -31,8 +35,9 @@ from domethyme import Hierarchy
 from domethyme.atomic_files import atomic_write
 from domethyme.csv_tables import escape_formula, need_columns
 from domethyme.limits import MAX_CELLS
+from domethyme.network.column_file import Column
 from domethyme.network.groups import Ints
-from domethyme.network.leg_tables import NodeTable, weight_rows
+from domethyme.network.leg_tables import NodeTables, table_rows
 from domethyme.network.network import Network
 from domethyme.network.node_index import NodeIndex
 from domethyme.network.tables import Side, paths_of
@@ -44,6 +49,7 @@ from .on_roads import open_road_index, snap_places
 
 # Lengths between nodes that are asked for together, 8 bytes each.
 CELLS = 1 << 20
+Columns = Sequence[Column]
 
 
 def parse_args() -> argparse.Namespace:
@@ -58,6 +64,7 @@ def parse_args() -> argparse.Namespace:
     parser.add_argument("targets", metavar="TARGETS", help="the table of the places where they end")
     parser.add_argument("-o", dest="output", metavar="TABLE", default="-", help="by default standard output, as CSV")
     parser.add_argument("--name", metavar="COLUMN", help="the column with the names of places (default: their numbers)")
+    parser.add_argument("--metres", metavar="FILE", help="where the metres along these paths are written too")
     add_radius(parser, "node, or road")
     parser.add_argument("--on-roads", action="store_true", help="take places on roads, and not at nodes")
     add_compare_all(parser)
@@ -65,7 +72,7 @@ def parse_args() -> argparse.Namespace:
     if options.sources == options.targets == "-":
         parser.error("SOURCES and TARGETS can't both be standard input")
     inputs = [options.sources, options.targets, options.hierarchy, *paths_of(options.network)]
-    refuse_overwriting(parser, [options.output], inputs)
+    refuse_overwriting(parser, [options.output, *([options.metres] if options.metres else [])], inputs)
     return options
 
 
@@ -79,15 +86,16 @@ def read_named_places(path: str, name: str | None) -> tuple[Trips, list[str]]:
     return places, [str(fields[column]) for fields in places.fields]
 
 
-def rows_by_nodes(ask: NodeTable, network: Network, sources: Trips, targets: Trips, radius: float) -> Iterator[Ints]:
-    """The rows of the table between the nodes nearest to places, some at a time."""
+def rows_by_nodes(ask: NodeTables, network: Network, sources: Trips, targets: Trips, radius: float, _columns: Columns) -> Iterator[list[Ints]]:
+    """The rows of the tables between the nodes nearest to places, some at a time."""
     index = network.node_index
     starts, ends = nodes_near(index, sources, "from", radius), nodes_near(index, targets, "to", radius)
     begins = begins_of(index, ends)
 
-    def rows(some: Ints) -> Ints:
-        found = ask(some - 1, ends - 1)
-        found[some[:, None] == begins] = 0
+    def rows(some: Ints) -> list[Ints]:
+        found = [*ask(some - 1, ends - 1)]
+        for values in found:
+            values[some[:, None] == begins] = 0
         return found
 
     at_a_time = max(1, CELLS // max(1, len(ends)))
@@ -102,38 +110,57 @@ def nodes_near(index: NodeIndex, places: Trips, side: Side, radius: float) -> In
     return nodes
 
 
-def rows_on_roads(ask: NodeTable, network: Network, sources: Trips, targets: Trips, radius: float) -> Iterator[Ints]:
-    """The rows of the table between the nearest points of roads, some at a time."""
+def rows_on_roads(ask: NodeTables, network: Network, sources: Trips, targets: Trips, radius: float, columns: Columns) -> Iterator[list[Ints]]:
+    """The rows of the tables between the nearest points of roads, some at a time."""
     roads = open_road_index(network.prefix, network.roads.arrays)
     starts, ends = (
         list(snap_places(roads, ((row, "", place) for row, place in zip(table.rows, table.ends[0])), radius, table.path))
         for table in (sources, targets)
     )
-    return (numpy.where(rows == FAR, NO_PATH, rows) for rows in weight_rows(ask, roads, starts, ends, CELLS))
+    for rows in table_rows(ask, roads, starts, ends, CELLS, columns):
+        yield [numpy.where(values == FAR, NO_PATH, values) for values in rows]
 
 
-def write_csv(path: str, rows: Iterator[Ints], sources: list[str], targets: list[str]) -> None:
+def ask_metres(hierarchy: Hierarchy, sources: Ints, targets: Ints) -> list[Ints]:
+    """The lengths between nodes, and the millimetres along a path of each; NO_PATH for no path."""
+    found = hierarchy.matrix(sources, targets, sums=["metres"])
+    return [found["length"], numpy.where(found["length"] == NO_PATH, NO_PATH, numpy.rint(1000 * found["metres"])).astype(numpy.int64)]
+
+
+@contextlib.contextmanager
+def csv_writer(path: str, sources: list[str], targets: list[str], unit: int) -> Iterator[Callable[[Ints], None]]:
+    """A file of CSV, to which rows of values are written, each divided by its unit."""
     with atomic_write(path) as file:
-        writer = csv.writer(file, lineterminator="\n")
+        writer, names = csv.writer(file, lineterminator="\n"), iter(sources)
         writer.writerow(["from", *map(escape_formula, targets)])
-        for row, name in zip((row for some in rows for row in some.tolist()), sources):
-            writer.writerow([escape_formula(name), *("" if length < 0 else length for length in row)])
+
+        def write(rows: Ints) -> None:
+            for row in rows.tolist():
+                writer.writerow([escape_formula(next(names)), *("" if value < 0 else value if unit == 1 else value / unit for value in row)])
+
+        yield write
 
 
-def write_npy(path: str, rows: Iterator[Ints], sources: list[str], targets: list[str]) -> None:
-    header = {"descr": "<i8", "fortran_order": False, "shape": (len(sources), len(targets))}
+@contextlib.contextmanager
+def npy_writer(path: str, sources: list[str], targets: list[str], unit: int) -> Iterator[Callable[[Ints], None]]:
+    """The same as an array of numpy: of int64, or of float64 where there is a unit."""
+    header = {"descr": "<i8" if unit == 1 else "<f8", "fortran_order": False, "shape": (len(sources), len(targets))}
     with atomic_write(path, "wb") as file:
         numpy.lib.format.write_array_header_1_0(file, header)
-        for some in rows:
-            file.write(some.astype("<i8").tobytes())
+
+        def write(rows: Ints) -> None:
+            values = rows.astype("<i8") if unit == 1 else numpy.where(rows < 0, numpy.nan, rows / unit).astype("<f8")
+            file.write(values.tobytes())
+
+        yield write
 
 
-def shown(rows: Iterator[Ints], cells: int) -> Iterator[Ints]:
+def shown(rows: Iterator[list[Ints]], cells: int) -> Iterator[list[Ints]]:
     """The rows, with their progress at a terminal."""
     with tqdm.tqdm(total=cells, unit="length", unit_scale=True, disable=None) as bar:
         for some in rows:
             yield some
-            bar.update(some.size)
+            bar.update(some[0].size)
 
 
 def main() -> None:
@@ -146,8 +173,17 @@ def main() -> None:
         many = f"has {len(source_names)} places, which with {len(target_names)} targets make more than {MAX_CELLS} lengths"
         raise ToolError(many, options.sources)
     network = Network(options.network)
-    with Hierarchy(options.hierarchy, network=network, compare_all=options.compare_all) as hierarchy:
+    files = [(options.output, 1), *([(options.metres, 1000)] if options.metres else [])]
+    with Hierarchy(options.hierarchy, network=network, compare_all=options.compare_all) as hierarchy, contextlib.ExitStack() as opened:
+        def ask(starts: Ints, ends: Ints) -> list[Ints]:
+            return ask_metres(hierarchy, starts, ends) if options.metres else [hierarchy.matrix(starts, ends)]
+
+        columns = [network.roads.arrays.arc_metres] if options.metres else []
         make_rows = rows_on_roads if options.on_roads else rows_by_nodes
-        rows = make_rows(hierarchy.matrix, network, sources, targets, options.radius)
-        write = write_npy if options.output.endswith(".npy") else write_csv
-        write(options.output, shown(rows, cells), source_names, target_names)
+        writers = [
+            opened.enter_context((npy_writer if path.endswith(".npy") else csv_writer)(path, source_names, target_names, unit))
+            for path, unit in files
+        ]
+        for some in shown(make_rows(ask, network, sources, targets, options.radius, columns), cells):
+            for write, values in zip(writers, some):
+                write(values)

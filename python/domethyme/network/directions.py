@@ -10,7 +10,7 @@ from typing import TYPE_CHECKING, Any, NamedTuple
 
 import numpy as np
 
-from ..batch import table
+from ..batch import Summer, table
 from ..features import picture
 from ..protocol import RouteReply
 from ..router import Router
@@ -19,7 +19,7 @@ from .alternatives import alternatives as other_legs
 from .geo import Point, to_geojson_geometry
 from .groups import Ints
 from .leg_geometry import MICRODEGREES, RouteGeometry, leg_totals
-from .leg_tables import weight_rows
+from .leg_tables import table_rows, weight_rows
 from .legs import Leg, SnapEnds, find_leg
 from .matching import Matched, Matcher, Trace
 from .parallel import differs_from_previous
@@ -210,6 +210,16 @@ def weights(router: Router, roads: RoadIndex, starts: Sequence[SnappedPoint], en
     """The least weights from each start to each end, FAR where there is no path."""
     rows = list(weight_rows(functools.partial(table, router), roads, starts, ends, NODE_CELLS))
     return np.concatenate(rows) if rows else np.empty((0, len(ends)), np.int64)
+
+
+def weights_and_millimetres(
+    summer: Summer, roads: RoadIndex, starts: Sequence[SnappedPoint], ends: Sequence[SnappedPoint]
+) -> tuple[Ints, Ints]:
+    """The same, and the millimetres along a path of that weight, by what sums them up."""
+    rows = table_rows(lambda sources, targets: [*summer.table(sources, targets)], roads, starts, ends, NODE_CELLS, [roads.arrays.arc_metres])
+    none = np.empty((0, len(ends)), np.int64)
+    found, sums = (np.concatenate([none, *some]) for some in zip(*rows)) if starts else (none, none)
+    return found, sums
 
 
 def route_along(roads: RoadIndex, start: SnappedPoint, end: SnappedPoint, leg: Leg) -> RoadRoute:

@@ -13,10 +13,9 @@ from .groups import Ints, expand, offsets
 from .indexes import wrapped_difference
 from .legs import Leg
 from .net_file import UNITS
-from .network import Floats
 from .parallel import differs_from_previous
 from .snapping import RoadIndex, SnappedPoint
-from .sphere import great_circle_metres, unit_vectors
+from .sphere import Floats, great_circle_metres, unit_vectors
 
 MICRODEGREES = 1_000_000
 # How many units of weights are a second, or a metre, of an answer.
@@ -72,30 +71,32 @@ class RouteGeometry:
         return offsets(np.concatenate([leg.weights for leg in self.legs]))
 
     @functools.cached_property
-    def _shares(self) -> Floats:
-        """The share of each arc that is driven: of a leg's first and last one there may be a part."""
-        shares, legs = np.ones(len(self.arcs)), [self.legs[number] for number in self._driven.tolist()]
-        shares[self.first[self._driven + 1] - 1] = [leg.end for leg in legs]
-        shares[self.first[self._driven]] -= [leg.begin for leg in legs]
-        return shares
+    def _milliseconds(self) -> Ints:
+        """The milliseconds before each arc, and in total."""
+        return offsets(self._driven_thousandths(self.roads.arrays.arc_seconds))
 
     @functools.cached_property
-    def _seconds(self) -> Floats:
-        """The seconds before each arc, and in total."""
-        return np.concatenate(([0.0], (self.roads.arrays.arc_seconds[self.arcs] * self._shares).cumsum()))
+    def _millimetres(self) -> Ints:
+        return offsets(self._driven_thousandths(self.roads.arrays.arc_metres))
 
-    @functools.cached_property
-    def _metres(self) -> Floats:
-        return np.concatenate(([0.0], (self.roads.arrays.arc_metres[self.arcs] * self._shares).cumsum()))
+    def _driven_thousandths(self, column: Column) -> Ints:
+        """What is driven of each arc: of a leg's first and last one there may be a part."""
+        found, legs = thousandths(column[self.arcs]), [self.legs[number] for number in self._driven.tolist()]
+        firsts, lasts = self.first[self._driven], self.first[self._driven + 1] - 1
+        before = np.rint(found[firsts] * [leg.begin for leg in legs]).astype(np.int64)
+        behind = found[lasts] - np.rint(found[lasts] * [leg.end for leg in legs]).astype(np.int64)
+        found[firsts] -= before
+        found[lasts] -= behind
+        return found
 
     def totals(self, begins: Ints, ends: Ints) -> Totals:
         """The totals of arcs begins[k]:ends[k]. Seconds or metres follow from the weight if weights are these."""
         unit = self.roads.unit
         weights = (self._weights[ends] - self._weights[begins]) / UNITS_PER_OUTPUT_UNIT.get(unit, 1)
-        metres = weights if unit == "distance" else self._metres[ends] - self._metres[begins]
+        metres = weights if unit == "distance" else (self._millimetres[ends] - self._millimetres[begins]) / 1000
         if not self.roads.has_seconds:
             return Totals(weights, None, metres.round(2))
-        seconds = weights if unit == "duration" else self._seconds[ends] - self._seconds[begins]
+        seconds = weights if unit == "duration" else (self._milliseconds[ends] - self._milliseconds[begins]) / 1000
         return Totals(weights, seconds.round(3), metres.round(2))
 
     @functools.cached_property
@@ -238,9 +239,18 @@ def leg_totals(roads: RoadIndex, leg: Leg) -> LegTotals:
 
 
 def driven_sum(column: Column, leg: Leg) -> float:
-    """The sum of a leg's seconds or metres. Of its first and last arc there may be a part."""
-    values = column[leg.arcs]
-    return float(values.sum() - leg.begin * values[0] - (1.0 - leg.end) * values[-1]) if len(values) else 0.0
+    """The sum of a leg's seconds or metres."""
+    return driven_thousandths(column, leg) / 1000
+
+
+def driven_thousandths(column: Column, leg: Leg) -> int:
+    """The same in thousandths. Each arc has a whole number of these, and so has a part of the first and of the last arc."""
+    values: list[int] = thousandths(column[leg.arcs]).tolist()
+    return sum(values) - round(leg.begin * values[0]) - values[-1] + round(leg.end * values[-1]) if values else 0
+
+
+def thousandths(values: Floats) -> Ints:
+    return np.asarray(np.rint(1000 * values), np.int64)
 
 
 def microdegrees(points: Sequence[SnappedPoint]) -> Ints:

@@ -196,7 +196,8 @@ class Matcher:
         """By how many metres each way is longer or shorter at least than the points are apart, infinity where there is none, and
         whether that is known."""
         sides = Ends.of([point.exits for point in start.points]), Ends.of([point.entries for point in end.points])
-        weights = least_by_nodes(self._table, *sides, (len(start.points), len(end.points)))
+        added = ([side.weights] for side in sides)
+        weights, = least_by_nodes(lambda *nodes: [self._table(*nodes)], *sides, (len(start.points), len(end.points)), *added)
         least, most = self._roads.metres_of_weight
         # (the weight of a part of an arc is rounded)
         straight = great_circle_metres(start.vectors[:, None], end.vectors[None])

@@ -211,11 +211,7 @@ class Network:
     def millimetres(self, file: int, name: str) -> NDArray[np.uint32]:
         """The whole millimetres of the lightest arc for each link without a middle of the open file of a hierarchy, in order. Raises
         NetworkError for an arc of more than 4,294 km."""
-        found = np.rint(1000 * self._arrays.arc_metres[Links.of(file, name).arcs(self._arrays)])
-        if found.max(initial=0) >= 1 << 32:
-            raise NetworkError("has an arc of more than 4294967 metres, which can't be summed", self._files.arcs)
-        whole: NDArray[np.uint32] = found.astype(np.uint32)
-        return whole
+        return Links.of(file, name).thousandths(self._arrays, [self._arrays.arc_metres])[0]
 
     @functools.cached_property
     def _has_arcs(self) -> bool:
