@@ -55,6 +55,11 @@ def test_as_the_model(data: Any) -> None:
         weights = [[least_weight(legs[start, end]) for end in points] for start in points]
         table = hierarchy.table(snapped, snapped[::-1])
         assert table.tolist() == [[-1 if weight is None else weight for weight in row[::-1]] for row in weights]
+        both = hierarchy.table(snapped, snapped[::-1], sums=["metres"])
+        assert both["weight"].tolist() == table.tolist()
+        for (start, end), metres in zip(itertools.product(points, points[::-1]), both["metres"].ravel().tolist()):
+            wanted = [figures(made.roads, leg)["distance"].value for leg in legs[start, end]]
+            assert any(abs(metres - each) < 0.01 for each in wanted) if wanted else math.isnan(metres)
         if len(spots) > 1:
             check_directions(made.roads, hierarchy.directions(spots, bearings=bearings, radiuses=radiuses), points, legs)
         for setting in SETTINGS:

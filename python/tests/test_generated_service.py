@@ -80,7 +80,7 @@ def target(request: Request) -> str:
 @given(st.data())
 def test_routes_nearest_tables_and_trips(data: Any) -> None:
     made = data.draw(networks())
-    with tempfile.TemporaryDirectory() as folder, mock.patch.object(osrm_tables, "NODE_CELLS", 8):  # (so that tables come in parts)
+    with tempfile.TemporaryDirectory() as folder, mock.patch.multiple(osrm_tables, NODE_CELLS=8, SUMMED_CELLS=8):  # (so that tables come in parts)
         service = serve(made, pathlib.Path(folder))
         for _ in range(REQUESTS):
             drawn_request = data.draw(requests(made, data.draw(st.sampled_from(["route", "route", "nearest", "table", "trip"]))))

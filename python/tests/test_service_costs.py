@@ -288,7 +288,7 @@ class ArbiterTests(ServiceCase):
             climber.climb(120)
         assert climber.most <= 60_000 + 5_000 and climber.ends["answered"] > 10 and climber.ends["needs a slot"] > 3, climber.ends
         twice = f"/table/v1/car/0.0003,0;0.0077,0?annotations=distance&{TWICE}"
-        assert ask(service, twice)[0] == 200 and service.meter.counts[Work.PAIR] == 1 and service.meter.counts[Work.PLACE] == 2
+        assert ask(service, twice)[0] == 200 and service.meter.counts[Work.SUM] <= 4 and service.meter.counts[Work.PLACE] == 2
         assert ask(service, "/nearest/v1/car/-179.99,0.01")[1]["code"] == "NoSegment" and not service.meter.counts[Work.ROAD]
         assert ask(service, "/nearest/v1/car/-179.99,0.01?radiuses=unlimited")[0] == 200 and service.meter.counts[Work.ROAD] > 10
 

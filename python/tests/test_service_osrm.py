@@ -1,21 +1,8 @@
 """OSRM's API: large tables, messages, and what is logged."""
-import contextlib
 import json
-import unittest.mock
 
 from service_case import ServiceCase
 from tool_case import TOOLS
-
-from domethyme_service import osrm_tables
-from domethyme_service.costs import Meter
-from domethyme_service.dataset import DatasetPaths, open_dataset
-from domethyme_service.endpoints import BY_NAME
-from domethyme_service.errors import RequestError
-from domethyme_service.metrics import SharedMetrics
-from domethyme_service.osrm import Engine
-from domethyme_service.osrm_request import parse_request
-from domethyme_service.queries import Queries
-
 
 HIGH = "0.0003,0.00001;0.0077,-0.00002"
 
@@ -47,17 +34,6 @@ class RequestTests(OsrmCase):
         status, found = self.ask(f"/table/v1/car/{HIGH};0.001,0")
         self.assertEqual((status, found["code"]), (400, "TooBig"))
         self.assertIn("5 cells (--max-table-cells)", found["message"])
-
-    def test_cells_that_need_routes(self):
-        """A table of distances has as many cells as there may be, and no more."""
-        dataset = open_dataset(DatasetPaths(str(self.folder / "v.rch"), str(self.folder / "v")))
-        meter = Meter()
-        engine = Engine(Queries(dataset.router, dataset.links, SharedMetrics(), meter), dataset.roads, 100, meter)
-        with unittest.mock.patch.object(osrm_tables, "MAX_ROUTED_CELLS", 4):
-            for places, is_refused in ((HIGH, False), (f"{HIGH};0,0", True)):
-                request = parse_request(BY_NAME["/table"], f"/table/v1/car/{places}", {"annotations": "distance"}, 1000)
-                with self.assertRaises(RequestError) if is_refused else contextlib.nullcontext():
-                    self.assertIn("distances", osrm_tables.table(engine, request))
 
     def test_profiles(self):
         """Any word, or those of --profile alone."""

@@ -52,6 +52,23 @@ class TableTests(ToolCase):
             self.table("--on-roads", "-o", "t.npy", places=(sources, targets))
             self.assertEqual(np.load(self.folder / "t.npy").shape, shape)
 
+    def test_metres(self):
+        """A second table has the metres along these paths, by nodes and on roads, as arrays and as CSV."""
+        with domethyme.Hierarchy(self.folder / "net.rch", network=self.folder / "net") as hierarchy:
+            places = [[(0.0001, 0.001), (0.0, 0.0), (0.002, 0.0)], [(0.0011, 0.0), (0.001, 0.0009)]]
+            nodes = [[hierarchy.nearest(*place, side)[0] for place in some] for some, side in zip(places, ("from", "to"))]
+            for words, both in (([], hierarchy.matrix(*nodes, sums=["metres"])), (["--on-roads"], hierarchy.table(*places, sums=["metres"]))):
+                self.table(*words, "-o", "t.npy", "--metres", "m.npy")
+                found, (lengths, metres) = np.load(self.folder / "m.npy"), both.values()
+                self.assertEqual((found.dtype, np.load(self.folder / "t.npy").tolist()), (np.float64, lengths.tolist()))
+                np.testing.assert_array_equal(found, metres)
+                self.table(*words, "-o", "t.csv", "--metres", "m.csv")
+                rows = [line.split(",")[1:] for line in (self.folder / "m.csv").read_text().splitlines()[1:]]
+                np.testing.assert_array_equal(np.array([[float(field or "nan") for field in row] for row in rows]), found)
+        self.assertTrue((found[0] > 0).all() and np.isnan(found[2]).all())
+        refused = self.run_tool("table", "net", "net.rch", "sources.csv", "targets.csv", "--metres", "targets.csv", status=2)
+        self.assertIn("would be overwritten", refused.stderr)
+
     def test_refusals(self):
         for words, sources, targets, says in REFUSED:
             self.write("sources.csv", sources)
