@@ -188,7 +188,7 @@ print(domethyme.Hierarchy("--help").length(0, 2))
                 hierarchy.route(node, 0)
         for starts, ends, says in [
             ([], [0], "a node or more"), ([0], {}, "a node or more"), ({0: -1}, [0], "from 0 to 4294967295"),
-            ({0: 1.5}, [0], "have to be integers"), ([0], {0: 1 << 32}, "from 0 to 4294967295"), ([7], [0], "nodes 0 to 3"),
+            ({0: 1.5}, [0], "must be integers, not 1.5"), ([0], {0: 1 << 32}, "from 0 to 4294967295"), ([7], [0], "nodes 0 to 3"),
         ]:
             with self.subTest(says=says), self.assertRaisesRegex(ValueError, says):
                 hierarchy.between(starts, ends)

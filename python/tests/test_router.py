@@ -101,7 +101,7 @@ class RouterTests(ToolCase):
             asking.result(SECONDS)
         self.assertEqual(found, [8] * 200)
 
-    def test_a_fork_while_seats_are_taken(self):
+    def test_a_fork_while_searchers_are_taken(self):
         """The child asks by a seat of its own; where one was being made, which is as another thread left it, it is closed."""
         hierarchy = self.ring()
 
@@ -120,7 +120,7 @@ class RouterTests(ToolCase):
             self.assertEqual(child_fails(), 2)
         self.assertEqual(hierarchy.length(0, 1), 1)
 
-    def test_an_interrupt_loses_no_seat(self):
+    def test_an_interrupt_loses_no_searcher(self):
         """An alarm that raises between any two steps of Python: the next question is answered, and lost seats are closed."""
         hierarchy, counts = self.ring(), collections.Counter()
 
@@ -141,16 +141,16 @@ class RouterTests(ToolCase):
                 signal.setitimer(signal.ITIMER_REAL, 0)
             self.assertEqual(hierarchy.length(0, 8), 8)
         self.assertEqual(counts["interrupts"], 300)
-        self.assertLess(len(hierarchy._router._seats), 5)
+        self.assertLess(len(hierarchy._router._made), 5)
 
-    def test_a_seat_that_is_lost_in_the_hands_of_an_interrupt(self):
+    def test_a_searcher_that_is_lost_in_the_hands_of_an_interrupt(self):
         router = self.ring()._router
         self.assertIsNotNone(router._acquire())
-        self.assertEqual((router.length(0, 7), len(router._seats)), (7, 1))
+        self.assertEqual((router.length(0, 7), len(router._made)), (7, 1))
         lost = router._acquire()
-        self.assertEqual((router.length(0, 7), len(router._seats)), (7, 2))
+        self.assertEqual((router.length(0, 7), len(router._made)), (7, 2))
         del lost
-        self.assertEqual(len(router._seats), 1)
+        self.assertEqual(len(router._made), 1)
 
     def test_no_memory_for_a_seat(self):
         router = self.ring()._router

@@ -52,7 +52,7 @@ TWICE = "sources=" + "0;" * 99 + "0&destinations=" + "1;" * 99 + "1"
     # (as a polyline these are of 570 bytes: how long a path is decides nothing)
     ("route", 60, ALL, SHORT, MOST), ("route", 500, ALL, MOST, math.inf),
     ("table", 110, "bearings=" + "45,0;" * 109 + "45,0", SHORT, MOST), ("table", 2, f"annotations=distance&{TWICE}", 0, SHORT),
-    ("table", 100, "annotations=distance", SHORT, MOST), ("table", 25, "", 0, SHORT), ("table", 1000, "", SHORT, MOST),
+    ("table", 100, "annotations=distance", 0, SHORT), ("table", 500, "annotations=distance", SHORT, MOST), ("table", 25, "", 0, SHORT), ("table", 1000, "", SHORT, MOST),
     ("isochrone", 1, "contours_minutes=5", SHORT, MOST), ("isochrone", 1, "contours_minutes=600", SHORT, MOST),
     ("nearest", 1, "number=100", 0, SHORT), ("match", 20, "", 0, MOST), ("match", 500, ALL, MOST, math.inf),
 ], ids=itertools.count())

@@ -161,7 +161,7 @@ GOING_ON = (
     Kind(400, "TooBig", "more places than there may be", (
         "/$many/v1/$text/$many_places", "/route/v1/$text/$hundred_places;$hundred_places;$hundred_places;$hundred_places;$hundred_places")),
     Kind(400, "TooBig", "more cells than there may be", (
-        "/table/v1/$text/$hundred_places?annotations=duration,distance", "/table/v1/$text/$hundred_places?annotations=distance")),
+        f"/table/v1/$text/{';'.join(['$hundred_places'] * 10)}?annotations=duration,distance", f"/table/v1/$text/{';'.join(['$hundred_places'] * 10)}")),
     Kind(400, "InvalidVersion", "another version", tuple(f"/$many/{version}/$text/$places" for version in (
         "", "v0", "v2", "v5", "V1", "v1.0", "v11", "1", "v", "v%31", "v1%00", "v-1", "latest", "v2$few$few"))),
     Kind(400, "InvalidUrl", "a path that ends early", (

@@ -57,15 +57,17 @@ def steps(
     arcs = [network.arcs[part[0]] for part in leg]
     first, last = directions(lines, 1), directions(lines, -1)
     turns = [(begin - end + 180) % 360 - 180 for end, begin in zip(last, first[1:])]
-    is_sure = all(min(abs(abs(turn) - limit) for limit in (*LIMITS, 180)) > NEAR_LIMIT for turn in turns)
-    if not is_sure or not len(first) == len(last) == len(leg) or network.forbidden:
-        return Holds("two steps or more", lambda found: len(found) >= 2)
+    unsure = Holds("two steps or more", lambda found: len(found) >= 2)
+    if any(map(is_near_limit, turns)) or not len(first) == len(last) == len(leg) or network.forbidden:
+        return unsure
     found, begins = [], begins_of(network, arcs, turns) if leg else []
     for begin, stop in itertools.pairwise([*begins, len(leg)]):
         named = begin  # (a step that enters a roundabout is named after the first arc behind it)
         if begin and is_round(arcs[begin]):
             named = next((number for number in range(begin, stop) if not is_round(arcs[number])), begin)
         turn: dict[str, Any] = {"type": "depart"}
+        if begin and is_near_limit(first[named] - last[begin - 1]):
+            return unsure
         if begin:
             turn = turn_at(network, arcs[begin - 1 : stop], named - begin, first[named] - last[begin - 1])
         line = [point for part in lines[begin:stop] for point in part]
@@ -76,6 +78,11 @@ def steps(
         found = [step({"type": "depart"}, (0, 0), NOWHERE, nothing, [start.place] * 2, form)]
     ways, name = (Direction(last[-1]) if leg else 0, 0), NOWHERE._replace(name=found[-1]["name"])
     return [*found, step({"type": "arrive"}, ways, name, nothing, [end.place] * 2, form)]
+
+
+def is_near_limit(angle: float) -> bool:
+    """Whether rounding decides about the modifier of a turn of so many degrees."""
+    return min(abs(abs((angle + 180) % 360 - 180) - limit) for limit in (*LIMITS, 180)) <= NEAR_LIMIT
 
 
 def modifier_of(angle: float) -> str:
