@@ -40,7 +40,7 @@ class Work(enum.Enum):
     NODE = 1.3, "a node of a path"
     BEARING = 10_000, "a place with a bearing: the directions of roads around it"
     ROW = 2, "a row of a table of the library, and as much for each 10,000 links of its selection"
-    SUM = 2, "a cell of a table of the library with sums, for each sum"
+    SUM = 0.5, "a cell of a table of the library with sums, for each sum"
     REACH = 0.1, "a node of the hierarchy, where what is reached is computed"
     CONTOUR = 200_000, "a contour that is drawn"
     DRAWN = 15, f"a node that is reached, for each contour, of {MOST_DRAWN:,} at most"
