@@ -51,8 +51,9 @@ def table(
 
 
 class Summer:
-    """What numbers, one for each link without a middle in order, sum to along shortest paths; for one question at a time. It takes 40
-    bytes a link, of which nothing changes later, so processes that are forked share them; and a second for some four million links.
+    """What numbers, one for each link without a middle in order, sum to along shortest paths; for one question at a time. It takes some 28
+    bytes a link and 40 a node, most of which never change, so processes that are forked share them; and a second for some four million
+    links.
     All raise OutOfMemory, and LibraryNotFound for a library that is older and lacks the call."""
 
     def __init__(self, router: Router, numbers: NDArray[np.uint32]) -> None:

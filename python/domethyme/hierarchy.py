@@ -215,8 +215,8 @@ class Hierarchy:
         The library computes all lengths, row by row, by as many threads as there are processors. Each thread selects what paths to
         the targets take, and keeps that: further rows to the same targets, in this call or in later ones, take less time. A table
         has 8 bytes a cell, and 2^29 cells at most: ask for some of the sources at a time beyond that. Sums need the
-        network, and one thread finds them, in two to four times the time of lengths. The first ones take a second for four million links, of
-        which each then has 40 bytes more.
+        network, and one thread finds them, in two to four times the time of lengths. The first ones take a second for four million links, and
+        then some 28 bytes a link and 40 a node are kept.
 
         Raises NoSuchNode, ValueError, and OutOfMemory for too many cells, before memory is taken. With sums also WrongHierarchy,
         if the file was replaced before the first ones, and LibraryNotFound for a library that is older and lacks the call.

@@ -77,7 +77,7 @@ class RouterTests(ToolCase):
             self.assertEqual([run.result() for run in one], [(number * 6) % 60 for number in range(400)])
             self.assertEqual([run.result().tolist() for run in many], [[number] * 2000 for number in range(20)])
 
-    def test_a_seat_is_made_where_all_are_taken(self):
+    def test_a_searcher_is_made_where_all_are_taken(self):
         router = self.ring()._router
         with concurrent.futures.ThreadPoolExecutor(1) as pool, router.searcher() as first:
             self.assertEqual(pool.submit(router.length, 0, 7).result(SECONDS), 7)
@@ -102,7 +102,7 @@ class RouterTests(ToolCase):
         self.assertEqual(found, [8] * 200)
 
     def test_a_fork_while_searchers_are_taken(self):
-        """The child asks by a seat of its own; where one was being made, which is as another thread left it, it is closed."""
+        """The child asks by a searcher of its own; where one was being made, which is as another thread left it, it is closed."""
         hierarchy = self.ring()
 
         def child_fails():
@@ -121,7 +121,7 @@ class RouterTests(ToolCase):
         self.assertEqual(hierarchy.length(0, 1), 1)
 
     def test_an_interrupt_loses_no_searcher(self):
-        """An alarm that raises between any two steps of Python: the next question is answered, and lost seats are closed."""
+        """An alarm that raises between any two steps of Python: the next question is answered, and lost searchers are closed."""
         hierarchy, counts = self.ring(), collections.Counter()
 
         def alarm(*_):
@@ -152,15 +152,15 @@ class RouterTests(ToolCase):
         del lost
         self.assertEqual(len(router._made), 1)
 
-    def test_no_memory_for_a_seat(self):
+    def test_no_memory_for_a_searcher(self):
         router = self.ring()._router
         with unittest.mock.patch.object(type(router._first), "clone", return_value=None):
             with self.assertRaisesRegex(domethyme.OutOfMemory, "ring.rch: "):
                 router.length(0, 7)
-        with router.searcher() as seat, unittest.mock.patch.object(type(router._first), "clone", return_value=None):
+        with router.searcher() as searcher, unittest.mock.patch.object(type(router._first), "clone", return_value=None):
             with unittest.mock.patch.object(domethyme.router, "PATIENCE", 0.05), self.assertRaises(domethyme.OutOfMemory):
                 router.length(0, 7)
-            self.assertEqual(seat.length(0, 8), 8)
+            self.assertEqual(searcher.length(0, 8), 8)
 
     def test_a_question_that_is_refused_memory(self):
         """A search that comes to 500,000 nodes raises OutOfMemory where there are 2 MB, and answers once there is more."""
@@ -179,8 +179,8 @@ class RouterTests(ToolCase):
             with self.assertRaisesRegex(ValueError, "is closed"):
                 attempt()
         hierarchy.close()
-        with self.ring()._router.searcher() as seat:
-            self.assertEqual(seat.length(0, 1), 1)
+        with self.ring()._router.searcher() as searcher:
+            self.assertEqual(searcher.length(0, 1), 1)
 
     def test_bytes_that_are_refused(self):
         self.ring()
