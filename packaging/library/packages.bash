@@ -60,7 +60,7 @@ ln -s libdomethyme.so.1 "$root/$libraries/libdomethyme.so"
 sed -e 's|^prefix=.*|prefix=/usr|' -e 's|^libdir=.*|libdir=${prefix}/lib/x86_64-linux-gnu|' "${library%/*}/domethyme.pc" \
     >"$root/$libraries/pkgconfig/domethyme.pc"
 library_documents libdomethyme-dev
-packed docs/LIBRARY.md usr/share/doc/libdomethyme-dev/LIBRARY.md.gz
+packaging/pages "$root/usr/share/doc/libdomethyme-dev" docs/LIBRARY.md
 for file in examples/library/*; do
     put 644 "$file" "usr/share/doc/libdomethyme-dev/examples/${file##*/}"
 done

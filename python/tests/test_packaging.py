@@ -197,3 +197,21 @@ class LibraryCopyrightTests(CopyrightTests):
     """The same of the library."""
 
     FILE, CRATE, LEAST = "library/copyright", "domethyme_c", 0
+
+
+class PagesTests(ToolCase):
+    """The pages of the package domethyme, as packaging/build-deb puts them there."""
+
+    def test_links_lead_to_files_of_the_package(self):
+        listed = re.findall(r"pages < <\((git ls-files .*)\)$", (PACKAGING / "build-deb").read_text(encoding="utf-8"), re.M)
+        files = self.run_program(["bash", "-c", f"cd {ROOT}; {listed[0]}"]).stdout.split()
+        folder = self.folder / "pages"
+        self.run_program([PACKAGING / "pages", folder, *files])
+        pages = sorted(folder.rglob("*.md"))
+        links = [(page, link) for page in pages for link in re.findall(r"\]\((?![a-z]+:|#)([^)#\s]+)", page.read_text(encoding="utf-8"))]
+        self.assertEqual([(str(page), link) for page, link in links if not (page.parent / link).exists()], [])
+        self.assertLessEqual({"README.md", "CHANGELOG.md", "docs/FORMATS.md", "tools/README.md"}, {str(page.relative_to(folder)) for page in pages})
+        self.assertGreater(len(links), 100)
+        told = (folder / "README.md").read_text(encoding="utf-8")
+        self.assertIn("Licence: MIT or Apache 2.0, at your option.", told)
+        self.assertIn("[docs/INSTALL.md](docs/INSTALL.md)", told)
