@@ -73,7 +73,7 @@ complete -c routecli -n $commands -a prepare -d 'Prepares a hierarchy of a graph
 complete -c routecli -n $commands -a route -d 'Finds shortest paths, as answer does, using a prepared hierarchy'
 complete -c routecli -n $commands -a serve -d 'Replies to each line of standard input with a line, using a prepared hierarchy'
 complete -c routecli -n $commands -a info -d 'Prints the version, nodes, links, bound and bytes of a prepared hierarchy'
-complete -c routecli -n $commands -a check -d 'Checks that a hierarchy is right for a graph, whoever made it'
+complete -c routecli -n $commands -a check -d 'Verifies that a hierarchy is right for a graph, whoever made it'
 complete -c routecli -n $commands -a renew -d 'Prepares a hierarchy of a graph in the order of an old one'
 complete -c routecli -n $commands -a help -d 'Print this message or the help of the given subcommand(s)'
 
@@ -81,10 +81,10 @@ complete -c routecli -n '__routecli_takes_word answer prepare route serve info c
 complete -c routecli -n __routecli_takes_input -a - -d 'With - for both files, standard input has both texts'
 
 complete -c routecli -n '__routecli_lacks workers prepare' -l workers -x -d 'Number of threads that contract nodes, 0 to 64'
-complete -c routecli -n '__routecli_lacks sequential prepare' -l sequential -d 'Contract nodes on one thread, without what threads share'
-complete -c routecli -n '__routecli_lacks seed prepare' -l seed -x -d 'Seed of the random choices of the threads, 0 to 18446744073709551615'
+complete -c routecli -n '__routecli_lacks sequential prepare' -l sequential -d 'Contract nodes on one thread, without shared state'
+complete -c routecli -n '__routecli_lacks seed prepare' -l seed -x -d 'Seed of the random choices, 0 to 18446744073709551615'
 complete -c routecli -n '__routecli_lacks order prepare' -l order -x -d 'Which nodes are contracted first' \
     -a "(routecli prepare --help 2>/dev/null | string match -r 'possible values: [^]]*' | string replace 'possible values: ' '' | string split ', ')"
-complete -c routecli -n '__routecli_lacks stint prepare' -l stint -x -d 'Switch a thread to its next order after C contractions'
-complete -c routecli -n '__routecli_lacks progress prepare check renew' -l progress -d 'Show on standard error how many nodes are contracted'
-complete -c routecli -n '__routecli_lacks explain answer prepare route serve info check renew' -l explain -d 'Explain a refusal in more lines on standard error'
+complete -c routecli -n '__routecli_lacks stint prepare' -l stint -x -d 'Switch each thread to the next order after C contractions'
+complete -c routecli -n '__routecli_lacks progress prepare check renew' -l progress -d 'Show progress from the start'
+complete -c routecli -n '__routecli_lacks explain answer prepare route serve info check renew' -l explain -d 'Explain errors in detail on standard error'

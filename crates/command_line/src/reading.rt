@@ -174,7 +174,7 @@ fn program<'a>(alloc: Global) -> Result<Command<'a>, AllocError>
     let program = Command::new(alloc, "routecli")
         .version(VERSION)
         .about(
-            "Finds shortest paths in a road graph: the length and the nodes of one for each pair of nodes",
+            "Finds shortest paths in a road graph: for each pair of nodes the length and the nodes of one",
         )
         .after_help(STATUSES);
     let program = with(program, answer(alloc))?;
@@ -281,7 +281,7 @@ fn check<'a>(alloc: Global) -> Result<Command<'a>, AllocError>
 {
     Command::new(alloc, "check")
         .about(
-            "Checks that a hierarchy is right for a graph, whoever made it, with a proof if it says so",
+            "Verifies that a hierarchy is right for a graph, whoever made it: if it prints right, that is proved",
         )
         .after_help(CHECKING)
         .arg(progress(alloc, CHECK_PROGRESS))?
@@ -398,21 +398,21 @@ const QUERIES: &str = "Query file: p aux sp p2p K, and a line q S T for each pai
 const OUT: &str = "Hierarchy file to write, once the hierarchy is prepared";
 
 const WORKERS: &str =
-    "Number of threads that contract nodes, 0 to 64; with 0 they are contracted in the order of their numbers";
+    "Number of threads that contract nodes, 0 to 64; with 0 the main thread contracts them in numerical order";
 
 const SEQUENTIAL: &str =
-    "Contract nodes on one thread, without what threads share: the file of --workers 1, in less time and memory";
+    "Contract nodes on one thread, without shared state: makes the file of --workers 1, in less time and memory";
 
-const SEED: &str = "Seed of the random choices of the threads, 0 to 18446744073709551615";
+const SEED: &str = "Seed of the random choices, 0 to 18446744073709551615";
 
 const STINT: &str =
-    "Switch a thread to its next order after C contractions, the requested one first and then the others of edges, neighbours and depth: 1 to 1099511627776; without it a thread keeps the requested one";
+    "Switch each thread to the next order after C contractions, 1 to 1099511627776: from the requested one through the others of edges, neighbours and depth; by default it keeps the requested one";
 
 const PROGRESS: &str =
-    "Show on standard error how many nodes are contracted, if that is a terminal, from the beginning and not only after a second, and at the end what was made";
+    "Show progress from the start (by default after a second) and what was made at the end, if standard error is a terminal";
 
 const EXPLAIN: &str =
-    "Explain a refusal in more lines on standard error, as is done if that is a terminal, or with ROUTECLI_EXPLAIN=1";
+    "Explain errors in detail on standard error; the default at a terminal, or with ROUTECLI_EXPLAIN=1";
 
 const HIER: &str = "Hierarchy file that prepare wrote";
 
@@ -421,7 +421,7 @@ const STATUSES: &str =
 Example: routecli prepare --order balanced net.gr net.rch && routecli route net.rch net.pairs";
 
 const PREPARING: &str =
-    "Try balanced first: its answers are the fastest. The default is edges only so that a call without the option makes the file that it always made.\n\n\
+    "Recommended: balanced, whose answers are the fastest. The default is edges only for compatibility.\n\n\
 Options never affect whether answers are right, only the time that preparing takes and the size of OUT.\n\n\
 Example: routecli prepare --order balanced net.gr net.rch";
 
@@ -440,14 +440,14 @@ Example: routecli info net.rch";
 const CHECKED: &str = "Hierarchy file to check";
 
 const CHECK_PROGRESS: &str =
-    "Show on standard error how many nodes are contracted once more, if that is a terminal, from the beginning and not only after a second";
+    "Show progress from the start (by default after a second), if standard error is a terminal";
 
 const CHECKING: &str =
     "It prints right, with status 0; wrong: and what shows that, with status 9; or not shown: and where, or that it took too much work, with status 10, which is no proof that the file is wrong.\n\n\
 From a file that is right, route and serve answer with shortest paths of GRAPH.\n\n\
 Example: routecli check net.gr net.rch";
 
-const OLD: &str = "Hierarchy file whose order of the nodes is used, and nothing else";
+const OLD: &str = "Hierarchy file, of which only the order of the nodes is used";
 
 const RENEWING: &str =
     "For new weights of a network: OLD is a hierarchy of the same nodes, and GRAPH has the new weights. With another number of nodes it ends with status 9, wrong: nodes.\n\n\

@@ -9,10 +9,10 @@ use std::marker::Model;
 macro_rules! table {
     ($columns:ident) => {
         $columns! {
-            Edges "edges" "those that leave the fewest arcs",
-            Neighbours "neighbours" "the same, and each contracted neighbour counts as an arc",
-            Depth "depth" "the same, and each level of depth counts as an arc",
-            Balanced "balanced" "those with the fewest shortcuts for each of their arcs, and levels of depth"
+            Edges "edges" "those that leave the fewest arcs (edge difference)",
+            Neighbours "neighbours" "edge difference plus contracted neighbours",
+            Depth "depth" "edge difference plus depth",
+            Balanced "balanced" "fewest shortcuts per removed arc, plus depth (recommended)"
         }
     };
 }
@@ -34,13 +34,13 @@ macro_rules! help {
 /// Which nodes workers contract first. Without workers the nodes are contracted by the order of their numbers.
 #[derive(Clone, Copy, Debug, PartialEq, Eq)]
 pub enum Order {
-    /// Those whose contraction leaves the fewest arcs.
+    /// Those whose contraction leaves the fewest arcs: edge difference.
     Edges,
-    /// The same, and each neighbour that is gone puts a node back by one arc.
+    /// Edge difference plus the number of contracted neighbours.
     Neighbours,
-    /// The same, and each step of its depth puts a node back by one arc.
+    /// Edge difference plus the depth of the node.
     Depth,
-    /// Those with the fewest shortcuts for each of their arcs, and each step of its depth puts a node back.
+    /// Those with the fewest shortcuts per removed arc, plus the depth of the node.
     Balanced,
 }
 
