@@ -9,7 +9,6 @@ square of 400 metres a step around 47 N, 9 E, each joined to the next in its row
 Every 8th line is a tertiary road, every 32nd a primary one and every 128th a motorway. A road has 0 to 3 nodes on it. One in
 forty is a one-way street. Dead ends make up the rest. A line has a name for 16 of its steps. Weights are milliseconds.
 """
-import pathlib
 
 import numpy as np
 
@@ -93,16 +92,14 @@ def arrays_of(places, starts, stops, single, kind, name):
     rows[:, 0], rows[:, 1] = 2 + pairs[:, 0], 2 + len(KINDS) + pairs[:, 1]
     rows, of_arc = indexes.unique_text_rows(rows, of_pair[both])
     encoded = [text.encode() for text in texts]
-    return net_file.Arrays(
-        np.array([net_file.VERSION]), np.array(net_file.NO_TABLES), np.arange(1, len(places) + 1), units[:, 0].copy(),
-        units[:, 1].copy(),
-        np.zeros(len(places), np.uint8), np.where(is_back, stops[both], starts[both]).astype(np.int32),
-        np.where(is_back, starts[both], stops[both]).astype(np.int32),
-        np.maximum(1, np.round(1000 * seconds[both])).astype(np.int64),
-        seconds[both], metres[both], both + 1, of_arc, both.astype(np.int32),
-        is_back == is_turned[both], rows, np.arange(0, 2 * len(starts) + 1, 2), lines.reshape(-1, 2),
-        np.cumsum([0, *map(len, encoded)]), np.frombuffer(b"".join(encoded), np.uint8),
-    )
+    return net_file.Arrays({
+        "node_osm": np.arange(1, len(places) + 1), "node_lon": units[:, 0].copy(), "node_lat": units[:, 1].copy(),
+        "node_ends": np.zeros(len(places), np.uint8),
+        "arc_from": np.where(is_back, stops[both], starts[both]), "arc_to": np.where(is_back, starts[both], stops[both]),
+        "arc_weight": np.maximum(1, np.round(1000 * seconds[both])), "arc_seconds": seconds[both], "arc_metres": metres[both],
+        "arc_osm": both + 1, "arc_row": of_arc, "arc_edge": both, "arc_along": is_back == is_turned[both], "row_texts": rows,
+        "edge_begin": np.arange(0, 2 * len(starts) + 1, 2), "points": lines.reshape(-1, 2), **net_file.text_columns(encoded),
+    })
 
 
 def spread(values):
@@ -113,12 +110,12 @@ def spread(values):
 
 
 def write_tables(prefix, arrays):
-    """The tables of osm_to_gr; returns their sizes."""
+    """The tables of osm_to_gr; returns what they are known by."""
     files, network = tables.Files(prefix), net_file.map_tempfile(arrays, prefix)
     with open(files.nodes, "w") as nodes, open(files.arcs, "w") as arcs:
         tables.write_nodes(nodes, reading.nodes_from_net(network))
         tables.write_arcs(arcs, reading.arcs_from_net(network))
-    return [pathlib.Path(each).stat().st_size for each in (files.nodes, files.arcs)]
+    return net_file.marks_of(files.nodes, files.arcs)
 
 
 def main():
@@ -139,7 +136,7 @@ def main():
         for begin in range(0, len(arcs), CHUNK):
             file.writelines(f"a {start} {end} {weight}\n" for start, end, weight in arcs[begin : begin + CHUNK].tolist())
     if given.tables:
-        arrays = arrays._replace(sizes=np.array(write_tables(given.network, arrays)))
+        arrays.about |= write_tables(given.network, arrays)
     with open(tables.Files(given.network).binary, "wb") as file:
         net_file.write(file, arrays)
     print(f"{given.network}: {len(arrays.node_osm)} nodes, {len(arrays.arc_from)} arcs, {len(arrays.edge_begin) - 1} edges")

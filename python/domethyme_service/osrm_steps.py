@@ -7,9 +7,9 @@ from typing import NamedTuple
 import numpy as np
 from numpy.typing import NDArray
 
+from domethyme.network.columns import TEXTS
 from domethyme.network.groups import Ints
 from domethyme.network.leg_geometry import RouteGeometry, microdegrees
-from domethyme.network.net_file import TEXTS
 from domethyme.network.snapping import SnappedPoint
 
 from .json_text import Texts, join_array, point_texts, string_json

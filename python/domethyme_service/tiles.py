@@ -8,10 +8,11 @@ from typing import Any
 
 import numpy as np
 
+from domethyme.network.columns import ROAD_CLASSES, TEXTS, UNITS
 from domethyme.network.groups import first_of_equal
 from domethyme.network.indexes import segment_middles, wrapped_difference
-from domethyme.network.net_file import TEXTS, UNITS, MappedNetwork
-from domethyme.network.zoom_levels import CODE_ZOOM, ROAD_CLASSES, Ints, spread_bits, to_mercator
+from domethyme.network.net_file import MappedNetwork
+from domethyme.network.zoom_levels import CODE_ZOOM, Ints, spread_bits, to_mercator
 
 from .errors import invalid_value
 

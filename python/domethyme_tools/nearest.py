@@ -40,12 +40,13 @@ from domethyme.atomic_files import atomic_write
 from domethyme.csv_tables import Row, excerpt, open_table
 from domethyme.dimacs import write_pairs
 from domethyme.limits import MAX_LINES
+from domethyme.network.columns import ENDS
 from domethyme.network.geo import Point
 from domethyme.network.groups import Ints
 from domethyme.network.node_index import NodeIndex, load_node_index
 from domethyme.network.reading import read_nodes
 from domethyme.network.sphere import Floats
-from domethyme.network.tables import ENDS, KEY, Side, is_coordinates, paths_of
+from domethyme.network.tables import KEY, Side, is_coordinates, paths_of
 
 from .cli import (
     ToolError, add_hierarchy, argument_parser, current_arguments, need_hierarchy, refuse_overwriting, warn, write_rows

@@ -53,10 +53,11 @@ from domethyme.atomic_files import atomic_write
 from domethyme.csv_tables import excerpt, open_table, parse_float
 from domethyme.dimacs import read_answers
 from domethyme.drawing.geometry import join_lines
+from domethyme.network.columns import TEXTS, UNITS
 from domethyme.network.from_tables import load_network_or_dimacs
 from domethyme.network.geo import Point, to_geojson_geometry, to_multilinestring
 from domethyme.network.groups import Ints
-from domethyme.network.net_file import TEXTS, UNITS, MappedNetwork
+from domethyme.network.net_file import MappedNetwork
 from domethyme.network.snapping import RoadIndex
 from domethyme.network.tables import paths_of
 from domethyme.protocol import NO_PATH, RouteReply

@@ -88,7 +88,7 @@ def mark(text: str) -> str:
     return found
 
 
-def marks_beside(paths: Files, options: argparse.Namespace) -> list[int]:
+def marks_beside(paths: Files, options: argparse.Namespace) -> dict[str, int]:
     """What NODES and ARCS are known by where they are beside OUT.net, so that tools see when they are edited; 0 for others.
     Tables of another network that the tools have written there are refused: they would be read in place of OUT.net."""
     beside: list[str | None] = []
@@ -106,15 +106,15 @@ def main() -> None:
     attribution = read_attribution(options.out) if options.attribution is None else " ".join(options.attribution.split())
     if options.tables:
         tables_there(paths, True)
-    marks = numpy.array(net_file.NO_TABLES if options.tables else marks_beside(paths, options))
+    marks = {} if options.tables else marks_beside(paths, options)
     form = Form(options.delimiter, options.decimal, True)
     nodes = from_tables.read_nodes(options.nodes, warn, form)
     arcs = from_tables.read_arcs(options.arcs, nodes, options.weight, warn, form)
-    kept = in_largest(nodes.ends, arcs.starts - 1, arcs.ends - 1)
+    kept = in_largest(nodes.ends, arcs.columns["arc_from"] - 1, arcs.columns["arc_to"] - 1)
     said = islands(arcs, kept)
     if options.largest:
         nodes, arcs = keep(nodes, arcs, kept)
-        if not len(arcs.starts):
+        if not len(arcs.begins) > 1:
             raise ToolError("has no nodes that reach one another: are all roads of one way?", options.arcs)
     said += quartiles(arcs)
     with raised_as(ToolError, options.arcs, ValueError):
@@ -124,7 +124,8 @@ def main() -> None:
             marks = write_tables(tables, arrays)
         write_graph_of(bytes_of(graph), arrays, attribution)
         with raised_as(ToolError, options.arcs, ValueError):
-            net_file.write(bytes_of(network), arrays._replace(tables=marks))
+            arrays.about |= marks
+            net_file.write(bytes_of(network), arrays)
     for line in said:
         warn(line)
     kilometres = arrays.arc_metres[numpy.unique(arrays.arc_edge, return_index=True)[1]].sum() / 1000

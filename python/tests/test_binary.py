@@ -9,10 +9,11 @@ import unittest.mock
 import zlib
 
 import numpy as np
-from tool_case import PYTHON, ROOT, VILLAGE, ToolCase
+from tool_case import IN_TABLES, PYTHON, ROOT, VILLAGE, ToolCase
 
 import domethyme
 from domethyme.network import column_file, net_file
+from domethyme.network.columns import ColumnSpec
 from domethyme.network.snapping import RoadIndex
 from domethyme_service.tiles import Tiles
 
@@ -37,7 +38,7 @@ class BinaryCase(ToolCase):
         self.run_tool("osm_to_gr", VILLAGE, "v", "--keep-islands", "--tables")
 
     def assert_same(self, one, other):
-        for name in (name for name in net_file.Arrays._fields if name not in net_file.OF_MAP):  # (which tables lack)
+        for name in IN_TABLES:
             values = [np.asarray(getattr(each, name)) for each in (one, other)]
             np.testing.assert_array_equal(*values, name)
             self.assertEqual(values[0].dtype, values[1].dtype, name)
@@ -145,7 +146,7 @@ class OtherTests(BinaryCase):
 
     def test_a_part_written_in_place(self):
         """A read of blocks of which one was verified before the file was written verifies that one too."""
-        form, path = {"a": column_file.ArraySpec("<i8")}, self.folder / "array"
+        form, path = {"a": ColumnSpec("<i8")}, self.folder / "array"
         for rows in (slice(4, 20), np.array([3, 20])):
             with self.subTest(rows=rows), unittest.mock.patch.object(column_file, "BLOCK", 64):
                 with open(path, "w+b") as file:
@@ -206,7 +207,7 @@ class SmallTests(BinaryCase):
         """Sizes that are as great as can be, with the right checksum."""
         whole = self.path.read_bytes()
         tail = int(np.frombuffer(whole[: column_file.HEAD.itemsize], column_file.HEAD)["tail"][0])
-        for array in range(len(net_file.FILE_SCHEMA)):
+        for array in range(len(net_file.FORMS[net_file.VERSION])):
             for rows in (1 << 62, (1 << 64) - 1, 1 << 33, 10**9):
                 place = tail + 8 * array
                 self.keep(whole[:place] + rows.to_bytes(8, "little") + whole[place + 8 :])
@@ -240,7 +241,7 @@ class SmallTests(BinaryCase):
         ]:
             with open(self.path, "wb") as file:
                 column_file.write(
-                    file, net_file.FILE_SCHEMA, net_file.VERSION, {**before, name: change(before[name])}.items()
+                    file, net_file.FORMS[net_file.VERSION], net_file.VERSION, {**before, name: change(before[name])}.items()
                 )
             with self.subTest(name=name):
                 self.refused("is damaged: ")
@@ -256,7 +257,7 @@ class SmallTests(BinaryCase):
         arrays = net_file.read(str(self.path))
         columns = {name: column[:] for name, column in arrays.file.columns.items()}
         with open(self.folder / "old.net", "w+b") as file:
-            column_file.write(file, net_file.FILE_SCHEMA, 2, {**columns, "about": columns["about"][:-2]}.items())
+            column_file.write(file, net_file.FORMS[net_file.VERSION], 2, {**columns, "about": columns["about"][:-2]}.items())
         self.assert_same(net_file.read(self.folder / "old.net"), arrays)
 
     def test_a_route_that_meets_a_damaged_block(self):

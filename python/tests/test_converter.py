@@ -9,7 +9,7 @@ import unittest
 from unittest import mock
 
 import numpy as np
-from tool_case import PYTHON, SECONDS, TAKES_SIGNALS, VILLAGE, ToolCase
+from tool_case import IN_TABLES, PYTHON, SECONDS, TAKES_SIGNALS, VILLAGE, ToolCase
 
 from domethyme.dimacs import read_graph
 from domethyme.errors import MapError
@@ -165,7 +165,7 @@ class ArraysTests(ToolCase):
                 for arc in table_files.arcs_in(arrays):
                     builder.add_arc(arc)
                 wanted = builder.build()
-                for name in (name for name in net_file.Arrays._fields if name not in net_file.OF_MAP):  # (which tables lack)
+                for name in IN_TABLES:
                     np.testing.assert_array_equal(getattr(arrays, name), getattr(wanted, name), name)
                     self.assertEqual(getattr(arrays, name).dtype, getattr(wanted, name).dtype, name)
                 self.assertGreater(len(arrays.arc_from), 20)

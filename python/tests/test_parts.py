@@ -52,17 +52,17 @@ def plain(value):
 
 
 def arrays_of(drawn):
-    return net_file.Arrays(**{name: np.asarray(getattr(drawn.network, name)[:]) for name in net_file.Arrays._fields})
+    return net_file.Arrays({name: np.asarray(getattr(drawn.network, name)[:]) for name in net_file.Arrays.NAMES})
 
 
 def comparing(drawn):
     """What is said of a network with one weight that the hierarchy hasn't, and of its own."""
     belonging.compare_files(f"{drawn.prefix}.rch", drawn.prefix)
     arrays = arrays_of(drawn)
-    weights = arrays.arc_weight.copy()
-    weights[len(weights) // 2] += 1
+    arrays.arc_weight = arrays.arc_weight.copy()
+    arrays.arc_weight[len(arrays.arc_weight) // 2] += 1
     with open(f"{drawn.prefix}.rch", "rb") as file, pytest.raises(domethyme.WrongHierarchy) as caught:
-        other = net_file.map_tempfile(arrays._replace(arc_weight=weights), "other")
+        other = net_file.map_tempfile(arrays, "other")
         belonging.compare(file.fileno(), "net.rch", other)
     return str(caught.value)
 

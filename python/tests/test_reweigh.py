@@ -261,7 +261,7 @@ class ToolTests(ToolCase):
         self.run_tool("osm_to_gr", "map.osm", "length", "--weight", "length")
         whole = net_file.read(self.folder / "map.net").file.columns
         with open(self.folder / "old.net", "wb") as file:
-            column_file.write(file, net_file.FILE_SCHEMA, 4, ((name, whole[name][:]) for name in net_file.FILE_SCHEMA))
+            column_file.write(file, net_file.FORMS[4], 4, ((name, whole[name][:]) for name in net_file.FORMS[4]))
         self.assertEqual(len(domethyme.Network(self.folder / "old").arcs_frame()), len(self.arcs("map")))
         for network, says in (("own", "has no ids of the points"), ("old", "has no ids of the points"), ("length", "has weights that are no milliseconds")):
             self.assert_refused("reweigh", network, "speeds.csv", "new", says=f"{network}.net: {says}")

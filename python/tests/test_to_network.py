@@ -9,11 +9,12 @@ from draws import drawn
 from hypothesis import given
 from hypothesis import strategies as st
 from service_case import ServiceCase
-from tool_case import VILLAGE, ToolCase
+from tool_case import IN_TABLES, VILLAGE, ToolCase
 
 import domethyme
 from domethyme.csv_tables import escape_formula, unescape_formula
 from domethyme.network import net_file
+from domethyme.network.columns import NO_OSM
 from domethyme.network.reading import read_nodes
 from domethyme.network.tables import read_arcs
 
@@ -51,7 +52,7 @@ class TableTests(ToolCase):
         self.write("nodes.csv", "lat,lon,osm\n0,0,17\n0,0.001,\n0.002,0.001,-5\n")
         self.write("arcs.csv", "from,to,weight\n1,2,3\n3,1,4\n")
         network = self.made()
-        self.assertEqual(network.node_osm[:].tolist(), [17, net_file.NO_OSM, -5])
+        self.assertEqual(network.node_osm[:].tolist(), [17, NO_OSM, -5])
         self.assertEqual((network.arc_from[:].tolist(), network.arc_to[:].tolist()), ([1, 3], [2, 1]))
         self.assertEqual(domethyme.Network(self.folder / "net").keys().node(17), 0)
 
@@ -73,7 +74,7 @@ class TableTests(ToolCase):
         self.run_tool("to_network", "v.nodes.csv", "v.arcs.csv", "v")
         self.assertEqual((self.folder / "v.gr").read_bytes(), graph)
         after = net_file.read(str(self.folder / "v.net"))
-        for name in {*net_file.Arrays._fields} - {"version", *net_file.OF_MAP}:  # (which tables lack)
+        for name in IN_TABLES:
             np.testing.assert_array_equal(getattr(after, name), getattr(before, name), name)
 
     def test_refusals(self):

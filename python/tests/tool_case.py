@@ -6,11 +6,16 @@ import subprocess
 import tempfile
 import unittest
 
+from domethyme.network.columns import COLUMNS
+
 HERE = pathlib.Path(__file__).resolve().parent
 ROOT = HERE.parents[1]
 PYTHON, TOOLS = ROOT / "python", ROOT / "tools"
 MANUAL = ROOT / "tests/manual"
 VILLAGE = HERE / "village.osm"
+
+# The columns of a network that are in its tables, or made of them
+IN_TABLES = [name for name, column in COLUMNS.items() if not column.is_derived and column.part != "map"]
 
 # What only a hang exceeds, in seconds: no test expects anything sooner.
 SECONDS = 300

@@ -7,9 +7,10 @@ from typing import NamedTuple
 import numpy
 
 from ..errors import NetworkError
+from ..network.columns import TEXTS, UNITS
 from ..network.geo import EARTH_RADIUS, Point, metres_between
 from ..network.groups import Ints, expand, offsets
-from ..network.net_file import TEXTS, UNITS, MappedNetwork
+from ..network.net_file import MappedNetwork
 from ..network.zoom_levels import to_mercator as mercator_of
 from ..progress import OnProgress
 from .geometry import Box, box_of, from_mercator, to_mercator, unwrapped

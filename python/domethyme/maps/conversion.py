@@ -125,7 +125,7 @@ def judge_tags(ways: WayArrays, profile: Profile, report: Report) -> tuple[Bools
 
 
 def text_rows(ways: WayArrays) -> RowsOf:
-    """A function that gives for each of some labels of ways its texts, by net_file.TEXTS."""
+    """A function that gives for each of some labels of ways its texts, by TEXTS of columns.py."""
     texts = [" ".join(text.split()) for text in ways.texts]
     of_tags = [
         (tags["highway"], " ".join(tags.get("junction", "").split()), structure_of(tags), "yes" if tags.get("toll", "no") == "yes" else "")
@@ -220,7 +220,7 @@ def write_network(map_path: StrPath, out: str, profile: Profile, options: Option
             with folder.step("files"):
                 write_graph_of(bytes_of(graph), arrays, attribution)
                 if tables:
-                    arrays = arrays._replace(tables=write_tables(tables, arrays))
+                    arrays.about |= write_tables(tables, arrays)
                 net_file.write(bytes_of(binary), arrays)
     said = [f"{what}: {count}" for what, count in report.items() if count]
     if not options.tables and old_tables:

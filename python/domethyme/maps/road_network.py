@@ -5,6 +5,7 @@ from typing import Any, NamedTuple
 import numpy as np
 from numpy.typing import NDArray
 from ..network import net_file
+from ..network.columns import NO_OSM, TEXTS, UNITS
 from ..network.components import in_largest
 from ..network.figures import PENALTY, rounded_exactly, seconds_of, whole_weights
 from ..network.groups import Ints, first_of_equal, mask, offsets
@@ -17,7 +18,7 @@ from .map_arrays import NodeArrays, Runs
 from .turn_restrictions import Bools, Int32s, Report, Restriction, Turns, splitmix64
 
 Rules = dict[int, list[Restriction]]
-# The texts of some rows, in the order of net_file.TEXTS.
+# The texts of some rows, in the order of TEXTS.
 RowsOf = Callable[[Ints], Iterable[tuple[str, ...]]]
 # Degrees by which a turn may be off the line of the road, and off the way back
 STRAIGHT, BACK = 45, 15
@@ -114,7 +115,7 @@ def build_network(runs: Runs, roads: RoadTable, places: NodeArrays) -> tuple[Roa
     end = np.roll(start, -1)
     end[last] = node[stop[1::2]]
     # the nodes
-    osm, place, new = np.full(count, net_file.NO_OSM, np.int64), np.empty((count, 2), np.int32), node[stop[is_new]]
+    osm, place, new = np.full(count, NO_OSM, np.int64), np.empty((count, 2), np.int32), node[stop[is_new]]
     osm[new], place[new] = places.osm[ends[is_new]], places.place[ends[is_new]]
     is_cut = ~mask(len(run), last)
     place[end[is_cut]] = runs.points[runs.end[is_cut] - 1]
@@ -193,8 +194,8 @@ def headings(network: RoadNetwork, arcs: Ints, is_end: bool) -> tuple[Floats, Fl
     piece, is_back = network.piece[arcs], network.is_back[arcs]
     first = np.where(is_back ^ is_end, network.runs.end[piece] - 2, network.runs.begin[piece])
     here, there = (network.runs.points[place].astype(np.float64) for place in (first, first + 1))
-    half = 180 * net_file.UNITS
-    east = ((there[:, 0] - here[:, 0] + half) % (2 * half) - half) * np.cos(np.radians(here[:, 1] / net_file.UNITS))
+    half = 180 * UNITS
+    east = ((there[:, 0] - here[:, 0] + half) % (2 * half) - half) * np.cos(np.radians(here[:, 1] / UNITS))
     sign = np.where(is_back, -1.0, 1.0)
     return sign * east, sign * (there[:, 1] - here[:, 1])
 
@@ -231,13 +232,13 @@ def to_arrays(network: RoadNetwork, kind: str, rows_of: RowsOf, attribution: str
     del row
     encoded = [text.encode("utf-8", "replace") for text in texts]
     lon, lat = (np.ascontiguousarray(degrees) for degrees in network.node_place.T)
-    return net_file.Arrays(
-        np.array([net_file.VERSION]), np.array(net_file.NO_TABLES), network.node_osm, lon, lat, network.node_ends,
-        network.start + np.int32(1), network.end + np.int32(1), weight, seconds, metres, osm, arc_row,
-        edge, along, row_texts, edge_begin, points,
-        offsets(np.array([len(text) for text in encoded], np.int64)), np.frombuffer(b"".join(encoded), np.uint8),
-        point_osm=point_osm, edge_metres=edge_metres, arc_penalty=network.penalty,
-    )
+    return net_file.Arrays({
+        "node_osm": network.node_osm, "node_lon": lon, "node_lat": lat, "node_ends": network.node_ends,
+        "arc_from": network.start + np.int32(1), "arc_to": network.end + np.int32(1), "arc_weight": weight, "arc_seconds": seconds,
+        "arc_metres": metres, "arc_osm": osm, "arc_row": arc_row, "arc_edge": edge, "arc_along": along, "arc_penalty": network.penalty,
+        "row_texts": row_texts, "edge_begin": edge_begin, "edge_metres": edge_metres, "points": points, "point_osm": point_osm,
+        **net_file.text_columns(encoded),
+    })
 
 
 def arc_columns(network: RoadNetwork, kind: str, report: Report) -> list[NDArray[Any]]:
@@ -266,8 +267,8 @@ def texts_of(row_of_arc: NDArray[np.uint32], rows_of: RowsOf, attribution: str) 
     used = used[np.argsort(first[used])]
     number: dict[str, int] = {}
     numbers = (number.setdefault(text, len(number) + 1) for row in rows_of(used) for text in row)
-    of_row = np.zeros((len(first), len(net_file.TEXTS)), np.int32)
-    of_row[used] = np.fromiter(numbers, np.int32).reshape(-1, len(net_file.TEXTS))
+    of_row = np.zeros((len(first), len(TEXTS)), np.int32)
+    of_row[used] = np.fromiter(numbers, np.int32).reshape(-1, len(TEXTS))
     return [attribution, *number], *unique_text_rows(of_row, row_of_arc)
 
 

@@ -19,9 +19,9 @@ from typing import NamedTuple
 import numpy as np
 from numpy.typing import NDArray
 
+from ..network.columns import ENDS
 from ..network.groups import Ints, expand, first_of_equal, mask, offsets
 from ..network.parallel import differs_from_previous as differs
-from ..network.tables import ENDS
 
 Int32s = NDArray[np.int32]
 Bools = NDArray[np.bool_]

@@ -5,9 +5,9 @@ from typing import NamedTuple
 import numpy as np
 from numpy.typing import NDArray
 
+from .columns import UNITS
 from .geo import Point, bearing
 from .grid import Ints, concat_ranges
-from .net_file import UNITS
 from .parallel import differs_from_previous
 from .snapping import Arc, RoadIndex, SnappedPoint
 

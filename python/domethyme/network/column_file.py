@@ -18,12 +18,13 @@ import os
 import weakref
 import zlib
 from collections.abc import Iterable, Mapping
-from typing import IO, Any, NamedTuple
+from typing import IO, Any
 
 import numpy as np
 from numpy.typing import NDArray
 
 from ..errors import NetworkError, raised_as
+from .columns import ColumnSpec
 from .parallel import map_slices
 
 MAGIC = b"\x89DMNET\r\n"
@@ -35,29 +36,19 @@ HEAD = np.dtype([
 ])
 
 
-class ArraySpec(NamedTuple):
-    """What an array of a form has: the kind of its values, and how many are in a row. A row's bytes divide BLOCK."""
-
-    values: str
-    columns: int = 1
-
-    @property
-    def row_shape(self) -> tuple[int, ...]:
-        return (self.columns,) if self.columns > 1 else ()
-
-
-Schema = Mapping[str, ArraySpec]
+# The columns of a form in their order.
+Schema = Mapping[str, ColumnSpec]
 
 
 def write(file: IO[bytes], form: Schema, version: int, arrays: Iterable[tuple[str, NDArray[Any]]]) -> None:
     """Writes arrays, which come in the form's order, to an empty file that can seek. Each may be dropped when the next is made."""
     file.write(bytes(HEAD.itemsize))
     rows, sums, place = [], [], HEAD.itemsize
-    for (expected, kind), (name, array) in zip(form.items(), arrays, strict=True):
+    for (expected, spec), (name, array) in zip(form.items(), arrays, strict=True):
         if name != expected:
             raise ValueError(f"array {name} comes where {expected} is next")
-        values = np.ascontiguousarray(array, dtype=kind.values)
-        if values.shape[1:] != kind.row_shape:
+        values = np.ascontiguousarray(array, dtype=spec.kind)
+        if values.shape[1:] != spec.row_shape:
             raise ValueError(f"array {name} has rows of another length")
         rows.append(len(values))
         whole = values.reshape(-1).view(np.uint8)
@@ -148,13 +139,13 @@ class MappedFile:
             raise self.damaged_error("its head or tail has another checksum")
         place, begin, columns = HEAD.itemsize, tail + 8 * count, dict[str, Column]()
         rows: list[int] = self._bytes[tail:begin].copy().view("<u8").tolist()
-        for (name, kind), length in zip(form.items(), rows):
-            size = length * kind.columns * np.dtype(kind.values).itemsize
+        for (name, spec), length in zip(form.items(), rows):
+            size = length * spec.width * np.dtype(spec.kind).itemsize
             end = begin + 4 * -(-size // BLOCK)
             if place + size > tail or end > len(self._bytes):
                 raise self.damaged_error(f"{name} is longer than the file")
-            values = self._bytes[place : place + size].view(kind.values).reshape(-1, *kind.row_shape)
-            columns[name] = Column(self, name, values, self._bytes[begin:end].view("<u4"))
+            values = self._bytes[place : place + size].view(spec.kind).reshape(-1, *spec.row_shape)
+            columns[name] = Column(self, name, spec, values, self._bytes[begin:end].view("<u4"))
             place, begin = place + size + -size % ALIGNED, end
         if (place, begin) != (tail, len(self._bytes)):
             raise self.damaged_error("its arrays don't fill it")
@@ -164,17 +155,11 @@ class MappedFile:
 class Column:
     """An array of the file. What an index takes is verified before: rows by a number, a slice or an array of numbers, and with a
     second index their members. Numbers of rows aren't below 0. Memory is taken for what an array of numbers takes alone.
-
-    low, high   the least and greatest value that there may be, or None; set before anything is read
-    min_step    how much more each value is at least than the one before, or None
+    `spec` says which values there may be; it is set before anything is read.
     """
 
-    low: float | None = None
-    high: float | None = None
-    min_step: int | None = None
-
-    def __init__(self, file: MappedFile, name: str, values: NDArray[Any], sums: NDArray[np.uint32]) -> None:
-        self._file, self._name, self._values, self._sums = file, name, values, sums
+    def __init__(self, file: MappedFile, name: str, spec: ColumnSpec, values: NDArray[Any], sums: NDArray[np.uint32]) -> None:
+        self._file, self._name, self.spec, self._values, self._sums = file, name, spec, values, sums
         self._verified = np.zeros(len(sums), dtype=bool)
         self._shift = (BLOCK // (values.itemsize * math.prod(values.shape[1:]))).bit_length() - 1
         self._all_verified = not len(sums)
@@ -235,9 +220,14 @@ class Column:
             part, with_next = self._values[begin:end], self._values[begin : end + 1]
             if zlib.crc32(part.data) != self._sums[block]:
                 raise self._file.damaged_error(f"{self._name} has another checksum")
-            if self.low is not None and not (part.min() >= self.low and part.max() <= self.high):
-                raise self._file.damaged_error(f"{self._name} isn't from {self.low:g} to {self.high:g}")
-            if self.min_step is not None and (np.diff(with_next) < self.min_step).any():
-                raise self._file.damaged_error(f"{self._name} has wrong offsets")
+            if problem := problem_of(self.spec, part, with_next):
+                raise self._file.damaged_error(f"{self._name} {problem}")
             self._verified[block] = True
         self._all_verified = bool(self._verified.all())
+
+
+def problem_of(spec: ColumnSpec, values: NDArray[Any], with_next: NDArray[Any]) -> str | None:
+    """What is wrong with values of a column, and the one behind them; None where nothing is."""
+    if spec.low is not None and spec.high is not None and values.size and not (values.min() >= spec.low and values.max() <= spec.high):
+        return f"isn't from {spec.low:g} to {spec.high:g}"
+    return "has wrong offsets" if spec.min_step is not None and (np.diff(with_next) < spec.min_step).any() else None

@@ -7,9 +7,9 @@ from numpy.typing import NDArray
 from scipy.sparse import coo_matrix
 from scipy.sparse.csgraph import connected_components
 
+from .columns import ENDS
 from .groups import Ints, expand, offsets
 from .net_file import ArcArrays
-from .tables import ENDS
 
 if TYPE_CHECKING:
     from .from_tables import Nodes
@@ -32,28 +32,28 @@ def in_largest(node_ends: NDArray[np.uint8], starts: NDArray[np.integer[Any]], s
 def keep(nodes: "Nodes", arcs: ArcArrays, kept: NDArray[np.bool_]) -> "tuple[Nodes, ArcArrays]":
     """The nodes that are kept, in their order, and the arcs between them."""
     number: Ints = np.cumsum(kept)
-    chosen = np.flatnonzero(kept[arcs.starts - 1] & kept[arcs.ends - 1])
+    starts, stops = (arcs.columns[name] - 1 for name in ("arc_from", "arc_to"))
+    chosen = np.flatnonzero(kept[starts] & kept[stops])
     counts = np.diff(arcs.begins)[chosen]
     group, position = expand(counts)
-    columns = {name: getattr(arcs, name)[chosen] for name in ("weights", "seconds", "metres", "osm", "row")}
+    columns = {name: column[chosen] for name, column in arcs.columns.items()}
+    columns |= {"arc_from": number[starts[chosen]], "arc_to": number[stops[chosen]]}
     keys = [key for key, is_kept in zip(nodes.keys, kept.tolist()) if is_kept] if nodes.keys else ()
     few = dataclasses.replace(nodes, osm=nodes.osm[kept], places=nodes.places[kept], ends=nodes.ends[kept], keys=keys)
-    return few, arcs._replace(
-        starts=number[arcs.starts[chosen] - 1], ends=number[arcs.ends[chosen] - 1], begins=offsets(counts),
-        points=arcs.points[arcs.begins[chosen][group] + position], **columns,
-    )
+    return few, arcs._replace(columns=columns, begins=offsets(counts), points=arcs.points[arcs.begins[chosen][group] + position])
 
 
 def islands(arcs: ArcArrays, kept: NDArray[np.bool_]) -> list[str]:
     """A line that says how many nodes aren't of those that are kept, if any."""
-    alone, left = len(kept) - len(np.union1d(arcs.starts, arcs.ends)), len(kept) - int(kept.sum())
+    alone, left = len(kept) - len(np.union1d(arcs.columns["arc_from"], arcs.columns["arc_to"])), len(kept) - int(kept.sum())
     return [f"{int(kept.sum())} of {len(kept)} nodes reach one another, and {left} don't, of which {alone} have no arc"] if left else []
 
 
 def quartiles(arcs: ArcArrays) -> list[str]:
     """Lines with the quartiles of the lengths and speeds of arcs."""
-    figures = [("metres", arcs.metres)]
-    if (timed := arcs.seconds > 0).any():
-        figures.append(("km/h", arcs.metres[timed] * 3.6 / arcs.seconds[timed]))
+    metres, seconds = arcs.columns["arc_metres"], arcs.columns["arc_seconds"]
+    figures = [("metres", metres)]
+    if (timed := seconds > 0).any():
+        figures.append(("km/h", metres[timed] * 3.6 / seconds[timed]))
     shown = ((name, ", ".join(f"{value:.0f}" for value in np.quantile(values, [0, 0.25, 0.5, 0.75, 1]))) for name, values in figures)
     return [f"{name} of arcs, from the least by quartiles to the greatest: {values}" for name, values in shown]

@@ -18,12 +18,12 @@ from ..program import StrPath
 from .geo import parse_linestring
 from .groups import Ints, first_of_equal
 from .net_file import (
-    NO_OSM, TEXTS, UNITS, ArcArrays, MappedNetwork, NodeArrays, build_arrays as build_arrays, load_network, map_tempfile,
-    to_units
+    ArcArrays, MappedNetwork, NodeArrays, build_arrays as build_arrays, load_network, map_tempfile, to_units
 )
+from .columns import ENDS, NO_OSM, TEXTS, UNITS
 from .reading import read_coordinates
 from .sphere import Floats, great_circle_metres, unit_vectors
-from .tables import ENDS, graph_of, is_coordinates, read_attribution, read_ends
+from .tables import graph_of, is_coordinates, read_attribution, read_ends
 
 # By the name of a column the other names that are taken for it.
 OF_NODES: Mapping[str, tuple[str, ...]] = {
@@ -172,8 +172,11 @@ def read_arcs(
     doubt(is_fast, f"{{}} arcs are faster than {FASTEST:g} km/h: are the units those of --help?", path, say)
     takes_none = (seconds == 0) & np.isnan(given[0]) & (weight == "time")
     doubt(takes_none, "{} arcs take 0 seconds, and weigh 1", path, say)
-    figures_of_arcs = whole.astype(np.int64), seconds, lengths
-    return ArcArrays(starts, stops, *figures_of_arcs, osm_ids, of_texts, list(known), begins, points)
+    columns = {
+        "arc_from": starts, "arc_to": stops, "arc_weight": whole.astype(np.int64), "arc_seconds": seconds, "arc_metres": lengths,
+        "arc_osm": osm_ids, "arc_row": of_texts,
+    }
+    return ArcArrays(columns, list(known), begins, points)
 
 
 def road_of(fields: Row, nodes: Nodes, weight: str) -> tuple[tuple[int, int], int, NDArray[np.int32], tuple[float, ...], tuple[int, ...]]:
@@ -275,7 +278,11 @@ def straight_arcs(starts: Ints, ends: Ints, weights: Ints, nodes: Nodes) -> ArcA
         lengths[low : low + ARCS_AT_ONCE] = np.round(great_circle_metres(sphere[::2], sphere[1::2]), 2)
     nothing = np.zeros(len(starts), np.int64)
     begins, texts = np.arange(0, 2 * len(starts) + 1, 2), [("",) * len(TEXTS)]
-    return ArcArrays(starts, ends, weights, np.zeros(len(starts)), lengths, nothing, nothing, texts, begins, points)
+    columns = {
+        "arc_from": starts, "arc_to": ends, "arc_weight": weights, "arc_seconds": np.zeros(len(starts)), "arc_metres": lengths,
+        "arc_osm": nothing, "arc_row": nothing,
+    }
+    return ArcArrays(columns, texts, begins, points)
 
 
 # Files of the DIMACS challenge

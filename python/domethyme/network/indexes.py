@@ -6,6 +6,7 @@ from typing import TYPE_CHECKING, Any
 import numpy as np
 from numpy.typing import NDArray
 
+from .columns import TEXTS_PER_ROW, UNITS
 from .geo import EARTH_RADIUS
 from .grid import Grid, build_grid, cell_keys, pack_keys
 from .groups import Ints, expand
@@ -16,10 +17,7 @@ from .zoom_levels import Floats, morton_codes, road_class, sort_by_cell, to_merc
 if TYPE_CHECKING:
     from .net_file import Arrays
 
-UNITS = 10_000_000
 FULL_CIRCLE = 360 * UNITS
-# The columns of a row of texts, of which the last are 0.
-TEXTS_PER_ROW = 8
 # Of the grids' bands in degrees: some 280 metres. Higher ones are taken while lines are in more than twice as many cells as they
 # have steps.
 MIN_BAND_HEIGHT = 0.0025

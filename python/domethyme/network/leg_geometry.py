@@ -7,12 +7,12 @@ from typing import NamedTuple
 import numpy as np
 
 from .column_file import Column
+from .columns import UNITS
 from .geo import bearing
 from .grid import concat_ranges
 from .groups import Ints, expand, offsets
 from .indexes import wrapped_difference
 from .legs import Leg
-from .net_file import UNITS
 from .parallel import differs_from_previous
 from .snapping import RoadIndex, SnappedPoint
 from .sphere import Floats, great_circle_metres, unit_vectors

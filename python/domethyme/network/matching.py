@@ -24,11 +24,11 @@ from numpy.typing import NDArray
 from ..errors import NetworkError
 from ..protocol import FAR
 from .bearings import BearingRange, bearing_at
+from .columns import UNITS
 from .geo import Point, metres_between
 from .groups import Ints, expand, offsets
 from .leg_tables import Ends, NodeTable, least_by_nodes
 from .legs import EMPTY_LEG, Between, Leg, find_leg, leg_without_nodes
-from .net_file import UNITS
 from .snapping import NO_ARC, RoadIndex, SnappedPoint, point_at
 from .sphere import Floats, great_circle_metres, nearest_on_segments, unit_vectors
 

@@ -14,7 +14,7 @@ import stat
 import tempfile
 import zlib
 from collections import Counter
-from collections.abc import Iterator, Sequence
+from collections.abc import Iterator, Mapping, Sequence
 from typing import IO, TYPE_CHECKING, Any, NamedTuple
 
 import numpy as np
@@ -22,81 +22,48 @@ from numpy.typing import NDArray
 
 from ..errors import NetworkError, raised_as
 from ..hierarchy_file import open_nonblocking
-from ..limits import MAX_WEIGHT
 from ..program import StrPath
 from . import column_file, indexes
-from .column_file import ArraySpec, Column, MappedFile
+from .column_file import Column, MappedFile
+from .columns import (
+    ABOUT, ABOUT_SIZES, COLUMNS, ENDS, NO_OSM, OF_TABLES, PARTS, TEXTS, UNITS, UNITS_OF_WEIGHTS, columns_of
+)
 from .geo import Point, parse_linestring
 from .grid import Grid, concat_ranges
 from .groups import Ints, expand, first_of_equal, mask, offsets
 from .parallel import map_slices
 from .tables import (
-    ARC_COLUMNS, ENDS, NODE_COLUMNS, Arc, Files, Nodes, has_columns, iter_arc_rows, need_nodes, read_attribution,
+    ARC_COLUMNS, NODE_COLUMNS, Arc, Files, Nodes, has_columns, iter_arc_rows, need_nodes, read_attribution,
     read_node_table
 )
-from .zoom_levels import ROAD_CLASSES
 
-# Of the file, without and with the keys of nodes, and with what `reweigh` needs of a map; and of files without checksums of tables.
+# What is written: without and with the keys of nodes, and with what `reweigh` needs of a map.
 VERSION, WITH_KEYS, WITH_IDS = 4, 5, 6
-OLD_VERSION, OLD_WITH_KEYS = 2, 3
-UNITS = indexes.UNITS
-NO_OSM = -(1 << 63)
-TEXTS = ("highway", "name", "ref", "junction", "destination", "structure", "toll")
-UNITS_OF_WEIGHTS = ("weight", "duration", "distance")
+FORMS: Mapping[int, column_file.Schema] = {
+    version: {name: column for name, column in COLUMNS.items() if column.part in ("", *parts)}
+    for version, parts in PARTS.items()
+}
 SECONDS_AT_A_TIME = 1 << 16
 NUMBER = r"-?[0-9]+(?:\.[0-9]+)?"
 LINE = re.compile(rf"LINESTRING \(({NUMBER} {NUMBER}(?:, {NUMBER} {NUMBER})+)\)")
 
 
-# The `tables` of a network without any.
-NO_TABLES = (0, 0, 0, 0)
+class Arrays:
+    """The columns of a network in memory by their names, but for those that are derived; of shape (0,) where it has none. `about` has the
+    numbers of that column that aren't derived, which are 0 where they aren't there."""
 
+    if TYPE_CHECKING:
+        def __getattr__(self, name: str) -> NDArray[Any]: ...
 
-class Arrays(NamedTuple):
-    """A network; nodes are numbered from 1 in `arc_from` and `arc_to`, all else counts from 0.
+    NAMES = tuple(name for name, column in COLUMNS.items() if not column.is_derived)
 
-    version, tables          of the form, of shape (1,); and the bytes of both tables, and their CRC-32, of shape (4,)
-    node_osm                 the ids of OpenStreetMap, or NO_OSM
-    node_lon, node_lat       in units of a degree
-    node_ends                numbers in ENDS
-    arc_row                  the row of texts of an arc
-    arc_edge, arc_along      the edge that an arc lies on, and whether it leads along it
-    row_texts                rows of numbers of texts, in the order of TEXTS, and a zero (two in older files): different ones that arcs have, in the
-                             order of these numbers
-    edge_begin, points       the points of edge e are points[edge_begin[e]:edge_begin[e + 1]], of shape (.., 2), lon and lat
-    text_begin, text_bytes   text t is text_bytes[text_begin[t]:text_begin[t + 1]] in UTF-8; the first is
-                             the attribution, "" for none
-    node_texts               the numbers of the texts by which a user knows the nodes, their keys; of shape (0,) where they have none
-    point_osm                the ids of OpenStreetMap of the points. An edge may begin or end between two points of the map: there it is
-                             the id of the one beyond its end. Of shape (0,), as the next two, where there is no map
-    edge_metres              the metres of an edge, which aren't rounded
-    arc_penalty              that of the turn that leads into an arc, in hundredths of a second
-    """
-
-    version: NDArray[np.int64]
-    tables: NDArray[np.int64]
-    node_osm: NDArray[np.int64]
-    node_lon: NDArray[np.int32]
-    node_lat: NDArray[np.int32]
-    node_ends: NDArray[np.uint8]
-    arc_from: NDArray[np.int32]
-    arc_to: NDArray[np.int32]
-    arc_weight: NDArray[np.int64]
-    arc_seconds: NDArray[np.float64]
-    arc_metres: NDArray[np.float64]
-    arc_osm: NDArray[np.int64]
-    arc_row: NDArray[np.int32]
-    arc_edge: NDArray[np.int32]
-    arc_along: NDArray[np.bool_]
-    row_texts: NDArray[np.int32]
-    edge_begin: NDArray[np.int64]
-    points: NDArray[np.int32]
-    text_begin: NDArray[np.int64]
-    text_bytes: NDArray[np.uint8]
-    node_texts: NDArray[np.int32] = np.empty(0, np.int32)
-    point_osm: NDArray[np.int64] = np.empty(0, np.int64)
-    edge_metres: NDArray[np.float64] = np.empty(0)
-    arc_penalty: NDArray[np.int32] = np.empty(0, np.int32)
+    def __init__(self, columns: Mapping[str, Any], about: Mapping[str, int] | None = None) -> None:
+        """Raises TypeError where one isn't there that each network has, and for another."""
+        needed = {name for name in self.NAMES if not COLUMNS[name].part}
+        if wrong := needed - {*columns} or {*columns} - {*self.NAMES}:
+            raise TypeError(f"columns of a network: {', '.join(sorted(wrong))}")
+        self.about = dict(about or {})
+        vars(self).update({name: np.asarray(columns.get(name, ()), COLUMNS[name].kind) for name in self.NAMES})
 
 
 @dataclasses.dataclass
@@ -110,21 +77,16 @@ class NodeArrays:
 
 
 class ArcArrays(NamedTuple):
-    """Arcs: their nodes, from 1, rows of texts, and points[begins[i]:begins[i + 1]] of arc i, in units. `osm` is the way."""
+    """Arcs: their columns that tables have, by the names in the file, and `arc_row`, rows of these texts; and points[begins[i]:begins[i + 1]]
+    of arc i, in units."""
 
-    starts: Ints
-    ends: Ints
-    weights: Ints
-    seconds: NDArray[np.float64]
-    metres: NDArray[np.float64]
-    osm: Ints
-    row: Ints
+    columns: dict[str, NDArray[Any]]
     texts: Sequence[tuple[str, ...]]
     begins: Ints
     points: NDArray[np.int32]
 
 
-def build_arrays(nodes: NodeArrays, arcs: ArcArrays, attribution: str = "", tables: Sequence[int] = NO_TABLES) -> Arrays:
+def build_arrays(nodes: NodeArrays, arcs: ArcArrays, attribution: str = "", about: Mapping[str, int] | None = None) -> Arrays:
     """The network of nodes and arcs. Raises ValueError where they don't fit together."""
     edge, is_along, first, backward = edges_from_arcs(arcs)
     counts = np.diff(arcs.begins)[first]
@@ -132,18 +94,21 @@ def build_arrays(nodes: NodeArrays, arcs: ArcArrays, attribution: str = "", tabl
     rows = arcs.begins[first][owner] + np.where(backward[owner], counts[owner] - 1 - position, position)
     names: dict[str, int] = {}
     texts = np.array([[names.setdefault(text, len(names) + 1) for text in row] for row in arcs.texts], dtype=np.int32)
-    row_texts, row = indexes.unique_text_rows(texts.reshape(-1, len(TEXTS)), arcs.row)
+    row_texts, row = indexes.unique_text_rows(texts.reshape(-1, len(TEXTS)), arcs.columns["arc_row"])
     encoded = [text.encode("utf-8", "replace") for text in (attribution, *names, *nodes.keys)]
-    found = Arrays(
-        np.array([VERSION]), np.array(tables), nodes.osm, nodes.places[:, 0].copy(), nodes.places[:, 1].copy(), nodes.ends,
-        arcs.starts.astype(np.int32), arcs.ends.astype(np.int32), arcs.weights, arcs.seconds, arcs.metres, arcs.osm,
-        row, edge, is_along, row_texts, offsets(counts), arcs.points[rows],
-        np.cumsum([0, *map(len, encoded)], dtype=np.int64), np.frombuffer(b"".join(encoded), dtype=np.uint8),
-        np.arange(len(names) + 1, len(encoded), dtype=np.int32),
-    )
+    found = Arrays({
+        "node_osm": nodes.osm, "node_lon": nodes.places[:, 0].copy(), "node_lat": nodes.places[:, 1].copy(), "node_ends": nodes.ends,
+        **arcs.columns, "arc_row": row, "arc_edge": edge, "arc_along": is_along, "row_texts": row_texts, "edge_begin": offsets(counts),
+        "points": arcs.points[rows], **text_columns(encoded), "node_texts": np.arange(len(names) + 1, len(encoded)),
+    }, about)
     if problem := find_inconsistency(found):
         raise ValueError(problem)
     return found
+
+
+def text_columns(encoded: Sequence[bytes]) -> dict[str, NDArray[Any]]:
+    """The columns of a list of texts."""
+    return {"text_begin": np.cumsum([0, *map(len, encoded)]), "text_bytes": np.frombuffer(b"".join(encoded), np.uint8)}
 
 
 def edges_from_arcs(arcs: ArcArrays) -> tuple[NDArray[np.int32], NDArray[np.bool_], Ints, NDArray[np.bool_]]:
@@ -157,15 +122,16 @@ def edges_from_arcs(arcs: ArcArrays) -> tuple[NDArray[np.int32], NDArray[np.bool
         line = arcs.points[first[arc] : last[arc] + 1].tolist()
         is_along[arc] = line <= line[::-1]
     known: dict[bytes, int] = {}
+    ways = arcs.columns["arc_osm"]
     # straight lines are told apart by their ends; of the others all points are compared
     is_straight = last - first == 1
     chosen = np.flatnonzero(is_straight)
     ends_of_chosen = keys[chosen]
     leader = np.full(len(first), -1, dtype=np.int64)
-    leader[chosen] = chosen[first_of_equal(ends_of_chosen.min(axis=1), ends_of_chosen.max(axis=1), arcs.osm[chosen])]
+    leader[chosen] = chosen[first_of_equal(ends_of_chosen.min(axis=1), ends_of_chosen.max(axis=1), ways[chosen])]
     for arc in np.flatnonzero(~is_straight).tolist():
         line = arcs.points[first[arc] : last[arc] + 1]
-        key = (line if is_along[arc] else line[::-1]).tobytes() + int(arcs.osm[arc]).to_bytes(8, "little", signed=True)
+        key = (line if is_along[arc] else line[::-1]).tobytes() + int(ways[arc]).to_bytes(8, "little", signed=True)
         leader[arc] = known.setdefault(key, arc)
     leaders, edge = np.unique(leader, return_inverse=True)
     return edge.astype(np.int32), is_along, leaders, ~is_along[leaders]
@@ -197,18 +163,22 @@ class Builder:
         self._numbers.extend((arc.start, arc.end, arc.weight, arc.osm, row_of_texts))
         self._figures.extend((arc.seconds, arc.metres))
 
-    def build(self, tables: Sequence[int] = NO_TABLES) -> Arrays:
+    def build(self, about: Mapping[str, int] | None = None) -> Arrays:
         """The arrays. Raises ValueError where they don't fit together."""
         starts, stops, weights, ways, row = np.array(self._numbers).reshape(-1, 5).T.copy()
         seconds, metres = np.array(self._figures).reshape(-1, 2).T.copy()
         places = np.fromstring(" ".join(self._lines).replace(",", " "), dtype=np.float64, sep=" ").reshape(-1, 2)
         begins = offsets(np.array([line.count(",") + 1 for line in self._lines], np.int64))
         texts, points = list(self._texts), to_units(places)
-        arcs = ArcArrays(starts, stops, weights, seconds, metres, ways, row, texts, begins, points)
+        columns = {
+            "arc_from": starts, "arc_to": stops, "arc_weight": weights, "arc_seconds": seconds, "arc_metres": metres, "arc_osm": ways,
+            "arc_row": row,
+        }
+        arcs = ArcArrays(columns, texts, begins, points)
         osm = np.array([NO_OSM if each is None else each for each in self._nodes.osm], np.int64)
         ends = np.array([ENDS.index(each) for each in self._nodes.ends], np.uint8)
         nodes = NodeArrays(osm, to_units(np.column_stack((self._nodes.lon, self._nodes.lat))), ends, self._nodes.keys)
-        return build_arrays(nodes, arcs, self._attribution, tables)
+        return build_arrays(nodes, arcs, self._attribution, about)
 
 
 def to_units(places: NDArray[Any]) -> NDArray[np.int32]:
@@ -221,91 +191,18 @@ def to_units(places: NDArray[Any]) -> NDArray[np.int32]:
 
 def find_inconsistency(arrays: Arrays) -> str | None:
     """What is wrong with arrays that don't fit together; None where they do."""
-    size = Counter({name: len(values) for name, values in arrays._asdict().items()})
-    fields = {"version": Field(I8, 1), "tables": Field(I8, 4), **fields_of(size)}
-    for name, values in arrays._asdict().items():
-        spec, rows, low, high, min_step = fields[name]
-        if name in Arrays._field_defaults and not len(values):
+    own = {name: getattr(arrays, name) for name in Arrays.NAMES}
+    size = Counter({name: len(values) for name, values in own.items()})
+    for name, column in columns_of(size).items():
+        if (values := own.get(name)) is None or column.part and not len(values):
             continue
-        if values.shape != (size[name] if rows is None else rows, *spec.row_shape):
+        if values.shape != (size[name] if column.rows is None else column.rows, *column.row_shape):
             return f"{name} has another size"
-        if min_step is not None and not (
-            len(values) and values[0] == 0 and values[-1] == high and (np.diff(values) >= min_step).all()
-        ):
+        if column.min_step is not None and not (len(values) and values[0] == 0 and values[-1] == column.high):
             return f"{name} has wrong offsets"
-        if low is not None and values.size and not (values.min() >= low and values.max() <= high):
-            return f"{name} isn't from {low:g} to {high:g}"
+        if problem := column_file.problem_of(column, values, values):
+            return f"{name} {problem}"
     return None
-
-
-# The numbers of the array `about`.
-ABOUT = (
-    "nodes_size", "arcs_size", "unit", "begins", "ends", "node_height", "edge_height", "west", "south", "east", "north",
-    *(f"shown_{kind}" for kind in range(len(ROAD_CLASSES))), "nodes_sum", "arcs_sum",
-)
-I4, I8, U1, F8 = ArraySpec("<i4"), ArraySpec("<i8"), ArraySpec("|u1"), ArraySpec("<f8")
-FAR_EAST, FAR_NORTH = 180 * UNITS, 90 * UNITS
-
-
-class Field(NamedTuple):
-    """An array of the file: its values, how many rows it has, the least and the greatest value, and how much more each
-    value is at least than the one before; None where there is no such rule."""
-
-    spec: ArraySpec
-    rows: int | None = None
-    low: float | None = None
-    high: float | None = None
-    min_step: int | None = None
-
-
-def fields_of(size: "Counter[str]") -> dict[str, Field]:
-    """The arrays of the file in their order, by the sizes of those that are there: `about`, those of Arrays, and those of
-    indexes.py. A text's bytes come as they are. Offsets are those with a `min_step`."""
-    nodes, arcs, edges, texts = size["node_osm"], size["arc_from"], size["edge_begin"] - 1, size["text_begin"] - 1
-    points, steps = size["points"], size["step_codes"]
-    return {
-        "about": Field(I8),
-        "node_osm": Field(I8, nodes),
-        "node_lon": Field(I4, nodes, -FAR_EAST, FAR_EAST),
-        "node_lat": Field(I4, nodes, -FAR_NORTH, FAR_NORTH),
-        "node_ends": Field(U1, nodes, 0, len(ENDS) - 1),
-        "arc_from": Field(I4, arcs, 1, nodes), "arc_to": Field(I4, arcs, 1, nodes),
-        "arc_weight": Field(I8, arcs, 0, MAX_WEIGHT),
-        "arc_seconds": Field(F8, arcs, 0, 1e12), "arc_metres": Field(F8, arcs, 0, 1e12),
-        "arc_osm": Field(I8, arcs),
-        "arc_row": Field(I4, arcs, 0, size["row_texts"] - 1),
-        "arc_edge": Field(I4, arcs, 0, edges - 1), "arc_along": Field(ArraySpec("|b1"), arcs),
-        "row_texts": Field(ArraySpec("<i4", indexes.TEXTS_PER_ROW), None, 0, texts - 1),
-        "edge_begin": Field(I8, None, 0, points, 2),
-        "points": Field(ArraySpec("<i4", 2), None, -FAR_EAST, FAR_EAST),
-        "text_begin": Field(I8, None, 0, size["text_bytes"], 0), "text_bytes": Field(U1),
-        "out_begin": Field(I8, nodes + 1, 0, size["out_arcs"], 0), "out_arcs": Field(I4, None, 0, arcs - 1),
-        "edge_first": Field(I8, edges + 1, 0, size["edge_arcs"], 0), "edge_arcs": Field(I4, size["out_arcs"], 0, arcs - 1),
-        "degrees": Field(U1, nodes + 1),
-        "node_keys": Field(I8), "node_cells": Field(I8, size["node_keys"] + 1, 0, nodes, 0),
-        "node_things": Field(I4, nodes, 0, nodes - 1),
-        "edge_keys": Field(I8), "edge_cells": Field(I8, size["edge_keys"] + 1, 0, size["edge_things"], 0),
-        "edge_things": Field(I4, None, 0, edges - 1),
-        "step_begin": Field(I8, len(ROAD_CLASSES) + 1, 0, steps, 0), "step_codes": Field(ArraySpec("<u4")),
-        "step_points": Field(I4, steps, 0, points - 2), "step_edges": Field(I4, steps, 0, edges - 1),
-        "node_texts": Field(I4, nodes, 0, texts - 1), "key_nodes": Field(I4, nodes, 0, nodes - 1),
-        "point_osm": Field(I8, points), "edge_metres": Field(F8, edges, 0, 1e12), "arc_penalty": Field(I4, arcs, 0, MAX_WEIGHT),
-    }
-
-
-OF_KEYS, OF_MAP = ("node_texts", "key_nodes"), ("point_osm", "edge_metres", "arc_penalty")
-
-
-def schema_without(*left_out: str) -> column_file.Schema:
-    return {name: field.spec for name, field in fields_of(Counter()).items() if name not in left_out}
-
-
-FILE_SCHEMA, SCHEMA_WITH_KEYS = schema_without(*OF_KEYS, *OF_MAP), schema_without(*OF_MAP)
-OLD_SCHEMA_WITH_KEYS = schema_without("key_nodes", *OF_MAP)
-FORMS = {
-    OLD_VERSION: FILE_SCHEMA, OLD_WITH_KEYS: OLD_SCHEMA_WITH_KEYS, VERSION: FILE_SCHEMA, WITH_KEYS: SCHEMA_WITH_KEYS,
-    WITH_IDS: schema_without(*OF_KEYS),
-}
 
 
 def write(file: IO[bytes], arrays: Arrays) -> None:
@@ -313,7 +210,9 @@ def write(file: IO[bytes], arrays: Arrays) -> None:
     if problem := find_inconsistency(arrays):
         raise ValueError(problem)
     version = WITH_KEYS if len(arrays.node_texts) else WITH_IDS if len(arrays.point_osm) else VERSION
-    column_file.write(file, FORMS[version], version, iter_file_arrays(arrays))
+    derived = derived_arrays(arrays)
+    columns = ((name, next(derived) if COLUMNS[name].is_derived else getattr(arrays, name)) for name in FORMS[version])
+    column_file.write(file, FORMS[version], version, columns)
 
 
 def write_view(file: IO[bytes], view: "MappedNetwork") -> None:
@@ -324,35 +223,29 @@ def write_view(file: IO[bytes], view: "MappedNetwork") -> None:
     column_file.write(file, FORMS[WITH_IDS], WITH_IDS, ((name, array_of(name)) for name in FORMS[WITH_IDS]))
 
 
-def iter_file_arrays(arrays: Arrays) -> Iterator[tuple[str, NDArray[Any]]]:
+def derived_arrays(arrays: Arrays) -> Iterator[NDArray[Any]]:
+    """The columns that are derived, in their order; each is made when it is asked for."""
     steps, edges = indexes.edge_segments(arrays.edge_begin)
     levels, shown_from = indexes.build_zoom_levels(arrays, steps, edges)
     edge_grid = indexes.edge_grid(arrays.points, steps, edges)
     del steps, edges
     node_grid = indexes.node_grid(arrays.node_lon, arrays.node_lat)
     side = np.bincount(arrays.node_ends, minlength=len(ENDS)).tolist()
-    numbers = [
-        *arrays.tables[:2].tolist(), UNITS_OF_WEIGHTS.index(weight_unit(arrays)), side[0] + side[1], side[0] + side[2],
-        round(node_grid.height * UNITS), round(edge_grid.height * UNITS), *indexes.bounding_box(arrays.points),
-        *shown_from, *arrays.tables[2:].tolist(),
-    ]
-    yield "about", np.array(numbers, dtype=np.int64)
-    for name in Arrays._fields[2:]:  # (all but the version, the tables, and what not each network has)
-        if name not in Arrays._field_defaults:
-            yield name, getattr(arrays, name)
-    outgoing = indexes.outgoing_arcs(arrays.arc_from, arrays.arc_to, arrays.arc_weight, len(arrays.node_osm))
-    yield from zip(("out_begin", "out_arcs"), outgoing)
-    yield "edge_first", offsets(np.bincount(arrays.arc_edge, minlength=len(arrays.edge_begin) - 1))
-    yield "edge_arcs", np.argsort(arrays.arc_edge, kind="stable")
-    yield "degrees", indexes.node_degrees(arrays)
-    yield from zip(("node_keys", "node_cells", "node_things"), node_grid[2:])
-    yield from zip(("edge_keys", "edge_cells", "edge_things"), edge_grid[2:])
-    yield from zip(("step_begin", "step_codes", "step_points", "step_edges"), levels)
-    if len(arrays.node_texts):
-        yield "node_texts", arrays.node_texts
-        yield "key_nodes", nodes_by_key(arrays)
-    elif len(arrays.point_osm):
-        yield from ((name, getattr(arrays, name)) for name in OF_MAP)
+    about = {
+        **dict.fromkeys(ABOUT, 0), **arrays.about, "unit": UNITS_OF_WEIGHTS.index(weight_unit(arrays)),
+        "begins": side[0] + side[1], "ends": side[0] + side[2],
+        "node_height": round(node_grid.height * UNITS), "edge_height": round(edge_grid.height * UNITS),
+        **dict(zip(("west", "south", "east", "north"), indexes.bounding_box(arrays.points))),
+        **{f"shown_{kind}": zoom for kind, zoom in enumerate(shown_from)},
+    }
+    yield np.array([about[name] for name in ABOUT], np.int64)
+    outgoing: tuple[NDArray[Any], ...] = indexes.outgoing_arcs(arrays.arc_from, arrays.arc_to, arrays.arc_weight, len(arrays.node_osm))
+    yield from outgoing
+    yield offsets(np.bincount(arrays.arc_edge, minlength=len(arrays.edge_begin) - 1))
+    yield np.argsort(arrays.arc_edge, kind="stable")
+    yield indexes.node_degrees(arrays)
+    yield from (*node_grid[2:], *edge_grid[2:], *levels)
+    yield nodes_by_key(arrays)
 
 
 def nodes_by_key(arrays: "Arrays | MappedNetwork") -> NDArray[np.int32]:
@@ -413,14 +306,14 @@ class MappedNetwork:
     def __init__(self, file: IO[bytes], path: str) -> None:
         self.path, self.file = path, MappedFile(file, path, FORMS, REMEDY)
         found = self.file.columns
-        vars(self).update({**Arrays._field_defaults, **found})
+        vars(self).update({name: np.empty(0, column.kind) for name, column in COLUMNS.items() if column.part} | found)
         self.has_keys = len(self.node_texts) > 0
         self.texts = Texts(self.text_begin, self.text_bytes)
         size = Counter({name: len(column) for name, column in found.items()})
-        fields = fields_of(size)
+        specs = columns_of(size)
         for name, column in found.items():
-            _, rows, column.low, column.high, column.min_step = fields[name]
-            if rows not in (None, len(column)):
+            column.spec = specs[name]
+            if column.spec.rows not in (None, len(column)):
                 raise self.file.damaged_error(f"{name} has another size")
         if not size["text_begin"] > 1 or not size["edge_begin"]:
             raise self.file.damaged_error("it has no texts or edges")
@@ -428,13 +321,11 @@ class MappedNetwork:
             raise self.file.damaged_error("out_arcs has another size")
         self.is_partial = size["out_arcs"] < size["arc_from"]
         about = found["about"][:].tolist()
-        if len(about) not in (len(ABOUT), len(ABOUT) - 2):
+        if len(about) not in ABOUT_SIZES:
             raise self.file.damaged_error("about has another size")
-        self.about = dict(zip(ABOUT, [*about, 0, 0]))
+        self.about = {**dict.fromkeys(ABOUT, 0), **dict(zip(ABOUT, about))}
         self.box: list[float] = [self.about[side] / UNITS for side in ("west", "south", "east", "north")]
         self.node_grid, self.edge_grid = self._grid("node"), self._grid("edge")
-        names = ("nodes_size", "arcs_size", "nodes_sum", "arcs_sum")
-        self.version, self.tables = np.array([VERSION]), np.array([self.about[name] for name in names])
 
     def _grid(self, name: str) -> Grid:
         found, height = self.file.columns, self.about[f"{name}_height"] / UNITS
@@ -568,10 +459,11 @@ def is_current(prefix: str) -> bool:
     tables = {files.nodes: NODE_COLUMNS, files.arcs: ARC_COLUMNS}
     if not any(map(os.path.exists, tables)):
         return True
-    (*sizes, nodes_sum, arcs_sum), made = read(files.binary).tables.tolist(), os.stat(files.binary)
+    about, made = read(files.binary).about, os.stat(files.binary)
+    marks = [about[name] for name in OF_TABLES]
     are_readable = all(has_columns(table, columns) for table, columns in tables.items())
     changed = [
-        table for table, size, checksum in zip(tables, sizes, (nodes_sum, arcs_sum))
+        table for table, size, checksum in zip(tables, marks[:2], marks[2:])
         if os.path.exists(table) and (size or are_readable)
         and (os.stat(table).st_size != size or is_younger(os.stat(table), made) and checksum_of(table) != checksum)
     ]
@@ -582,7 +474,7 @@ def is_current(prefix: str) -> bool:
 
 def is_same_table(path: str, network: MappedNetwork) -> bool:
     """Whether a table of nodes is that of a network, as far as the network knows one."""
-    size, _, checksum, _ = network.tables.tolist()
+    size, checksum = network.about["nodes_size"], network.about["nodes_sum"]
     return not size or not os.path.exists(path) or os.stat(path).st_size == size and checksum_of(path) == checksum
 
 
@@ -591,10 +483,10 @@ def is_younger(one: os.stat_result, other: os.stat_result) -> bool:
     return one.st_mtime_ns > other.st_mtime_ns or one.st_ctime_ns > other.st_ctime_ns
 
 
-def marks_of(*tables: StrPath | None) -> list[int]:
-    """By what edited tables are told from these: the bytes of each, and the checksum of each; 0 for None. Raises OSError."""
+def marks_of(*tables: StrPath | None) -> dict[str, int]:
+    """The numbers OF_TABLES of both, or of None, by their names. Raises OSError."""
     sizes = [0 if table is None else os.stat(table).st_size for table in tables]
-    return [*sizes, *(0 if table is None else checksum_of(table) for table in tables)]
+    return dict(zip(OF_TABLES, [*sizes, *(0 if table is None else checksum_of(table) for table in tables)]))
 
 
 def checksum_of(path: StrPath) -> int:

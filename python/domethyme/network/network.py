@@ -22,15 +22,15 @@ from ..route import Route, Rows
 from ..routes import Routes
 from . import from_tables, net_file
 from .bearings import BearingRange, nearest_with_bearing
+from .columns import ENDS, NO_OSM, UNITS
 from .geo import Point, to_geojson_geometry
 from .matching import Trace
-from .net_file import NO_OSM, UNITS
 from .node_index import NodeIndex, load_node_index
 from .reading import arcs_from_net
 from .reweigh import Reweighed, read_speeds, speeds_of, write_reweighed
 from .snapping import RoadIndex, SnappedPoint
 from .sphere import Floats as Floats
-from .tables import ALL_ARC_COLUMNS, ENDS, KEY, Files, Side, arcs_file, need_nodes
+from .tables import ALL_ARC_COLUMNS, KEY, Files, Side, arcs_file, need_nodes
 from .without import parse_classes, without
 
 # For each place None, or (bearing, tolerance) in degrees.

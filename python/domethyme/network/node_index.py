@@ -8,10 +8,11 @@ from numpy.typing import NDArray
 from .. import belonging
 from ..errors import NetworkError
 from ..program import StrPath
-from .net_file import UNITS, Builder, MappedNetwork, map_tempfile
+from .columns import ENDS, UNITS
+from .net_file import Builder, MappedNetwork, map_tempfile
 from .reading import mapped_if_current, read_nodes
 from .sphere import Floats, great_circle_metres, unit_vectors
-from .tables import ENDS, Side, is_coordinates, need_nodes
+from .tables import Side, is_coordinates, need_nodes
 
 
 class NodeIndex:

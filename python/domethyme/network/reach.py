@@ -15,12 +15,13 @@ import numpy as np
 from numpy.typing import NDArray
 from scipy.ndimage import maximum_filter
 
+from .columns import UNITS
 from .from_tables import FARTHEST_END
 from .geo import EARTH_RADIUS, Point, split_at_antimeridian
 from .grid import Grid, Ints, concat_ranges
 from .groups import first_of_equal
 from .indexes import wrapped_difference
-from .net_file import UNITS, MappedNetwork
+from .net_file import MappedNetwork
 from .sphere import Floats, great_circle_metres, unit_vectors
 
 METRES_OF_DEGREE = EARTH_RADIUS * np.pi / 180

@@ -9,8 +9,9 @@ from ..dimacs import dimacs_lines
 from ..errors import NetworkError
 from ..limits import MAX_NODES
 from ..program import StrPath
+from .columns import ENDS, NO_OSM, UNITS
 from .geo import format_linestring
-from .tables import ENDS, Arc, Files, Nodes, is_coordinates, read_node_table
+from .tables import Arc, Files, Nodes, is_coordinates, read_node_table
 
 if TYPE_CHECKING:
     from . import net_file
@@ -37,8 +38,6 @@ def mapped_if_current(prefix: str) -> "net_file.MappedNetwork | None":
 
 def nodes_from_net(arrays: "net_file.MappedNetwork") -> Nodes:
     """The nodes of a mapped file, as those of the table."""
-    from .net_file import NO_OSM, UNITS
-
     osm = [None if number == NO_OSM else number for number in arrays.node_osm[:].tolist()]
     lon, lat = (arrays.node_lon[:] / UNITS).tolist(), (arrays.node_lat[:] / UNITS).tolist()
     return Nodes(osm, lon, lat, [ENDS[place] for place in arrays.node_ends[:].tolist()], arrays.keys() or ())
@@ -47,8 +46,6 @@ def nodes_from_net(arrays: "net_file.MappedNetwork") -> Nodes:
 def arcs_from_net(arrays: "net_file.MappedNetwork") -> Iterator[Arc]:
     """The arcs of a mapped file, as those of the table."""
     import numpy as np
-
-    from .net_file import UNITS
 
     arcs = np.flatnonzero(arrays.are_open())
     for begin in range(0, len(arcs), CHUNK):

@@ -22,18 +22,17 @@ from ..errors import NetworkError
 from ..limits import MAX_WEIGHT
 from ..program import StrPath
 from . import indexes, net_file
+from .columns import ENDS, INT64, OF_TABLES, UNITS
 from .figures import PENALTY, seconds_of, whole_weights
 from .groups import Ints, expand, mask, offsets
-from .net_file import UNITS, MappedNetwork
+from .net_file import MappedNetwork
 from .sphere import Floats, great_circle_metres, unit_vectors
-from .tables import ARC_COLUMNS, ENDS, INT64, NODE_COLUMNS, Files, has_columns
+from .tables import ARC_COLUMNS, NODE_COLUMNS, Files, has_columns
 from .without import with_arcs, write_graph_of_view
 
 # The columns of a row by how many fields it has: a way, or the step from a point of the map to a neighbouring one.
 COLUMNS = {2: ("way", "kmh"), 3: ("from", "to", "kmh")}
 FASTEST = 1000.0
-# What a file knows of tables beside it, which there are none of.
-OF_TABLES = ("nodes_size", "arcs_size", "nodes_sum", "arcs_sum")
 
 
 @dataclasses.dataclass

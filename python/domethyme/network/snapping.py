@@ -16,13 +16,13 @@ from numpy.typing import NDArray
 
 from ..errors import NetworkError
 from .column_file import Column
+from .columns import ENDS, NO_OSM, TEXTS, UNITS
 from .geo import Point, metres_between
 from .grid import Ints, concat_ranges
-from .net_file import NO_OSM, TEXTS, UNITS, MappedNetwork, load_network
+from .net_file import MappedNetwork, load_network
 from .node_index import NodeIndex
 from .parallel import differs_from_previous
 from .sphere import Floats, interpolate_one, nearest_on_segments
-from .tables import ENDS
 
 # So many metres from an end of an edge a point is at the end.
 END_TOLERANCE = 0.005

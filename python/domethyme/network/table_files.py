@@ -7,15 +7,16 @@ import pathlib
 from collections.abc import Iterator, Sequence
 from typing import IO, Any, cast
 
-import numpy as np
 from numpy.typing import NDArray
 
 from ..dimacs import write_graph
 from ..errors import NetworkError
 from . import net_file
+from .columns import ENDS, NO_OSM, TEXTS, UNITS
 from .geo import format_linestring
 from .tables import (
-    ALL_ARC_COLUMNS, ALL_NODE_COLUMNS, ATTRIBUTION_COMMENT, ENDS, Arc, Files, Nodes, is_written_by_tools, write_arcs, write_nodes
+    ALL_ARC_COLUMNS, ALL_NODE_COLUMNS, ATTRIBUTION_COMMENT, Arc, Files, Nodes, is_written_by_tools, write_arcs,
+    write_nodes
 )
 
 ROWS_AT_ONCE = 1 << 16
@@ -48,7 +49,7 @@ def write_graph_of(file: IO[bytes], arrays: net_file.Arrays, attribution: str) -
     write_graph(file, len(arrays.node_osm), [arrays.arc_from, arrays.arc_to, arrays.arc_weight], comments)
 
 
-def write_tables(files: Sequence[IO[str]], arrays: net_file.Arrays) -> NDArray[np.int64]:
+def write_tables(files: Sequence[IO[str]], arrays: net_file.Arrays) -> dict[str, int]:
     """Writes both tables, and the files for GDAL, into files in the order of Files; returns what both tables are known by."""
     write_nodes(files[0], nodes_in(arrays))
     write_arcs(files[1], arcs_in(arrays))
@@ -56,13 +57,13 @@ def write_tables(files: Sequence[IO[str]], arrays: net_file.Arrays) -> NDArray[n
         print(text, file=file)
     for file in files[:2]:
         file.flush()
-    return np.array(net_file.marks_of(*(file.name for file in files[:2])), np.int64)
+    return net_file.marks_of(*(file.name for file in files[:2]))
 
 
 def nodes_in(arrays: net_file.Arrays) -> Nodes:
     """The nodes, as those of the table."""
-    osm = [None if number == net_file.NO_OSM else number for number in arrays.node_osm.tolist()]
-    lon, lat = ((places / net_file.UNITS).tolist() for places in (arrays.node_lon, arrays.node_lat))
+    osm = [None if number == NO_OSM else number for number in arrays.node_osm.tolist()]
+    lon, lat = ((places / UNITS).tolist() for places in (arrays.node_lon, arrays.node_lat))
     texts = texts_in(arrays)
     keys = [texts[number] for number in arrays.node_texts.tolist()]
     return Nodes(osm, lon, lat, [ENDS[number] for number in arrays.node_ends.tolist()], keys)
@@ -71,7 +72,7 @@ def nodes_in(arrays: net_file.Arrays) -> Nodes:
 def arcs_in(arrays: net_file.Arrays) -> Iterator[Arc]:
     """The arcs, as those of the table."""
     texts, edge_begin = texts_in(arrays), arrays.edge_begin.tolist()
-    texts_of_rows = [[texts[number] if number else "" for number in row] for row in arrays.row_texts[:, : len(net_file.TEXTS)].tolist()]
+    texts_of_rows = [[texts[number] if number else "" for number in row] for row in arrays.row_texts[:, : len(TEXTS)].tolist()]
     columns: tuple[NDArray[Any], ...] = (
         arrays.arc_from, arrays.arc_to, arrays.arc_weight, arrays.arc_seconds, arrays.arc_metres, arrays.arc_osm,
         arrays.arc_row, arrays.arc_edge, arrays.arc_along,
@@ -80,7 +81,7 @@ def arcs_in(arrays: net_file.Arrays) -> Iterator[Arc]:
         rows = zip(*(column[low : low + ROWS_AT_ONCE].tolist() for column in columns))
         for start, end, weight, seconds, metres, osm, row, edge, along in rows:
             highway, name, *others = texts_of_rows[row]
-            line = (arrays.points[edge_begin[edge] : edge_begin[edge + 1]] / net_file.UNITS).tolist()
+            line = (arrays.points[edge_begin[edge] : edge_begin[edge + 1]] / UNITS).tolist()
             wkt = format_linestring(line if along else line[::-1])
             yield Arc(start, end, weight, seconds, metres, osm, highway, name, wkt, *others)
 

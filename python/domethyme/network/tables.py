@@ -18,18 +18,21 @@ from ..csv_tables import Row, escape_formula, excerpt, open_input, open_table
 from ..errors import NetworkError
 from ..limits import MAX_NODES
 from ..program import StrPath
+from .columns import ENDS, INT64, OF_ARCS, OF_NODES, TEXTS
 
 OSM_ATTRIBUTION = "© OpenStreetMap contributors (ODbL 1.0)"
 ATTRIBUTION_COMMENT = "attribution: "
+# The columns of tables, those that each has and all that are written; tables of earlier versions lack some.
 NODE_COLUMNS = ("node", "osm", "lon", "lat")
 ARC_COLUMNS = ("from", "to", "weight", "seconds", "metres", "osm", "highway", "name", "WKT")
-ALL_NODE_COLUMNS = (*NODE_COLUMNS, "ends")
+ALL_NODE_COLUMNS = ("node", *OF_NODES)
 # The column of nodes that have keys, where NETWORK.nodes.csv numbers them.
 KEY = "key"
-ALL_ARC_COLUMNS = (*ARC_COLUMNS[:-1], "ref", "junction", "destination", "structure", "toll", "WKT")
+ALL_ARC_COLUMNS = (*OF_ARCS, *TEXTS, "WKT")
 # For GDAL: the kinds of the columns, and the system of coordinates.
-NODE_KINDS = ("Integer", "Integer64", "CoordX", "CoordY", "String")
-ARC_KINDS = ("Integer", "Integer", "Integer64", "Real", "Real", "Integer64", *["String"] * 7, "WKT")
+KINDS = {"<i4": "Integer", "<i8": "Integer64", "<f8": "Real", "|u1": "String"}
+NODE_KINDS = ("Integer", *({"lon": "CoordX", "lat": "CoordY"}.get(name, KINDS[column.kind]) for name, column in OF_NODES.items()))
+ARC_KINDS = (*(KINDS[column.kind] for column in OF_ARCS.values()), *["String"] * len(TEXTS), "WKT")
 WGS_84 = (
     'GEOGCS["WGS 84",DATUM["WGS_1984",SPHEROID["WGS 84",6378137,298.257223563]],PRIMEM["Greenwich",0],'
     'UNIT["degree",0.0174532925199433],AUTHORITY["EPSG","4326"]]'
@@ -41,8 +44,6 @@ WRONG_SUFFIXES = {
     **dict.fromkeys((".nodes.csv", ".arcs.csv", ".net"), f"{NAME_IT}, {{0}}"),
     ".csv": f"is a table: NETWORK comes first, and {NAME_IT}",
 }
-ENDS = ("", "from", "to", "no")
-INT64 = -(1 << 63), (1 << 63) - 1
 Side = Literal["from", "to"]
 
 

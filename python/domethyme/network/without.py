@@ -12,8 +12,9 @@ import numpy as np
 from numpy.typing import NDArray
 
 from ..dimacs import write_graph
+from .columns import TEXTS
 from .groups import Ints, offsets
-from .net_file import TEXTS, MappedNetwork
+from .net_file import MappedNetwork
 from .tables import ATTRIBUTION_COMMENT
 
 # The classes, and by which of an arc's texts they are known.

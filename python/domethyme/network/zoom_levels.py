@@ -9,11 +9,9 @@ from typing import Any
 import numpy as np
 from numpy.typing import NDArray
 
+from .columns import ROAD_CLASSES
 from .parallel import differs_from_previous, map_slices, parallel_sort
 
-ROAD_CLASSES: tuple[tuple[str, ...], ...] = (
-    ("motorway", "trunk"), ("primary",), ("secondary",), ("tertiary",), ("unclassified", "residential", "living_street"), ()
-)
 # The zoom of the cells, and how many steps one may have on average in a picture.
 CODE_ZOOM = 15
 MAX_PER_CELL = 10_000

@@ -8,9 +8,10 @@ from typing import Any
 import numpy as np
 from numpy.typing import NDArray
 
+from domethyme.network.columns import ROAD_CLASSES, TEXTS
 from domethyme.network.groups import Ints
-from domethyme.network.net_file import TEXTS, MappedNetwork
-from domethyme.network.zoom_levels import ROAD_CLASSES, road_class
+from domethyme.network.net_file import MappedNetwork
+from domethyme.network.zoom_levels import road_class
 
 # The numbers of columns, by what network.js calls them.
 KINDS: dict[str, np.dtype[Any]] = {"i4": np.dtype("<i4"), "u4": np.dtype("<u4"), "u1": np.dtype("u1"), "f4": np.dtype("<f4")}
