@@ -18,8 +18,25 @@ ENCODER = json.JSONEncoder(separators=(",", ":"), allow_nan=False, ensure_ascii=
 CHUNK = 1 << 14
 # All integers up to this one are exact as numbers of Python.
 MOST_EXACT = 1 << 53
-ZERO, POINT, MINUS, COMMA, OPEN, CLOSE = b"0.-,[]"
-NULL = np.frombuffer(b"null", np.uint8)
+# Numbers are written by three digits at a time, in words of four bytes: a sign or a point, and the digits. Bytes that are 0 are left out
+# at last.
+GROUP, GROUPS = 3, 1000
+NOTHING = b"\0"
+
+
+def words_of(texts: Iterable[str]) -> NDArray[np.uint32]:
+    """Texts of up to four characters as words; a blank is left out."""
+    return np.array([text.replace(" ", "\0").encode() for text in texts], "S4").view(np.uint32)
+
+
+# The words of the numbers below GROUPS: of three digits; without zeros before, or behind, of which 0 has one; and the same where 0 has none.
+ALL, BEFORE, BEHIND, BEFORE_OR_NONE, BEHIND_OR_NONE = (np.int32(kind * GROUPS) for kind in range(5))
+NUMBERS = [f"{number:03}" for number in range(GROUPS)]
+WITH_ONE_ZERO = [words_of(f" {strip(text, '0') or '0'}" for text in NUMBERS) for strip in (str.lstrip, str.rstrip)]
+WORDS = np.concatenate((words_of(f" {text}" for text in NUMBERS), *WITH_ONE_ZERO, *WITH_ONE_ZERO))
+WORDS[[BEFORE_OR_NONE, BEHIND_OR_NONE]] = 0
+MINUS, POINT, COMMA, NEXT, NULL = words_of(["-", ".", ",", "],[", "null"])
+BEHIND_POINT = WORDS | POINT
 
 
 def to_json(value: object) -> str:
@@ -51,14 +68,21 @@ class Texts(NamedTuple):
     """Texts of rows, with a comma behind each: row k is text[begins[k]:begins[k + 1] - 1]."""
 
     text: str
-    begins: list[int]
+    begins: Ints
 
     def array(self, first: int, behind: int) -> str:
         """The array of some rows."""
-        return f"[{self.text[self.begins[first] : self.begins[behind] - 1]}]" if first < behind else "[]"
+        return self.arrays(np.array([first]), np.array([behind]))[0]
 
-    def row(self, number: int) -> str:
-        return self.text[self.begins[number] : self.begins[number + 1] - 1]
+    def arrays(self, firsts: Ints, behind: Ints) -> list[str]:
+        """The array of the rows firsts[k]:behind[k], for each k."""
+        text, bounds = self.text, zip(self.begins[firsts].tolist(), self.begins[behind].tolist())
+        return [f"[{text[begin : end - 1]}]" if begin < end else "[]" for begin, end in bounds]
+
+    def rows(self, numbers: Ints) -> list[str]:
+        """Some rows."""
+        text, bounds = self.text, zip(self.begins[numbers].tolist(), self.begins[numbers + 1].tolist())
+        return [text[begin : end - 1] for begin, end in bounds]
 
 
 def number_texts(values: Ints, digits: int, is_null: NDArray[np.bool_] | None = None) -> Texts:
@@ -69,10 +93,11 @@ def number_texts(values: Ints, digits: int, is_null: NDArray[np.bool_] | None = 
 def decimal_texts(values: Floats, digits: int) -> Texts:
     """Numbers, rounded to so many digits, at least one; NaN is null."""
     is_null, scaled = np.isnan(values), np.rint(values * 10**digits)
-    if np.abs(scaled[~is_null]).max(initial=0) < MOST_EXACT:
-        return number_texts(np.where(is_null, 0, scaled).astype(np.int64), digits, is_null)
+    scaled[is_null] = 0
+    if np.abs(scaled).max(initial=0) < MOST_EXACT:
+        return number_texts(scaled.astype(np.int64), digits, is_null)
     texts = [f"{'null' if is_none else to_json(value)}," for value, is_none in zip(values.round(digits).tolist(), is_null)]
-    return Texts("".join(texts), offsets(np.array([*map(len, texts)])).tolist())
+    return Texts("".join(texts), offsets(np.array([*map(len, texts)])))
 
 
 def point_texts(points: Ints, digits: int) -> Texts:
@@ -82,45 +107,42 @@ def point_texts(points: Ints, digits: int) -> Texts:
 
 def joined_texts(rows: Ints, digits: int, is_null: NDArray[np.bool_] | None) -> Texts:
     """Rows of one number, or arrays of several."""
-    texts, lengths = [], [np.empty(0, np.int64)]
-    width = len(str(max(int(rows.max(initial=0)), -int(rows.min(initial=0)))))
-    for begin in range(0, len(rows), CHUNK):
-        some = rows[begin : begin + CHUNK]
-        signs, shown = characters(some, max(width, digits + 1), digits)
-        if is_null is not None:
-            chosen = is_null[begin : begin + CHUNK]
-            signs[chosen, 0, : len(NULL)], shown[chosen, 0] = NULL, False
-            shown[chosen, 0, : len(NULL)] = True
-            shown[chosen, 0, -1] = True
-        lengths.append(np.count_nonzero(shown, axis=(1, 2)))
-        texts.append(signs[shown].tobytes().decode("ascii"))
-    return Texts("".join(texts), offsets(np.concatenate(lengths)).tolist())
+    width, is_array = len(str(max(int(rows.max(initial=0)), -int(rows.min(initial=0))))), rows.shape[1] > 1
+    parts = (slice(begin, begin + CHUNK) for begin in range(0, len(rows), CHUNK))
+    words = (words_of_rows(rows[part], width, digits, None if is_null is None else is_null[part]) for part in parts)
+    text = b"".join(some.tobytes().translate(None, NOTHING) for some in words)
+    ends = np.flatnonzero(np.frombuffer(text, np.uint8) == ord("[" if is_array else ","))
+    # (the bracket of each array but the first one comes with the comma before it)
+    return Texts(("[" * is_array + text.decode("ascii"))[: len(text)], np.append(0, ends + 1))
 
 
-def characters(rows: Ints, width: int, digits: int) -> tuple[NDArray[np.uint8], NDArray[np.bool_]]:
-    """The characters of numbers with up to `width` digits and of what is around them, and which of these are shown; of shape (rows,
-    numbers in a row, characters)."""
-    is_array = rows.shape[1] > 1
-    # a bracket, a sign, the digits with their point, a bracket, and a comma; room for null
-    signs = np.empty((*rows.shape, max(width + 5, len(NULL) + 1)), np.uint8)
-    shown = np.zeros(signs.shape, dtype=bool)
-    signs[..., 0], shown[:, 0, 0] = OPEN, is_array
-    signs[..., 1], shown[..., 1] = MINUS, rows < 0
+def words_of_rows(rows: Ints, width: int, digits: int, is_null: NDArray[np.bool_] | None) -> NDArray[np.uint32]:
+    """The words of numbers with up to `width` digits, and of what is behind them; of shape (rows, numbers in a row, words)."""
+    before, behind = -(-max(width - digits, 1) // GROUP), -(-digits // GROUP)
+    words = np.empty((*rows.shape, before + behind + 1), np.uint32)
     left = np.abs(rows).astype(np.int32 if width < 10 else np.int64)
-    is_behind = np.zeros(rows.shape, dtype=bool)
-    for place in range(digits):
-        left, figure = left // 10, left
-        figure = figure - 10 * left
-        is_behind |= figure != 0
-        column = 2 + width - place
-        signs[..., column] = figure + ZERO
-        shown[..., column] = is_behind if place < digits - 1 else True
-    signs[..., 2 + width - digits], shown[..., 2 + width - digits] = POINT, digits > 0
-    for place in range(width - digits):
-        left, figure = left // 10, left
-        column = 1 + width - digits - place
-        signs[..., column] = figure - 10 * left + ZERO
-        shown[..., column] = figure > 0 if place else True
-    signs[..., -2], shown[:, -1, -2] = CLOSE, is_array
-    signs[..., -1], shown[..., -1] = COMMA, True
-    return signs, shown
+    whole = left // 10**digits if digits else left
+    rest = left - whole * 10**digits
+    for place in range(before - 1, 0, -1):
+        higher = whole // GROUPS
+        zero = BEFORE if place == before - 1 else BEFORE_OR_NONE
+        words[..., place] = WORDS.take(whole - higher * GROUPS + zero * (higher == 0))
+        whole = higher
+    words[..., 0] = WORDS.take(whole + (BEFORE if before == 1 else BEFORE_OR_NONE))
+    if (is_negative := rows < 0).any():
+        words[..., 0] |= MINUS * is_negative
+    unit, table, zero = 10**digits, BEHIND_POINT, BEHIND
+    for place in range(before, before + behind - 1):
+        unit //= GROUPS
+        group = rest // unit
+        rest = rest - group * unit
+        words[..., place] = table.take(group + zero * (rest == 0))
+        table, zero = WORDS, BEHIND_OR_NONE
+    if behind:
+        words[..., -2] = table.take(rest * (GROUPS // unit) + zero)
+    words[..., -1] = COMMA
+    if is_null is not None:
+        words[is_null, 0, 0], words[is_null, 0, 1:-1] = NULL, 0
+    if rows.shape[1] > 1:
+        words[:, -1, -1] = NEXT
+    return words

@@ -25,6 +25,8 @@ MAX_GEOS_POINTS, MAX_GEOS_EXAMINED = 4096, 40_000_000
 # Points that are examined together.
 CHUNK = 1 << 16
 DECIMALS = 3
+# The polyline of the way from a point to an equal one.
+NO_STEP = "??"
 
 
 class Budget:
@@ -134,7 +136,7 @@ def farthest_points(flat: NDArray[np.complex128], lows: Ints, highs: Ints, toler
 def line_json(line: Ints, format_: str) -> str:
     """A line as polyline, polyline6 or geojson."""
     if format_ != "geojson":
-        return polylines_json([line], format_)[0]
+        return polylines_json(line, np.array([0]), np.array([len(line)]), format_)[0]
     return line_string(point_texts(line, 6).array(0, len(line)))
 
 
@@ -142,9 +144,10 @@ def line_string(coordinates: str) -> str:
     return f'{{"type":"LineString","coordinates":{coordinates}}}'
 
 
-def polylines_json(lines: Sequence[Ints], format_: str) -> list[str]:
-    degrees = [line / MICRODEGREES for line in lines]
-    return [string_json(text) for text in encode_polylines(degrees, 6 if format_ == "polyline6" else 5)]
+def polylines_json(points: Ints, firsts: Ints, behind: Ints, format_: str) -> list[str]:
+    """The lines points[firsts[k]:behind[k]] as polyline or polyline6, of two equal points if it is of one."""
+    texts = encode_polylines(points / MICRODEGREES, 6 if format_ == "polyline6" else 5, firsts, behind)
+    return [string_json(f"{text}{NO_STEP * is_point}") for text, is_point in zip(texts, (behind - firsts == 1).tolist())]
 
 
 def annotations_json(geometry: RouteGeometry, names: list[str]) -> Iterator[str]:
@@ -172,7 +175,7 @@ def annotations_json(geometry: RouteGeometry, names: list[str]) -> Iterator[str]
 
 def leg_arrays(texts: Texts, begins: Ints) -> list[str]:
     """The array of each leg, which begins at these rows."""
-    return [texts.array(*pair) for pair in itertools.pairwise(begins.tolist())]
+    return texts.arrays(begins[:-1], begins[1:])
 
 
 def node_texts(geometry: RouteGeometry, begins: Ints) -> list[str]:
@@ -181,6 +184,5 @@ def node_texts(geometry: RouteGeometry, begins: Ints) -> list[str]:
     ids, of_points = geometry.roads.osm_ids(nodes), np.zeros(len(geometry.shown), np.int64)
     # (the first of several counts)
     of_points[places[ids != 0][::-1]] = ids[ids != 0][::-1]
-    found, counts = number_texts(of_points, 0), np.diff(begins).tolist()
-    firsts = geometry.line_begins[:-1].tolist()
-    return [found.array(first, first + count + 1) if count else "[]" for first, count in zip(firsts, counts)]
+    firsts, counts = geometry.line_begins[:-1], np.diff(begins)
+    return number_texts(of_points, 0).arrays(firsts, firsts + counts + (counts > 0))

@@ -143,9 +143,9 @@ def step_json(
 
 def build_steps(geometry: RouteGeometry, points: Sequence[SnappedPoint], format_: str) -> list[LegSteps]:
     """The steps of each leg between points, with geometries as `format_`."""
-    ends = microdegrees(points)
-    places = point_texts(ends, 6)
-    at_places = shapes_of(ends, places, np.arange(len(ends)), np.arange(len(ends)) + 1, format_)
+    ends, numbers = microdegrees(points), np.arange(len(points))
+    of_places = point_texts(ends, 6)
+    places, at_places = of_places.rows(numbers), shapes_of(ends, of_places, numbers, numbers + 1, format_)
     nothing = (0.0, 0.0 if geometry.roads.has_seconds else None, 0.0)
     texts, roads, bounds, last_bearings = list[str](), list[RoadTexts](), [0] * (len(geometry.legs) + 1), list[int]()
     if len(geometry.arcs):
@@ -153,7 +153,7 @@ def build_steps(geometry: RouteGeometry, points: Sequence[SnappedPoint], format_
         firsts, behind = geometry.slices(builder.begins, builder.ends)
         is_whole = format_ == "geojson"
         shown = point_texts(geometry.shown if is_whole else geometry.shown[firsts], 6)
-        locations = [*map(shown.row, firsts.tolist() if is_whole else range(len(firsts)))]
+        locations = shown.rows(firsts if is_whole else np.arange(len(firsts)))
         texts, roads = builder.steps(locations, shapes_of(geometry.shown, shown, firsts, behind, format_))
         bounds = np.searchsorted(builder.begins, geometry.first).tolist()
         last_bearings = builder.last_bearings[geometry.first[1:] - 1].tolist()
@@ -162,8 +162,8 @@ def build_steps(geometry: RouteGeometry, points: Sequence[SnappedPoint], format_
         some, names, before = texts[low:high], roads[low:high], last_bearings[leg] if low < high else 0
         if not some:
             names = [RoadTexts.of("", "", "")]
-            some = [step_json(DEPART, places.row(leg), 0, 0, names[0], nothing, at_places[leg])]
-        arrival, place = names[-1]._replace(more=""), places.row(leg + 1)
+            some = [step_json(DEPART, places[leg], 0, 0, names[0], nothing, at_places[leg])]
+        arrival, place = names[-1]._replace(more=""), places[leg + 1]
         some.append(step_json('"type":"arrive"', place, before, 0, arrival, nothing, at_places[leg + 1]))
         found.append(LegSteps(join_array(some), ", ".join(first_names(names))))
     return found
@@ -178,7 +178,7 @@ def first_names(roads: Sequence[RoadTexts]) -> list[str]:
 def shapes_of(points: Ints, texts: Texts, firsts: Ints, behind: Ints, format_: str) -> list[str]:
     """The JSON of the lines points[firsts[k]:behind[k]], of which `texts` are those of all points in GeoJSON; of two equal points if it
     is of one."""
-    pairs = [*zip(firsts.tolist(), behind.tolist())]
     if format_ != "geojson":
-        return polylines_json([points[low:high] if high - low > 1 else points[[low, low]] for low, high in pairs], format_)
-    return [line_string(texts.array(low, high) if high - low > 1 else f"[{texts.row(low)},{texts.row(low)}]") for low, high in pairs]
+        return polylines_json(points, firsts, behind, format_)
+    arrays = zip(texts.arrays(firsts, behind), (behind - firsts == 1).tolist())
+    return [line_string(f"{array[:-1]},{array[1:]}" if is_point else array) for array, is_point in arrays]

@@ -56,7 +56,7 @@ def test_numbers_are_those_of_std(digits, most):
     found = json.loads(number_texts(values, digits, is_null).array(0, len(values)))
     assert found == [None if is_none else value for value, is_none in zip(wanted, is_null)]
     points = point_texts(values[:304].reshape(-1, 2), digits)
-    assert [json.loads(points.row(row)) for row in range(152)] == np.reshape(wanted[:304], (-1, 2)).tolist()
+    assert [*map(json.loads, points.rows(np.arange(152)))] == np.reshape(wanted[:304], (-1, 2)).tolist()
 
 
 def plain(value):

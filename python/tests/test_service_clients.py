@@ -5,6 +5,7 @@ import math
 import urllib.parse
 from typing import Any
 
+import numpy as np
 from comparing import decoded, difference
 from draws import model_of
 from model import answers
@@ -16,7 +17,7 @@ from domethyme.network.polyline import encode_polylines
 # By High Street and north by Mill Road to a roundabout, which Hill Road leaves.
 START, END, BETWEEN = [0.0003, 0.00001], [0.007, 0.00203], [0.004, 0.0]
 PLACES = "0.0003,0.00001;0.007,0.00203"
-PACKED = urllib.parse.quote(f"polyline({encode_polylines([[START, END]], 5)[0]})", safe="()")
+PACKED = urllib.parse.quote(f"polyline({encode_polylines([START, END], 5, np.array([0]), np.array([2]))[0]})", safe="()")
 BROWSER = {"Accept": "*/*", "Origin": "https://example.org", "Referer": "https://example.org/", "Sec-Fetch-Mode": "cors"}
 OSMAND = {"User-Agent": "OsmAnd~ 4.5", "Accept-Encoding": "gzip", "Connection": "Keep-Alive"}
 VIKING = {"Accept": "*/*", "User-Agent": "viking/1.10"}

@@ -1,35 +1,62 @@
 """Encodes and decodes polylines (Google's encoded polyline algorithm format)."""
 import itertools
-from collections.abc import Sequence
 
 import numpy as np
-from numpy.typing import ArrayLike
+from numpy.typing import ArrayLike, NDArray
 
 from .geo import Point
+from .grid import concat_ranges
+from .groups import Ints
+from .parallel import differs_from_previous
 
-# The shifts of a number's groups of five bits: a difference of 360 degrees to seven digits has 33 bits.
-SHIFTS = np.arange(0, 40, 5)
+# Numbers are written by two groups of five bits at a time, in words of two bytes. Bytes that are 0 are left out at last.
+PAIR_BITS = 10
+NOTHING, END_OF_LINE = b"\0", "\n"
 
 
-def encode_polylines(lines: Sequence[ArrayLike], digits: int) -> list[str]:
-    """The polylines of lines (lon, lat), of shape (points, 2), with so many decimal digits. Many short lines take little longer than one
-    of all points."""
-    arrays = [np.asarray(line, np.float64) for line in lines]
-    whole = np.rint(np.concatenate(arrays)[:, ::-1] * 10**digits).astype(np.int64)
-    counts = [len(line) for line in arrays]
-    ends = np.cumsum(counts)
-    begins = ends - counts
-    steps = np.diff(whole, axis=0, prepend=0)
-    steps[begins] = whole[begins]
-    values = steps.ravel()
-    rest = np.where(values < 0, ~(values << 1), values << 1)[:, None] >> SHIFTS
-    is_character = rest > 0
-    is_character[:, 0] = True
-    has_more = np.pad(rest[:, 1:] > 0, ((0, 0), (0, 1)))
-    characters = (rest & 0x1F) + 63 + 0x20 * has_more
-    text = characters[is_character].astype(np.uint8).tobytes().decode("ascii")
-    cuts = np.cumsum(is_character.sum(axis=1))[2 * ends - 1].tolist()
-    return [text[begin:end] for begin, end in zip([0, *cuts], cuts)]
+def pairs_of(are_last: bool) -> NDArray[np.uint16]:
+    """The word of each number of PAIR_BITS bits: of the last ones of a number, or of others. Of the last ones the second may be left out."""
+    low, high = np.arange(1 << PAIR_BITS) & 31, np.arange(1 << PAIR_BITS) >> 5
+    second = np.where(high > 0, high + 63, 0) if are_last else high + 63 + 32
+    first = low + 63 + 32 * (not are_last or high > 0)
+    return (first | second << 8).astype(np.uint16)
+
+
+# Those before others, and then the last ones. A number of six digits or fewer has up to three pairs.
+PAIRS = np.concatenate((pairs_of(False), pairs_of(True)))
+MAX_PAIRS, MAX_DIGITS = 3, 6
+
+
+def encode_polylines(points: ArrayLike, digits: int, firsts: Ints, behind: Ints) -> list[str]:
+    """The polylines of the lines points[firsts[k]:behind[k]], with up to MAX_DIGITS decimal digits, of points (lon, lat) in degrees. Many
+    short lines take little longer than one of all points."""
+    whole = np.rint(np.asarray(points, np.float64) * 10**digits).astype(np.int32)
+    line, rows = concat_ranges(firsts, behind - firsts)
+    begins = np.flatnonzero(differs_from_previous(line))
+    steps = whole.take(rows, axis=0)
+    places = steps[begins]
+    steps[1:] = np.diff(steps, axis=0)
+    steps[begins] = places
+    # a latitude, a longitude, and the end of a line
+    words = np.zeros((len(rows), 2 * MAX_PAIRS + 1), np.uint16)
+    words[begins[1:] - 1, -1] = ord(END_OF_LINE)
+    for axis, first in ((1, 0), (0, MAX_PAIRS)):
+        some = steps[:, axis] << 1
+        write_pairs(np.bitwise_xor(some, some >> 31, out=some), words[:, first : first + MAX_PAIRS])
+    return words.tobytes().translate(None, NOTHING).decode("ascii").split(END_OF_LINE)
+
+
+def write_pairs(numbers: NDArray[np.int32], words: NDArray[np.uint16]) -> None:
+    """Writes the words of numbers from 0, the lowest pairs first."""
+    left: Ints | slice = slice(None)
+    for column in words.T:
+        higher = numbers >> PAIR_BITS
+        is_last = higher == 0
+        column[left] = PAIRS.take(numbers - (higher << PAIR_BITS) + (is_last << np.int32(PAIR_BITS)))
+        more = np.flatnonzero(~is_last)
+        if not len(more):
+            break
+        numbers, left = higher[more], more if isinstance(left, slice) else left[more]
 
 
 def decode_polyline(text: str, digits: int) -> list[Point]:
