@@ -14,7 +14,7 @@ import numpy as np
 
 from kit.counted import parser  # (finds domethyme too)
 
-from domethyme.network import geo, indexes, net_file, reading, tables
+from domethyme.network import geo, indexes, net_file, table_files, tables
 
 STEP, LON, LAT = 400.0, 9.0, 47.0
 METRES = geo.EARTH_RADIUS * np.pi / 180
@@ -111,10 +111,10 @@ def spread(values):
 
 def write_tables(prefix, arrays):
     """The tables of osm_to_gr; returns what they are known by."""
-    files, network = tables.Files(prefix), net_file.map_tempfile(arrays, prefix)
+    files = tables.Files(prefix)
     with open(files.nodes, "w") as nodes, open(files.arcs, "w") as arcs:
-        tables.write_nodes(nodes, reading.nodes_from_net(network))
-        tables.write_arcs(arcs, reading.arcs_from_net(network))
+        table_files.write_nodes(nodes, arrays)
+        table_files.write_arcs(arcs, arrays)
     return net_file.marks_of(files.nodes, files.arcs)
 
 

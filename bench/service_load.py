@@ -33,6 +33,7 @@ from kit.counted import parser  # (finds domethyme too)
 import answer_speed
 
 from domethyme.network import net_file
+from domethyme.network.from_tables import load_network
 
 ROOT = pathlib.Path(__file__).resolve().parent.parent
 
@@ -144,7 +145,7 @@ class Places:
     """Nodes, and where they lie."""
 
     def __init__(self, network):
-        arrays = net_file.load_network(network)
+        arrays = load_network(network)
         self.lon, self.lat = arrays.node_lon[:] / net_file.UNITS, arrays.node_lat[:] / net_file.UNITS
         self.count, self.box = len(self.lon), arrays.box
 

@@ -40,11 +40,11 @@ from domethyme.atomic_files import atomic_write
 from domethyme.csv_tables import Row, excerpt, open_table
 from domethyme.dimacs import write_pairs
 from domethyme.limits import MAX_LINES
-from domethyme.network.columns import ENDS
+from domethyme.network.columns import ENDS, UNITS
+from domethyme.network.from_tables import read_co
 from domethyme.network.geo import Point
 from domethyme.network.groups import Ints
 from domethyme.network.node_index import NodeIndex, load_node_index
-from domethyme.network.reading import read_nodes
 from domethyme.network.sphere import Floats
 from domethyme.network.tables import KEY, Side, is_coordinates, paths_of
 
@@ -139,8 +139,7 @@ def read_places(path: str) -> Trips:
     """The places of a CSV file, or of a .co file as a table with the columns place, lon and lat."""
     if not is_coordinates(path):
         return read_trips(path, NO_PREFIXES)
-    nodes = read_nodes(path)
-    places = list(zip(nodes.lon, nodes.lat))
+    places: list[Point] = [(lon, lat) for lon, lat in (read_co(path) / UNITS).tolist()]
     fields: list[list[Any]] = [[place, *each] for place, each in enumerate(places, 1)]
     return Trips(path, ["place", "lon", "lat"], [None] * len(places), fields, NO_PREFIXES, [places, places])
 

@@ -108,9 +108,9 @@ def main() -> None:
         tables_there(paths, True)
     marks = {} if options.tables else marks_beside(paths, options)
     form = Form(options.delimiter, options.decimal, True)
-    nodes = from_tables.read_nodes(options.nodes, warn, form)
-    arcs = from_tables.read_arcs(options.arcs, nodes, options.weight, warn, form)
-    kept = in_largest(nodes.ends, arcs.columns["arc_from"] - 1, arcs.columns["arc_to"] - 1)
+    named = from_tables.read_nodes(options.nodes, warn, form)
+    nodes, arcs = named.arrays, from_tables.read_arcs(options.arcs, named, options.weight, warn, form)
+    kept = in_largest(nodes.columns["node_ends"], arcs.columns["arc_from"] - 1, arcs.columns["arc_to"] - 1)
     said = islands(arcs, kept)
     if options.largest:
         nodes, arcs = keep(nodes, arcs, kept)
@@ -118,7 +118,7 @@ def main() -> None:
             raise ToolError("has no nodes that reach one another: are all roads of one way?", options.arcs)
     said += quartiles(arcs)
     with raised_as(ToolError, options.arcs, ValueError):
-        arrays = from_tables.build_arrays(nodes, arcs, attribution)
+        arrays = net_file.build_arrays(nodes, arcs, attribution)
     with atomic_write_all(*options.outputs) as (graph, *tables, network):
         if tables:
             marks = write_tables(tables, arrays)

@@ -1,5 +1,8 @@
 """What the tests of reach share: small networks in memory, a made town, and lengths by scipy's Dijkstra."""
+import csv
 import math
+import pathlib
+import tempfile
 from typing import NamedTuple
 
 import numpy as np
@@ -7,9 +10,9 @@ from scipy.sparse import coo_array
 from scipy.sparse.csgraph import dijkstra
 
 import domethyme
-from domethyme.network import net_file
+from domethyme.network import from_tables, net_file
 from domethyme.network.geo import metres_between
-from domethyme.network.tables import Arc
+from domethyme.network.tables import ALL_NODE_COLUMNS, ARC_COLUMNS
 
 # A thousandth of a degree along the equator, in metres.
 MILLI = 111.19508
@@ -32,10 +35,9 @@ def network(nodes, roads):
 
 def arrays(nodes, roads):
     """The arrays of such a network."""
-    builder = net_file.Builder("© the town")
-    for number, (lon, lat, *more) in enumerate(nodes):
-        ends, osm = more or ("", number)
-        builder.add_node(osm, lon, lat, ends)
+    places = [(lon, lat, *(more or ("", number))) for number, (lon, lat, *more) in enumerate(nodes)]
+    table = [(number, osm, lon, lat, ends) for number, (lon, lat, ends, osm) in enumerate(places, 1)]
+    rows = []
     for way, road in enumerate(roads):
         line = [nodes[road.start][:2], *road.between, nodes[road.end][:2]]
         metres = sum(metres_between(*begin, *end) for begin, end in zip(line, line[1:]))
@@ -43,8 +45,13 @@ def arrays(nodes, roads):
         for start, end, weight, points in ways:
             if weight is not None:
                 figures = weight, weight / 1000, metres, way
-                builder.add_arc(Arc(start + 1, end + 1, *figures, "residential", "", f"LINESTRING ({wkt(points)})"))
-    return builder.build()
+                rows.append((start + 1, end + 1, *figures, "residential", "", f"LINESTRING ({wkt(points)})"))
+    with tempfile.TemporaryDirectory() as folder:
+        for name, all_rows in (("nodes", [ALL_NODE_COLUMNS, *table]), ("arcs", [ARC_COLUMNS, *rows])):
+            with open(f"{folder}/n.{name}.csv", "w", newline="") as file:
+                csv.writer(file).writerows(all_rows)
+        pathlib.Path(folder, "n.gr").write_text("c attribution: © the town\n")
+        return from_tables.arrays_from_tables(f"{folder}/n")
 
 
 def prepared(nodes, roads, prefix, **words):

@@ -12,7 +12,7 @@ import numpy as np
 from tool_case import IN_TABLES, PYTHON, ROOT, VILLAGE, ToolCase
 
 import domethyme
-from domethyme.network import column_file, net_file
+from domethyme.network import column_file, from_tables, net_file
 from domethyme.network.columns import ColumnSpec
 from domethyme.network.snapping import RoadIndex
 from domethyme_service.tiles import Tiles
@@ -60,10 +60,10 @@ def answers(prefix):
 class SameTests(BinaryCase):
     def test_the_file_and_the_tables(self):
         """Both have the same arrays, and a route along each arc is the same by both, and by the file alone."""
-        before = net_file.arrays_from_tables(self.prefix)
+        before = from_tables.arrays_from_tables(self.prefix)
         for name in ("nodes.csv", "arcs.csv"):
             (self.folder / f"v.{name}").rename(self.folder / f"copy.{name}")
-        self.assert_same(net_file.load_network(self.prefix), before)
+        self.assert_same(from_tables.load_network(self.prefix), before)
         network, tables = domethyme.Network(self.prefix), domethyme.Network(self.folder / "copy")
         self.assertEqual([net_file.is_current(each.prefix) for each in (network, tables)], [True, False])
         frame = network.arcs_frame()
@@ -95,21 +95,21 @@ class OtherTests(BinaryCase):
         self.write("v.nodes.csv", text.rstrip("\n"))
         os.utime(self.folder / "v.nodes.csv", (1, 1))
         self.assertFalse(net_file.is_current(self.prefix))
-        self.assertEqual(len(net_file.load_network(self.prefix).node_osm), text.count("\n") - 1)
+        self.assertEqual(len(from_tables.load_network(self.prefix).node_osm), text.count("\n") - 1)
         (self.folder / "v.arcs.csv").unlink()
         with self.assertRaisesRegex(
             domethyme.NetworkError, "v.nodes.csv: has changed since .*v.net was made of it: run `to_network` again"
         ):
-            net_file.load_network(self.prefix)
+            from_tables.load_network(self.prefix)
 
     def test_an_archive_of_an_earlier_version(self):
         self.path.rename(self.folder / "v.npz")
         with self.assertRaisesRegex(
             domethyme.NetworkError, r"v\.npz: is an archive of an earlier version.*`to_network .*v\.nodes\.csv"
         ):
-            net_file.load_network(self.prefix)
+            from_tables.load_network(self.prefix)
         self.run_tool("to_network", "v.nodes.csv", "v.arcs.csv", "v")
-        self.assertEqual(len(net_file.load_network(self.prefix).node_osm), 38)
+        self.assertEqual(len(from_tables.load_network(self.prefix).node_osm), 38)
 
     def test_what_is_no_file(self):
         self.path.unlink()

@@ -14,7 +14,7 @@ from tool_case import TOOLS, ToolCase
 import domethyme
 from domethyme.dimacs import read_graph
 from domethyme.network import column_file, from_tables, net_file
-from domethyme.network.columns import NO_OSM
+from domethyme.network.columns import NO_OSM, OF_NODES
 from domethyme.network.net_file import NodeArrays
 from domethyme_service.errors import RequestError
 from domethyme_service.queries import NodeKeys
@@ -163,7 +163,7 @@ def test_metres_of_many_lines():
 def test_keys_take_no_memory_of_a_process(tmp_path, is_old):
     """Each key is found in the file, whatever its order, and none that isn't there. A file of version 3 has no order of keys."""
     names = [f"{chr(0x2460 + number % 20)}{number * 7919 % 20_011}" for number in range(20_000)]
-    nodes = NodeArrays(np.full(20_000, NO_OSM), np.zeros((20_000, 2), np.int32), np.zeros(20_000, np.uint8), names)
+    nodes = NodeArrays({f"node_{name}": np.full(20_000, NO_OSM if name == "osm" else 0) for name in OF_NODES}, names)
     arcs = from_tables.straight_arcs(*(np.array([each]) for each in (1, 2, 3)), nodes)
     path = tmp_path / "net.net"
     with open(path, "w+b") as file:

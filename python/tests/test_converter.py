@@ -9,15 +9,13 @@ import unittest
 from unittest import mock
 
 import numpy as np
-from tool_case import IN_TABLES, PYTHON, SECONDS, TAKES_SIGNALS, VILLAGE, ToolCase
+from tool_case import IN_TABLES, PYTHON, SECONDS, TAKES_SIGNALS, VILLAGE, ToolCase, read_rows
 
 from domethyme.dimacs import read_graph
 from domethyme.errors import MapError
 from domethyme.maps import conversion, map_arrays, road_network
 from domethyme.maps.vehicle_profile import read_profile
-from domethyme.network import net_file, parallel, table_files
-from domethyme.network.reading import read_nodes
-from domethyme.network.tables import read_arcs
+from domethyme.network import from_tables, net_file, parallel, table_files
 
 # A compiler that writes the program to the path behind -o
 BUILT = '#!/bin/sh\nwhile [ "$1" != -o ]; do shift; done\ncp program "$2"\nchmod +x "$2"\n'
@@ -134,12 +132,12 @@ class FileTests(ToolCase):
         self.run_tool("osm_to_gr", VILLAGE, "v", "--tables")
         self.run_tool("osm_to_gr", VILLAGE, "w")
         self.assertEqual(len(list(self.folder.glob("w.*"))), 2)
-        graph, nodes = read_graph(self.folder / "v.gr"), read_nodes(self.folder / "v.nodes.csv")
-        self.assertEqual((read_graph(self.folder / "w.gr"), read_nodes(self.folder / "w.nodes.csv")), (graph, nodes))
-        self.assertEqual(len(list(read_arcs(self.folder / "v.arcs.csv"))), len(graph.starts))
+        graph, nodes = read_graph(self.folder / "v.gr"), read_rows(self.folder / "v.nodes.csv")
+        self.assertEqual((read_graph(self.folder / "w.gr"), read_rows(self.folder / "w.nodes.csv")), (graph, nodes))
+        self.assertEqual(len(read_rows(self.folder / "v.arcs.csv")), len(graph.starts))
         self.run_tool("osm_to_gr", VILLAGE, "v", "--keep-islands")
         self.assertEqual(len(list(self.folder.glob("v.*"))), 2)
-        self.assertEqual(len(read_nodes(self.folder / "v.nodes.csv").osm), read_graph(self.folder / "v.gr").nodes)
+        self.assertEqual(len(read_rows(self.folder / "v.nodes.csv")), read_graph(self.folder / "v.gr").nodes)
 
 
 class RoomTests(unittest.TestCase):
@@ -152,19 +150,18 @@ class RoomTests(unittest.TestCase):
 
 
 class ArraysTests(ToolCase):
-    """The arrays of drawn maps are those that the tables' reader makes of the same arcs one by one."""
+    """The arrays of drawn maps are those that the tables' reader makes of them."""
 
     def test_drawn_maps(self):
         for seed in range(8):
             with self.subTest(seed=seed):
                 self.write("map.osm", drawn_map(seed))
                 arrays = self.arrays()
-                builder = net_file.Builder("said")
-                for node in zip(*table_files.nodes_in(arrays)[:4]):
-                    builder.add_node(*node)
-                for arc in table_files.arcs_in(arrays):
-                    builder.add_arc(arc)
-                wanted = builder.build()
+                with open(self.folder / "n.nodes.csv", "w") as nodes, open(self.folder / "n.arcs.csv", "w") as arcs:
+                    table_files.write_nodes(nodes, arrays)
+                    table_files.write_arcs(arcs, arrays)
+                self.write("n.gr", "c attribution: said\n")
+                wanted = from_tables.arrays_from_tables(str(self.folder / "n"))
                 for name in IN_TABLES:
                     np.testing.assert_array_equal(getattr(arrays, name), getattr(wanted, name), name)
                     self.assertEqual(getattr(arrays, name).dtype, getattr(wanted, name).dtype, name)
@@ -272,16 +269,16 @@ class PlaceTests(ToolCase):
         way = "".join(f"<nd ref='{node}'/>" for node in range(1, len(places) + 1)) + "<tag k='highway' v='road'/>"
         self.write("map.osm", f"<osm version='0.6'>{nodes}<way id='1'>{way}</way></osm>")
         self.run_tool("osm_to_gr", "map.osm", "map", "--tables", "--weight", "length", *words)
-        return list(read_arcs(self.folder / "map.arcs.csv"))
+        return read_rows(self.folder / "map.arcs.csv")
 
     def test_a_road_across_the_180th_meridian(self):
         arcs = self.arcs([(179.998, 0), (-179.998, 0)])
         self.assertEqual([arc.metres for arc in arcs], [222.39] * 4)
-        self.assertEqual({abs(lon) for lon in read_nodes(self.folder / "map.nodes.csv").lon}, {179.998, 180})
+        self.assertEqual({abs(node.lon) for node in read_rows(self.folder / "map.nodes.csv")}, {179.998, 180})
         arcs = self.arcs([(-179.999, 0), (179.996, 0)], "--longest-arc", "120")
         self.assertEqual(len(arcs), 10)
         wanted = [-180.0, -179.999, 179.996, 179.997, 179.998, 179.999]
-        self.assertEqual(sorted(read_nodes(self.folder / "map.nodes.csv").lon), wanted)
+        self.assertEqual(sorted(node.lon for node in read_rows(self.folder / "map.nodes.csv")), wanted)
 
     def test_a_cut_beside_zero_has_no_sign(self):
         self.arcs([(-0.001, 0), (0.001, -0.0000001)], "--longest-arc", "200")

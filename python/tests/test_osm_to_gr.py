@@ -7,12 +7,11 @@ import json
 import xml.etree.ElementTree as xml
 
 import osmium
-from tool_case import PYTHON, VILLAGE, ToolCase
+from tool_case import PYTHON, VILLAGE, ToolCase, read_rows
 
 from domethyme import find_program
 from domethyme.dimacs import read_answers, read_graph, write_pairs
-from domethyme.network.reading import read_nodes
-from domethyme.network.tables import ALL_ARC_COLUMNS, read_arcs, read_attribution
+from domethyme.network.tables import ALL_ARC_COLUMNS, read_attribution
 
 # A step of the drawing is a thousandth of a degree: 6371008.8 m * pi / 180 / 1000 = 111.19508 m. At 1 km/h that takes
 # 400302.289 ms; so 1 step at 50 km/h 8006.05 ms, at 30 km/h 13343.41, at 15 km/h 26686.82, at 30 mph (48.28032 km/h)
@@ -81,18 +80,17 @@ class NetworkCase(ToolCase):
         return self.run_tool("osm_to_gr", source, out, "--tables", *words)
 
     def nodes(self, out="village"):
-        return read_nodes(self.folder / f"{out}.nodes.csv")
+        return read_rows(self.folder / f"{out}.nodes.csv")
 
     def rows(self, out="village"):
-        return list(read_arcs(self.folder / f"{out}.arcs.csv"))
+        return read_rows(self.folder / f"{out}.arcs.csv")
 
     def graph(self, out="village"):
         return read_graph(self.folder / f"{out}.gr")
 
     def labels(self, out="village"):
         """The name of each node by its number: its id in the map, or its place in the drawing."""
-        places = enumerate(zip(*self.nodes(out)[:4]), 1)
-        return {node: osm or f"({lon * 1000:.3f}, {lat * 1000:.3f})" for node, (osm, lon, lat, _) in places}
+        return {each.node: each.osm or f"({each.lon * 1000:.3f}, {each.lat * 1000:.3f})" for each in self.nodes(out)}
 
     def drawn(self, out="village"):
         """How often each (way, from, to, weight) comes among the rows."""
@@ -122,7 +120,7 @@ class Village(NetworkCase):
     def test_graph_and_rows_have_the_same_arcs_in_the_same_order(self):
         self.convert()
         graph, rows = self.graph(), self.rows()
-        self.assertEqual(graph.nodes, len(self.nodes().osm))
+        self.assertEqual(graph.nodes, len(self.nodes()))
         self.assertEqual(
             list(zip(graph.starts, graph.ends, graph.weights)), [(arc.start, arc.end, arc.weight) for arc in rows]
         )
@@ -131,14 +129,14 @@ class Village(NetworkCase):
         self.convert()
         nodes = self.nodes()
         places = {int(node.get("id")): (float(node.get("lon")), float(node.get("lat"))) for node in map_of("node")}
-        for osm, lon, lat, _ in zip(*nodes[:4]):
-            if osm is not None:
-                self.assertEqual((lon, lat), places[osm])
-        self.assertEqual(nodes.osm.count(None), 3)
+        for node in nodes:
+            if node.osm is not None:
+                self.assertEqual((node.lon, node.lat), places[node.osm])
+        self.assertEqual(sum(node.osm is None for node in nodes), 3)
 
     def test_a_barrier_has_a_node_for_each_end(self):
         self.convert()
-        osm = self.nodes().osm
+        osm = [node.osm for node in self.nodes()]
         self.assertEqual([osm.count(node) for node in (53, 71, 57, 81)], [2, 2, 0, 0])
 
     def test_seconds_metres_ways_and_classes(self):
@@ -346,7 +344,7 @@ class Tags(NetworkCase):
             lines.append("</way>")
         self.write("ways.osm", "\n".join([*lines, "</osm>"]))
         self.convert("--keep-islands", source="ways.osm", out="ways")
-        osm = self.nodes("ways").osm
+        osm = [node.osm for node in self.nodes("ways")]
         found = {}
         for arc in self.rows("ways"):
             found[arc.osm, osm[arc.start - 1] % 2 == 0] = arc.weight
@@ -398,7 +396,7 @@ class Routes(NetworkCase):
     def answers(self, *words):
         """The answers for all pairs of nodes, with the names of the nodes."""
         self.convert(*words)
-        count = len(self.nodes().osm)
+        count = len(self.nodes())
         with open(self.folder / "all.pairs", "w", encoding="utf-8") as file:
             write_pairs(file, list(itertools.product(range(1, count + 1), repeat=2)))
         program = find_program()

@@ -5,7 +5,7 @@ import subprocess
 from tool_case import TOOLS, VILLAGE, ToolCase
 
 import domethyme
-from domethyme.network import net_file
+from domethyme.network import from_tables
 
 NODES = "node,lon,lat\ndepot,0,0\nshop,0.001,0\n"
 ARCS = "from,to,kmh\ndepot,shop,50\nshop,depot,50\n"
@@ -61,7 +61,7 @@ class OverwritingTests(ToolCase):
         before = {name: (self.folder / name).read_bytes() for name in ("firm.nodes.csv", "firm.arcs.csv")}
         self.run_tool("osm_to_gr", VILLAGE, "firm")
         self.assertEqual({name: (self.folder / name).read_bytes() for name in before}, before)
-        self.assertGreater(len(net_file.load_network(str(self.folder / "firm")).node_osm), 10)
+        self.assertGreater(len(from_tables.load_network(str(self.folder / "firm")).node_osm), 10)
         self.assert_kept("osm_to_gr", VILLAGE, "firm", "--tables", status=1, says="firm.nodes.csv: is there, and no tool has written it")
         self.write("other.csv", NODES)
         self.assert_kept("to_network", "other.csv", "firm.arcs.csv", "firm", "--tables", says="firm.arcs.csv and firm.arcs.csv are one")

@@ -26,7 +26,7 @@ from domethyme import HierarchyError, batch
 from domethyme.network import isochrones
 from domethyme.network.directions import ask_router, route_along
 from domethyme.network.legs import find_leg
-from domethyme.network.net_file import load_network
+from domethyme.network.from_tables import load_network
 from domethyme.network.snapping import RoadIndex
 from domethyme.router import Router
 from domethyme_service.tiles import Tiles

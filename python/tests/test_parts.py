@@ -4,6 +4,7 @@ import os
 import pathlib
 import subprocess
 import sys
+import tempfile
 import tracemalloc
 from typing import NamedTuple
 
@@ -13,7 +14,7 @@ from tool_case import TOOLS, VILLAGE
 
 import domethyme
 from domethyme import atomic_files, batch, belonging, dimacs, hierarchy_file, links
-from domethyme.network import from_tables, net_file, parallel, reach, reading, snapping
+from domethyme.network import from_tables, net_file, parallel, reach, snapping
 from domethyme_service import tiles
 from domethyme.network import table_files
 from domethyme_tools import table
@@ -93,14 +94,30 @@ def reached(drawn):
 
 
 def straight(drawn):
-    nodes = from_tables.read_nodes(f"{drawn.prefix}.csv")
-    return plain(from_tables.straight_arcs(*(np.array(each) for each in ([1, 2, 3, 4, 5], [2, 3, 4, 5, 6], [7] * 5)), nodes).metres)
+    nodes, arcs = from_tables.read_nodes(f"{drawn.prefix}.csv").arrays, ([1, 2, 3, 4, 5], [2, 3, 4, 5, 6], [7] * 5)
+    return plain(from_tables.straight_arcs(*map(np.array, arcs), nodes).columns["arc_metres"])
 
 
 def in_blocks(drawn):
     """The lengths and routes of many pairs."""
     routes = drawn.hierarchy.routes([[row * 7 % 50, row % 40] for row in range(100)])
     return plain([routes.lengths, [routes[row] for row in range(100)], drawn.hierarchy.lengths([[0, 5]] * 10)])
+
+
+def tables_of(drawn):
+    """The tables of a network."""
+    files = io.StringIO(), io.StringIO()
+    table_files.write_nodes(files[0], drawn.network)
+    table_files.write_arcs(files[1], arrays_of(drawn))
+    return [file.getvalue() for file in files]
+
+
+def read_again(drawn):
+    """The lines of the tables of a network, as they are read."""
+    with tempfile.TemporaryDirectory() as folder:
+        for name, text in zip(("nodes", "arcs"), tables_of(drawn)):
+            pathlib.Path(folder, f"n.{name}.csv").write_text(text)
+        return from_tables.arrays_from_tables(f"{folder}/n").points.tolist()
 
 
 CASES = [
@@ -110,11 +127,11 @@ CASES = [
     (net_file, "SECONDS_AT_A_TIME", lambda drawn: net_file.read(f"{drawn.prefix}.net").has_seconds),
     (parallel, "SLICE_ROWS", lambda drawn: drawn.hierarchy.network.roads.nearest((0.1, 0.1), 3)),
     (reach, "CHUNK", reached),
-    (reading, "CHUNK", lambda drawn: list(reading.arcs_from_net(drawn.network))),
+    (from_tables, "LINES_AT_ONCE", read_again),
     (snapping, "SEGMENTS_PER_BATCH", lambda drawn: snapping.RoadIndex(drawn.network).nearest((0.1, 0.1), 100)),
     (table, "CELLS", table_by_tool),
     (table, "CELLS", lambda drawn: table_by_tool(drawn, "--on-roads")),
-    (table_files, "ROWS_AT_ONCE", lambda drawn: list(table_files.arcs_in(arrays_of(drawn)))),
+    (table_files, "ROWS_AT_ONCE", tables_of),
     (tiles, "SEGMENTS_PER_CHUNK", tiles_of),
     (draw_roads, "PART", lambda drawn: plain(draw_roads.read_roads(drawn.network, None))),
 ]

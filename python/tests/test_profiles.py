@@ -3,10 +3,8 @@ import json
 import unittest
 
 from test_turns import STEP, CrossingCase, crossing
-from tool_case import VILLAGE, ToolCase
+from tool_case import VILLAGE, ToolCase, read_rows
 
-from domethyme.network.reading import read_nodes
-from domethyme.network.tables import read_arcs
 from domethyme.maps.turn_restrictions import Member, restrictions_of
 from domethyme.maps.vehicle_profile import PROFILES, blocks_way, judge, limit_of, read_profile, way_keys
 
@@ -154,9 +152,8 @@ class MemberTests(ToolCase):
         # to the node of who may not go on everywhere leads the way from the west, but on foot that from the north
         at = {}
         for profile in ("car", "foot", "bicycle"):
-            nodes = read_nodes(self.folder / f"{profile}.nodes.csv")
-            passed = nodes.ends.index("no") + 1
-            at[profile] = {arc.osm for arc in read_arcs(self.folder / f"{profile}.arcs.csv") if arc.end == passed}
+            passed = next(node.node for node in read_rows(self.folder / f"{profile}.nodes.csv") if node.ends == "no")
+            at[profile] = {arc.osm for arc in read_rows(self.folder / f"{profile}.arcs.csv") if arc.end == passed}
         self.assertEqual(at, {"car": {2}, "foot": {3}, "bicycle": {2}})
 
     def test_limits_that_are_not_understood_are_counted(self):

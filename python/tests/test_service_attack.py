@@ -22,7 +22,7 @@ from tool_case import PYTHON, ROOT, SECONDS
 import domethyme
 from domethyme.network.column_file import HEAD
 from domethyme.network.columns import UNITS
-from domethyme.network.net_file import load_network
+from domethyme.network.from_tables import load_network
 from domethyme_service import access, endpoints, osrm_request, parameters, worker, wsgi
 from domethyme_service.costs import Meter
 from domethyme_service.errors import RequestError

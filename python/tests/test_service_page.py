@@ -10,11 +10,10 @@ import unittest
 import pytest
 from browser import Browser
 from service_case import ServiceCase
-from tool_case import PYTHON
+from tool_case import PYTHON, read_rows
 
 import domethyme
 from domethyme.network.geo import parse_linestring
-from domethyme.network.tables import read_arcs
 
 PAGE = PYTHON / "domethyme_service/page"
 HIGH = "#0.0003,0.00001;0.0077,-0.00002"
@@ -56,7 +55,7 @@ class FileTests(ServiceCase):
         """At the greatest zoom, and at one where the village is one tile, to the grid."""
         self.serve("--network", self.folder / "v")
         about = self.ask("/map/about")[1]
-        lines = [parse_linestring(arc.wkt) for arc in read_arcs(self.folder / "v.arcs.csv")]
+        lines = [parse_linestring(arc.wkt) for arc in read_rows(self.folder / "v.arcs.csv")]
         lons, lats = zip(*itertools.chain(*lines))
         for got, wanted in zip(about["box"], (min(lons), min(lats), max(lons), max(lats))):
             self.assertAlmostEqual(got, wanted, places=7)

@@ -9,14 +9,12 @@ from draws import drawn
 from hypothesis import given
 from hypothesis import strategies as st
 from service_case import ServiceCase
-from tool_case import IN_TABLES, VILLAGE, ToolCase
+from tool_case import IN_TABLES, VILLAGE, ToolCase, read_rows
 
 import domethyme
 from domethyme.csv_tables import escape_formula, unescape_formula
 from domethyme.network import net_file
 from domethyme.network.columns import NO_OSM
-from domethyme.network.reading import read_nodes
-from domethyme.network.tables import read_arcs
 
 NODES = "node,lon,lat\ndepot,0,0\nshop,0.001,0\nfarm,0.001,0.002\n"
 ARCS = """\
@@ -61,8 +59,8 @@ class TableTests(ToolCase):
         self.assertTrue(net_file.is_current(str(self.folder / "net")))
         text = (self.folder / "net.arcs.csv").read_text()
         self.assertIn(",residential,'=Lane,", text)
-        self.assertEqual([arc.name for arc in read_arcs(self.folder / "net.arcs.csv")], ["High Street", "High Street", "=Lane", "=Lane"])
-        self.assertEqual(read_nodes(str(self.folder / "net.nodes.csv")).lon, [0, 0.001, 0.001])
+        self.assertEqual([arc.name for arc in read_rows(self.folder / "net.arcs.csv")], ["High Street", "High Street", "=Lane", "=Lane"])
+        self.assertEqual([node.lon for node in read_rows(self.folder / "net.nodes.csv")], [0, 0.001, 0.001])
         self.assertEqual((self.folder / "net.nodes.prj").read_text()[:6], "GEOGCS")
         self.assertTrue((self.folder / "net.gr").read_text().startswith("c attribution: © Firm\np sp 3 4\n"))
         # other tables are beside the network then: they aren't taken for others' that are given

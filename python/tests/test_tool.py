@@ -10,7 +10,7 @@ from unittest import mock
 from tool_case import PYTHON, SECONDS, TAKES_SIGNALS, ToolCase
 
 from domethyme import DomethymeError, atomic_files, csv_tables, dimacs, find_program
-from domethyme.network import geo, reading, tables
+from domethyme.network import from_tables, geo, table_files, tables
 from domethyme.protocol import NO_PATH, RouteReply
 
 
@@ -188,17 +188,21 @@ class Tables(SharedCase):
             self.assert_fault(f"f, row 1: n {text!r} is not a number", csv_tables.parse_float, text, "n", "f", 1)
 
 
+def beside_graph(path):
+    return from_tables.read_nodes(path, is_beside_graph=True)
+
+
 # A reader, the name and the text of a file, and what is said of it.
 HEAD = "node,osm,lon,lat\n"
 FAULTS = [
-    (reading.read_nodes, "n.nodes.csv", HEAD + "2,,0,0\n", ", row 2: has node '2' where node 1 comes next"),
-    (reading.read_nodes, "n.nodes.csv", HEAD + "1,,0,0\n2,,0,91\n", ", row 3: lat '91' isn't from -90 to 90"),
-    (reading.read_nodes, "n.nodes.csv", HEAD + "1,x,0,0\n", ", row 2: osm 'x' isn't an integer"),
-    (reading.read_nodes, "n.co", "", ": has no line `p aux sp co N`"),
-    (reading.read_nodes, "n.co", "v 1 0 0\n", ", row 1: is no line of coordinates before the line `p aux sp co N`"),
-    (reading.read_nodes, "n.co", "p aux sp co 1\nv 2 0 0\n", ", row 2: node 2 isn't from 1 to 1"),
-    (reading.read_nodes, "n.co", "p aux sp co 2\nv 1 0 0\n", ": has no coordinates of node 2"),
-    (reading.read_nodes, "n.co", "p aux sp p2p 2\n", ", row 1: is no problem line `p aux sp co NUMBER`"),
+    (beside_graph, "n.nodes.csv", HEAD + "2,,0,0\n", ", row 2: has node '2' where node 1 comes next"),
+    (beside_graph, "n.nodes.csv", HEAD + "1,,0,0\n2,,0,91\n", ", row 3: lat '91' isn't from -90 to 90"),
+    (beside_graph, "n.nodes.csv", HEAD + "1,x,0,0\n", ", row 2: osm 'x' isn't an integer"),
+    (from_tables.read_co, "n.co", "", ": has no line `p aux sp co N`"),
+    (from_tables.read_co, "n.co", "v 1 0 0\n", ", row 1: is no line of coordinates before the line `p aux sp co N`"),
+    (from_tables.read_co, "n.co", "p aux sp co 1\nv 2 0 0\n", ", row 2: node 2 isn't from 1 to 1"),
+    (from_tables.read_co, "n.co", "p aux sp co 2\nv 1 0 0\n", ": has no coordinates of node 2"),
+    (from_tables.read_co, "n.co", "p aux sp p2p 2\n", ", row 1: is no problem line `p aux sp co NUMBER`"),
     (dimacs.read_graph, "n.gr", "c only\n", ": has no line `p sp NODES ARCS`"),
     (dimacs.read_graph, "n.gr", "a 1 2 3\n", ", row 1: is no line of a graph"),
     (dimacs.read_graph, "n.gr", "p sp 2 1\n\na 1 3 3\n", ", row 3: node 3 isn't from 1 to 2"),
@@ -236,17 +240,22 @@ class Networks(SharedCase):
         self.assertEqual([tables.nodes_file(word) for word in words], ["li.nodes.csv", "li.co", "li.co.gz"])
 
     def test_there_and_back(self):
-        nodes = tables.Nodes([5, None, -7], [-180.0, 0.1234567, 180.0], [-90.0, 0.0, 90.0], ["", "from", "no"])
-        with atomic_files.atomic_write(self.folder / "n.nodes.csv") as file:
-            tables.write_nodes(file, nodes)
-        self.assertEqual(reading.read_nodes(self.folder / "n.nodes.csv"), nodes)
-        arcs = [
-            tables.Arc(1, 2, 16012, 16.012, 222.39, 101, "tertiary", 'High "Street", N', "LINESTRING (0 0, 1 1)"),
-            tables.Arc(2, 1, 1, 0.0, 0.0, -5, "residential", "", "LINESTRING (1 1, 0 0)"),
-        ]
-        with atomic_files.atomic_write(self.folder / "n.arcs.csv") as file:
-            tables.write_arcs(file, arcs)
-        self.assertEqual(list(tables.read_arcs(self.folder / "n.arcs.csv")), arcs)
+        nodes = """node,osm,lon,lat,ends
+1,5,-180.0000000,-90.0000000,
+2,,0.1234567,0.0000000,from
+3,-7,180.0000000,90.0000000,no
+"""
+        arcs = """from,to,weight,seconds,metres,osm,highway,name,ref,junction,destination,structure,toll,WKT
+1,2,16012,16.012,222.39,101,tertiary,"High ""Street"", N",,,'=x,,,"LINESTRING (-180.0000000 -89.9999999, 0.1234567 0.0000001)"
+2,1,1,0.000,0.00,-5,residential,,,,,,yes,"LINESTRING (0.1234567 0.0000000, -180.0000000 -90.0000000)"
+"""
+        self.write("n.nodes.csv", nodes)
+        self.write("n.arcs.csv", arcs)
+        network = from_tables.arrays_from_tables(str(self.folder / "n"))
+        for write, text in ((table_files.write_nodes, nodes), (table_files.write_arcs, arcs)):
+            with atomic_files.atomic_write(self.folder / "again.csv") as file:
+                write(file, network)
+            self.assertEqual((self.folder / "again.csv").read_text(), text)
         with atomic_files.atomic_write(self.folder / "n.gr", "wb") as file:
             dimacs.write_graph(file, 3, [[1, 1, 3], [2, 2, 3], [7, 8, 1]], ["a comment"])
         text = (self.folder / "n.gr").read_text(encoding="ascii")
@@ -258,8 +267,8 @@ class Networks(SharedCase):
 
     def test_coordinates_and_answers(self):
         text = "c New York\np aux sp co 2\nv 2 -73530767 41085396\nv 1 -73530538 41086098\n"
-        nodes = self.write_and(reading.read_nodes, "ny.co", text)
-        self.assertEqual(nodes, tables.Nodes([None, None], [-73.530538, -73.530767], [41.086098, 41.085396], ["", ""]))
+        places = self.write_and(from_tables.read_co, "ny.co", text)
+        self.assertEqual(places.tolist(), [[-735305380, 410860980], [-735307670, 410853960]])
         answers = self.write_and(dimacs.read_answers, "answers", "r 1 2 9 2 1 5 2\nn 2 1\nr 3 3 0 0 3\n")
         self.assertEqual(answers, [RouteReply(1, 2, 9, (1, 5, 2)), RouteReply(2, 1, NO_PATH, ()), RouteReply(3, 3, 0, (3,))])
 

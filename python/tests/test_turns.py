@@ -1,9 +1,8 @@
 """Tests of turn restrictions: a crossing with figures by hand, relations of all kinds, and a search over turns."""
-from tool_case import VILLAGE, ToolCase
+from tool_case import VILLAGE, ToolCase, read_rows
 
 from domethyme import NO_PATH, find_program
 from domethyme.dimacs import read_answers
-from domethyme.network.reading import read_nodes
 from domethyme.maps.turn_restrictions import Member, Restriction, restrictions_of
 
 CAR = ["access", "vehicle", "motor_vehicle", "motorcar"]
@@ -57,7 +56,7 @@ class CrossingTests(CrossingCase):
         self.assertIn("osm_to_gr: junctions split by turn restrictions: 1\n", self.said)
         # 4 arcs to the crossing lead to 2 nodes each; 4 lead on from where routes begin, and 3 for who came from the west
         self.assertIn("osm_to_gr: map: 7 nodes, 15 arcs, 0.4 km of road\n", self.said)
-        self.assertEqual(sorted(read_nodes(self.folder / "map.nodes.csv").ends), ["", "", "", "", "from", "no", "to"])
+        self.assertEqual(sorted(node.ends for node in read_rows(self.folder / "map.nodes.csv")), ["", "", "", "", "from", "no", "to"])
         self.assertEqual(
             self.lengths((2, 3, {"restriction": "no_left_turn"}), options=["--ignore-turn-restrictions"]), self.free()
         )
@@ -89,7 +88,7 @@ class CrossingTests(CrossingCase):
         self.lengths((2, 3, {"restriction": "no_left_turn"}))
         rows = (self.folder / "map.nodes.csv").read_text().splitlines()
         self.write("map.nodes.csv", "\n".join(row.rpartition(",")[0] for row in rows) + "\n")
-        self.assertEqual(set(read_nodes(self.folder / "map.nodes.csv").ends), {""})
+        self.assertEqual({node.ends for node in read_rows(self.folder / "map.nodes.csv")}, {""})
 
 
 class RelationTests(ToolCase):

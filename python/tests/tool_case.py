@@ -1,11 +1,14 @@
 """What the tests of the tools share: a folder for each test, and runs of the tools in it."""
+import csv
 import os
 import pathlib
 import shutil
 import subprocess
 import tempfile
+import types
 import unittest
 
+from domethyme.csv_tables import unescape_formula
 from domethyme.network.columns import COLUMNS
 
 HERE = pathlib.Path(__file__).resolve().parent
@@ -22,6 +25,20 @@ SECONDS = 300
 # Before the words of a program that is sent signals. What a test inherits may ignore them, as a shell's background job
 # does, and Python makes no KeyboardInterrupt of an interrupt that it was started to ignore.
 TAKES_SIGNALS = ["/usr/bin/env", "--default-signal=HUP,INT,QUIT,TERM"]
+
+
+def read_rows(path):
+    """The rows of NETWORK.nodes.csv or NETWORK.arcs.csv, whose columns from, to and WKT are start, end and wkt here; no osm is None."""
+    with open(path, newline="", encoding="utf-8") as file:
+        return [types.SimpleNamespace(**dict(map(read_field, row, row.values()))) for row in csv.DictReader(file)]
+
+
+def read_field(name, text):
+    if name in ("seconds", "metres", "lon", "lat"):
+        return name, float(text)
+    if name in ("node", "from", "to", "weight", "osm"):
+        return {"from": "start", "to": "end"}.get(name, name), int(text) if text else None
+    return name.lower(), unescape_formula(text)
 
 
 class ToolCase(unittest.TestCase):

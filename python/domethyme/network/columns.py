@@ -43,8 +43,8 @@ class ColumnSpec(NamedTuple):
     kind        the type of its values, as numpy names it
     rows        how many it has, None for any number
     low, high   the least and the greatest value, None for any
-    text        how tables show a value, "" where they don't have the column
-    default     the value where a table lacks it
+    text        how tables show a value: as Python's `format`, of degrees for units, or by its word; "" where they lack the column
+    default     the value of an empty text there; None where a reader of its own has the column
     width       how many values are in a row
     part        of PARTS, "" for a column of every network
     min_step    how much more each value is at least than the one before, from 0 to `high`: it has offsets
@@ -78,7 +78,7 @@ def columns_of(size: Mapping[str, int]) -> dict[str, ColumnSpec]:
         "node_osm": ColumnSpec("<i8", nodes, text="d", default=NO_OSM),
         "node_lon": ColumnSpec("<i4", nodes, -FAR_EAST, FAR_EAST, ".7f"),
         "node_lat": ColumnSpec("<i4", nodes, -FAR_NORTH, FAR_NORTH, ".7f"),
-        "node_ends": ColumnSpec("|u1", nodes, 0, len(ENDS) - 1, "s", 0),
+        "node_ends": ColumnSpec("|u1", nodes, 0, len(ENDS) - 1, "word", 0),
         # the nodes, from 1; the id of the way
         "arc_from": ColumnSpec("<i4", arcs, 1, nodes, "d"),
         "arc_to": ColumnSpec("<i4", arcs, 1, nodes, "d"),

@@ -1,6 +1,6 @@
 """Which nodes of a network reach one another, and a network of these alone. Needs numpy and scipy."""
-import dataclasses
-from typing import TYPE_CHECKING, Any
+import itertools
+from typing import Any
 
 import numpy as np
 from numpy.typing import NDArray
@@ -8,11 +8,8 @@ from scipy.sparse import coo_matrix
 from scipy.sparse.csgraph import connected_components
 
 from .columns import ENDS
-from .groups import Ints, expand, offsets
-from .net_file import ArcArrays
-
-if TYPE_CHECKING:
-    from .from_tables import Nodes
+from .groups import Ints, rows_of_groups
+from .net_file import ArcArrays, NodeArrays
 
 
 def in_largest(node_ends: NDArray[np.uint8], starts: NDArray[np.integer[Any]], stops: NDArray[np.integer[Any]]) -> NDArray[np.bool_]:
@@ -29,18 +26,16 @@ def in_largest(node_ends: NDArray[np.uint8], starts: NDArray[np.integer[Any]], s
     return kept
 
 
-def keep(nodes: "Nodes", arcs: ArcArrays, kept: NDArray[np.bool_]) -> "tuple[Nodes, ArcArrays]":
+def keep(nodes: NodeArrays, arcs: ArcArrays, kept: NDArray[np.bool_]) -> tuple[NodeArrays, ArcArrays]:
     """The nodes that are kept, in their order, and the arcs between them."""
     number: Ints = np.cumsum(kept)
     starts, stops = (arcs.columns[name] - 1 for name in ("arc_from", "arc_to"))
     chosen = np.flatnonzero(kept[starts] & kept[stops])
-    counts = np.diff(arcs.begins)[chosen]
-    group, position = expand(counts)
+    begins, rows = rows_of_groups(arcs.begins, chosen)
     columns = {name: column[chosen] for name, column in arcs.columns.items()}
     columns |= {"arc_from": number[starts[chosen]], "arc_to": number[stops[chosen]]}
-    keys = [key for key, is_kept in zip(nodes.keys, kept.tolist()) if is_kept] if nodes.keys else ()
-    few = dataclasses.replace(nodes, osm=nodes.osm[kept], places=nodes.places[kept], ends=nodes.ends[kept], keys=keys)
-    return few, arcs._replace(columns=columns, begins=offsets(counts), points=arcs.points[arcs.begins[chosen][group] + position])
+    few = NodeArrays({name: column[kept] for name, column in nodes.columns.items()}, [*itertools.compress(nodes.keys, kept.tolist())])
+    return few, arcs._replace(columns=columns, begins=begins, points=arcs.points[rows])
 
 
 def islands(arcs: ArcArrays, kept: NDArray[np.bool_]) -> list[str]:

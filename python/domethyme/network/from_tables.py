@@ -3,6 +3,7 @@ which describes them. Columns may have other letters, and common names. Needs nu
 import array
 import dataclasses
 import os
+import re
 import warnings
 from collections.abc import Callable, Iterable, Iterator, Mapping, Sequence
 from typing import Any
@@ -10,29 +11,32 @@ from typing import Any
 import numpy as np
 from numpy.typing import NDArray
 
-from ..csv_tables import Form, Row, Table, alike, excerpt, need_columns, open_input, open_table
-from ..dimacs import read_graph
+from ..csv_tables import Form, Row, Table, alike, excerpt, need_columns, open_input, open_table, parse_int
+from ..dimacs import dimacs_lines, read_graph
 from ..errors import NetworkError, raised_as
 from ..limits import MAX_LINES, MAX_NODES, MAX_WEIGHT
 from ..program import StrPath
+from . import net_file
+from .columns import ENDS, NO_OSM, OF_ARCS, OF_NODES, TEXTS, UNITS, ColumnSpec
 from .geo import parse_linestring
-from .groups import Ints, first_of_equal
-from .net_file import (
-    ArcArrays, MappedNetwork, NodeArrays, build_arrays as build_arrays, load_network, map_tempfile, to_units
-)
-from .columns import ENDS, NO_OSM, TEXTS, UNITS
-from .reading import read_coordinates
+from .groups import Ints, expand, first_of_equal, offsets, rows_of_groups
+from .net_file import ArcArrays, MappedNetwork, NodeArrays, build_arrays, map_tempfile, to_units
 from .sphere import Floats, great_circle_metres, unit_vectors
-from .tables import graph_of, is_coordinates, read_attribution, read_ends
+from .tables import ARC_COLUMNS, KEY, NODE_COLUMNS, Files, graph_of, is_coordinates, need_nodes, read_attribution, read_ends
 
-# By the name of a column the other names that are taken for it.
-OF_NODES: Mapping[str, tuple[str, ...]] = {
-    "node": ("id",), "lon": ("lng", "long", "longitude", "x"), "lat": ("latitude", "y"), "osm": (), "ends": (), "key": (),
+# The other names that are taken for a column, by its name.
+NAMES_OF_NODES: Mapping[str, tuple[str, ...]] = {
+    "node": ("id",), **dict.fromkeys(OF_NODES, ()), "lon": ("lng", "long", "longitude", "x"), "lat": ("latitude", "y"), KEY: (),
 }
-OF_ARCS: Mapping[str, tuple[str, ...]] = {
-    "from": ("source", "from_node", "from_id"), "to": ("target", "to_node", "to_id"), "oneway": (), "weight": (),
-    "seconds": (), "metres": ("meters",), "km": (), "kmh": ("km/h", "kph"), "wkt": (), "osm": (), **dict.fromkeys(TEXTS, ()),
+NAMES_OF_ARCS: Mapping[str, tuple[str, ...]] = {
+    **dict.fromkeys(OF_ARCS, ()), "from": ("source", "from_node", "from_id"), "to": ("target", "to_node", "to_id"), "oneway": (),
+    "metres": ("meters",), "km": (), "kmh": ("km/h", "kph"), "wkt": (), **dict.fromkeys(TEXTS, ()),
 }
+# The columns of arcs that are taken as they are.
+PLAIN = {name: column for name, column in OF_ARCS.items() if column.default is not None}
+NUMBER = r"-?[0-9]+(?:\.[0-9]+)?"
+LINE = re.compile(rf"LINESTRING \({NUMBER} {NUMBER}(?:, {NUMBER} {NUMBER})+\)")
+LINES_AT_ONCE = 1 << 14
 # What takes a line of report.
 Say = Callable[[str], object]
 FARTHEST_END = 1000.0
@@ -77,12 +81,16 @@ def take_columns(table: Table, known: Mapping[str, tuple[str, ...]], needed: Ite
 
 
 @dataclasses.dataclass
-class Nodes(NodeArrays):
+class Nodes:
     """Nodes, their rows by their names, None where these are numbers from 1, and their table. Keys are names in answers."""
 
+    arrays: NodeArrays
     rows: dict[str, int] | None = None
     path: StrPath = ""
     columns: Sequence[str] = ()
+
+    def __len__(self) -> int:
+        return len(self.arrays.columns["node_osm"])
 
     def number(self, fields: Row, column: str) -> int:
         """The number of a node by its name in a row of arcs, from 1."""
@@ -91,7 +99,7 @@ class Nodes(NodeArrays):
             if self.columns and not name.lstrip("+-").isdecimal():
                 why = f"{self.path} has no column node, so its nodes are numbered by rows; its columns are {', '.join(self.columns)}"
                 raise fields.error(f"{column} {excerpt(name)} is not a number, and {why}")
-            return fields.read_int(column, 1, len(self.osm))
+            return fields.read_int(column, 1, len(self))
         if name not in self.rows:
             whole = name.removesuffix(".0")
             doubt = f": is it {whole}? A table program may have made numbers of the names" if whole != name and whole in self.rows else ""
@@ -99,68 +107,145 @@ class Nodes(NodeArrays):
         return self.rows[name]
 
 
-def read_nodes(path: StrPath, say: Say = lambda line: None, form: Form = Form()) -> Nodes:
-    """The nodes of a table of this form, or of a .co file; `say` gets a line for what may be meant otherwise. Raises NetworkError."""
+def read_nodes(path: StrPath, say: Say = lambda line: None, form: Form = Form(), is_beside_graph: bool = False) -> Nodes:
+    """The nodes of a table of this form, or of a .co file; `say` gets a line for what may be meant otherwise. One beside its graph has all of
+    NODE_COLUMNS, and its nodes are numbered as there, in order. Raises NetworkError."""
     if is_coordinates(path):
-        places = read_co(path)
-        return Nodes(np.full(len(places), NO_OSM), places, np.zeros(len(places), np.uint8))
-    osm, ends, degrees = array.array("q"), array.array("B"), array.array("d")
+        lon, lat = read_co(path).T.copy()
+        own = {"node_osm": np.full(len(lon), NO_OSM), "node_lon": lon, "node_lat": lat, "node_ends": np.zeros(len(lon), np.uint8)}
+        return Nodes(NodeArrays(own))
+    values: dict[str, list[float]] = {name: [] for name in OF_NODES}
     rows: dict[str, int] = {}
     keys: dict[str, int] = {}
     with open_table(path, (), form) as lines:
-        take_columns(lines, OF_NODES, ("lon", "lat"), say)
-        is_named, columns = "node" in lines.columns, lines.columns
-        named = [(name, into) for name, into in (("node", rows), ("key", keys)) if name in columns]
-        for _, fields in lines:
-            degrees.extend((fields.read_float("lon", -180, 180), fields.read_float("lat", -90, 90)))
-            osm.append(fields.read_int("osm", *IDS) if fields.get("osm") else NO_OSM)
-            ends.append(ENDS.index(read_ends(fields)))
+        take_columns(lines, NAMES_OF_NODES, NODE_COLUMNS if is_beside_graph else ("lon", "lat"), say)
+        is_named, columns = "node" in lines.columns and not is_beside_graph, lines.columns
+        named = [(name, into) for name, into in (("node", rows), (KEY, keys)) if name in columns and (is_named or name == KEY)]
+        for number, (_, fields) in enumerate(lines, 1):
+            if is_beside_graph and fields["node"] != str(number):
+                raise fields.error(f"has node {excerpt(fields['node'])} where node {number} comes next")
+            for name, column in OF_NODES.items():
+                values[name].append(read_value(fields, name, column))
             for name, into in named:
-                if into.setdefault(fields[name], len(osm)) != len(osm):
+                if into.setdefault(fields[name], number) != number:
                     raise fields.error(f"{name} {excerpt(fields[name])} comes twice")
-    if not len(osm) or len(osm) > MAX_NODES:
-        raise NetworkError(f"has {len(osm)} nodes, and a network has from 1 to {MAX_NODES}", path)
+    if not 0 < len(values["lon"]) <= MAX_NODES:
+        raise NetworkError(f"has {len(values['lon'])} nodes, and a network has from 1 to {MAX_NODES}", path)
     told = keys or rows
     shown_keys = () if all(name == str(row) for name, row in told.items()) else list(told)
-    places = to_units(np.array(degrees).reshape(-1, 2))
-    return Nodes(np.array(osm), places, np.array(ends), shown_keys, rows if is_named else None, path, columns)
+    own = {f"node_{name}": np.array(column) for name, column in values.items()}
+    own |= {name: np.round(own[name] * UNITS).astype(np.int32) for name in ("node_lon", "node_lat")}
+    return Nodes(NodeArrays(own, shown_keys), rows if is_named else None, path, columns)
+
+
+def read_value(fields: Row, name: str, column: ColumnSpec) -> float:
+    """The value of a column that tables show as it is, and degrees of a place."""
+    if column.text == "word":
+        return ENDS.index(read_ends(fields))
+    low, high = IDS if column.low is None or column.high is None else (column.low, column.high)
+    if column.default is None:
+        return fields.read_float(name, low / UNITS, high / UNITS)
+    return fields.read_int(name, int(low), int(high)) if fields.get(name) else column.default
+
+
+class RoadRows:
+    """The rows of a table of arcs, each a road, and those that are refused: the first error of each by its row."""
+
+    def __init__(self, nodes: Nodes, weight: str) -> None:
+        self.nodes, self.weight = nodes, weight
+        self.refused: dict[int, NetworkError] = {}
+        self.known: dict[tuple[str, ...], int] = {}
+        # of a road: its row, nodes, the direction of its first arc, its arcs, its row of texts, and the columns that are taken as they are
+        self._numbers = array.array("q")
+        self._figures = array.array("d")  # (weight, seconds, metres, km/h, where NaN is none)
+        self._waiting: list[tuple[str, Row]] = []
+        self._counts: list[Ints] = []
+        self._points: list[NDArray[np.int32]] = []
+
+    def add(self, fields: Row) -> None:
+        """Raises NetworkError for a row that is refused."""
+        ends = [self.nodes.number(fields, name) for name in ("from", "to")]
+        plain = [int(read_value(fields, name, column)) for name, column in PLAIN.items()]
+        line, values = wkt_points(fields), arc_values(fields, self.weight)
+        direction = fields.get("oneway", "1").strip().lower()
+        if direction not in ONE_WAY:
+            raise fields.error(f"oneway {excerpt(direction)} is none of 1, yes, -1, 0, no")
+        texts = self.known.setdefault(tuple(fields.get(name, "") for name in TEXTS), len(self.known))
+        self._numbers.extend((fields.row, *ends, ONE_WAY[direction][0], len(ONE_WAY[direction]), texts, *plain))
+        self._figures.extend(values)
+        self._waiting.append((line, fields))
+        if len(self._waiting) == LINES_AT_ONCE:
+            self._read_lines()
+
+    def _read_lines(self) -> None:
+        """Reads the lines that wait; a straight one has no points."""
+        counts = np.array([line.count(",") + 1 if line else 0 for line, _ in self._waiting], np.int64)
+        text = " ".join(line for line, _ in self._waiting if line).replace(",", " ")
+        places = np.fromstring(text, dtype=np.float64, sep=" ").reshape(-1, 2)
+        is_place = (np.abs(places) <= (180, 90)).all(axis=1)
+        for road in np.unique(expand(counts)[0][~is_place]).tolist():
+            fields = self._waiting[road][1]
+            self.refused.setdefault(fields.row, fields.error(f"WKT {excerpt(fields['wkt'])} has what are no degrees"))
+        self._counts.append(counts)
+        self._points.append(to_units(np.where(is_place[:, None], places, 0)))
+        self._waiting.clear()
+
+    def arcs(self, path: StrPath) -> tuple[Ints, Floats, Ints, NDArray[np.int32]]:
+        """Of each arc its row, nodes, row of texts and plain columns, of shape (.., arcs), its figures, of shape (4, arcs), and its line."""
+        self._read_lines()
+        row, start, stop, direction, count, *others = np.array(self._numbers, np.int64).reshape(-1, 6 + len(PLAIN)).T
+        given, places = np.array(self._figures).reshape(-1, 4).T, self.nodes.arrays.places
+        counts, ends = np.concatenate(self._counts), places[np.stack((start - 1, stop - 1), axis=1)]
+        # a straight road has the places of its nodes
+        is_straight, lines = counts == 0, offsets(np.where(counts, counts, 2))
+        points = np.empty((int(lines[-1]), 2), np.int32)
+        points[rows_of_groups(lines, np.flatnonzero(is_straight))[1]] = ends[is_straight].reshape(-1, 2)
+        points[rows_of_groups(lines, np.flatnonzero(~is_straight))[1]] = np.concatenate(self._points)
+        drawn = np.stack((lines[:-1], lines[1:] - 1), axis=1)
+        away = great_circle_metres(*(unit_vectors(*(each.reshape(-1, 2).T / UNITS)) for each in (points[drawn], ends))).reshape(-1, 2).max(axis=1)
+        for road in np.flatnonzero(away > FARTHEST_END).tolist():
+            error = NetworkError(f"its line ends {away[road]:,.0f} m from its node: are from and to swapped?", path, int(row[road]))
+            self.refused.setdefault(int(row[road]), error)
+        if self.refused:
+            first, rest = self.refused[min(self.refused)], len(self.refused) - 1
+            more = {0: "", 1: "; another row is refused too"}.get(rest, f"; {rest} other rows are refused too")
+            raise NetworkError(f"{first.message}{more}") from first
+        road, step = expand(count)
+        is_back = (direction[road] < 0) | (step > 0)
+        begins, drawn = rows_of_groups(lines, road, is_back)
+        nodes = np.where(is_back, stop[road], start[road]), np.where(is_back, start[road], stop[road])
+        return np.stack((row[road], *nodes, *(each[road] for each in others))), given[:, road], begins, points[drawn]
+
+
+def wkt_points(fields: Row) -> str:
+    """The points of the line of a road as a text, "" for one without. Raises NetworkError."""
+    wkt = fields.get("wkt", "")
+    if not wkt or LINE.fullmatch(wkt):
+        return wkt[len("LINESTRING (") : -1]
+    return ", ".join(f"{lon!r} {lat!r}" for lon, lat in parse_linestring(wkt, fields.path, fields.row))
 
 
 def read_arcs(
-    path: StrPath, nodes: Nodes, weight: str = "time", say: Say = lambda line: None, form: Form = Form()
+    path: StrPath, nodes: Nodes, weight: str = "time", say: Say = lambda line: None, form: Form = Form(),
+    needed: Sequence[str] = ("from", "to"),
 ) -> ArcArrays:
     """The arcs of a table of this form, or of a .gr file. Those without a weight have milliseconds (`time`) or centimetres (`length`).
     `say` gets a line for what may be meant otherwise. Raises NetworkError for the first row that is refused, with the number of others."""
     if os.fspath(path).endswith((".gr", ".gr.gz")):
-        return straight_arcs(*read_gr(path, len(nodes.osm)), nodes)
-    numbers = array.array("q")  # (of an arc five: from, to, way, row of texts, row of the table)
-    figures = array.array("d")  # (weight, seconds, metres, km/h, where NaN is none)
-    begins_of_lines, points_of_lines = array.array("q", [0]), array.array("i")
-    known: dict[tuple[str, ...], int] = {}
-    refused, refusals = None, 0
+        return straight_arcs(*read_gr(path, len(nodes)), nodes.arrays)
+    roads = RoadRows(nodes, weight)
     with open_table(path, (), form) as rows:
-        take_columns(rows, OF_ARCS, ("from", "to"), say)
+        take_columns(rows, NAMES_OF_ARCS, [name.replace("WKT", "wkt") for name in needed], say)
         for row, fields in rows:
             try:
-                ends, osm, line, values, directions = road_of(fields, nodes, weight)
+                roads.add(fields)
             except NetworkError as error:
-                refused, refusals = refused or error, refusals + 1
-                continue
-            more = osm, known.setdefault(tuple(fields.get(name, "") for name in TEXTS), len(known)), row
-            for step in directions:
-                numbers.extend((*ends[::step], *more))
-                figures.extend(values)
-                points_of_lines.frombytes(line[::step].tobytes())
-                begins_of_lines.append(len(points_of_lines) // 2)
-    if refused is not None:
-        others = {0: "", 1: "; another row is refused too"}.get(refusals - 1, f"; {refusals - 1} other rows are refused too")
-        raise NetworkError(f"{refused.message}{others}") from refused
-    starts, stops, osm_ids, of_texts, of_rows = np.array(numbers, dtype=np.int64).reshape(-1, 5).T.copy()
-    if not len(starts) or len(starts) > MAX_LINES:
+                roads.refused[row] = error
+    (of_rows, starts, stops, of_texts, *plain), given, begins, points = roads.arcs(path)
+    if not 0 < len(starts) <= MAX_LINES:
         raise NetworkError(f"has {len(starts)} arcs, and a network has from 1 to {MAX_LINES}", path)
-    begins, points = np.array(begins_of_lines), np.array(points_of_lines).reshape(-1, 2)
-    straight = great_circle_metres(*(unit_vectors(*nodes.places[each - 1].T / UNITS) for each in (starts, stops)))
-    given = np.array(figures).reshape(-1, 4).T.copy()
+    places = nodes.arrays.places
+    straight = great_circle_metres(*(unit_vectors(*places[each - 1].T / UNITS) for each in (starts, stops)))
     for is_doubted, says in doubts(given, straight, weight):
         doubt(is_doubted, says, path, say)
     lengths = np.where(np.isnan(given[2]), np.round(line_metres(begins, points), 2), given[2])
@@ -174,20 +259,9 @@ def read_arcs(
     doubt(takes_none, "{} arcs take 0 seconds, and weigh 1", path, say)
     columns = {
         "arc_from": starts, "arc_to": stops, "arc_weight": whole.astype(np.int64), "arc_seconds": seconds, "arc_metres": lengths,
-        "arc_osm": osm_ids, "arc_row": of_texts,
+        "arc_row": of_texts, **{f"arc_{name}": values for name, values in zip(PLAIN, plain)},
     }
-    return ArcArrays(columns, list(known), begins, points)
-
-
-def road_of(fields: Row, nodes: Nodes, weight: str) -> tuple[tuple[int, int], int, NDArray[np.int32], tuple[float, ...], tuple[int, ...]]:
-    """What a row of arcs says: its nodes, from 1, its way, line and figures (arc_values), and the directions in which it is open."""
-    start, end = nodes.number(fields, "from"), nodes.number(fields, "to")
-    osm = fields.read_int("osm", *IDS) if fields.get("osm") else 0
-    line, values = line_of(nodes.places[[start - 1, end - 1]], fields), arc_values(fields, weight)
-    direction = fields.get("oneway", "1").strip().lower()
-    if direction not in ONE_WAY:
-        raise fields.error(f"oneway {excerpt(direction)} is none of 1, yes, -1, 0, no")
-    return (start, end), osm, line, values, ONE_WAY[direction]
+    return ArcArrays(columns, list(roads.known), begins, points)
 
 
 def doubt_rows(of_rows: Ints, columns: Sequence[NDArray[Any]], path: StrPath, say: Say) -> None:
@@ -246,20 +320,6 @@ def arc_values(fields: Row, weight: str) -> tuple[float, float, float, float]:
     return own, seconds, length, speed
 
 
-def line_of(ends: NDArray[np.int32], fields: Row) -> NDArray[np.int32]:
-    """The line of a road between two places in units; without one straight. Raises NetworkError where it doesn't join them."""
-    wkt = fields.get("wkt", "")
-    if not wkt:
-        return ends
-    places = np.array(parse_linestring(wkt, fields.path, fields.row))
-    if not (np.isfinite(places).all() and (np.abs(places) <= (180, 90)).all()):
-        raise fields.error(f"WKT {excerpt(wkt)} has what are no degrees")
-    away = great_circle_metres(unit_vectors(*places[[0, -1]].T), unit_vectors(*(ends / UNITS).T))
-    if away.max() > FARTHEST_END:
-        raise fields.error(f"its line ends {away.max():,.0f} m from its node: are from and to swapped?")
-    return to_units(places)
-
-
 def line_metres(begins: Ints, points: NDArray[np.int32]) -> NDArray[np.float64]:
     """The metres of lines, each summed by itself, so that no other one's are in it."""
     sphere = unit_vectors(points[:, 0] / UNITS, points[:, 1] / UNITS)
@@ -268,21 +328,39 @@ def line_metres(begins: Ints, points: NDArray[np.int32]) -> NDArray[np.float64]:
     return np.asarray(np.add.reduceat(steps, begins[:-1]))
 
 
-def straight_arcs(starts: Ints, ends: Ints, weights: Ints, nodes: Nodes) -> ArcArrays:
+def straight_arcs(starts: Ints, ends: Ints, weights: Ints, nodes: NodeArrays) -> ArcArrays:
     """Arcs that lead straight from node to node, without a way, a name and seconds."""
-    points = np.stack((nodes.places[starts - 1], nodes.places[ends - 1]), axis=1).reshape(-1, 2)
+    places = nodes.places
+    points = np.stack((places[starts - 1], places[ends - 1]), axis=1).reshape(-1, 2)
     lengths = np.empty(len(starts))
     for low in range(0, len(starts), ARCS_AT_ONCE):
         part = points[2 * low : 2 * (low + ARCS_AT_ONCE)] / UNITS
         sphere = unit_vectors(part[:, 0], part[:, 1])
         lengths[low : low + ARCS_AT_ONCE] = np.round(great_circle_metres(sphere[::2], sphere[1::2]), 2)
-    nothing = np.zeros(len(starts), np.int64)
-    begins, texts = np.arange(0, 2 * len(starts) + 1, 2), [("",) * len(TEXTS)]
-    columns = {
-        "arc_from": starts, "arc_to": ends, "arc_weight": weights, "arc_seconds": np.zeros(len(starts)), "arc_metres": lengths,
-        "arc_osm": nothing, "arc_row": nothing,
-    }
-    return ArcArrays(columns, texts, begins, points)
+    given: dict[str, NDArray[Any]] = {"arc_from": starts, "arc_to": ends, "arc_weight": weights, "arc_metres": lengths}
+    nothing: dict[str, NDArray[Any]] = {f"arc_{name}": np.zeros(len(starts), column.kind) for name, column in OF_ARCS.items()}
+    columns = {**nothing, **given, "arc_row": np.zeros(len(starts), np.int32)}
+    return ArcArrays(columns, [("",) * len(TEXTS)], np.arange(0, 2 * len(starts) + 1, 2), points)
+
+
+# The network of files
+
+
+def load_network(prefix: str) -> MappedNetwork:
+    """The network of these files: by NETWORK.net where that is current, else by its tables. Raises NetworkError."""
+    if net_file.is_current(prefix):
+        return net_file.read(Files(prefix).binary)
+    need_nodes(prefix)
+    with raised_as(NetworkError, prefix, ValueError):
+        return map_tempfile(arrays_from_tables(prefix), prefix)
+
+
+def arrays_from_tables(prefix: str) -> net_file.Arrays:
+    """The network of NETWORK.nodes.csv and NETWORK.arcs.csv, and of the comment of NETWORK.gr. Raises as `build_arrays`."""
+    files = Files(prefix)
+    nodes = read_nodes(files.nodes, is_beside_graph=True)
+    arcs = read_arcs(files.arcs, nodes, needed=ARC_COLUMNS)
+    return build_arrays(nodes.arrays, arcs, read_attribution(prefix), net_file.marks_of(files.nodes, files.arcs))
 
 
 # Files of the DIMACS challenge
@@ -295,7 +373,7 @@ def load_network_or_dimacs(word: StrPath) -> MappedNetwork:
     nodes = read_nodes(word)
     arcs = read_arcs(graph_of(word), nodes)
     with raised_as(NetworkError, word, ValueError):
-        return map_tempfile(build_arrays(nodes, arcs, read_attribution(word)), os.fspath(word))
+        return map_tempfile(build_arrays(nodes.arrays, arcs, read_attribution(word)), os.fspath(word))
 
 
 def read_co(path: StrPath) -> NDArray[np.int32]:
@@ -306,8 +384,29 @@ def read_co(path: StrPath) -> NDArray[np.int32]:
         is_each = (rows[:, 0] == np.arange(1, len(rows) + 1)).all()
         if is_each and (np.abs(rows[:, 1:]) <= (180_000_000, 90_000_000)).all():
             return (rows[:, 1:] * (UNITS // 1_000_000)).astype(np.int32)
-    nodes = read_coordinates(path)
-    return to_units(np.column_stack((nodes.lon, nodes.lat)))
+    return to_units(np.array(read_coordinates(path)))
+
+
+def read_coordinates(path: StrPath) -> list[tuple[float, float]]:
+    """The places (lon, lat) of a DIMACS .co file: `p aux sp co N`, and `v NODE X Y` in millionths of a degree, in any order."""
+    places: list[tuple[float, float] | None] | None = None
+    for row, fields in dimacs_lines(path):
+        if fields[0] == b"p" and places is None:
+            if fields[1:-1] != [b"aux", b"sp", b"co"]:
+                raise NetworkError("is no problem line `p aux sp co NUMBER`", path, row)
+            places = [None] * parse_int(fields[-1], "the number", path, row, 0, MAX_NODES)
+        elif fields[0] == b"v" and places is not None and len(fields) == 4:
+            node = parse_int(fields[1], "node", path, row, 1, len(places))
+            lon = parse_int(fields[2], "x", path, row, -180_000_000, 180_000_000) / 1e6
+            places[node - 1] = lon, parse_int(fields[3], "y", path, row, -90_000_000, 90_000_000) / 1e6
+        else:
+            missing = " before the line `p aux sp co N`" if places is None else ""
+            raise NetworkError(f"is no line of coordinates{missing}", path, row)
+    if places is None:
+        raise NetworkError("has no line `p aux sp co N`", path)
+    if None in places:
+        raise NetworkError(f"has no coordinates of node {places.index(None) + 1}", path)
+    return [place for place in places if place is not None]
 
 
 def read_gr(path: StrPath, nodes: int) -> tuple[Ints, Ints, Ints]:

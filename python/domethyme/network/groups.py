@@ -18,6 +18,16 @@ def expand(counts: NDArray[Any]) -> tuple[Ints, Ints]:
     return group, np.arange(len(group)) - (counts.cumsum(dtype=np.int64) - counts).repeat(counts)
 
 
+def rows_of_groups(begins: Any, groups: Ints, is_back: Any = False) -> tuple[Ints, Ints]:
+    """Where each of chosen groups begins, one after the other, and their rows: those of a group from the last to the first where it is
+    turned back."""
+    first, behind = begins[groups], begins[groups + 1]
+    owner, position = expand(behind - first)
+    step = np.where(is_back, -1, 1)
+    start = np.where(is_back, behind - 1, first)
+    return offsets(behind - first), start[owner] + position * np.broadcast_to(step, start.shape)[owner]
+
+
 def mask(count: int, *rows: Any) -> NDArray[np.bool_]:
     """Which of so many rows are among these."""
     found = np.zeros(count, np.bool_)

@@ -4,12 +4,9 @@ Whoever reads the file maps it (column_file.py). It has the sizes and checksums 
 theirs; a table's checksum is computed where it was changed later than the file. Texts are numbers of rows in one list of texts. An edge is a line of a way, in the direction
 that sorts first, with arcs along it and against.
 """
-import array
 import bisect
-import dataclasses
 import functools
 import os
-import re
 import stat
 import tempfile
 import zlib
@@ -26,16 +23,13 @@ from ..program import StrPath
 from . import column_file, indexes
 from .column_file import Column, MappedFile
 from .columns import (
-    ABOUT, ABOUT_SIZES, COLUMNS, ENDS, NO_OSM, OF_TABLES, PARTS, TEXTS, UNITS, UNITS_OF_WEIGHTS, columns_of
+    ABOUT, ABOUT_SIZES, COLUMNS, ENDS, OF_TABLES, PARTS, TEXTS, UNITS, UNITS_OF_WEIGHTS, columns_of
 )
-from .geo import Point, parse_linestring
+from .geo import Point
 from .grid import Grid, concat_ranges
-from .groups import Ints, expand, first_of_equal, mask, offsets
+from .groups import Ints, first_of_equal, mask, offsets, rows_of_groups
 from .parallel import map_slices
-from .tables import (
-    ARC_COLUMNS, NODE_COLUMNS, Arc, Files, Nodes, has_columns, iter_arc_rows, need_nodes, read_attribution,
-    read_node_table
-)
+from .tables import ARC_COLUMNS, NODE_COLUMNS, Files, has_columns
 
 # What is written: without and with the keys of nodes, and with what `reweigh` needs of a map.
 VERSION, WITH_KEYS, WITH_IDS = 4, 5, 6
@@ -44,11 +38,35 @@ FORMS: Mapping[int, column_file.Schema] = {
     for version, parts in PARTS.items()
 }
 SECONDS_AT_A_TIME = 1 << 16
-NUMBER = r"-?[0-9]+(?:\.[0-9]+)?"
-LINE = re.compile(rf"LINESTRING \(({NUMBER} {NUMBER}(?:, {NUMBER} {NUMBER})+)\)")
 
 
-class Arrays:
+class NetworkColumns:
+    """What networks in memory and in files are alike in: columns by their names, of which an index takes parts, and a list of texts."""
+
+    texts: "Texts"
+
+    if TYPE_CHECKING:
+        def __getattr__(self, name: str) -> Any: ...
+
+    def are_open(self) -> NDArray[np.bool_]:
+        """Whether each arc is one of those that aren't left out."""
+        return np.ones(len(self.arc_from), np.bool_)
+
+    def keys(self) -> list[str]:
+        """The keys of all nodes, none where they have none."""
+        return [self.texts[number] for number in self.node_texts[:].tolist()]
+
+    def arc_texts(self, arcs: Any, columns: int | slice = slice(len(TEXTS))) -> NDArray[np.int32]:
+        """The numbers of texts of arcs, which an index takes, in columns of TEXTS."""
+        return np.asarray(self.row_texts[self.arc_row[arcs], columns])
+
+    def arc_lines(self, arcs: Ints) -> tuple[Ints, NDArray[np.int32]]:
+        """The points of arcs in their directions, in units: those of arcs[k] are points[begins[k]:begins[k + 1]]."""
+        begins, rows = rows_of_groups(self.edge_begin, self.arc_edge[arcs], ~self.arc_along[arcs])
+        return begins, self.points[rows]
+
+
+class Arrays(NetworkColumns):
     """The columns of a network in memory by their names, but for those that are derived; of shape (0,) where it has none. `about` has the
     numbers of that column that aren't derived, which are 0 where they aren't there."""
 
@@ -64,16 +82,19 @@ class Arrays:
             raise TypeError(f"columns of a network: {', '.join(sorted(wrong))}")
         self.about = dict(about or {})
         vars(self).update({name: np.asarray(columns.get(name, ()), COLUMNS[name].kind) for name in self.NAMES})
+        self.texts = Texts(self.text_begin, self.text_bytes)
 
 
-@dataclasses.dataclass
-class NodeArrays:
-    """Nodes: osm and ends as in Arrays, places in units, of shape (nodes, 2), lon and lat, and keys, () for none."""
 
-    osm: Ints
-    places: NDArray[np.int32]
-    ends: NDArray[np.uint8]
+class NodeArrays(NamedTuple):
+    """Nodes: their columns, by the names in the file, places in units, of shape (nodes, 2), lon and lat, and keys, () for none."""
+
+    columns: dict[str, NDArray[Any]]
     keys: Sequence[str] = ()
+
+    @property
+    def places(self) -> NDArray[np.int32]:
+        return np.column_stack((self.columns["node_lon"], self.columns["node_lat"]))
 
 
 class ArcArrays(NamedTuple):
@@ -89,17 +110,15 @@ class ArcArrays(NamedTuple):
 def build_arrays(nodes: NodeArrays, arcs: ArcArrays, attribution: str = "", about: Mapping[str, int] | None = None) -> Arrays:
     """The network of nodes and arcs. Raises ValueError where they don't fit together."""
     edge, is_along, first, backward = edges_from_arcs(arcs)
-    counts = np.diff(arcs.begins)[first]
-    owner, position = expand(counts)
-    rows = arcs.begins[first][owner] + np.where(backward[owner], counts[owner] - 1 - position, position)
+    edge_begin, rows = rows_of_groups(arcs.begins, first, backward)
     names: dict[str, int] = {}
     texts = np.array([[names.setdefault(text, len(names) + 1) for text in row] for row in arcs.texts], dtype=np.int32)
     row_texts, row = indexes.unique_text_rows(texts.reshape(-1, len(TEXTS)), arcs.columns["arc_row"])
     encoded = [text.encode("utf-8", "replace") for text in (attribution, *names, *nodes.keys)]
     found = Arrays({
-        "node_osm": nodes.osm, "node_lon": nodes.places[:, 0].copy(), "node_lat": nodes.places[:, 1].copy(), "node_ends": nodes.ends,
-        **arcs.columns, "arc_row": row, "arc_edge": edge, "arc_along": is_along, "row_texts": row_texts, "edge_begin": offsets(counts),
-        "points": arcs.points[rows], **text_columns(encoded), "node_texts": np.arange(len(names) + 1, len(encoded)),
+        **nodes.columns, **arcs.columns, "arc_row": row, "arc_edge": edge, "arc_along": is_along, "row_texts": row_texts,
+        "edge_begin": edge_begin, "points": arcs.points[rows], **text_columns(encoded),
+        "node_texts": np.arange(len(names) + 1, len(encoded)),
     }, about)
     if problem := find_inconsistency(found):
         raise ValueError(problem)
@@ -135,50 +154,6 @@ def edges_from_arcs(arcs: ArcArrays) -> tuple[NDArray[np.int32], NDArray[np.bool
         leader[arc] = known.setdefault(key, arc)
     leaders, edge = np.unique(leader, return_inverse=True)
     return edge.astype(np.int32), is_along, leaders, ~is_along[leaders]
-
-
-class Builder:
-    """Makes Arrays of nodes and arcs that are added in their order, the nodes behind those that are given."""
-
-    def __init__(self, attribution: str = "", nodes: Nodes | None = None) -> None:
-        self._attribution, self._nodes = attribution, nodes or Nodes([], [], [], [])
-        self._numbers = array.array("q")  # (of an arc five: from, to, weight, way, row of texts)
-        self._figures = array.array("d")  # (seconds, metres)
-        self._texts: dict[tuple[str, ...], int] = {}
-        self._lines: list[str] = []
-
-    def add_node(self, osm: int | None, lon: float, lat: float, ends: str) -> None:
-        """Adds a node without a key."""
-        self._nodes.osm.append(osm)
-        self._nodes.lon.append(lon)
-        self._nodes.lat.append(lat)
-        self._nodes.ends.append(ends)
-
-    def add_arc(self, arc: Arc, path: StrPath | None = None, row: int | None = None) -> None:
-        """Adds an arc, of this row of a file. Raises NetworkError where its WKT is no line."""
-        line = LINE.fullmatch(arc.wkt)
-        points = () if line else parse_linestring(arc.wkt, path, row)
-        self._lines.append(line[1] if line else ", ".join(f"{lon:.9f} {lat:.9f}" for lon, lat in points))
-        row_of_texts = self._texts.setdefault((arc.highway, arc.name, *arc[9:]), len(self._texts))
-        self._numbers.extend((arc.start, arc.end, arc.weight, arc.osm, row_of_texts))
-        self._figures.extend((arc.seconds, arc.metres))
-
-    def build(self, about: Mapping[str, int] | None = None) -> Arrays:
-        """The arrays. Raises ValueError where they don't fit together."""
-        starts, stops, weights, ways, row = np.array(self._numbers).reshape(-1, 5).T.copy()
-        seconds, metres = np.array(self._figures).reshape(-1, 2).T.copy()
-        places = np.fromstring(" ".join(self._lines).replace(",", " "), dtype=np.float64, sep=" ").reshape(-1, 2)
-        begins = offsets(np.array([line.count(",") + 1 for line in self._lines], np.int64))
-        texts, points = list(self._texts), to_units(places)
-        columns = {
-            "arc_from": starts, "arc_to": stops, "arc_weight": weights, "arc_seconds": seconds, "arc_metres": metres, "arc_osm": ways,
-            "arc_row": row,
-        }
-        arcs = ArcArrays(columns, texts, begins, points)
-        osm = np.array([NO_OSM if each is None else each for each in self._nodes.osm], np.int64)
-        ends = np.array([ENDS.index(each) for each in self._nodes.ends], np.uint8)
-        nodes = NodeArrays(osm, to_units(np.column_stack((self._nodes.lon, self._nodes.lat))), ends, self._nodes.keys)
-        return build_arrays(nodes, arcs, self._attribution, about)
 
 
 def to_units(places: NDArray[Any]) -> NDArray[np.int32]:
@@ -269,7 +244,7 @@ def weight_unit(arrays: Arrays) -> str:
 class Texts:
     """The list of texts of a file; each is decoded where it is asked for."""
 
-    def __init__(self, begins: Column, whole: Column) -> None:
+    def __init__(self, begins: Any, whole: Any) -> None:
         self._begins, self._bytes = begins, whole
         self._text = functools.lru_cache(1 << 12)(self._decoded)
 
@@ -277,7 +252,7 @@ class Texts:
         return len(self._begins) - 1
 
     def __getitem__(self, number: int) -> str:
-        return self._text(number, self._begins.changes)
+        return self._text(number, getattr(self._begins, "changes", 0))
 
     def _decoded(self, number: int, _changes: int) -> str:
         if not 0 <= number < len(self):
@@ -286,7 +261,7 @@ class Texts:
         return str(self._bytes[begin:end].tobytes(), "utf-8", "replace")
 
 
-class MappedNetwork:
+class MappedNetwork(NetworkColumns):
     """The file of a network, mapped: what Arrays has, by the same names, in columns that are verified where they are read. Raises
     NetworkError for a file that is refused, and where it is damaged, in all that reads it.
 
@@ -390,14 +365,6 @@ class MappedNetwork:
         begin, end = self.text_begin[number : number + 2].tolist()
         return bytes(self.text_bytes[begin:end].tobytes())
 
-    def keys(self) -> list[str]:
-        """The keys of all nodes, none where they have none."""
-        return [self.texts[number] for number in self.node_texts[:].tolist()]
-
-    def arc_texts(self, arcs: Any, columns: int | slice = slice(len(TEXTS))) -> NDArray[np.int32]:
-        """The numbers of texts of arcs, which an index takes, in columns of TEXTS."""
-        return np.asarray(self.row_texts[self.arc_row[arcs], columns])
-
     def lightest(self, starts: NDArray[np.int64], ends: NDArray[np.int64]) -> NDArray[np.int64]:
         """The lightest arc from each node to another, counted from 1; -1 where there is none."""
         begins = self.out_begin[starts - 1]
@@ -408,14 +375,6 @@ class MappedNetwork:
         found = np.full(len(starts), -1, dtype=np.int64)
         found[pair[hits]] = arcs[hits]  # (the last that is assigned, the first of a pair, is its lightest)
         return found
-
-    def arc_lines(self, arcs: Ints) -> tuple[Ints, NDArray[np.int32]]:
-        """The points of arcs in their directions, in units: those of arcs[k] are points[begins[k]:begins[k + 1]]."""
-        edges, is_along = self.arc_edge[arcs], self.arc_along[arcs]
-        first, behind = self.edge_begin[edges], self.edge_begin[edges + 1]
-        owner, position = expand(behind - first)
-        rows = np.where(is_along, first, behind - 1)[owner] + position * np.where(is_along, 1, -1)[owner]
-        return offsets(behind - first), self.points[rows]
 
     def line(self, arc: int) -> list[Point]:
         line = self.edge_line(int(self.arc_edge[arc]))
@@ -496,22 +455,3 @@ def checksum_of(path: StrPath) -> int:
         while part := file.read(1 << 20):
             found = zlib.crc32(part, found)
     return found
-
-
-def load_network(prefix: str) -> MappedNetwork:
-    """The network of these files: by NETWORK.net where that is current, else by its tables. Raises NetworkError."""
-    if is_current(prefix):
-        return read(Files(prefix).binary)
-    need_nodes(prefix)
-    with raised_as(NetworkError, prefix, ValueError):
-        return map_tempfile(arrays_from_tables(prefix), prefix)
-
-
-def arrays_from_tables(prefix: str) -> Arrays:
-    """The network of NETWORK.nodes.csv and NETWORK.arcs.csv, and of the comment of NETWORK.gr. Raises as `build_arrays`."""
-    files, attribution = Files(prefix), read_attribution(prefix)
-    nodes = read_node_table(files.nodes)
-    builder = Builder(attribution, nodes)
-    for row, arc in iter_arc_rows(files.arcs, len(nodes.osm)):
-        builder.add_arc(arc, files.arcs, row)
-    return builder.build(marks_of(files.nodes, files.arcs))

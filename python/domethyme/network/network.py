@@ -22,15 +22,15 @@ from ..route import Route, Rows
 from ..routes import Routes
 from . import from_tables, net_file
 from .bearings import BearingRange, nearest_with_bearing
-from .columns import ENDS, NO_OSM, UNITS
+from .columns import ENDS, NO_OSM, OF_ARCS, UNITS
 from .geo import Point, to_geojson_geometry
 from .matching import Trace
 from .node_index import NodeIndex, load_node_index
-from .reading import arcs_from_net
 from .reweigh import Reweighed, read_speeds, speeds_of, write_reweighed
 from .snapping import RoadIndex, SnappedPoint
 from .sphere import Floats as Floats
-from .tables import ALL_ARC_COLUMNS, KEY, Files, Side, arcs_file, need_nodes
+from .table_files import lines_of_arcs, texts_of_arcs
+from .tables import KEY, Files, Side, arcs_file, need_nodes
 from .without import parse_classes, without
 
 # For each place None, or (bearing, tolerance) in degrees.
@@ -111,8 +111,9 @@ class Network:
     def arcs_frame(self) -> Any:
         """A DataFrame of pandas with the columns of NETWORK.arcs.csv, whose `from` and `to` count from 0."""
         pandas = load("pandas")
-        rows = [(*arc[:8], *arc[9:], arc.wkt) for arc in arcs_from_net(self._arrays)]
-        frame = pandas.DataFrame(rows, columns=list(ALL_ARC_COLUMNS))
+        arrays, arcs = self._arrays, np.flatnonzero(self._arrays.are_open())
+        numbers = {name: getattr(arrays, f"arc_{name}")[arcs].astype(column.kind[1] + "8") for name, column in OF_ARCS.items()}
+        frame = pandas.DataFrame({**numbers, **texts_of_arcs(arrays, arcs), "WKT": lines_of_arcs(arrays, arcs)})
         return frame.assign(**{end: frame[end] - 1 for end in ("from", "to")})
 
     def to_geodataframe(self) -> Any:

@@ -8,17 +8,17 @@ from numpy.typing import NDArray
 from .. import belonging
 from ..errors import NetworkError
 from ..program import StrPath
+from . import net_file
 from .columns import ENDS, UNITS
-from .net_file import Builder, MappedNetwork, map_tempfile
-from .reading import mapped_if_current, read_nodes
+from .from_tables import read_nodes, straight_arcs
 from .sphere import Floats, great_circle_metres, unit_vectors
-from .tables import Side, is_coordinates, need_nodes
+from .tables import Files, Side, is_coordinates, need_nodes
 
 
 class NodeIndex:
     """Where the nodes of a network lie, for look-ups by place, from 0. `osm`, `lon`, `lat` and `ends` are columns."""
 
-    def __init__(self, arrays: MappedNetwork, has_arcs: bool = True) -> None:
+    def __init__(self, arrays: net_file.MappedNetwork, has_arcs: bool = True) -> None:
         """Those of a mapped file, which has no arcs where it was made of a table of nodes or of a DIMACS .co file alone."""
         self.osm, self.lon, self.lat, self.ends = arrays.node_osm, arrays.node_lon, arrays.node_lat, arrays.node_ends
         self._arrays, self._has_arcs = arrays, has_arcs
@@ -60,6 +60,8 @@ class NodeIndex:
 def load_node_index(word: StrPath) -> NodeIndex:
     """The nodes of a network, of its file or of its table alone, or of a DIMACS .co file."""
     path = need_nodes(word)
-    if not is_coordinates(word) and (arrays := mapped_if_current(os.fspath(word))) is not None:
-        return NodeIndex(arrays)
-    return NodeIndex(map_tempfile(Builder(nodes=read_nodes(path)).build(), path), has_arcs=False)
+    if not is_coordinates(word) and net_file.is_current(os.fspath(word)):
+        return NodeIndex(net_file.read(Files(word).binary))
+    nodes, none = read_nodes(path, is_beside_graph=True).arrays, np.empty(0, np.int64)
+    arrays = net_file.build_arrays(nodes, straight_arcs(none, none, none, nodes))
+    return NodeIndex(net_file.map_tempfile(arrays, path), has_arcs=False)

@@ -17,9 +17,10 @@ from numpy.typing import NDArray
 from ..errors import NetworkError
 from .column_file import Column
 from .columns import ENDS, NO_OSM, TEXTS, UNITS
+from .from_tables import load_network
 from .geo import Point, metres_between
 from .grid import Ints, concat_ranges
-from .net_file import MappedNetwork, load_network
+from .net_file import MappedNetwork
 from .node_index import NodeIndex
 from .parallel import differs_from_previous
 from .sphere import Floats, interpolate_one, nearest_on_segments

@@ -1,23 +1,24 @@
 """The graph of a network, and its tables in CSV with the files for GDAL beside them, as the tools write them."""
 import contextlib
+import csv
 import io
 import itertools
 import os
 import pathlib
-from collections.abc import Iterator, Sequence
+from collections.abc import Sequence
 from typing import IO, Any, cast
 
+import numpy as np
 from numpy.typing import NDArray
 
+from ..csv_tables import escape_formula
 from ..dimacs import write_graph
 from ..errors import NetworkError
 from . import net_file
-from .columns import ENDS, NO_OSM, TEXTS, UNITS
+from .columns import ENDS, NO_OSM, OF_ARCS, OF_NODES, TEXTS, UNITS, ColumnSpec
 from .geo import format_linestring
-from .tables import (
-    ALL_ARC_COLUMNS, ALL_NODE_COLUMNS, ATTRIBUTION_COMMENT, Arc, Files, Nodes, is_written_by_tools, write_arcs,
-    write_nodes
-)
+from .groups import Ints
+from .tables import ALL_ARC_COLUMNS, ALL_NODE_COLUMNS, ATTRIBUTION_COMMENT, KEY, Files, is_written_by_tools
 
 ROWS_AT_ONCE = 1 << 16
 
@@ -51,8 +52,8 @@ def write_graph_of(file: IO[bytes], arrays: net_file.Arrays, attribution: str) -
 
 def write_tables(files: Sequence[IO[str]], arrays: net_file.Arrays) -> dict[str, int]:
     """Writes both tables, and the files for GDAL, into files in the order of Files; returns what both tables are known by."""
-    write_nodes(files[0], nodes_in(arrays))
-    write_arcs(files[1], arcs_in(arrays))
+    write_nodes(files[0], arrays)
+    write_arcs(files[1], arrays)
     for file, text in zip(files[2:], Files("").forms_of(len(arrays.node_texts) > 0).values(), strict=True):
         print(text, file=file)
     for file in files[:2]:
@@ -60,35 +61,47 @@ def write_tables(files: Sequence[IO[str]], arrays: net_file.Arrays) -> dict[str,
     return net_file.marks_of(*(file.name for file in files[:2]))
 
 
-def nodes_in(arrays: net_file.Arrays) -> Nodes:
-    """The nodes, as those of the table."""
-    osm = [None if number == NO_OSM else number for number in arrays.node_osm.tolist()]
-    lon, lat = ((places / UNITS).tolist() for places in (arrays.node_lon, arrays.node_lat))
-    texts = texts_in(arrays)
-    keys = [texts[number] for number in arrays.node_texts.tolist()]
-    return Nodes(osm, lon, lat, [ENDS[number] for number in arrays.node_ends.tolist()], keys)
+def write_nodes(file: IO[str], network: net_file.NetworkColumns) -> None:
+    """Writes a .nodes.csv file: degrees to the seventh place, as OpenStreetMap has them."""
+    rows, keys = csv.writer(file, lineterminator="\n"), [escape_formula(key) for key in network.keys()]
+    rows.writerow((*ALL_NODE_COLUMNS, KEY) if keys else ALL_NODE_COLUMNS)
+    for low in range(0, len(network.node_osm), ROWS_AT_ONCE):
+        part = slice(low, low + ROWS_AT_ONCE)
+        columns = [texts_of(column, getattr(network, f"node_{name}")[part]) for name, column in OF_NODES.items()]
+        rows.writerows(zip(itertools.count(low + 1), *columns, *([keys[part]] if keys else [])))
 
 
-def arcs_in(arrays: net_file.Arrays) -> Iterator[Arc]:
-    """The arcs, as those of the table."""
-    texts, edge_begin = texts_in(arrays), arrays.edge_begin.tolist()
-    texts_of_rows = [[texts[number] if number else "" for number in row] for row in arrays.row_texts[:, : len(TEXTS)].tolist()]
-    columns: tuple[NDArray[Any], ...] = (
-        arrays.arc_from, arrays.arc_to, arrays.arc_weight, arrays.arc_seconds, arrays.arc_metres, arrays.arc_osm,
-        arrays.arc_row, arrays.arc_edge, arrays.arc_along,
-    )
-    for low in range(0, len(arrays.arc_from), ROWS_AT_ONCE):
-        rows = zip(*(column[low : low + ROWS_AT_ONCE].tolist() for column in columns))
-        for start, end, weight, seconds, metres, osm, row, edge, along in rows:
-            highway, name, *others = texts_of_rows[row]
-            line = (arrays.points[edge_begin[edge] : edge_begin[edge + 1]] / UNITS).tolist()
-            wkt = format_linestring(line if along else line[::-1])
-            yield Arc(start, end, weight, seconds, metres, osm, highway, name, wkt, *others)
+def write_arcs(file: IO[str], network: net_file.NetworkColumns) -> None:
+    """Writes a .arcs.csv file: seconds to the thousandth, metres to the hundredth."""
+    rows, arcs = csv.writer(file, lineterminator="\n"), np.flatnonzero(network.are_open())
+    rows.writerow(ALL_ARC_COLUMNS)
+    for low in range(0, len(arcs), ROWS_AT_ONCE):
+        part = arcs[low : low + ROWS_AT_ONCE]
+        numbers = [texts_of(column, getattr(network, f"arc_{name}")[part]) for name, column in OF_ARCS.items()]
+        texts = [[*map(escape_formula, column)] for column in texts_of_arcs(network, part).values()]
+        rows.writerows(zip(*numbers, *texts, lines_of_arcs(network, part)))
 
 
-def texts_in(arrays: net_file.Arrays) -> list[str]:
-    whole = arrays.text_bytes.tobytes()
-    return [whole[begin:end].decode() for begin, end in itertools.pairwise(arrays.text_begin.tolist())]
+def texts_of(column: ColumnSpec, values: NDArray[Any]) -> list[str]:
+    """Values of a column as tables have them."""
+    if column.text == "word":
+        return [ENDS[each] for each in values.tolist()]
+    if column.text == "d":
+        return ["" if each == NO_OSM else str(each) for each in values.tolist()]
+    return [format(each, column.text) for each in (values / UNITS if column.kind == "<i4" else values).tolist()]
+
+
+def texts_of_arcs(network: net_file.NetworkColumns, arcs: Ints) -> dict[str, list[str]]:
+    """The texts of some arcs, by the names in TEXTS."""
+    numbers = network.arc_texts(arcs).T.tolist()
+    return {name: [network.texts[number] if number else "" for number in column] for name, column in zip(TEXTS, numbers)}
+
+
+def lines_of_arcs(network: net_file.NetworkColumns, arcs: Ints) -> list[str]:
+    """The lines of some arcs as WKT."""
+    begins, points = network.arc_lines(arcs)
+    places = (points / UNITS).tolist()
+    return [format_linestring(places[low:high]) for low, high in itertools.pairwise(begins.tolist())]
 
 
 def bytes_of(file: IO[str]) -> IO[bytes]:

@@ -7,18 +7,16 @@ is no older. The columns ends, ref, junction, destination, structure and toll of
 Beside each table lie NAME.csvt and NAME.prj, by which GDAL and QGIS know the kinds of its columns and that it has degrees of
 WGS 84; no tool here reads them.
 """
-import csv
 import errno
 import itertools
 import os
-from collections.abc import Iterable, Iterator, Sequence
-from typing import IO, Literal, NamedTuple
+from collections.abc import Sequence
+from typing import Literal
 
-from ..csv_tables import Row, escape_formula, excerpt, open_input, open_table
+from ..csv_tables import Row, excerpt, open_input
 from ..errors import NetworkError
-from ..limits import MAX_NODES
 from ..program import StrPath
-from .columns import ENDS, INT64, OF_ARCS, OF_NODES, TEXTS
+from .columns import ENDS, OF_ARCS, OF_NODES, TEXTS
 
 OSM_ATTRIBUTION = "© OpenStreetMap contributors (ODbL 1.0)"
 ATTRIBUTION_COMMENT = "attribution: "
@@ -104,35 +102,6 @@ def first_line(path: StrPath, encoding: str) -> str:
         return ""
 
 
-class Nodes(NamedTuple):
-    """Node n has its values at n - 1: id of OpenStreetMap or None, degrees, ends of routes (ENDS), and its key if any has."""
-
-    osm: list[int | None]
-    lon: list[float]
-    lat: list[float]
-    ends: list[str]
-    keys: Sequence[str] = ()
-
-
-class Arc(NamedTuple):
-    """An arc of the graph and its piece of road."""
-
-    start: int
-    end: int
-    weight: int
-    seconds: float
-    metres: float
-    osm: int
-    highway: str
-    name: str
-    wkt: str
-    ref: str = ""
-    junction: str = ""
-    destination: str = ""
-    structure: str = ""
-    toll: str = ""
-
-
 def reject_wrong_suffix(word: StrPath) -> None:
     """Raises NetworkError where a tool's word NETWORK is one of the files of a network, or another file."""
     for ending, says in WRONG_SUFFIXES.items():
@@ -154,23 +123,6 @@ def need_nodes(word: StrPath) -> str:
     return path
 
 
-def read_node_table(path: StrPath) -> Nodes:
-    keys: list[str] = []
-    nodes = Nodes([], [], [], [])
-    with open_table(path, NODE_COLUMNS) as rows:
-        for _, fields in rows:
-            expected = len(nodes.lon) + 1
-            if fields["node"] != str(expected):
-                raise fields.error(f"has node {excerpt(fields['node'])} where node {expected} comes next")
-            nodes.osm.append(fields.read_int("osm", *INT64) if fields["osm"] else None)
-            nodes.lon.append(fields.read_float("lon", -180, 180))
-            nodes.lat.append(fields.read_float("lat", -90, 90))
-            nodes.ends.append(read_ends(fields))
-            if KEY in fields:
-                keys.append(fields[KEY])
-    return nodes._replace(keys=keys or ())
-
-
 def read_ends(fields: Row) -> str:
     """Which ends of routes the node of a row has."""
     if (ends := fields.get("ends", "")) not in ENDS:
@@ -178,44 +130,10 @@ def read_ends(fields: Row) -> str:
     return ends
 
 
-def write_nodes(file: IO[str], nodes: Nodes) -> None:
-    """Writes a .nodes.csv file: degrees to the seventh place, as OpenStreetMap has them."""
-    rows = csv.writer(file, lineterminator="\n")
-    rows.writerow((*ALL_NODE_COLUMNS, KEY) if nodes.keys else ALL_NODE_COLUMNS)
-    for node, (osm, lon, lat, ends, *key) in enumerate(zip(*nodes[:4], *([nodes.keys] if nodes.keys else [])), 1):
-        rows.writerow((node, "" if osm is None else osm, f"{lon:.7f}", f"{lat:.7f}", ends, *map(escape_formula, key)))
-
-
-def read_arcs(path: StrPath) -> Iterator[Arc]:
-    """The arcs of a .arcs.csv file, one after the other."""
-    return (arc for _, arc in iter_arc_rows(path))
-
-
-def iter_arc_rows(path: StrPath, nodes: int = MAX_NODES) -> Iterator[tuple[int, Arc]]:
-    """The arcs of a .arcs.csv file between nodes from 1 to `nodes`, with their rows."""
-    with open_table(path, ARC_COLUMNS) as rows:
-        for row, fields in rows:
-            yield row, Arc(
-                fields.read_int("from", 1, nodes), fields.read_int("to", 1, nodes), fields.read_int("weight"),
-                fields.read_float("seconds", 0), fields.read_float("metres", 0), fields.read_int("osm", *INT64),
-                fields["highway"], fields["name"], fields["WKT"],
-                *(fields.get(name, "") for name in ("ref", "junction", "destination", "structure", "toll")),
-            )
-
-
 def arcs_file(word: StrPath) -> str:
     """The file that the arcs of a tool's word NETWORK are read from."""
     reject_wrong_suffix(word)
     return graph_of(word) if is_coordinates(word) else Files(word).arcs
-
-
-def write_arcs(file: IO[str], arcs: Iterable[Arc]) -> None:
-    """Writes a .arcs.csv file: seconds to the thousandth, metres to the hundredth."""
-    rows = csv.writer(file, lineterminator="\n")
-    rows.writerow(ALL_ARC_COLUMNS)
-    for arc in arcs:
-        figures = f"{arc.seconds:.3f}", f"{arc.metres:.2f}"
-        rows.writerow((*arc[:3], *figures, arc.osm, *map(escape_formula, (arc.highway, arc.name, *arc[9:])), arc.wkt))
 
 
 def read_attribution(network: StrPath) -> str:

@@ -27,7 +27,7 @@ import pathlib
 from domethyme import belonging
 from domethyme.atomic_files import atomic_write
 from domethyme.hierarchy_file import open_hierarchy_file, read_header
-from domethyme.network.net_file import load_network
+from domethyme.network.from_tables import load_network
 from domethyme.network.tables import is_coordinates, paths_of, reject_wrong_suffix
 
 from ..cli import ToolError, add_compare_all, argument_parser, refuse_overwriting
