@@ -1,10 +1,12 @@
 """The order of places in which a tour has the least length. Needs numpy.
 
 Up to MAX_EXACT places all orders are searched: by Held and Karp (1962), the least length to each place by each set of places before.
-Beyond, a tour is begun by farthest insertion, parts of it are moved or turned where that makes it shorter (Or 1976), and it is
-disturbed and improved again a fixed number of times, by one fixed sequence of random numbers: the answer is the same each time.
+Beyond, a tour is begun by farthest insertion. Parts of it are exchanged or turned where that makes it shorter, and it is disturbed and
+improved again a fixed number of times, by one fixed sequence of random numbers: the answer is the same each time.
 """
+import itertools
 import random
+import statistics
 from collections.abc import Sequence
 from typing import Literal
 
@@ -20,8 +22,10 @@ Destination = Literal["any", "last"]
 MAX_EXACT, MAX_PLACES = 12, 500
 # A length from which on there is no path: a tour with one is none. No sum of lengths below comes near the end of int64.
 TOO_FAR = 1 << 52
-# Places of a part that is moved, how often a tour is disturbed, and places of the parts that are exchanged then.
-MAX_PART, KICKS, KICK_PART = 10, 200, 50
+# The nearest places of each to which new arcs lead, how often a tour is disturbed, and places of the parts that are exchanged then.
+NEAR, KICKS, MAX_KICKED = 10, 1000, 10
+# By how much a disturbed tour may be longer, on average, as a share of the median of its arcs' lengths.
+WARMTH = 0.2
 
 
 def best_order(lengths: Lengths, roundtrip: bool, source: Source, destination: Destination) -> Order | None:
@@ -104,77 +108,131 @@ def popcounts(bits: int) -> NDArray[np.int64]:
 
 
 class Tour:
-    """A closed tour through all places that is made shorter step by step."""
+    """A closed tour through all places that is made shorter step by step: `_order` has its places, and `_at` where each is in it."""
 
     def __init__(self, costs: Lengths) -> None:
-        self._costs, self._order = costs, np.array(farthest_insertion(costs))
+        count = len(costs)
+        order = costs.copy()
+        np.fill_diagonal(order, np.iinfo(np.int64).max)
+        self._costs: list[list[int]] = costs.tolist()
+        self._near: list[list[int]] = np.argsort(order, axis=1, kind="stable")[:, : min(NEAR, count - 1)].tolist()
+        self._order, self._at = farthest_insertion(costs), [0] * count
+        self._place(0, count)
 
     def improved(self) -> Order:
-        """The tour after all its parts were moved where that helps, and after so many kicks that each was taken back unless it helped."""
-        drawn, count = random.Random(1), len(self._order)
-        self._improve(self._order.tolist())
-        cost = self._cost()
+        """The best tour that is found by moves, and by kicks that are taken back where the tour is too much longer behind them."""
+        drawn = random.Random(1)
+        self._improve(self._order[::-1])
+        arcs = [self._costs[place][after] for place, after in zip(self._order, [*self._order[1:], self._order[0]])]
+        cost = least = sum(arcs)
+        best, warmth = self._order[:], WARMTH * statistics.median(arcs)
         for _ in range(KICKS):
-            kept = self._order
-            self._improve(self._kick(drawn.randrange(count), *(drawn.randint(1, min(KICK_PART, count // 3)) for _ in range(2))))
-            now = self._cost()
-            if now > cost:
-                self._order = kept
-            cost = min(cost, now)
-        return [int(place) for place in self._order]
+            kept = self._order[:], self._at[:]
+            longer = self._kick(drawn)
+            if longer > warmth * drawn.expovariate(1):
+                self._order, self._at = kept
+                continue
+            cost += longer
+            if cost < least:
+                least, best = cost, self._order[:]
+        return best
 
-    def _cost(self) -> int:
-        return int(self._costs[self._order, np.roll(self._order, -1)].sum())
+    def _kick(self, drawn: random.Random) -> int:
+        """Puts three short parts that follow each other into the opposite order (a double bridge: Martin, Otto, Felten 1991), and
+        improves the tour there. Returns by how much it is longer."""
+        count, costs = len(self._order), self._costs
+        at, most = drawn.randrange(count), min(MAX_KICKED, (count - 1) // 3)
+        one, two, three = (drawn.randint(1, most) for _ in range(3))
+        cuts = [self._order[(at + more) % count] for end in (0, one, one + two, one + two + three) for more in (end, end + 1)]
+        before, first, first_end, second, second_end, third, third_end, after = cuts
+        longer = costs[before][third] + costs[third_end][second] + costs[second_end][first] + costs[first_end][after]
+        longer -= sum(costs[place][other] for place, other in zip(cuts[::2], cuts[1::2]))
+        self._exchange(at + 1, one, two + three)
+        self._exchange(self._at[before] + 1, two, three)
+        return longer - self._improve(cuts)
 
-    def _kick(self, at: int, one: int, other: int) -> Order:
-        """Exchanges two parts that follow each other; returns the places beside the cuts."""
-        order = np.roll(self._order, -at)
-        self._order = np.concatenate((order[:1], order[1 + one : 1 + one + other], order[1 : 1 + one], order[1 + one + other :]))
-        cuts = np.array([0, other, one + other])
-        return [int(place) for place in self._order[(cuts[:, None] + np.arange(-1, 2)) % len(self._order)].ravel()]
-
-    def _improve(self, waiting: Order) -> None:
-        """Moves parts that begin at these places, and at those beside each move, until none makes the tour shorter."""
-        are_waiting = set(waiting)
+    def _improve(self, waiting: Order) -> int:
+        """Makes moves with a new arc from these places, and from those at each move and before them, until none makes the tour shorter.
+        Returns by how much it is shorter."""
+        are_waiting, shorter = set(waiting), 0
         while waiting:
             place = waiting.pop()
-            if place in are_waiting:
-                are_waiting.discard(place)
-                again = self._move_part(place)
-                waiting += again
-                are_waiting.update(again)
+            are_waiting.discard(place)
+            while found := self._move(place):
+                shorter += found[0]
+                for other in found[1]:
+                    for each in (other, self._order[self._at[other] - 1]):
+                        if each not in are_waiting:
+                            are_waiting.add(each)
+                            waiting.append(each)
+        return shorter
 
-    def _move_part(self, first: int) -> Order:
-        """Makes the best move of a part that begins at a place: a part of any size is turned where it is, and one of up to MAX_PART
-        places goes to another gap of the tour, along or against its direction. Returns the places beside the cuts, none where no
-        move makes the tour shorter."""
-        costs, count = self._costs, len(self._order)
-        order = np.roll(self._order, -int(np.flatnonzero(self._order == first)[0]))
-        # of the part from `first` to each place: the place behind it, the length to that, and what turning adds within the part
-        behind, before = np.append(order[1:], first), order[-1]
-        steps = costs[order, behind]
-        turned = np.append(0, (costs[behind, order] - steps)[:-1].cumsum())
-        in_place = costs[before, order] + costs[first, behind] - costs[before, first] - steps + turned
-        # of a short part, a row each: what the tour loses by taking it out, and gets by putting it between a place and the next
-        sizes = np.arange(1, min(MAX_PART, count - 2) + 1)
-        ends = order[sizes - 1, None]
-        saved = costs[before, first] + steps[sizes - 1] - costs[before, behind[sizes - 1]]
-        along = costs[order, first] + costs[ends, behind] - steps
-        against = costs[order, ends] + costs[first, behind] - steps + turned[sizes - 1, None]
-        moved = np.stack((along, against)) - saved[:, None]
-        moved[:, (np.arange(count) < sizes[:, None]) | (np.arange(count) == count - 1)] = TOO_FAR * count
-        best, turn = int(moved.argmin()), int(in_place[:-2].argmin())
-        if min(moved.flat[best], in_place[turn]) >= 0:
-            return []
-        if in_place[turn] <= moved.flat[best]:
-            self._order = np.concatenate((order[turn::-1], order[turn + 1 :]))
-            cuts = [before, first, order[turn], behind[turn]]
-        else:
-            way, row, at = (int(each) for each in np.unravel_index(best, moved.shape))
-            part, rest = order[: row + 1], order[row + 1 : at + 1]
-            self._order = np.concatenate((rest, part[:: -1 if way else 1], order[at + 1 :]))
-            cuts = [before, rest[0], rest[-1], first, part[-1], behind[at]]
-        return [int(place) for place in cuts]
+    def _move(self, place: int) -> tuple[int, Order] | None:
+        """Makes a move with a new arc from a place to one that is nearer than the one behind it. The part between them is turned with
+        the other end, or exchanged with a part that follows (Or's moves of parts are such exchanges). Returns by how much the tour is
+        shorter, and the places at the cuts; None if no such move makes it shorter."""
+        costs, order, at, count = self._costs, self._order, self._at, len(self._order)
+        here = at[place]
+        first = order[here + 1 - count]
+        step = costs[place][first]
+        for other in self._near[place]:
+            gain = step - costs[place][other]
+            if gain <= 0:
+                break
+            behind, last = order[at[other] + 1 - count], order[at[other] - 1]
+            size = (at[other] - here) % count
+            turned = gain + costs[other][behind] - costs[first][behind]
+            if turned > 0 and (turned := turned - self._turning(here + 1, size)) > 0:
+                self._turn(here + 1, size)
+                return turned, [place, first, other, behind]
+            gain += costs[last][other]
+            for after in self._near[last]:
+                if gain <= costs[last][after]:
+                    break
+                more = ((at[after] - here) % count or count) - size
+                end = order[at[after] - 1]
+                if more > 0 and (exchanged := gain - costs[last][after] + costs[end][after] - costs[end][first]) > 0:
+                    self._exchange(here + 1, size - 1, more)
+                    return exchanged, [place, first, last, other, end, after]
+        return None
+
+    def _turning(self, start: int, size: int) -> int:
+        """By how much a part is longer against its direction."""
+        order, count, costs = self._order, len(self._order), self._costs
+        part = [order[at - count] for at in range(start, start + size)]
+        return sum(costs[after][place] - costs[place][after] for place, after in itertools.pairwise(part))
+
+    def _turn(self, start: int, size: int) -> None:
+        """Turns the part of so many places from one on."""
+        start = self._begin_at(start, size)
+        self._order[start : start + size] = self._order[start : start + size][::-1]
+        self._place(start, size)
+
+    def _exchange(self, start: int, one: int, other: int) -> None:
+        """Exchanges two parts that follow each other. Of them and the rest of the tour it is the largest that stays where it is."""
+        rest = len(self._order) - one - other
+        if one > max(other, rest):
+            start, one, other = start + one, other, rest
+        elif other > rest:
+            start, one, other = start + one + other, rest, one
+        start = self._begin_at(start, one + other)
+        middle, end = start + one, start + one + other
+        self._order[start:end] = self._order[middle:end] + self._order[start:middle]
+        self._place(start, one + other)
+
+    def _begin_at(self, start: int, size: int) -> int:
+        """Where a part begins in `_order`, which begins with the part if that would go beyond its end."""
+        start %= len(self._order)
+        if start + size <= len(self._order):
+            return start
+        self._order = self._order[start:] + self._order[:start]
+        self._place(0, len(self._order))
+        return 0
+
+    def _place(self, start: int, size: int) -> None:
+        """Writes where the places of a part are."""
+        for at in range(start, start + size):
+            self._at[self._order[at]] = at
 
 
 def farthest_insertion(costs: Lengths) -> Order:

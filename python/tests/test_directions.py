@@ -243,12 +243,15 @@ def least_round_trip(weights: Any) -> int | None:
     return None if found == math.inf else int(found)
 
 
-def test_long_tours() -> None:
-    """Of many places the tour is the same each time, and near the best one where that is known: around a ring, whatever the order."""
+@pytest.mark.parametrize("against", [1, 3])
+def test_long_tours(against: int) -> None:
+    """Of many places the tour is the same each time, and near the best one where that is known: around a ring, whatever the order, and
+    also where each way against its direction is three times as long."""
     count, drawn_order = 60, np.random.default_rng(1).permutation(60)
     angles = drawn_order * math.tau / count
     chords = np.abs(np.exp(1j * angles)[:, None] - np.exp(1j * angles)[None, :])
-    lengths = np.rint(chords * 10_000).astype(np.int64)
+    is_against = (drawn_order[:, None] - drawn_order[None, :]) % count < count // 2
+    lengths = np.rint(chords * 10_000).astype(np.int64) * np.where(is_against, against, 1)
     orders = [tours.best_order(lengths, True, "first", "any") for _ in range(2)]
     assert orders[0] == orders[1] and orders[0][0] == 0 and sorted(orders[0]) == list(range(count))
     assert tours.tour_length(lengths, orders[0], True) == count * lengths[drawn_order == 0][0][drawn_order == 1][0]
