@@ -28,7 +28,7 @@ if TYPE_CHECKING:
     from .batch import Summer
     from .network.directions import Directions, Match, Tour
     from .network.isochrones import Shape
-    from .network.network import Bearings, Network
+    from .network.network import Bearings, Network, Snapping
     from .network.snapping import SnappedPoint
     from .routes import Routes
     from .tours import Destination, Source
@@ -338,27 +338,34 @@ class Hierarchy:
     # Places on roads
 
     def directions(
-        self, places: Any, *, radius: float = DEFAULT_RADIUS, bearings: "Bearings" = None, radiuses: Sequence[float | None] | None = None
+        self, places: Any, *, radius: float = DEFAULT_RADIUS, bearings: "Bearings" = None, radiuses: Sequence[float | None] | None = None,
+        snapping: "Snapping" = "default", waypoints: Sequence[int] | None = None, continue_straight: bool = False
     ) -> "Directions | None":
         """The Directions by two or more places in degrees in their order: a shortest path from each to the next, between the nearest
         points of roads, each of which leaves its place in either direction. None if there is no path. Needs the network.
 
         places    rows (lon, lat), a frame of pandas with the columns lon and lat, points of shapely or geopandas, or what
                   Network.points_on_roads of this network returned
-        radius, bearings, radiuses   as for Network.points_on_roads
+        radius, bearings, radiuses, snapping   as for Network.points_on_roads
+        waypoints   the places at which a leg begins or ends, numbers from 0 that rise: the first and the last place are among them; None
+                    for all
+        continue_straight   True: it goes on in its direction at each place within a road but the first and the last
 
         The service's `/route` answers the same. Raises NoSuchNode if a road isn't near enough, NetworkError for points on the roads
         of another network, and ValueError.
         """
-        points = self._points(places, radius, bearings, radiuses)
+        points = self._points(places, radius, bearings, radiuses, snapping)
         if len(points) < 2:
             raise ValueError("directions need two places or more")
         from .network import directions
 
-        found = directions.directions(self._router, self._need_network().roads, points)
+        stops = None if waypoints is None else directions.stops_of(waypoints, len(points))
+        found = directions.directions(self._router, self._need_network().roads, points, stops, continue_straight)
         return None if found is None else found._replace(network=self.network)
 
-    def alternatives(self, places: Any, count: int = 3, *, radius: float = DEFAULT_RADIUS) -> "list[Directions]":
+    def alternatives(
+        self, places: Any, count: int = 3, *, radius: float = DEFAULT_RADIUS, snapping: "Snapping" = "default"
+    ) -> "list[Directions]":
         """The Directions from one of two places in degrees to the other, given as for `directions`, and up to `count` others (0 to 3) that
         differ from it and from one another; none if there is no path. Needs the network.
 
@@ -370,7 +377,7 @@ class Hierarchy:
         Each call takes the time of two calls of `reach`, one of them `towards`, and some hundredths of a second for a million nodes.
         Raises what `directions` and `reach` do.
         """
-        points = self._points(places, radius)
+        points = self._points(places, radius, snapping=snapping)
         if len(points) != 2:
             raise ValueError("alternatives are between two places")
         from . import batch
@@ -387,13 +394,17 @@ class Hierarchy:
         return [each._replace(network=self.network) for each in found]
 
     @overload
-    def table(self, sources: Any, targets: Any = None, *, radius: float = DEFAULT_RADIUS, missing: Any = None) -> Any: ...
+    def table(
+        self, sources: Any, targets: Any = None, *, radius: float = DEFAULT_RADIUS, snapping: "Snapping" = "default", missing: Any = None
+    ) -> Any: ...
     @overload
     def table(
-        self, sources: Any, targets: Any = None, *, radius: float = DEFAULT_RADIUS, missing: Any = None, sums: Sequence[str]
+        self, sources: Any, targets: Any = None, *, radius: float = DEFAULT_RADIUS, snapping: "Snapping" = "default", missing: Any = None,
+        sums: Sequence[str]
     ) -> dict[str, Any]: ...
     def table(
-        self, sources: Any, targets: Any = None, *, radius: float = DEFAULT_RADIUS, missing: Any = None, sums: Sequence[str] = ()
+        self, sources: Any, targets: Any = None, *, radius: float = DEFAULT_RADIUS, snapping: "Snapping" = "default", missing: Any = None,
+        sums: Sequence[str] = ()
     ) -> Any:
         """The weights of shortest paths from each source to each target, places in degrees that are given as for `directions`: an array
         of int64 of shape (sources, targets), -1 if there is no path. Without targets they are the sources. If a side is a frame of
@@ -401,6 +412,7 @@ class Hierarchy:
         numbers from 0 for a side that is none. Needs the network.
 
         radius    how many metres away a road may be
+        snapping  as for Network.points_on_roads
         missing   as for `matrix`
         sums      ["metres"]: the result is a dictionary. `weight` has the table, and `metres` one of floats, of the metres along some
                   path of that weight, to the millimetre, NaN if there is no path
@@ -409,8 +421,8 @@ class Hierarchy:
         columns a place. The service's `/table` answers the same. Raises NoSuchNode if a road isn't near enough, ValueError and
         OutOfMemory.
         """
-        starts = self._points(sources, radius)
-        ends = starts if targets is None else self._points(targets, radius)
+        starts = self._points(sources, radius, snapping=snapping)
+        ends = starts if targets is None else self._points(targets, radius, snapping=snapping)
         from . import arrays
         from .network import directions
 
@@ -433,7 +445,7 @@ class Hierarchy:
 
     def tour(
         self, places: Any, *, roundtrip: bool = True, source: "Source" = "any", destination: "Destination" = "any",
-        radius: float = DEFAULT_RADIUS
+        radius: float = DEFAULT_RADIUS, snapping: "Snapping" = "default"
     ) -> "Tour | None":
         """A Tour by up to 500 places in degrees, given as for `directions`, in an order for which the weight is least, or near that; None
         if no order has a path. Needs the network.
@@ -448,7 +460,7 @@ class Hierarchy:
         """
         if source not in ("any", "first") or destination not in ("any", "last"):
             raise ValueError(f'source has to be "any" or "first", and destination "any" or "last", not {source!r} and {destination!r}')
-        points = self._points(places, radius)
+        points = self._points(places, radius, snapping=snapping)
         from . import tours
         from .network import directions
 
@@ -490,7 +502,8 @@ class Hierarchy:
     # What they share
 
     def _points(
-        self, places: Any, radius: float, bearings: "Bearings" = None, radiuses: Sequence[float | None] | None = None
+        self, places: Any, radius: float, bearings: "Bearings" = None, radiuses: Sequence[float | None] | None = None,
+        snapping: "Snapping" = "default"
     ) -> "list[SnappedPoint]":
         """The points on roads for places, which may be such points of the network already."""
         need("numpy")
@@ -498,7 +511,7 @@ class Hierarchy:
 
         network = self._need_network()
         if not (isinstance(places, Sequence) and places and all(isinstance(each, SnappedPoint) for each in places)):
-            return network.points_on_roads(places, radius, bearings=bearings, radiuses=radiuses)
+            return network.points_on_roads(places, radius, bearings=bearings, radiuses=radiuses, snapping=snapping)
         if bearings is not None or radiuses is not None:
             raise ValueError("places that are points on roads already have no bearings or radiuses")
         for number, point in enumerate(places):

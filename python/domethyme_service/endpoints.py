@@ -16,7 +16,7 @@ from .parameters import (
     ALTERNATIVES, ANNOTATIONS, BEARINGS, COMMON, CONTINUE_STRAIGHT, CONTOURS_COLORS, CONTOURS_METERS, CONTOURS_MINUTES, DENOISE,
     DESTINATION, DESTINATIONS, DEVIATIONS, EXCLUDE, FALLBACK_COORDINATE, FALLBACK_SPEED, FROM, FROM_KEY, GAPS, GENERALIZE, GEOMETRIES, NUMBER,
     OVERVIEW, POLYGONS, RADIUSES, REVERSE, ROUNDTRIP, SCALE_FACTOR, SOURCE, SOURCES, STEPS, TABLE_ANNOTATIONS, TIDY, TIMESTAMPS, TO, TO_KEY,
-    Context, Parameter, Values, any_text, unsupported
+    WAYPOINTS, Context, Parameter, Values, any_text, unsupported
 )
 from .static import PAGE_FILES
 
@@ -105,7 +105,7 @@ ENDPOINTS = (
              handlers.tile, Kind.TILE, parameters=(any_text("v"),), cost="TILE", schema="MapTile", unknown=NOWHERE),
     osrm_endpoint("route", "a route through 2 to 500 places, with a leg between each two consecutive ones, and other routes between two", handlers.places(osrm.route),
                   range(2, 501), f"{SNAPPING} + PAIR*G + (NODE*W + POINT*V)*(1 + A) + U*(2*REACH*N + 20*PAIR)", "Routes",
-                  ALTERNATIVES, CONTINUE_STRAIGHT, unsupported("waypoints"), *OF_ROUTES),
+                  ALTERNATIVES, CONTINUE_STRAIGHT, WAYPOINTS, *OF_ROUTES),
     osrm_endpoint("nearest", "the nearest points of roads", handlers.places(osrm.nearest), range(1, 2),
                   f"{SNAPPING} + PLACE*K", "Nearest", NUMBER),
     osrm_endpoint("table", "durations, distances and weights between up to 2,000 places", handlers.places(osrm_tables.table),
@@ -116,7 +116,7 @@ ENDPOINTS = (
                   ROUNDTRIP, SOURCE, DESTINATION, *OF_ROUTES),
     osrm_endpoint("match", "the way of a vehicle along roads, by 2 to 500 places where it was measured to be",
                   handlers.places(osrm_match.match), range(2, 501), "TRACE*P + PAIR*G + NODE*W + POINT*V", "Matchings",
-                  DEVIATIONS, TIMESTAMPS, GAPS, TIDY, unsupported("waypoints"), *OF_ROUTES),
+                  DEVIATIONS, TIMESTAMPS, GAPS, TIDY, WAYPOINTS, *OF_ROUTES),
     Endpoint("/isochrone", "/isochrone/v1/PROFILE/PLACE", "isochrones: what is within minutes or metres of a place, or leads to it, as GeoJSON",
              handlers.places(isochrone.answer), Kind.PLACES, range(1, 2),
              (CONTOURS_MINUTES, CONTOURS_METERS, CONTOURS_COLORS, POLYGONS, GENERALIZE, DENOISE, RADIUSES, BEARINGS,

@@ -67,7 +67,7 @@ SCHEMAS: dict[str, Schema] = {
     "Route": record({"geometry": ref("Line"), "confidence": NUMBER}, legs=array(ref("Leg")), weight_name=TEXT, **FIGURES),
     "Routes": record({"waypoints": WAYPOINTS}, code=word("Ok"), routes=array(ref("Route"))),
     "Trips": record({"waypoints": WAYPOINTS}, code=word("Ok"), trips=array(ref("Route"))),
-    "Tracepoint": {**record({"hint": TEXT}, **POINT, matchings_index=INTEGER, waypoint_index=INTEGER), "nullable": True},
+    "Tracepoint": {**record({"hint": TEXT}, **POINT, matchings_index=INTEGER, waypoint_index={**INTEGER, "nullable": True}), "nullable": True},
     "Matchings": record({"tracepoints": array(ref("Tracepoint"))}, code=word("Ok"), matchings=array(ref("Route"))),
     "Nearest": record(code=word("Ok"), waypoints=WAYPOINTS),
     "Table": record(

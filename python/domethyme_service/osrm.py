@@ -10,7 +10,7 @@ import numpy as np
 from domethyme.network.alternatives import alternatives
 from domethyme.network.bearings import BearingRange, nearest_with_bearing
 from domethyme.network.leg_geometry import LegTotals, RouteGeometry, leg_totals
-from domethyme.network.legs import Between, Leg, find_leg, straight_legs
+from domethyme.network.legs import Leg, find_legs
 from domethyme.network.snapping import RoadIndex, SnappedPoint
 
 from .costs import Meter, Work, things
@@ -21,7 +21,7 @@ from .osrm_request import Request
 from .osrm_steps import LegSteps, build_steps
 from .parameters import (
     ALTERNATIVES, ANNOTATIONS, BEARINGS, CONTINUE_STRAIGHT, GENERATE_HINTS, GEOMETRIES, NUMBER, OVERVIEW, RADIUSES, SKIP_WAYPOINTS, SNAPPING,
-    STEPS
+    STEPS, WAYPOINTS
 )
 from .queries import Queries
 
@@ -127,7 +127,8 @@ def waypoints(request: Request, points: Sequence[SnappedPoint], **lists: Iterabl
 
 
 def route(engine: Engine, request: Request) -> str:
-    """The route by all places in order, a leg between each two. Raises RequestError if a leg has no path."""
+    """The route by all places in order, a leg from each, or of those in `waypoints` from each of these, to the next. Raises RequestError
+    if there is no path."""
     points = snap_places(engine, request)
     return route_by(engine, request, points, "routes", waypoints(request, points, waypoints=range(len(points))), request.values[ALTERNATIVES])
 
@@ -137,35 +138,31 @@ def route_by(
 ) -> str:
     """The answer whose member of this name has the route by some points in order, and between two up to so many others if the service
     searches for them; and more members. Raises RequestError if a leg has no path."""
-    queries, is_straight = engine.queries, request.values.get(CONTINUE_STRAIGHT) == "true"
-    legs = (straight_legs if is_straight and len(points) > 2 else legs_of)(queries.between, engine.roads, points)
+    queries, stops = engine.queries, request.values.get(WAYPOINTS)
+    legs = find_legs(queries.between, engine.roads, points, request.values.get(CONTINUE_STRAIGHT) == "true")
     if isinstance(legs, int):
         raise RequestError(400, "NoRoute", f"there is no route from place {legs} to place {legs + 1}")
     count, budget = min(others, queries.alternatives) if len(legs) == 1 else 0, Budget(engine.meter, things(request.values))
     found = alternatives(engine.roads, points[0], points[1], legs[0], queries.between, queries.reach, count) if count else []
-    parts = [part for each in (legs, *([leg] for leg in found)) for part in (",", *route_parts(engine, request, points, each, budget, {}))]
+    every = [Way(points, each, stops or range(len(points))) for each in (legs, *([leg] for leg in found))]
+    parts = [part for way in every for part in (",", *route_parts(engine, request, way, budget, {}))]
     return "".join([f'{{"code":"Ok","{name}":[', *parts[1:], "]," if more else "]", join_object(more)[1:]])
 
 
-def legs_of(ask: Between, roads: RoadIndex, points: Sequence[SnappedPoint]) -> list[Leg] | int:
-    """The leg from each point to the next; or the number of the first from which there is none."""
-    legs = list[Leg]()
-    for start, end in itertools.pairwise(points):
-        leg = find_leg(ask, roads, start, end)
-        if leg is None:
-            return len(legs)
-        legs.append(leg)
-    return legs
+class Way(NamedTuple):
+    """A route: the parts between points, one more than parts, and the stops, the numbers of those between which its legs lead."""
+
+    points: Sequence[SnappedPoint]
+    parts: Sequence[Leg]
+    stops: Sequence[int]
 
 
-def route_parts(
-    engine: Engine, request: Request, points: Sequence[SnappedPoint], legs: Sequence[Leg], budget: Budget, more: dict[str, str]
-) -> list[str]:
-    """The parts of the text of a route along legs between points, with more members. (The legs may be long: they are copied once.)"""
+def route_parts(engine: Engine, request: Request, way: Way, budget: Budget, more: dict[str, str]) -> list[str]:
+    """The parts of the text of a route, with more members. (Its legs may be long: they are copied once.)"""
     roads = engine.roads
-    totals = [leg_totals(roads, leg) for leg in legs]
+    totals = [leg_totals(roads, way.parts[first:last]) for first, last in itertools.pairwise(way.stops)]
     weight, duration, distance = (round(sum(value or 0.0 for value in column), 3) for column in zip(*totals))
-    geometry = RouteGeometry(roads, legs, points) if needs_points(request) else None
+    geometry = RouteGeometry(roads, way.parts, way.points, way.stops) if needs_points(request) else None
     if geometry is not None:
         budget.spend(geometry.point_count)
     whole = {
@@ -176,7 +173,7 @@ def route_parts(
         lines = geometry.lines()
         line = join_lines(simplify_lines(lines, budget) if request.values[OVERVIEW] == "simplified" else lines)
         whole["geometry"] = line_json(line, request.values[GEOMETRIES])
-    return ['{"legs":[', ",".join(leg_texts(request, points, totals, geometry)), f"],{join_object(whole)[1:]}"]
+    return ['{"legs":[', ",".join(leg_texts(request, totals, geometry)), f"],{join_object(whole)[1:]}"]
 
 
 def needs_points(request: Request) -> bool:
@@ -185,14 +182,12 @@ def needs_points(request: Request) -> bool:
     return values[OVERVIEW] != "false" or values[STEPS] == "true" or bool(values[ANNOTATIONS])
 
 
-def leg_texts(
-    request: Request, points: Sequence[SnappedPoint], totals: Sequence[LegTotals], geometry: RouteGeometry | None
-) -> Iterator[str]:
+def leg_texts(request: Request, totals: Sequence[LegTotals], geometry: RouteGeometry | None) -> Iterator[str]:
     """The OSRM legs of a route, with their totals."""
     steps: Iterable[LegSteps] = itertools.repeat(LegSteps("[]", ""))
     annotations: Iterable[str] = itertools.repeat("")
     if geometry is not None and request.values[STEPS] == "true":
-        steps = build_steps(geometry, points, request.values[GEOMETRIES])
+        steps = build_steps(geometry, request.values[GEOMETRIES])
     if geometry is not None and request.values[ANNOTATIONS]:
         annotations = (f',"annotation":{text}' for text in annotations_json(geometry, request.values[ANNOTATIONS]))
     for some, annotation, (weight, duration, distance) in zip(steps, annotations, totals):

@@ -170,7 +170,7 @@ def annotations_json(geometry: RouteGeometry, names: list[str]) -> Iterator[str]
         else:
             values = of_part[segments.parts] * (1.0 if name == "speed" else segments.shares)
             texts[name] = leg_arrays(decimal_texts(values, DECIMALS), segments.begins)
-    return (join_object({name: texts[name][leg] for name in names}) for leg in range(len(geometry.legs)))
+    return (join_object({name: texts[name][leg] for name in names}) for leg in range(len(geometry.ends) - 1))
 
 
 def leg_arrays(texts: Texts, begins: Ints) -> list[str]:

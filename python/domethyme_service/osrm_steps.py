@@ -10,7 +10,6 @@ from numpy.typing import NDArray
 from domethyme.network.columns import TEXTS
 from domethyme.network.groups import Ints
 from domethyme.network.leg_geometry import RouteGeometry, microdegrees
-from domethyme.network.snapping import SnappedPoint
 
 from .json_text import Texts, join_array, point_texts, string_json
 from .osrm_geometry import line_string, polylines_json
@@ -78,6 +77,9 @@ class StepBuilder:
         turns = (self.first_bearings[1:] - self.last_bearings[:-1] + 180) % 360 - 180
         degrees = self.roads.degree[self.roads.arrays.arc_from[geometry.arcs[1:]]]
         is_turn = (degrees >= MIN_JUNCTION_DEGREE) & (np.abs(turns) > MIN_TURN_DEGREES)
+        # (at a point within a road a leg goes on, or turns round)
+        is_along = self.roads.arrays.arc_along[geometry.arcs]
+        is_turn[geometry.joints - 1] = is_along[geometry.joints] != is_along[geometry.joints - 1]
         is_new = np.append(True, (names[1:] != names[:-1]) | is_turn | (self.is_on_ferry[1:] != self.is_on_ferry[:-1]))
         if is_round.any():  # (a step begins before a roundabout, but not on it or after it)
             is_free = np.append(True, ~is_round[:-1])
@@ -141,13 +143,13 @@ def step_json(
     )
 
 
-def build_steps(geometry: RouteGeometry, points: Sequence[SnappedPoint], format_: str) -> list[LegSteps]:
-    """The steps of each leg between points, with geometries as `format_`."""
-    ends, numbers = microdegrees(points), np.arange(len(points))
+def build_steps(geometry: RouteGeometry, format_: str) -> list[LegSteps]:
+    """The steps of each leg, with geometries as `format_`."""
+    ends, numbers = microdegrees(geometry.ends), np.arange(len(geometry.ends))
     of_places = point_texts(ends, 6)
     places, at_places = of_places.rows(numbers), shapes_of(ends, of_places, numbers, numbers + 1, format_)
     nothing = (0.0, 0.0 if geometry.roads.has_seconds else None, 0.0)
-    texts, roads, bounds, last_bearings = list[str](), list[RoadTexts](), [0] * (len(geometry.legs) + 1), list[int]()
+    texts, roads, bounds, last_bearings = list[str](), list[RoadTexts](), [0] * len(ends), list[int]()
     if len(geometry.arcs):
         builder = StepBuilder(geometry)
         firsts, behind = geometry.slices(builder.begins, builder.ends)

@@ -204,6 +204,15 @@ def parse_indices(text: str, context: Context) -> list[int]:
     return [int(word) for word in words]
 
 
+def parse_waypoints(text: str, context: Context) -> list[int] | None:
+    """The numbers of the places at which legs begin or end, once each in order; None for all."""
+    if not text:
+        return None
+    found = parse_indices(text, context)
+    require(text != "all" and found[0] == 0 and found[-1] == context.places - 1)
+    return sorted(set(found))
+
+
 def parse_node(text: object, name: str, nodes: int) -> int:
     """The node of a text or of a JSON number, from 1 to `nodes`. Raises RequestError."""
     if text is None:
@@ -253,6 +262,10 @@ ALTERNATIVES = Parameter(
 REVERSE = choice("reverse", "false", "true", condition=" if the service has `--towards`: what leads to the place")
 ROUNDTRIP, SOURCE = choice("roundtrip", "true", "false"), choice("source", "any", "first")
 DESTINATION = choice("destination", "any", "last")
+WAYPOINTS = Parameter(
+    "waypoints", "numbers of places, from 0, at which legs begin and end, the first place and the last at both ends; all without it",
+    parse_waypoints, "are numbers of places, from 0, of which the first is 0 and the last that of the last place", "",
+)
 CONTINUE_STRAIGHT = choice("continue_straight", "default", "false", "true")
 DEVIATIONS = Parameter(
     "radiuses",

@@ -95,6 +95,6 @@ def routes_on_roads(roads: RoadIndex, replies: str, path: str, trips: Sequence[T
                 leg = EMPTY_LEG if is_same_node(*ends) else choose_leg(roads, *ends, route)
             except (DomethymeError, ValueError) as error:
                 raise ToolError(f"{error}: is it of another network?", replies, row) from error
-            yield RoadRoute() if leg is None else route_along(roads, *ends, leg)
+            yield RoadRoute() if leg is None else route_along(roads, ends, [leg])
         if (more := next(snapped, None)) is not None:
             raise ToolError("is a row more than there are replies", path, more[0][0])

@@ -250,6 +250,7 @@ WRONG = (
 )
 UNSUPPORTED = coded("", NotImplemented=["toll", "nan", "0;1", "\0"])
 EXCLUDE = coded("", NotImplemented=["toll", "motorway,ferry"], InvalidValue=["nan", "0;1", "\0", "toll,toll", "toll,", "Toll"])
+WAYPOINTS = invalid(["", "0;1", "0;1;0;1", "0;0;1"], "0", "1", "1;0", "0,1", "0;1;", ";0;1", "0;99;1", "-1;1", "all", "0;x;1", "0;1 ", "\0")
 LIMITS = ("5,3", "5,5", "0", "1,2,3,4,5", "5;6", "1,,2", "1000001", "0.00001,0.000011")
 KNOWN: dict[str, dict[str, dict[str, Sequence[str]]]] = {
     "osrm": {
@@ -259,7 +260,7 @@ KNOWN: dict[str, dict[str, dict[str, Sequence[str]]]] = {
         "format": coded("json", NotImplemented=["flatbuffers"], InvalidValue=["x", "json5", ""]),
     },
     "route": {
-        "alternatives": invalid(["true", "false", "3"], "1000", "1.5", "maybe", *WRONG), "waypoints": UNSUPPORTED, "steps": YES_NO,
+        "alternatives": invalid(["true", "false", "3"], "1000", "1.5", "maybe", *WRONG), "waypoints": WAYPOINTS, "steps": YES_NO,
         "overview": invalid(["simplified", "full", "false"], "by_legs", "True", "", "simplified,full", "full "),
         "geometries": invalid(["polyline", "polyline6", "geojson"], "wkt", "polyline7", "geojson6", ""),
         "annotations": YES_NO,
@@ -273,7 +274,7 @@ KNOWN: dict[str, dict[str, dict[str, Sequence[str]]]] = {
         "timestamps": coded("0;1", "5;5", InvalidQuery=["1", "1;2;3"], InvalidValue=[
             "1;0", "1;", ";", "1;x", "-1;2", "1.5;2", "1,2", "", "9999999999999;9999999999999"
         ]),
-        "gaps": invalid(["split", "ignore"], "Split", "", "true"), "tidy": YES_NO, "waypoints": UNSUPPORTED, "steps": YES_NO,
+        "gaps": invalid(["split", "ignore"], "Split", "", "true"), "tidy": YES_NO, "waypoints": WAYPOINTS, "steps": YES_NO,
         "overview": invalid(["simplified", "full", "false"], "x", ""), "annotations": YES_NO,
         "geometries": invalid(["polyline", "polyline6", "geojson"], "wkt"),
         "radiuses": coded("5;5", "200;40", ";20", InvalidQuery=["5", "5;5;5"], InvalidValue=["0;5", "201;5", "unlimited;5", "5;nan", "-1;5"]),
@@ -328,6 +329,11 @@ def texts_of(service: str, count: int, directions: Sequence[int], is_wrong: bool
         )
     if service in ("route", "trip", "match"):
         found["annotations"] = st.one_of(some.map(lambda words: of_words(words, ANNOTATIONS)), found["annotations"])
+    if service in ("route", "match"):
+        inner = st.lists(st.integers(0, count - 1), max_size=3)
+        stops = inner.map(lambda some: (";".join(map(str, (0, *some, count - 1))), ""))
+        wrong = [(text, code) for text, code in ((text, code) for code, texts in WAYPOINTS.items() for text in texts) if code]
+        found["waypoints"] = st.one_of(stops, st.sampled_from(wrong)) if is_wrong else stops
     if service == "route":
         found["continue_straight"] = any_of(invalid(["default", "false", "true", "true"], "x", "", "True"))
     if service == "table":

@@ -14,7 +14,7 @@ from comparing import difference, is_same_line
 from draws import drawn, networks, places, write_network
 from hypothesis import given
 from hypothesis import strategies as st
-from model.answers import figures, leg_line
+from model.answers import Refused, figures, leg_line, straight_legs
 from model.network import Ambiguous, Network
 from reach_case import Road, prepared
 from tool_case import VILLAGE, ToolCase
@@ -61,7 +61,10 @@ def test_as_the_model(data: Any) -> None:
             wanted = [figures(made.roads, leg)["distance"].value for leg in legs[start, end]]
             assert any(abs(metres - each) < 0.01 for each in wanted) if wanted else math.isnan(metres)
         if len(spots) > 1:
-            check_directions(made.roads, hierarchy.directions(spots, bearings=bearings, radiuses=radiuses), points, legs)
+            stops = sorted({0, *data.draw(st.sets(st.integers(0, len(spots) - 1))), len(spots) - 1})
+            found = hierarchy.directions(spots, bearings=bearings, radiuses=radiuses, waypoints=stops)
+            check_directions(made.roads, found, points, legs, stops)
+            check_straight(made.roads, hierarchy.directions(snapped, continue_straight=True), points)
         for setting in SETTINGS:
             check_tour(hierarchy.tour(snapped, **dict(zip(("roundtrip", "source", "destination"), setting))), weights, *setting)
 
@@ -164,22 +167,24 @@ def least_weight(legs: Any) -> int | None:
     return sum(part[3] for part in legs[0]) if legs else None
 
 
-def check_directions(roads: Any, found: Any, points: Any, legs: Any) -> None:
-    """The route has the figures and the line of some shortest path of each leg."""
+def check_directions(roads: Any, found: Any, points: Any, legs: Any, stops: list[int]) -> None:
+    """The route has the figures and the line of some shortest path of each leg, which is one way or several from stop to stop."""
     options = [legs[pair] for pair in itertools.pairwise(points)]
     if not all(options):
         assert found is None
         return
     assert found.weight == sum(map(least_weight, options))
-    for leg, pair, choices in zip(found.legs, itertools.pairwise(points), options, strict=True):
+    for leg, (first, last) in zip(found.legs, itertools.pairwise(stops), strict=True):
+        if math.prod(map(len, options[first:last])) > 200:
+            continue
         fits = [
-            choice for choice in choices
-            if not difference({"seconds": leg.seconds, "metres": leg.metres}, in_seconds(figures(roads, choice)))
-            and is_same_line(leg.line, leg_line(roads, pair[0], choice, pair[1]), 1.5e-6)
+            whole for choice in itertools.product(*options[first:last]) for whole in [[*itertools.chain(*choice)]]
+            if not difference({"seconds": leg.seconds, "metres": leg.metres}, in_seconds(figures(roads, *choice)))
+            and is_same_line(leg.line, leg_line(roads, points[first], whole, points[last]), 1.5e-6)
         ]
-        assert fits, (leg, choices)
+        assert fits, (leg, options[first:last])
         assert [step["name"] for step in leg.steps] in [
-            [name for name, _ in itertools.groupby(roads.arcs[arc].name for arc, *_ in choice)] for choice in fits
+            [name for name, _ in itertools.groupby(roads.arcs[arc].name for arc, *_ in whole)] for whole in fits
         ]
     one_each = [choices[0] for choices in options]
     if all(len(choices) == 1 for choices in options):
@@ -189,6 +194,18 @@ def check_directions(roads: Any, found: Any, points: Any, legs: Any) -> None:
     if feature["geometry"]["type"] == "LineString":
         assert feature["geometry"]["coordinates"] == [list(point) for point in found.line]
     assert feature["properties"]["weight"] == found.weight and found.steps == [step for leg in found.legs for step in leg.steps]
+
+
+def check_straight(roads: Any, found: Any, points: Any) -> None:
+    """The route goes on in its direction at each place within a road but the first and the last, and weighs least of all that do."""
+    try:
+        legs, *_ = straight_legs(roads, points)
+    except Ambiguous:
+        return
+    except Refused:
+        assert found is None
+        return
+    assert found.weight == sum(part[3] for leg in legs for part in leg)
 
 
 def in_seconds(figures: Any) -> dict[str, Any]:
@@ -284,6 +301,10 @@ class FramesTests(ToolCase):
             hierarchy.directions(places, bearings=[(0, 10)])
         with pytest.raises(ValueError, match="a bearing is"):
             hierarchy.directions(places, bearings=[(400, 10), None, None])
+        for stops in ([], [0, 1], [1, 2], [0, 2, 1, 2], [0, 1, 1, 2], [0, 3]):
+            with pytest.raises(ValueError, match="waypoints have to be numbers of places that rise from 0 to the last, 2"):
+                hierarchy.directions(places, waypoints=stops)
+        assert [leg.weight for leg in hierarchy.directions(places, waypoints=[0, 2]).legs] == [hierarchy.directions(places).weight]
         with pytest.raises(ValueError, match="source has to be"):
             hierarchy.tour(places, source="last")
         with pytest.raises(ValueError, match="1 to 500 places"):

@@ -151,7 +151,7 @@ class TestRules:
             assert (leg is None) == (answer["leg"] is None)
             if leg is None:
                 continue
-            wanted, ours = route_along(roads, *points, leg), answer["leg"]
+            wanted, ours = route_along(roads, points, [leg]), answer["leg"]
             assert ours["length"] == wanted.weight
             assert ours["duration"] == pytest.approx(wanted.seconds, abs=0.002) if roads.has_seconds else ours["duration"] is None
             assert ours["distance"] == pytest.approx(wanted.metres, abs=0.02)
@@ -261,7 +261,7 @@ class TestInABrowser:
         roads, router = RoadIndex(str(village / "n")), Router((village / "n.rch").read_bytes(), "n")
         spots = browser.value("main_js.then(({places}) => places.all)")
         points = [roads.nearest(tuple(spot))[0] for spot in spots]
-        route = route_along(roads, *points, find_leg(functools.partial(ask_router, router), roads, *points))
+        route = route_along(roads, points, [find_leg(functools.partial(ask_router, router), roads, *points)])
         [answer] = asked_routes(browser, [spots])
         assert answer["routes"][0]["legs"][0]["length"] == route.weight
         assert [step["name"] for step in answer["routes"][0]["legs"][0]["steps"]] == [step["name"] for step in route.steps] == ["High Street"]

@@ -162,6 +162,9 @@ GOING_ON = (
         "/$many/v1/$text/$many_places", "/route/v1/$text/$hundred_places;$hundred_places;$hundred_places;$hundred_places;$hundred_places")),
     Kind(400, "TooBig", "more cells than there may be", (
         f"/table/v1/$text/{';'.join(['$hundred_places'] * 10)}?annotations=duration,distance", f"/table/v1/$text/{';'.join(['$hundred_places'] * 10)}")),
+    Kind(400, "InvalidValue", "places of legs that are none", tuple(
+        f"/{service}/v1/$text/$place;$place;$place?waypoints={wrong}" for service in ("route", "match") for wrong in (
+            "$bad", "0", "$few", "2;0", "0;1;2;3", "0,2", "0;2;", ";0;2", "0;;2", "0;$few$few;2", "1;2", "0;1", "all", "0;$bad;2"))),
     Kind(400, "InvalidVersion", "another version", tuple(f"/$many/{version}/$text/$places" for version in (
         "", "v0", "v2", "v5", "V1", "v1.0", "v11", "1", "v", "v%31", "v1%00", "v-1", "latest", "v2$few$few"))),
     Kind(400, "InvalidUrl", "a path that ends early", (

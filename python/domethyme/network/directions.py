@@ -5,6 +5,7 @@ library's, which is proved; the split and the choice of the road are tested. Met
 """
 import functools
 import itertools
+import operator
 from collections.abc import Sequence
 from typing import TYPE_CHECKING, Any, NamedTuple
 
@@ -20,7 +21,7 @@ from .geo import Point, to_geojson_geometry
 from .groups import Ints
 from .leg_geometry import MICRODEGREES, RouteGeometry, leg_totals
 from .leg_tables import table_rows, weight_rows
-from .legs import Leg, SnapEnds, find_leg
+from .legs import Leg, SnapEnds, find_leg, find_legs
 from .matching import Matched, Matcher, Trace
 from .parallel import differs_from_previous
 from .snapping import NAME, RoadIndex, SnappedPoint
@@ -54,7 +55,7 @@ class Directions(NamedTuple):
     weight    the sum of the legs' weights, in the unit of the graph's weights: each leg is a shortest path
     seconds   None where the network has none
     metres    along the route
-    legs      a RoadRoute from each place to the next
+    legs      a RoadRoute from each place, or of those that were chosen from each of these, to the next
     places    the points on roads that stand for the places
     attribution   what the map asks pages to show, "" for nothing
     network       on which it is drawn in a notebook, or None
@@ -166,15 +167,13 @@ def match(router: Router, roads: RoadIndex, trace: Trace, is_split: bool, is_tid
     return Match([Matching(roads, way) for way in found], places)
 
 
-def directions(router: Router, roads: RoadIndex, points: Sequence[SnappedPoint]) -> Directions | None:
-    """The route by some points in their order, None where a leg has no path. Raises NetworkError."""
-    legs = list[Leg]()
-    for start, end in itertools.pairwise(points):
-        leg = find_leg(functools.partial(ask_router, router), roads, start, end)
-        if leg is None:
-            return None
-        legs.append(leg)
-    return directions_along(roads, points, legs)
+def directions(
+    router: Router, roads: RoadIndex, points: Sequence[SnappedPoint], stops: Sequence[int] | None = None, is_straight: bool = False
+) -> Directions | None:
+    """The route by some points in their order, None where a leg has no path; stops as RouteGeometry has them, and `is_straight` as
+    `find_legs`. Raises NetworkError."""
+    legs = find_legs(functools.partial(ask_router, router), roads, points, is_straight)
+    return None if isinstance(legs, int) else directions_along(roads, points, legs, stops)
 
 
 def alternatives(
@@ -189,9 +188,20 @@ def alternatives(
     return [directions_along(roads, [start, end], [leg]) for leg in legs]
 
 
-def directions_along(roads: RoadIndex, points: Sequence[SnappedPoint], found: Sequence[Leg]) -> Directions:
-    """The route along legs from each point to the next."""
-    legs = [route_along(roads, start, end, leg) for (start, end), leg in zip(itertools.pairwise(points), found, strict=True)]
+def stops_of(waypoints: Sequence[int], count: int) -> list[int]:
+    """The stops of a route by so many places, of those that were chosen. Raises ValueError where the first and the last aren't among them."""
+    stops = [operator.index(each) for each in waypoints]
+    if stops[:1] != [0] or stops[-1:] != [count - 1] or any(before >= behind for before, behind in itertools.pairwise(stops)):
+        raise ValueError(f"waypoints have to be numbers of places that rise from 0 to the last, {count - 1}, and are {stops}")
+    return stops
+
+
+def directions_along(
+    roads: RoadIndex, points: Sequence[SnappedPoint], parts: Sequence[Leg], stops: Sequence[int] | None = None
+) -> Directions:
+    """The route along parts from each point to the next; stops as RouteGeometry has them."""
+    ends = itertools.pairwise(range(len(points)) if stops is None else stops)
+    legs = [route_along(roads, points[first : last + 1], parts[first:last]) for first, last in ends]
     weight, metres = sum(leg.weight or 0 for leg in legs), round(sum(leg.metres or 0.0 for leg in legs), 2)
     seconds = round(sum(leg.seconds or 0.0 for leg in legs), 3) if roads.has_seconds else None
     return Directions(weight, seconds, metres, legs, list(points), roads.texts[0])
@@ -222,11 +232,11 @@ def weights_and_millimetres(
     return found, sums
 
 
-def route_along(roads: RoadIndex, start: SnappedPoint, end: SnappedPoint, leg: Leg) -> RoadRoute:
-    """The route along a leg between two points."""
-    geometry = RouteGeometry(roads, [leg], [start, end])
-    _, seconds, metres = leg_totals(roads, leg)
-    texts = roads.arrays.arc_texts(leg.arcs, NAME)
+def route_along(roads: RoadIndex, points: Sequence[SnappedPoint], legs: Sequence[Leg]) -> RoadRoute:
+    """The route along legs from each point to the next, as one."""
+    geometry = RouteGeometry(roads, legs, points, [0, len(legs)])
+    _, seconds, metres = leg_totals(roads, legs)
+    texts = roads.arrays.arc_texts(geometry.arcs, NAME)
     begins = np.flatnonzero(differs_from_previous(texts))[: len(texts)]
     parts = geometry.totals(begins, np.append(begins[1:], len(texts))[: len(begins)]).rows
     steps = [
@@ -234,4 +244,4 @@ def route_along(roads: RoadIndex, start: SnappedPoint, end: SnappedPoint, leg: L
         for name, (_, part_seconds, part_metres) in zip(texts[begins].tolist(), parts)
     ]
     line = [(lon, lat) for lon, lat in (geometry.lines()[0] / MICRODEGREES).tolist()]
-    return RoadRoute(leg.weight, len(leg.arcs), seconds, metres, steps, line)
+    return RoadRoute(sum(leg.weight for leg in legs), len(geometry.arcs), seconds, metres, steps, line)

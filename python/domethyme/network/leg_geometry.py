@@ -54,21 +54,29 @@ class Segments(NamedTuple):
 class RouteGeometry:
     """The legs of a route. What is computed of their points is computed where it is asked for.
 
+    ends     the points between which the legs lead, one more than legs
     arcs     the arcs of all legs; those of leg k are arcs[first[k]:first[k + 1]], none if it stays at its point
     first    as that says
     """
 
-    def __init__(self, roads: RoadIndex, legs: Sequence[Leg], ends: Sequence[SnappedPoint]) -> None:
-        """`ends` are the points between which the legs lead, one more than legs."""
-        self.roads, self.legs, self._ends = roads, legs, ends
-        self.arcs: Ints = np.concatenate([leg.arcs for leg in legs])
-        self.first = offsets(np.array([len(leg.arcs) for leg in legs]))
-        self._driven = np.flatnonzero(np.diff(self.first))
+    def __init__(
+        self, roads: RoadIndex, parts: Sequence[Leg], points: Sequence[SnappedPoint], stops: Sequence[int] | None = None
+    ) -> None:
+        """`points` are those between which the parts lead, one more than parts. Each part is a leg, or, with `stops`, all from one of
+        these points, by their numbers, to the next; of these the first and the last are the route's."""
+        self.roads, self._parts, self._points = roads, parts, points
+        self._stops = list(range(len(points))) if stops is None else stops
+        self.ends = [points[stop] for stop in self._stops]
+        self.arcs: Ints = np.concatenate([part.arcs for part in parts])
+        self._part_first = offsets(np.array([len(part.arcs) for part in parts]))
+        self.first = self._part_first[self._stops]
+        # (the parts, and the legs, that have arcs)
+        self._driven, self._driven_legs = np.flatnonzero(np.diff(self._part_first)), np.flatnonzero(np.diff(self.first))
 
     @functools.cached_property
     def _weights(self) -> Ints:
         """The weight before each arc, and in total."""
-        return offsets(np.concatenate([leg.weights for leg in self.legs]))
+        return offsets(np.concatenate([part.weights for part in self._parts]))
 
     @functools.cached_property
     def _milliseconds(self) -> Ints:
@@ -80,11 +88,11 @@ class RouteGeometry:
         return offsets(self._driven_thousandths(self.roads.arrays.arc_metres))
 
     def _driven_thousandths(self, column: Column) -> Ints:
-        """What is driven of each arc: of a leg's first and last one there may be a part."""
-        found, legs = thousandths(column[self.arcs]), [self.legs[number] for number in self._driven.tolist()]
-        firsts, lasts = self.first[self._driven], self.first[self._driven + 1] - 1
-        before = np.rint(found[firsts] * [leg.begin for leg in legs]).astype(np.int64)
-        behind = found[lasts] - np.rint(found[lasts] * [leg.end for leg in legs]).astype(np.int64)
+        """What is driven of each arc: not all, maybe, of the first and the last one of a part."""
+        found, parts = thousandths(column[self.arcs]), [self._parts[number] for number in self._driven.tolist()]
+        firsts, lasts = self._part_first[self._driven], self._part_first[self._driven + 1] - 1
+        before = np.rint(found[firsts] * [part.begin for part in parts]).astype(np.int64)
+        behind = found[lasts] - np.rint(found[lasts] * [part.end for part in parts]).astype(np.int64)
         found[firsts] -= before
         found[lasts] -= behind
         return found
@@ -118,14 +126,20 @@ class RouteGeometry:
         return offsets(counts), np.concatenate([*pieces, points[done:]])
 
     def _driven_parts(self) -> Iterator[tuple[int, float, float]]:
-        """The arcs of which a leg has only a part, and the shares between which that is."""
+        """The arcs that aren't driven whole, and the shares between which they are."""
         for number in self._driven.tolist():
-            leg, (first, behind) = self.legs[number], self.first[number : number + 2].tolist()
+            part, (first, behind) = self._parts[number], self._part_first[number : number + 2].tolist()
             is_one = behind - first == 1
-            if leg.begin != 0.0 or is_one and leg.end != 1.0:
-                yield first, leg.begin, leg.end if is_one else 1.0
-            if leg.end != 1.0 and not is_one:
-                yield behind - 1, 0.0, leg.end
+            if part.begin != 0.0 or is_one and part.end != 1.0:
+                yield first, part.begin, part.end if is_one else 1.0
+            if part.end != 1.0 and not is_one:
+                yield behind - 1, 0.0, part.end
+
+    @functools.cached_property
+    def joints(self) -> Ints:
+        """The arcs with which a leg goes on at a point within a road."""
+        numbers = [number for number in self._driven.tolist() if self._parts[number].begin != 0.0]
+        return np.setdiff1d(self._part_first[numbers], self.first)
 
     @functools.cached_property
     def _shown(self) -> tuple[Ints, Ints]:
@@ -133,11 +147,11 @@ class RouteGeometry:
         has its two snapped points as its ends, and no repeated points."""
         begins, points = self._lines
         shown = (points + UNITS // MICRODEGREES // 2) // (UNITS // MICRODEGREES)
-        firsts, lasts = begins[self.first[self._driven]], begins[self.first[self._driven + 1]] - 1
-        ends = microdegrees(self._ends)
-        shown[firsts], shown[lasts] = ends[self._driven], ends[self._driven + 1]
+        firsts, lasts = begins[self._part_first[self._driven]], begins[self._part_first[self._driven + 1]] - 1
+        places = microdegrees(self._points)
+        shown[firsts], shown[lasts] = places[self._driven], places[self._driven + 1]
         is_new = differs_from_previous(shown[:, 0]) | differs_from_previous(shown[:, 1])
-        is_new[firsts] = True
+        is_new[begins[self.first[self._driven_legs]]] = True
         return shown[is_new], is_new.cumsum() - 1
 
     @functools.cached_property
@@ -158,14 +172,14 @@ class RouteGeometry:
     @functools.cached_property
     def line_begins(self) -> Ints:
         """Where the line of each leg begins in `shown`, and last where all end; a leg that stays at its point has none."""
-        counts = np.zeros(len(self.legs), np.int64)
-        begins, ends = self.slices(self.first[self._driven], self.first[self._driven + 1])
-        counts[self._driven] = ends - begins
+        counts = np.zeros(len(self.ends) - 1, np.int64)
+        begins, ends = self.slices(self.first[self._driven_legs], self.first[self._driven_legs + 1])
+        counts[self._driven_legs] = ends - begins
         return offsets(counts)
 
     def lines(self) -> list[Ints]:
         """The line of each leg, in microdegrees; at least two points."""
-        ends, begins = microdegrees(self._ends), self.line_begins.tolist()
+        ends, begins = microdegrees(self.ends), self.line_begins.tolist()
         lines = [self.shown[low:high] for low, high in itertools.pairwise(begins)]
         return [line if len(line) > 1 else ends[leg : leg + 2] for leg, line in enumerate(lines)]
 
@@ -173,7 +187,7 @@ class RouteGeometry:
         """The segments of the lines that are shown. An arc that is shown as one point adds to the part before it, the first ones of a
         leg to its first part."""
         begins, ends = self._shown_arcs
-        legs = np.repeat(np.arange(len(self.legs)), np.diff(self.first))
+        legs = np.repeat(np.arange(len(self.ends) - 1), np.diff(self.first))
         firsts = np.flatnonzero(ends > begins)
         is_leg_first, is_leg_last = (differs_from_previous(legs[firsts][::way])[::way] for way in (1, -1))
         behind = self.first[legs[firsts] + 1]
@@ -186,7 +200,7 @@ class RouteGeometry:
         sums = np.bincount(parts, metres, len(firsts))
         metres[sums[parts] == 0] = 1.0
         shares = metres / np.where(sums == 0, last - first, sums)[parts]
-        counts = np.bincount(legs[firsts], last - first, len(self.legs)).astype(np.int64)
+        counts = np.bincount(legs[firsts], last - first, len(self.ends) - 1).astype(np.int64)
         return Segments(offsets(counts), parts, shares, self.totals(part_begins, part_ends))
 
     def _segment_metres(self) -> Floats:
@@ -203,10 +217,10 @@ class RouteGeometry:
     def shown_nodes(self) -> tuple[Ints, Ints]:
         """The nodes, counted from 1, at points that are shown, and the indices of these; the first of those of one point is its own."""
         arrays, (first, last) = self.roads.arrays, self._shown_arcs
-        legs = [self.legs[number] for number in self._driven]
+        parts = [self._parts[number] for number in self._driven]
         is_at_node = np.ones(len(self.arcs), dtype=bool)
-        is_at_node[self.first[self._driven]] = [leg.begin == 0.0 for leg in legs]
-        ended = self.first[self._driven + 1][[leg.end == 1.0 for leg in legs]] - 1
+        is_at_node[self._part_first[self._driven]] = [part.begin == 0.0 for part in parts]
+        ended = self._part_first[self._driven + 1][[part.end == 1.0 for part in parts]] - 1
         nodes = np.concatenate((arrays.arc_from[self.arcs[is_at_node]], arrays.arc_to[self.arcs[ended]]))
         return nodes, np.concatenate((first[is_at_node], last[ended]))
 
@@ -228,19 +242,19 @@ class RouteGeometry:
         return found[: len(self.arcs)], found[len(self.arcs) :]
 
 
-def leg_totals(roads: RoadIndex, leg: Leg) -> LegTotals:
-    """The totals of a leg. Seconds or metres follow from the weight if weights are these."""
-    weight = leg.weight / UNITS_PER_OUTPUT_UNIT.get(roads.unit, 1)
-    metres = weight if roads.unit == "distance" else driven_sum(roads.arrays.arc_metres, leg)
+def leg_totals(roads: RoadIndex, parts: Sequence[Leg]) -> LegTotals:
+    """The totals of a leg's parts together. Seconds or metres follow from the weight if weights are these."""
+    weight = sum(part.weight for part in parts) / UNITS_PER_OUTPUT_UNIT.get(roads.unit, 1)
+    metres = weight if roads.unit == "distance" else driven_sum(roads.arrays.arc_metres, parts)
     if not roads.has_seconds:
         return weight, None, round(metres, 2)
-    seconds = weight if roads.unit == "duration" else driven_sum(roads.arrays.arc_seconds, leg)
+    seconds = weight if roads.unit == "duration" else driven_sum(roads.arrays.arc_seconds, parts)
     return weight, round(seconds, 3), round(metres, 2)
 
 
-def driven_sum(column: Column, leg: Leg) -> float:
-    """The sum of a leg's seconds or metres."""
-    return driven_thousandths(column, leg) / 1000
+def driven_sum(column: Column, parts: Sequence[Leg]) -> float:
+    """The sum of the seconds or metres of a leg's parts."""
+    return sum(driven_thousandths(column, part) for part in parts) / 1000
 
 
 def driven_thousandths(column: Column, leg: Leg) -> int:

@@ -4,6 +4,7 @@ Both points split arcs of the graph. A shortest path stays on one arc, or it lea
 arc, enters the second's by the start of one, and is a shortest path of the graph between. So the shortest of these is
 shortest in the graph with the split arcs.
 """
+import itertools
 from collections.abc import Callable, Sequence
 from typing import NamedTuple
 
@@ -38,6 +39,20 @@ def find_leg(ask: Between, roads: RoadIndex, start: SnappedPoint, end: SnappedPo
     if is_same_node(start, end):
         return EMPTY_LEG
     return choose_leg(roads, start, end, ask(start.exits, end.entries))
+
+
+def find_legs(ask: Between, roads: RoadIndex, points: Sequence[SnappedPoint], is_straight: bool = False) -> list[Leg] | int:
+    """The leg from each point to the next; or the number of the first point from which there is none. With `is_straight` as
+    `straight_legs` has them. Raises NetworkError."""
+    if is_straight and len(points) > 2:
+        return straight_legs(ask, roads, points)
+    legs = list[Leg]()
+    for start, end in itertools.pairwise(points):
+        leg = find_leg(ask, roads, start, end)
+        if leg is None:
+            return len(legs)
+        legs.append(leg)
+    return legs
 
 
 def straight_legs(ask: Between, roads: RoadIndex, points: Sequence[SnappedPoint]) -> list[Leg] | int:

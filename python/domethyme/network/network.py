@@ -35,6 +35,7 @@ from .without import parse_classes, without
 
 # For each place None, or (bearing, tolerance) in degrees.
 Bearings = Sequence[tuple[int, int] | None] | None
+Snapping = Literal["default", "any"]
 
 
 class Network:
@@ -249,7 +250,7 @@ class Network:
 
     def points_on_roads(
         self, places: Rows, radius: float = DEFAULT_RADIUS, *, bearings: Bearings = None, radiuses: Sequence[float | None] | None = None,
-        snapping: Literal["default", "any"] = "default", max_metres: float | None = None
+        snapping: Snapping = "default", max_metres: float | None = None
     ) -> list[SnappedPoint]:
         """The nearest point of a road to a place (lon, lat) in degrees, or to each of several: rows, a frame with the columns lon and
         lat, or points of shapely or geopandas.

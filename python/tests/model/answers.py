@@ -73,13 +73,14 @@ def route(network: Network, request: Request) -> Any:
     """The route by all places in order: any of those whose legs are shortest."""
     points = places_on_roads(network, request)
     if request.value("continue_straight") == "true":
-        return AnyOf([route_along(network, request, points, legs) for legs in straight_legs(network, points)])
+        return AnyOf([route_along(network, request, points, legs, request.stops()) for legs in straight_legs(network, points)])
     options = [network.legs(start, end) for start, end in itertools.pairwise(points)]
     if not all(options):
         raise Refused("NoRoute")
     if math.prod(map(len, options)) > MOST:
         raise Ambiguous
-    return AnyOf([with_others(request, route_along(network, request, points, legs)) for legs in itertools.product(*options)])
+    every = [route_along(network, request, points, legs, request.stops()) for legs in itertools.product(*options)]
+    return AnyOf([with_others(request, each) for each in every])
 
 
 def with_others(request: Request, answer: dict[str, Any]) -> dict[str, Any]:
@@ -157,13 +158,18 @@ def match(network: Network, request: Request) -> Any:
         raise Ambiguous
     answers, trust = [], Holds("a probability", lambda value: 0 < value <= 1)
     for some in itertools.product(*options):
+        if not set(request.stops() if request.value("waypoints") else ()) <= {number for way in some for number in way.numbers}:
+            raise Refused("NoMatch")  # (which points have a match doesn't depend on which of equally probable ways is taken)
         points: list[Any] = [None] * len(request.places)
         matchings = []
         for index, way in enumerate(some):
-            (whole,) = route_along(network, request, way.places, way.legs)["routes"]
+            ends = way.numbers[0], way.numbers[-1]
+            stops = [at for at, number in enumerate(way.numbers) if number in ends or number in request.stops()]
+            (whole,) = route_along(network, request, way.places, way.legs, stops)["routes"]
             matchings.append({**whole, "confidence": trust})
             for at, (number, place) in enumerate(zip(way.numbers, way.places)):
-                points[number] = {**waypoint(network, place, request), "matchings_index": index, "waypoint_index": at}
+                which = stops.index(at) if at in stops else None
+                points[number] = {**waypoint(network, place, request), "matchings_index": index, "waypoint_index": which}
                 if at > 0 and place.place == way.places[at - 1].place:  # (it stands: the metres are to the point as it is shown)
                     points[number]["distance"] = Near(place.metres, STANDING)
         shown = {} if request.value("skip_waypoints") == "true" else {"tracepoints": points}
@@ -172,14 +178,17 @@ def match(network: Network, request: Request) -> Any:
 
 
 def route_along(
-    network: Network, request: Request, points: Sequence[SnappedPoint], legs: Sequence[Sequence[Part]]
+    network: Network, request: Request, points: Sequence[SnappedPoint], ways: Sequence[Sequence[Part]], stops: Sequence[int] = ()
 ) -> dict[str, Any]:
-    """The answer with these points and legs."""
+    """The answer with these points and the ways from each to the next. A leg is all ways from one of the stops, numbers of points, to
+    the next, or without stops each way."""
     form, overview = request.value("geometries", "polyline"), request.value("overview", "simplified")
-    lines = [leg_line(network, start, leg, end) for start, leg, end in zip(points, legs, points[1:])]
-    totals, ends = [figures(network, leg) for leg in legs], itertools.pairwise(points)
+    steps = [*itertools.pairwise(stops or range(len(points)))]
+    totals = [figures(network, *ways[first:last]) for first, last in steps]
+    legs, ends = [[*itertools.chain(*ways[first:last])] for first, last in steps], [(points[first], points[last]) for first, last in steps]
+    lines = [leg_line(network, start, leg, end) for (start, end), leg in zip(ends, legs)]
     answers = [leg_answer(network, request, *each) for each in zip(ends, legs, totals, strict=True)]
-    whole: dict[str, Any] = {"legs": answers, "weight_name": network.unit, **figures(network, *legs)}
+    whole: dict[str, Any] = {"legs": answers, "weight_name": network.unit, **figures(network, *ways)}
     if overview != "false":
         every = [point for line in lines for point in line]
         whole["geometry"] = Line(every, form) if overview == "full" else Simplified(lines, form)

@@ -37,6 +37,11 @@ class Request(NamedTuple):
         text = self.value("annotations", "false")
         return [] if text == "false" else [*ANNOTATIONS] if text == "true" else text.split(",")
 
+    def stops(self) -> list[int]:
+        """The numbers of the places at which legs begin or end."""
+        text = self.value("waypoints")
+        return sorted(set(map(int, text.split(";")))) if text else list(range(len(self.places)))
+
     def indices(self, name: str) -> list[int]:
         """The numbers of the places that are sources, or destinations."""
         text = self.value(name, "all")

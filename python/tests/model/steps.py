@@ -15,6 +15,11 @@ Figures = Callable[[Network, Sequence[Part]], dict[str, Any]]
 NOWHERE = Arc(0, 0, 0, 0.0, 0.0, ())
 
 
+def is_along(network: Network, part: Part) -> bool:
+    """Whether a part leads along its edge."""
+    return network.edges[network.edge_of[part[0]]].arcs[part[0]]
+
+
 def is_round(arc: Arc) -> bool:
     return arc.junction in ("roundabout", "circular")
 
@@ -37,12 +42,16 @@ def edges_at(network: Network, node: int, is_exit: bool) -> int:
     return len({network.edge_of[number] for number, arc in arcs if node in arc[:2]})
 
 
-def begins_of(network: Network, arcs: Sequence[Arc], turns: Sequence[float]) -> list[int]:
-    """Where steps begin, by the arcs of a leg and the turn before each but the first."""
+def begins_of(network: Network, leg: Sequence[Part], turns: Sequence[float]) -> list[int]:
+    """Where steps begin, by the parts of a leg and the turn before each but the first."""
+    arcs = [network.arcs[part[0]] for part in leg]
     found, free_from = [0], next((number for number, arc in enumerate(arcs) if not is_round(arc)), len(arcs))
     for number in range(1, len(arcs)):
         before, arc = arcs[number - 1 : number + 1]
-        is_new = before.name != arc.name or abs(turns[number - 1]) > 45 and edges_at(network, arc.start, False) >= 3
+        is_turn = abs(turns[number - 1]) > 45 and edges_at(network, arc.start, False) >= 3
+        if leg[number][1] != 0:  # (at a point within a road it goes on, or turns round)
+            is_turn = is_along(network, leg[number]) != is_along(network, leg[number - 1])
+        is_new = before.name != arc.name or is_turn
         is_free = not is_round(before) or number - 1 < free_from  # (a step on a roundabout goes on behind it)
         if not is_round(before) if is_round(arc) else is_new and is_free:
             found.append(number)
@@ -60,7 +69,7 @@ def steps(
     unsure = Holds("two steps or more", lambda found: len(found) >= 2)
     if any(map(is_near_limit, turns)) or not len(first) == len(last) == len(leg) or network.forbidden:
         return unsure
-    found, begins = [], begins_of(network, arcs, turns) if leg else []
+    found, begins = [], begins_of(network, leg, turns) if leg else []
     for begin, stop in itertools.pairwise([*begins, len(leg)]):
         named = begin  # (a step that enters a roundabout is named after the first arc behind it)
         if begin and is_round(arcs[begin]):
@@ -82,7 +91,7 @@ def steps(
 
 def is_near_limit(angle: float) -> bool:
     """Whether rounding decides about the modifier of a turn of so many degrees."""
-    return min(abs(abs((angle + 180) % 360 - 180) - limit) for limit in (*LIMITS, 180)) <= NEAR_LIMIT
+    return min(abs(abs((angle + 180) % 360 - 180) - limit) for limit in LIMITS) <= NEAR_LIMIT
 
 
 def modifier_of(angle: float) -> str:
