@@ -55,7 +55,7 @@ SCHEMAS: dict[str, Schema] = {
     "Maneuver": record(
         {"modifier": TEXT, "exit": INTEGER}, type=TEXT, location=POSITION, bearing_before=INTEGER, bearing_after=INTEGER
     ),
-    "Intersection": record(location=POSITION, bearings=NODES, entry=array({"type": "boolean"}), out=INTEGER),
+    "Intersection": record({"in": INTEGER, "out": INTEGER}, location=POSITION, bearings=NODES, entry=array({"type": "boolean"})),
     "Step": record(
         {"ref": TEXT, "destinations": TEXT}, maneuver=ref("Maneuver"), name=TEXT, mode=TEXT, driving_side=TEXT, **FIGURES,
         geometry=ref("Line"), intersections=array(ref("Intersection"))

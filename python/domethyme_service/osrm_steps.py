@@ -1,5 +1,6 @@
 """The steps of a leg. A step begins where the name of the road changes, or a ferry, at a turn of more than 45 degrees at a junction, and
-at a roundabout, until after its exit. Types are depart, turn, new name, continue, roundabout and arrive."""
+at a roundabout, until after its exit. Types are depart, turn, new name, continue, roundabout and arrive. A step has the intersections
+that it passes."""
 import itertools
 from collections.abc import Sequence
 from typing import NamedTuple
@@ -8,10 +9,11 @@ import numpy as np
 from numpy.typing import NDArray
 
 from domethyme.network.columns import TEXTS
-from domethyme.network.groups import Ints
+from domethyme.network.groups import Ints, offsets
+from domethyme.network.junctions import MIN_DEGREE, Junctions, junctions
 from domethyme.network.leg_geometry import RouteGeometry, microdegrees
 
-from .json_text import Texts, join_array, point_texts, string_json
+from .json_text import Texts, join_array, number_texts, point_texts, string_json
 from .osrm_geometry import line_string, polylines_json
 
 MIN_TURN_DEGREES = 45
@@ -22,7 +24,6 @@ KINDS = ("continue", "new name", "turn", "roundabout")
 # The first members of a maneuver, by kind, side and modifier.
 TURNS = [f'"type":"{kind}","modifier":"{modifier}"' for kind in KINDS for side in MODIFIERS for modifier in side]
 DEPART = '"type":"depart"'
-MIN_JUNCTION_DEGREE = 3
 # The columns of arc_texts that steps have.
 NAME_COLUMNS = [TEXTS.index(name) for name in ("name", "ref", "destination")]
 # What a step's JSON has of its totals: a weight, seconds or None, and metres.
@@ -61,6 +62,8 @@ class StepBuilder:
         self.is_on_roundabout = self.roads.is_roundabout(geometry.arcs)
         self.is_on_ferry = self.roads.are_ferries(geometry.arcs)
         self.first_bearings, self.last_bearings = geometry.bearings
+        self.starts = self.roads.arrays.arc_from[geometry.arcs]
+        self.is_junction = self.roads.degree[self.starts] >= MIN_DEGREE
         self.begins = np.flatnonzero(self._is_first())
         self.ends = np.append(self.begins[1:], len(geometry.arcs))
         self.is_leg_first = np.isin(self.begins, geometry.first)
@@ -75,8 +78,7 @@ class StepBuilder:
         """Whether a step begins with each arc."""
         geometry, names, is_round = self.geometry, self.names, self.is_on_roundabout
         turns = (self.first_bearings[1:] - self.last_bearings[:-1] + 180) % 360 - 180
-        degrees = self.roads.degree[self.roads.arrays.arc_from[geometry.arcs[1:]]]
-        is_turn = (degrees >= MIN_JUNCTION_DEGREE) & (np.abs(turns) > MIN_TURN_DEGREES)
+        is_turn = self.is_junction[1:] & (np.abs(turns) > MIN_TURN_DEGREES)
         # (at a point within a road a leg goes on, or turns round)
         is_along = self.roads.arrays.arc_along[geometry.arcs]
         is_turn[geometry.joints - 1] = is_along[geometry.joints] != is_along[geometry.joints - 1]
@@ -97,7 +99,28 @@ class StepBuilder:
         after = self.first_bearings[self.begins].tolist()
         totals = self.geometry.totals(self.begins, self.ends).rows
         modes = ["ferry" if is_on else "driving" for is_on in self.is_on_ferry[self.begins].tolist()]
-        return [*map(step_json, self.turns(), locations, before, after, roads, totals, shapes, modes)], roads
+        passed = self.intersections()
+        for step in np.flatnonzero(self.is_leg_first).tolist():
+            passed[step] = f'{intersection_json(locations[step], after[step], "out")}{"," if passed[step] else ""}{passed[step]}'
+        return [*map(step_json, self.turns(), locations, before, after, roads, totals, shapes, passed, modes)], roads
+
+    def intersections(self) -> list[str]:
+        """The JSON of the junctions of each step, with commas between, that where it begins first unless a leg begins there."""
+        geometry = self.geometry
+        is_begin = np.zeros(len(geometry.arcs) + 1, bool)
+        is_begin[self.begins] = True
+        # (nodes that restrictions split may be a junction that has more edges)
+        is_there = self.is_junction | (self.roads.arrays.node_ends[self.starts - 1] != 0)
+        is_there[geometry.joints] = False
+        is_there |= is_begin[:-1]
+        is_there[geometry.first[geometry.first < len(is_there)]] = False
+        arcs = np.flatnonzero(is_there)
+        if not len(arcs):
+            return [""] * len(self.begins)
+        found = junctions(geometry, arcs, is_begin[arcs])
+        texts = intersection_texts(found, point_texts(geometry.shown[geometry.slices(found.arcs, found.arcs + 1)[0]], 6))
+        bounds = np.searchsorted(found.arcs, [*self.begins, len(geometry.arcs)]).tolist()
+        return [",".join(texts[low:high]) for low, high in itertools.pairwise(bounds)]
 
     def road_texts(self) -> list[RoadTexts]:
         """The texts of each step's road, each row of texts once."""
@@ -130,16 +153,34 @@ class StepBuilder:
         return f',"exit":{1 + sum(self.roads.count_exits(node) for node in nodes[:-1])}'
 
 
+def intersection_texts(found: Junctions, locations: Texts) -> list[str]:
+    """The JSON of junctions at these places."""
+    words = "".join(["true," if is_open else "false," for is_open in found.entries.tolist()])
+    bearings, entries = number_texts(found.bearings, 0), Texts(words, offsets(np.where(found.entries, 5, 6)))
+    rows = zip(
+        locations.rows(np.arange(len(found.arcs))), *(each.arrays(found.begins[:-1], found.begins[1:]) for each in (bearings, entries)),
+        found.into.tolist(), found.out.tolist(),
+    )
+    return [
+        f'{{"location":{location},"bearings":{bearing},"entry":{entry},"in":{into},"out":{out}}}'
+        for location, bearing, entry, into, out in rows
+    ]
+
+
+def intersection_json(location: str, bearing: int, side: str) -> str:
+    """The intersection at which a leg begins, or ends: it has one road, by which the route goes out, or comes in."""
+    return f'{{"location":{location},"bearings":[{bearing}],"entry":[true],"{side}":0}}'
+
+
 def step_json(
-    turn: str, location: str, before: int, after: int, road: RoadTexts, totals: StepTotals, shape: str, mode: str = "driving"
+    turn: str, location: str, before: int, after: int, road: RoadTexts, totals: StepTotals, shape: str, passed: str, mode: str = "driving"
 ) -> str:
-    """An OSRM step, with the intersection at its start."""
+    """An OSRM step; `passed` is the JSON of its intersections."""
     weight, seconds, metres = totals
     return (
         f'{{"maneuver":{{{turn},"location":{location},"bearing_before":{before},"bearing_after":{after}}},"name":{road.name_json},'
         f'"mode":"{mode}","driving_side":"right","weight":{weight!r},"duration":{"null" if seconds is None else repr(seconds)},'
-        f'"distance":{metres!r},"geometry":{shape},"intersections":[{{"location":{location},"bearings":[{after}],"entry":[true],'
-        f'"out":0}}]{road.more}}}'
+        f'"distance":{metres!r},"geometry":{shape},"intersections":[{passed}]{road.more}}}'
     )
 
 
@@ -164,9 +205,11 @@ def build_steps(geometry: RouteGeometry, format_: str) -> list[LegSteps]:
         some, names, before = texts[low:high], roads[low:high], last_bearings[leg] if low < high else 0
         if not some:
             names = [RoadTexts.of("", "", "")]
-            some = [step_json(DEPART, places[leg], 0, 0, names[0], nothing, at_places[leg])]
+            passed = intersection_json(places[leg], 0, "out")
+            some = [step_json(DEPART, places[leg], 0, 0, names[0], nothing, at_places[leg], passed)]
         arrival, place = names[-1]._replace(more=""), places[leg + 1]
-        some.append(step_json('"type":"arrive"', place, before, 0, arrival, nothing, at_places[leg + 1]))
+        passed = intersection_json(place, (before + 180) % 360, "in")
+        some.append(step_json('"type":"arrive"', place, before, 0, arrival, nothing, at_places[leg + 1], passed))
         found.append(LegSteps(join_array(some), ", ".join(first_names(names))))
     return found
 

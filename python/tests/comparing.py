@@ -31,6 +31,31 @@ class Direction(NamedTuple):
         return not is_whole or abs((found - self.degrees + 180) % 360 - 180) > 1.01
 
 
+class Intersection(NamedTuple):
+    """An intersection: its place, for each of its roads the bearing, None for one about which rounding decides, and whether it may be
+    entered, and the bearings of the roads by which a route comes, and goes on, None where a leg begins or ends."""
+
+    place: Any
+    roads: Sequence[tuple[float | None, bool]]
+    into: float | None
+    out: float | None
+
+    def differs(self, found: Any) -> bool:
+        names = {"location", "bearings", "entry", *(["in"] if self.into is not None else []), *(["out"] if self.out is not None else [])}
+        if set(found) != names or difference(found["location"], self.place) or found["bearings"] != sorted(found["bearings"]):
+            return True
+        own = ((name, way) for name, way in (("in", self.into), ("out", self.out)) if way is not None)
+        if any(Direction(way).differs(found["bearings"][found[name]]) for name, way in own):
+            return True
+        left = [*zip(found["bearings"], found["entry"], strict=True)]
+        for way, is_open in sorted(self.roads, key=lambda road: road[0] is None):
+            fits = [road for road in left if road[1] is is_open and (way is None or not Direction(way).differs(road[0]))]
+            if not fits:
+                return True
+            left.remove(min(fits, key=lambda road: abs(math.remainder(road[0] - (way or 0), 360))))
+        return bool(left)
+
+
 class AnyOf(NamedTuple):
     """One of several."""
 

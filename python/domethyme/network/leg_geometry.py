@@ -229,17 +229,22 @@ class RouteGeometry:
         """The bearings of each arc at its start and at its end, in degrees."""
         arc_begins, points = self._lines
         begins = np.concatenate((arc_begins[:-1], arc_begins[1:] - 2))
-        places = points[begins].astype(np.int64)
-        east, north = (points[begins + 1] - places).T
-        ways = wrapped_difference(east) * np.cos(np.radians(places[:, 1] / UNITS))
-        found = (np.rint(np.degrees(np.arctan2(ways, north))) % 360).astype(np.int64)
+        places, others = points[begins], points[begins + 1]
+        found = whole_bearings(places, others)
         # (where the segment has no length, the next point that is another one tells)
-        for index in np.flatnonzero((east == 0) & (north == 0)).tolist():
+        for index in np.flatnonzero((places == others).all(axis=1)).tolist():
             arc_index, step = index % len(self.arcs), 1 if index < len(self.arcs) else -1
             line = points[arc_begins[arc_index] : arc_begins[arc_index + 1]][::step] / UNITS
-            here, *others = [(lon, lat) for lon, lat in line.tolist()]
-            found[index] = bearing(*(here, next((other for other in others if other != here), here))[::step])
+            here, *rest = [(lon, lat) for lon, lat in line.tolist()]
+            found[index] = bearing(*(here, next((other for other in rest if other != here), here))[::step])
         return found[: len(self.arcs)], found[len(self.arcs) :]
+
+
+def whole_bearings(places: Ints, others: Ints) -> Ints:
+    """The directions from places to others near them, in units, in whole degrees from north, clockwise."""
+    east, north = (others - places.astype(np.int64)).T
+    ways = wrapped_difference(east) * np.cos(np.radians(places[:, 1] / UNITS))
+    return np.asarray(np.rint(np.degrees(np.arctan2(ways, north))) % 360, np.int64)
 
 
 def leg_totals(roads: RoadIndex, parts: Sequence[Leg]) -> LegTotals:

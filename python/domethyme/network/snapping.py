@@ -144,6 +144,17 @@ class RoadIndex:
     def is_roundabout(self, arcs: NDArray[np.int64]) -> NDArray[np.bool_]:
         return np.asarray((self.arrays.arc_texts(arcs, JUNCTION)[:, None] == self.roundabout_texts).any(axis=1))
 
+    @functools.cached_property
+    def one_way(self) -> tuple[Ints, Ints]:
+        """The arcs of edges that lead one way alone, by the nodes that they end at: these, which rise, and the arcs."""
+        arcs, edges = np.sort(self.arrays.out_arcs[:]), self.edges
+        edge, is_along = self.arrays.arc_edge[arcs], self.arrays.arc_along[arcs]
+        one, other = (np.bincount(edge[is_so], minlength=edges) > 0 for is_so in (is_along, ~is_along))
+        arcs = arcs[(one != other)[edge]]
+        ends = self.arrays.arc_to[arcs]
+        order = np.argsort(ends, kind="stable")
+        return ends[order].astype(np.int64), arcs[order].astype(np.int64)
+
     def count_exits(self, node: int) -> int:
         """How many roads leave a roundabout at a node."""
         begin, end = self.arrays.out_begin[node - 1 : node + 1].tolist()

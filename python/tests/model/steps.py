@@ -3,7 +3,7 @@ import itertools
 from collections.abc import Callable, Sequence
 from typing import Any
 
-from comparing import Direction, Holds, Line, Near
+from comparing import Direction, Holds, Intersection, Line, Near
 
 from .network import Arc, Network, Part, SnappedPoint
 from .sphere import Point, bearing, metres_between
@@ -40,6 +40,31 @@ def edges_at(network: Network, node: int, is_exit: bool) -> int:
     if is_exit:
         return len({network.edge_of[number] for number, arc in arcs if arc.start == node and not is_round(arc)})
     return len({network.edge_of[number] for number, arc in arcs if node in arc[:2]})
+
+
+def roads_at(network: Network, node: int) -> dict[tuple[int, bool], tuple[float | None, bool]]:
+    """The roads at a node, each an edge and whether it begins there: the bearing along it, None for one about which rounding decides, and
+    whether an arc leads into it."""
+    found = dict[tuple[int, bool], tuple[float | None, bool]]()
+    for number, edge in enumerate(network.edges):
+        for is_begin in (True, False):
+            nodes = {network.arcs[arc][0 if way == is_begin else 1] for arc, way in edge.arcs.items()}
+            if node in nodes:
+                found[number, is_begin] = next(iter(directions([list(edge.line[:: 1 if is_begin else -1])], 1)), None), is_begin in edge.arcs.values()
+    return found
+
+
+def intersection(network: Network, leg: Sequence[Part], number: int, place: Point, ways: tuple[float, float]) -> Intersection:
+    """The intersection before a part of a leg, by the bearings of the roads by which the leg comes and goes on."""
+    before, behind = leg[number - 1 : number + 1]
+    into, out = (network.edge_of[before[0]], not is_along(network, before)), (network.edge_of[behind[0]], is_along(network, behind))
+    roads = roads_at(network, network.arcs[behind[0]].start) if behind[1] == 0 else {into: (None, into == out), out: (None, True)}
+    roads[into], roads[out] = (ways[0], roads[into][1]), (ways[1], True)
+    return Intersection(near(place), list(roads.values()), roads[into][0], roads[out][0])
+
+
+def near(place: Point) -> list[Near]:
+    return [Near(place[0], 1.1e-6), Near(place[1], 1.1e-6)]
 
 
 def begins_of(network: Network, leg: Sequence[Part], turns: Sequence[float]) -> list[int]:
@@ -81,12 +106,21 @@ def steps(
             turn = turn_at(network, arcs[begin - 1 : stop], named - begin, first[named] - last[begin - 1])
         line = [point for part in lines[begin:stop] for point in part]
         ways: tuple[Any, Any] = (Direction(last[begin - 1]) if begin else 0, Direction(first[begin]))
-        found.append(step(turn, ways, arcs[named], figures(network, leg[begin:stop]), line, form))
+        passed = [Intersection(near(start.place), [(first[begin], True)], None, first[begin])] if not begin else []
+        for number in range(begin, stop):
+            is_junction = leg[number][1] == 0 and edges_at(network, arcs[number].start, False) >= 3
+            if number and (number == begin or is_junction):
+                both = (last[number - 1] + 180) % 360, first[number]
+                passed.append(intersection(network, leg, number, lines[number][0], both))
+        found.append(step(turn, ways, arcs[named], figures(network, leg[begin:stop]), line, form, passed))
     nothing = figures(network, [])
     if not leg:
-        found = [step({"type": "depart"}, (0, 0), NOWHERE, nothing, [start.place] * 2, form)]
+        passed = [Intersection(near(start.place), [(0, True)], None, 0)]
+        found = [step({"type": "depart"}, (0, 0), NOWHERE, nothing, [start.place] * 2, form, passed)]
     ways, name = (Direction(last[-1]) if leg else 0, 0), NOWHERE._replace(name=found[-1]["name"])
-    return [*found, step({"type": "arrive"}, ways, name, nothing, [end.place] * 2, form)]
+    back = (last[-1] if leg else 0) + 180
+    passed = [Intersection(near(end.place), [(back, True)], back, None)]
+    return [*found, step({"type": "arrive"}, ways, name, nothing, [end.place] * 2, form, passed)]
 
 
 def is_near_limit(angle: float) -> bool:
@@ -113,14 +147,14 @@ def turn_at(network: Network, arcs: Sequence[Arc], named: int, angle: float) -> 
 
 
 def step(
-    turn: dict[str, Any], ways: tuple[Any, Any], named: Arc, figures: dict[str, Any], line: Sequence[Point], form: str
+    turn: dict[str, Any], ways: tuple[Any, Any], named: Arc, figures: dict[str, Any], line: Sequence[Point], form: str,
+    passed: Sequence[Intersection]
 ) -> dict[str, Any]:
-    """A step, which has the name, the refs and the destinations of an arc."""
-    place = [Near(line[0][0], 1.1e-6), Near(line[0][1], 1.1e-6)]
+    """A step, which has the name, the refs and the destinations of an arc, and intersections."""
+    place = near(line[0])
     texts = {"ref": "; ".join(map(str.strip, named.ref.split(";")))} if named.ref else {}
     texts |= {"destinations": ", ".join(map(str.strip, named.destination.split(";")))} if named.destination else {}
     return {
         "maneuver": {**turn, "location": place, "bearing_before": ways[0], "bearing_after": ways[1]}, "name": named.name,
-        "mode": "driving", "driving_side": "right", **figures, "geometry": Line(line, form), **texts,
-        "intersections": [{"location": place, "bearings": [ways[1]], "entry": [True], "out": 0}],
+        "mode": "driving", "driving_side": "right", **figures, "geometry": Line(line, form), **texts, "intersections": [*passed],
     }
