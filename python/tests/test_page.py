@@ -315,7 +315,10 @@ class TestInABrowser:
         quiet(browser)
 
     def test_what_it_says(self, village, browser):
+        """And what it offers: round trips and what leads to a place are the service's."""
         opened(browser, village / "page.html")
+        shown = "[...document.querySelectorAll('#modes label')].filter((each) => !each.hidden).map((each) => each.textContent.trim())"
+        assert browser.value(shown) == ["Route", "Isochrones"]
         text = " ".join(text_of(browser, "panel").split())
         for part in ("from a library that a checker has proved", "Not proved, but tested: the nearest road", "Trusted: how the library was made WebAssembly, and the browser."):
             assert part in text

@@ -89,7 +89,7 @@ class ColourTests(unittest.TestCase):
         light, dark = re.findall(r":root \{(.*?)\}", (PAGE / "style.css").read_text(), re.DOTALL)
         schemes = [dict(re.findall(r"--([a-z0-9-]+): (#[0-9a-f]{6})", text)) for text in (light, dark)]
         for colours in schemes:
-            shapes = [(f"road-{kind}", "ground") for kind in range(6)] + [("route", "ground"), ("arrow", "route")]
+            shapes = [(f"road-{kind}", "ground") for kind in range(6)] + [("route", "ground"), ("other", "ground"), ("arrow", "route")]
             shapes += [("edge", "panel"), ("focus", "panel"), ("focus", "ground"), ("start", "ground"), ("end", "ground")]
             shapes += [("via", "ground"), ("route", "road")]
             texts = [("ink", "panel"), ("ink", "ground"), ("soft", "panel"), ("soft", "ground"), ("name", "ground"),
@@ -113,9 +113,11 @@ def contrast(*colours):
 
 @pytest.mark.needs("chromium")
 class BrowserCase(ServiceCase):
+    network, options = "v", ()
+
     def setUp(self):
         super().setUp()
-        self.serve("--network", self.folder / "v")
+        self.serve("--network", self.folder / self.network, *self.options)
         self.browser = Browser()
         self.addCleanup(self.browser.close)
 
@@ -147,22 +149,113 @@ class BrowserCase(ServiceCase):
 STRAIGHT = ("Start on High Street", "Arrive at the destination")
 
 
-class WeightTests(BrowserCase):
-    """A network of weights alone, without seconds."""
+class TablesCase(BrowserCase):
+    """A network w of weights alone, without seconds, of the rows of its tables."""
 
-    def setUp(self):
-        super().setUp()
-        nodes = "node,lon,lat\n" + "".join(f"{number},{number / 1000},0\n" for number in range(5))
-        arcs = "from,to,oneway,weight\n" + "".join(f"{number},{number + 1},0,250\n" for number in range(4))
-        self.run_tool("to_network", self.write("firm.nodes.csv", nodes), self.write("firm.arcs.csv", arcs), "w")
+    network, nodes, arcs = "w", "", ""
+
+    def serve(self, *words, **options):
+        tables = [self.write("firm.nodes.csv", f"node,lon,lat\n{self.nodes}"), self.write("firm.arcs.csv", f"from,to,oneway,weight,name\n{self.arcs}")]
+        self.run_tool("to_network", *tables, "w")
         domethyme.prepare(self.folder / "w.gr", self.folder / "v.rch", workers=1).close()
-        self.serve("--network", self.folder / "w")
+        return super().serve(*words, **options)
+
+
+class WeightTests(TablesCase):
+    nodes = "".join(f"{number},{number / 1000},0\n" for number in range(5))
+    arcs = "".join(f"{number},{number + 1},0,250,\n" for number in range(4))
 
     def test_the_weight_is_shown(self):
         self.open("#0,0;0.004,0")
         self.browser.until("document.getElementById('total').textContent !== ''")
         self.assertEqual(self.text_of("total"), "weight 1000440 m")
         self.assertNotIn("min", self.text_of("steps"))
+        self.quiet()
+
+
+class ChoiceTests(TablesCase):
+    """Of two routes the longer one has a middle of which each part is a shortest path, so it's worth to be chosen."""
+
+    options = ("--towards",)
+    nodes = "0,0,0\n1,0.004,0.002\n2,0.008,0\n3,0.003,-0.002\n4,0.005,-0.002\n"
+    arcs = "0,1,0,500,Upper\n1,2,0,500,Upper\n0,3,0,350,Lower\n3,4,0,400,Lower\n4,2,0,350,Lower\n"
+    ROWS = "[...document.querySelectorAll('#choices label')].map(each => each.textContent.trim().split(',')[0]).join()"
+
+    def chosen(self, weight, street, number):
+        self.browser.until(f"document.getElementById('total').textContent.startsWith('weight {weight}')")
+        self.steps(f"Start on {street}", "Arrive at the destination")
+        self.assertEqual(self.browser.value("[...document.querySelectorAll('#choices input')].findIndex(each => each.checked)"), number)
+        self.assertEqual(self.browser.drawn("return document.querySelectorAll('#route .others .other').length"), 1)
+
+    def test_another_route_is_chosen(self):
+        """On the map, and by keys; between three places there is no choice."""
+        self.open("#0,0;0.008,0")
+        self.browser.until(f"{self.ROWS} === 'weight 1000,weight 1100'")
+        self.chosen(1000, "Upper", 0)
+        self.keep("choices")
+        self.browser.click(self.browser.pixel(0.004, -0.002))
+        self.chosen(1100, "Lower", 1)
+        self.browser.click(self.browser.pixel(0.002, 0.001))
+        self.chosen(1000, "Upper", 0)
+        self.assertEqual(self.browser.value("document.querySelectorAll('.mark').length"), 2)
+        self.browser.value("document.querySelector('#choices :checked').focus()")
+        self.browser.press("ArrowRight")
+        self.chosen(1100, "Lower", 1)
+        self.open("#0,0;0.004,0.002;0.008,0")
+        self.steps("Start on Upper", "Arrive at the stop", "Continue on Upper", "Arrive at the destination")
+        self.assertTrue(self.browser.value("document.getElementById('choices').hidden"))
+        self.quiet()
+
+
+class TripTests(TablesCase):
+    """A ring of one-way streets: its places are in the best order in the streets' direction."""
+
+    nodes = "0,0,0\n1,0.004,0.002\n2,0.008,0\n3,0.004,-0.002\n"
+    arcs = "0,1,1,500,North\n1,2,1,500,East\n2,3,1,500,South\n3,0,1,500,West\n"
+    HASH = "#trip;0.00000,0.00000;0.00400,0.00200;0.00800,0.00000;0.00400,-0.00200"
+    TRIP = ("Start on North", "Arrive at the stop", "Continue on East", "Arrive at the stop", "Continue on South", "Arrive at the stop",
+            "Continue on West", "Arrive back at the start")
+
+    def arrived(self, count):
+        self.browser.until(f"[...document.querySelectorAll('#steps .text')].filter(each => each.textContent.startsWith('Arrive')).length === {count}")
+
+    def test_places_take_the_best_order(self):
+        self.open()
+        self.browser.value("document.querySelector('#modes [value=trip]').click()")
+        for number, place in enumerate([(0, 0), (0.004, -0.002), (0.008, 0), (0.004, 0.002)]):
+            self.browser.until(f"document.getElementById('hint').textContent === 'Click the map to {'add a place to visit.' if number else 'set the start.'}'")
+            self.browser.click(self.browser.pixel(*place))
+            self.arrived(number + 1 if number else 0)
+        self.steps(*self.TRIP)
+        self.assertTrue(self.text_of("total").startswith("weight 2000"))
+        self.assertEqual(self.browser.value("[...document.querySelectorAll('.mark')].map(each => each.textContent).join()"), "A,1,2,3")
+        places = [[float(side) for side in place.split(",")] for place in self.browser.value("location.hash").split(";")[1:]]
+        for got, wanted in zip(places, ((0, 0), (0.004, 0.002), (0.008, 0), (0.004, -0.002)), strict=True):
+            self.assertLess(math.dist(got, wanted), 1e-4)
+        self.assertTrue(self.browser.value("document.getElementById('reverse').hidden && document.title.endsWith('Round trip')"))
+        self.keep("trip")
+        self.quiet()
+
+    def test_a_link_a_drag_and_keys(self):
+        """A place that is dragged is asked for once it is released. The focus stays with its place."""
+        self.open(self.HASH)
+        self.steps(*self.TRIP)
+        trips = lambda: sum("/trip/" in each for each in self.browser.asked)  # noqa: E731
+        self.assertEqual(trips(), 1)
+        x, y = self.browser.pixel(0.004, 0.002)
+        self.browser.drag((x, y - 20), (x + 20, y - 10))  # (along East, as steep as that is)
+        self.steps("Start on North", "Turn right onto East", "Arrive at the stop", "Continue on East", *self.TRIP[3:])
+        self.assertEqual(trips(), 2)
+        focused = "import('/map/main.js').then(({places}) => [...places.marks.children].indexOf(document.activeElement))"
+        self.browser.value("document.querySelectorAll('.mark')[1].focus()")
+        self.browser.value("import('/map/main.js').then(({places}) => places.reorder([0, 2, 1, 3]))")
+        self.assertEqual(self.browser.value(focused), 2)
+        self.browser.press("Delete")
+        self.arrived(3)
+        self.assertEqual(self.browser.value(focused), 2)
+        self.browser.value("document.querySelector('#modes [value=route]').click()")
+        self.steps("Start on North", "Turn right onto East", "Arrive at the stop", "Continue on South", "Arrive at the destination")
+        self.assertEqual(self.browser.value("location.hash.split(';').length"), 3)
         self.quiet()
 
 
@@ -288,14 +381,16 @@ class PointerTests(BrowserCase):
         self.quiet()
 
 
-class ReachTests(BrowserCase):
-    """What is reached: a click, a link, numbers, a drag, the legend, a file, and the way back to routes."""
-
+class ReachCase(BrowserCase):
     LEGEND = "[...document.querySelectorAll('#legend li')].map(each => each.textContent).join()"
 
     def reached(self, legend):
         self.browser.until(f"{self.LEGEND} === {json.dumps(legend)}")
         self.browser.until(f"document.querySelectorAll('#reach path').length === {len(legend.split(','))}")
+
+
+class ReachTests(ReachCase):
+    """Isochrones: a click, a link, numbers, a drag, the legend, a file, and the way back to routes."""
 
     def test_a_click_numbers_and_a_file(self):
         self.open()
@@ -309,7 +404,7 @@ class ReachTests(BrowserCase):
             self.browser.value("document.querySelector('#limits button').click()")
             self.assertEqual(self.browser.value("document.getElementById('limits-how').classList.contains('wrong')"), is_wrong)
         self.reached("0.2 min,0.5 min")
-        self.assertEqual(self.browser.value("document.title"), "0.2, 0.5 min · Reach")
+        self.assertEqual(self.browser.value("document.title"), "0.2, 0.5 min · Isochrones")
         self.keep("reach")
         self.browser.value("""{ const make = URL.createObjectURL;
             URL.createObjectURL = (blob) => { window.saved = blob; return make.call(URL, blob); }; }""")
@@ -338,6 +433,18 @@ class ReachTests(BrowserCase):
         self.browser.until("document.querySelector('#modes [value=route]').checked")
         self.quiet("/isochrone/v1/car/")
 
+    def test_what_is_not_offered(self):
+        """Without --towards there are no other routes, and nobody who gets here."""
+        self.open(HIGH)
+        self.steps(*STRAIGHT)
+        self.assertTrue(self.browser.value("document.getElementById('choices').hidden"))
+        shown = "[...document.querySelectorAll('#modes label')].filter(each => !each.hidden).map(each => each.textContent.trim())"
+        self.assertEqual(self.browser.value(shown), ["Route", "Round trip", "Isochrones"])
+        self.open("#towards=0.2;0.00200,0.00000")
+        self.browser.until("document.querySelector('#modes [value=route]').checked")
+        self.assertFalse(any("alternatives" in each or "reverse" in each for each in self.browser.asked))
+        self.quiet()
+
     def test_by_keys_alone(self):
         self.open("#reach=0.2;0.00200,0.00000")
         self.reached("0.2 min")
@@ -349,9 +456,31 @@ class ReachTests(BrowserCase):
         self.browser.press("Delete")
         self.browser.until("document.querySelectorAll('#reach path').length === 0")
         self.browser.value("document.querySelector('#modes [value=reach]').focus()")
-        self.browser.press("ArrowLeft")
-        self.browser.until("document.querySelector('#modes [value=route]').checked && document.getElementById('limits').hidden")
+        for kind in ("trip", "route"):
+            self.browser.press("ArrowLeft")
+            self.browser.until(f"document.querySelector('#modes [value={kind}]').checked && document.getElementById('limits').hidden")
         self.quiet()
+
+
+class TowardsTests(ReachCase):
+    """From where a place is reached, by a link on a phone."""
+
+    options = ("--towards",)
+
+    def test_who_gets_here(self):
+        self.open("#towards=0.2,0.5;0.00200,0.00000", width=390, height=844)
+        self.reached("0.2 min,0.5 min")
+        self.assertTrue(self.browser.value("document.querySelector('#modes [value=towards]').checked"))
+        shown = self.browser.value("import('/map/main.js').then(({reach}) => reach.found)")
+        status, wanted = self.ask("/isochrone/v1/car/0.002,0?contours_minutes=0.2,0.5&polygons=true&reverse=true")
+        self.assertEqual((200, shown), (status, wanted))
+        self.assertEqual(self.browser.value("document.title"), "0.2, 0.5 min · Who gets here")
+        self.assertEqual(self.browser.value("document.querySelector('.mark').textContent"), "B")
+        self.assertLessEqual(self.browser.value("document.documentElement.scrollWidth"), 390)
+        self.keep("towards_narrow")
+        self.open("#towards=5;0.5,0.5")
+        self.browser.until("document.getElementById('fault').textContent.includes('no road near the destination')")
+        self.quiet("/isochrone/v1/car/")
 
 
 class KeyboardTests(BrowserCase):
@@ -395,4 +524,4 @@ class KeyboardTests(BrowserCase):
         self.assertEqual(self.browser.value(style), ["solid", 3])
 
 
-del BrowserCase
+del BrowserCase, TablesCase, ReachCase

@@ -1,17 +1,20 @@
-// The link to what is shown: its places are the fragment, which a browser keeps to itself, after `reach=5,10` if it is what is
-// reached within these numbers.
+// The link to what is shown: its places are the fragment, which a browser keeps to itself. Before them is `trip` for a round trip, and
+// `reach=5,10` or `towards=5,10` for isochrones from a place, or towards it, with their numbers.
+
+const KINDS = /^(trip|(reach|towards)=[\d.,]+)$/;
 
 export const written = (places) => places.map((place) => place.map((degrees) => degrees.toFixed(5)).join(",")).join(";");
 
 export function read(fragment) {
-  const words = fragment.replace(/^#/, "").split(";"), limits = /^reach=([\d.,]+)$/.exec(words[0])?.[1] ?? null;
-  const places = words.slice(limits === null ? 0 : 1).map((word) => word.split(",").map(Number));
+  const words = fragment.replace(/^#/, "").split(";");
+  const [kind, limits = null] = KINDS.test(words[0]) ? words.shift().split("=") : ["route"];
+  const places = words.map((word) => word.split(",").map(Number));
   const isPlace = ([lon, lat, ...more]) => Math.abs(lon) <= 180 && Math.abs(lat) <= 90 && !more.length;
-  return { limits, places: places.every(isPlace) ? places : [] };
+  return { kind, limits, places: places.every(isPlace) ? places : [] };
 }
 
-export function keep(places, limits = null) {
-  const before = limits === null ? "" : `reach=${limits};`;
+export function keep(kind, limits, places) {
+  const before = kind === "route" ? "" : limits === null ? `${kind};` : `${kind}=${limits};`;
   history.replaceState(null, "", location.pathname + location.search + (places.length ? `#${before}${written(places)}` : ""));
 }
 

@@ -14,13 +14,14 @@ export class Panel {
     this.steps.replaceChildren();
   }
 
-  set(found, count) {
-    const route = found.routes[0], way = document.createElement("b");
+  // Shows a route between so many places.
+  set(route, count, kind) {
+    const way = document.createElement("b");
     way.textContent = takes(route);
     this.total.replaceChildren(way, far(route.distance));
     this.steps.replaceChildren(...route.legs.flatMap((leg, number) => leg.steps.map((step) => {
       const isEnd = step.maneuver.type === "arrive";
-      return this.row(step, roleOf(number + isEnd, count));
+      return this.row(step, roleOf(number + isEnd, count, kind));
     })));
   }
 

@@ -6,10 +6,14 @@ const NUDGE = 10, FURTHER = 60;
 
 export class Places {
   constructor(view, marks, rows, changed) {
-    Object.assign(this, { view, marks, rows, changed, all: [], names: [] });
+    Object.assign(this, { view, marks, rows, changed, all: [], names: [], kind: "route" });
   }
 
   get count() { return this.all.length; }
+
+  role(number) { return roleOf(number, this.count, this.kind); }
+
+  letter(number) { return letter(number, this.role(number)); }
 
   set(places) {
     this.all = places;
@@ -48,25 +52,33 @@ export class Places {
   }
 
   called(number) {
-    const role = roleOf(number, this.count);
-    return role === "via" ? `place ${letter(number, this.count)}` : role === "start" ? "the start" : "the destination";
+    const role = this.role(number);
+    return role === "via" ? `place ${number}` : role === "start" ? "the start" : "the destination";
   }
 
-  // Makes marks and rows anew; the focus stays at its place.
-  show() {
-    const held = this.marks.contains(document.activeElement) ? [...this.marks.children].indexOf(document.activeElement) : -1;
+  // Puts the places in another order, of their numbers. The focus stays with its place.
+  reorder(order) {
+    if (order.every((number, at) => number === at)) return;
+    this.all = order.map((number) => this.all[number]);
+    this.show((held) => order.indexOf(held));
+  }
+
+  // Makes marks and rows anew; the focus stays at its place, which may have another number now.
+  show(numberNow = (held) => Math.min(held, this.count - 1)) {
+    const [mark, row] = [this.marks, this.rows].map((list) => [...list.children].findIndex((each) => each.contains(document.activeElement)));
     this.marks.replaceChildren(...this.all.map((_, number) => this.mark(number)));
     this.rows.replaceChildren(...this.all.map((_, number) => this.row(number)));
     this.label();
     this.draw();
-    if (held >= 0) (this.marks.children[Math.min(held, this.count - 1)] ?? this.view.element).focus();
+    if (mark >= 0) (this.marks.children[numberNow(mark)] ?? this.view.element).focus();
+    if (row >= 0) (this.rows.children[numberNow(row)]?.querySelector(".remove") ?? this.view.element).focus();
   }
 
   label() {
     this.all.forEach((place, number) => {
-      const said = this.names[number] ?? where(place), role = roles[roleOf(number, this.count)];
+      const said = this.names[number] ?? where(place), role = roles[this.role(number)];
       this.rows.children[number].querySelector(".where").textContent = said;
-      this.marks.children[number].setAttribute("aria-label", `${role} ${letter(number, this.count)}: ${said}. Arrow keys move it, Delete removes it.`);
+      this.marks.children[number].setAttribute("aria-label", `${role} ${this.letter(number)}: ${said}. Arrow keys move it, Delete removes it.`);
       this.marks.children[number].title = `${role}: ${said}`;
       this.rows.children[number].querySelector(".remove").setAttribute("aria-label", `Remove ${this.called(number)}, ${said}`);
     });
@@ -81,24 +93,21 @@ export class Places {
 
   row(number) {
     const row = document.createElement("li"), badge = document.createElement("span"), said = document.createElement("span");
-    row.className = roleOf(number, this.count);
+    row.className = this.role(number);
     badge.className = "letter";
-    badge.textContent = letter(number, this.count);
+    badge.textContent = this.letter(number);
     said.className = "where";
     const button = document.createElement("button");
     Object.assign(button, { type: "button", className: "remove", textContent: "×" });
-    button.addEventListener("click", () => {
-      this.remove(number);
-      (this.rows.children[Math.min(number, this.count - 1)]?.querySelector(".remove") ?? this.view.element).focus();
-    });
+    button.addEventListener("click", () => this.remove(number));
     row.append(badge, said, button);
     return row;
   }
 
   mark(number) {
     const mark = document.createElement("button"), text = document.createElement("span");
-    Object.assign(mark, { type: "button", className: `mark ${roleOf(number, this.count)}` });
-    text.textContent = letter(number, this.count);
+    Object.assign(mark, { type: "button", className: `mark ${this.role(number)}` });
+    text.textContent = this.letter(number);
     mark.append(text);
     mark.addEventListener("keydown", (event) => this.typed(event, number));
     mark.addEventListener("pointerdown", (event) => { if (event.button === 0) this.hold(event, mark, number); });

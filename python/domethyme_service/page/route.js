@@ -1,5 +1,5 @@
 // The route, drawn over the roads: its line, arrows in its direction, the names along it, and the step that is looked at. A drag
-// of the line leads it by another place.
+// of the line leads it by another place. Under it are the lines of other routes, of which a click chooses one.
 
 import { boxOf, lengths, pathOf, pointAlong, roomFor, thinned } from "./lines.js";
 import { street } from "./words.js";
@@ -15,22 +15,34 @@ function element(name, attributes, text = "") {
 }
 
 export class Route {
-  // `led` is called with an event, and the number of the leg that is to lead by another place.
-  constructor(svg, view, led) {
-    Object.assign(this, { svg, view, legs: [], spots: [], places: [], step: null });
-    this.layers = Object.fromEntries(["lines", "hits", "signs"].map((name) => [name, svg.appendChild(element("g", { class: name }))]));
+  // `led` is called with an event, and the number of the leg that is to lead by another place; `chosen` with the number of a route.
+  constructor(svg, view, led, chosen) {
+    Object.assign(this, { svg, view, legs: [], spots: [], waypoints: [], places: [], others: [], step: null });
+    this.layers = Object.fromEntries(["others", "lines", "hits", "signs"].map((name) => [name, svg.appendChild(element("g", { class: name }))]));
+    svg.addEventListener("click", (event) => {
+      const other = event.target.dataset?.other;
+      if (other !== undefined) chosen(this.others[other].number);
+    });
     svg.addEventListener("pointerdown", (event) => {
       const leg = event.target.dataset?.leg;
       if (leg !== undefined && event.button === 0) led(event, Number(leg));
     });
   }
 
-  // Shows an answer of the service, or nothing.
-  set(found, places) {
-    this.legs = found ? found.routes[0].legs.map((leg) => leg.steps) : [];
-    this.spots = found ? found.waypoints.map((each) => each.location) : [];
-    this.places = places;
+  // Shows a route by places, for which it takes points of roads; or nothing.
+  set(found, waypoints, places) {
+    this.legs = found ? found.legs.map((leg) => leg.steps) : [];
+    this.spots = waypoints.map((each) => each.location);
+    [this.waypoints, this.places] = [waypoints, places];
+    this.others = [];
     this.step = null;
+    this.view.soon();
+  }
+
+  // Shows the other ones of these routes beside the one of this number.
+  beside(routes, chosen) {
+    this.others = routes.map(({ legs }, number) => ({ number, line: legs.flatMap((leg) => leg.steps).flatMap((step) => step.geometry.coordinates) }))
+      .filter(({ number }) => number !== chosen);
     this.view.soon();
   }
 
@@ -62,6 +74,18 @@ export class Route {
     layers.lines.replaceChildren(...lines);
     while (layers.hits.children.length > this.legs.length) layers.hits.lastChild.remove();
     layers.signs.replaceChildren(...signs);
+    this.drawOthers();
+  }
+
+  drawOthers() {
+    const group = this.layers.others;
+    this.others.forEach(({ line }, number) => {
+      const path = pathOf(thinned(line.map((point) => this.view.pixel(point))));
+      const made = group.children[number] ?? group.appendChild(element("g", {}));
+      if (!made.firstChild) made.append(...["under", "other", "hit"].map((name) => element("path", { class: name, "data-other": number })));
+      for (const each of made.children) each.setAttribute("d", path);
+    });
+    while (group.children.length > this.others.length) group.lastChild.remove();
   }
 
   arrows(pixels) {

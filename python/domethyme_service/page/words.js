@@ -15,11 +15,14 @@ export function takes({ duration, weight, weight_name }) {
   return weight_name === "distance" ? "" : `weight ${weight}`;
 }
 
-export const letter = (number, count) => number === 0 ? "A" : number === count - 1 ? "B" : String(number);
-
-// The class of a place, and how it is called.
-export const roleOf = (number, count) => number === 0 ? "start" : number === count - 1 ? "end" : "via";
+// The class of a place, by what is shown: "route", "trip" (which ends where it starts), "reach" or "towards"; and how it is called.
+export function roleOf(number, count, kind = "route") {
+  if (kind === "towards") return "end";
+  if (number === 0 || kind === "trip" && number === count) return "start";
+  return kind === "route" && number === count - 1 ? "end" : "via";
+}
 export const roles = { start: "Start", end: "Destination", via: "Via" };
+export const letter = (number, role) => ({ start: "A", end: "B", via: String(number) })[role];
 
 export const where = ([lon, lat]) => `${Math.abs(lat).toFixed(4)}° ${lat < 0 ? "S" : "N"}, ${Math.abs(lon).toFixed(4)}° ${lon < 0 ? "W" : "E"}`;
 
@@ -35,7 +38,7 @@ const th = (number) => `${number}${["th", "st", "nd", "rd"][number % 100 > 10 &&
 export function told(step, role) {
   const { type, modifier, exit } = step.maneuver, name = street(step);
   const into = name ? ` onto ${name}` : "", toward = step.destinations ? ` towards ${step.destinations}` : "";
-  if (type === "arrive") return role === "end" ? "Arrive at the destination" : "Arrive at the stop";
+  if (type === "arrive") return { start: "Arrive back at the start", end: "Arrive at the destination", via: "Arrive at the stop" }[role];
   if (type === "depart") return `${role === "start" ? "Start" : "Continue"}${name ? ` on ${name}` : ""}${toward}`;
   if (type === "roundabout" || type === "rotary") return `At the roundabout take the ${exit ? `${th(exit)} ` : ""}exit${into}${toward}`;
   if (modifier === "uturn") return `Make a U-turn${into}`;
@@ -51,13 +54,14 @@ export function fault(error) {
     return { number, text: (name) => `There is no road near ${name ?? "a place"}. Move it nearer to a road.` };
   }
   if (error.code === "NoRoute") return { text: () => "There is no route between these places. Move one of them." };
+  if (error.code === "NoTrips") return { text: () => "There is no round trip through these places. Move one of them." };
   if (error.code === "InvalidService") return { text: () => "This service has no map: it was started without a network." };
   if (error.code === "TooBig") return { text: () => "That is too much. Remove some places, or choose smaller numbers." };
   if (error.code === "Overloaded") return { text: () => "The service is busy. Try again in a moment." };
   return { text: () => error.message };
 }
 
-// What the numbers of Reach are, by the unit of weights; undefined for weights of one's own.
+// What the numbers of isochrones are, by the unit of weights; undefined for weights of one's own.
 export const reaches = {
   duration: { isMinutes: true, unit: "Minutes", most: 600, first: "5,10,15", said: (number) => `${number} min` },
   distance: { isMinutes: false, unit: "Metres", most: 1_000_000, first: "500,1000,2000", said: (number) => `${number} m` },
@@ -74,10 +78,14 @@ export function limitsOf(text, most) {
 const isTouched = matchMedia("(hover: none) and (pointer: coarse)");
 const point = () => isTouched.matches ? "Tap" : "Click";
 
-export function hint(count, isReach = false) {
-  if (isReach) return count ? "Drag the place, or set another one." : `${point()} the map to set the place.`;
-  return [`${point()} the map to set the start.`, `${point()} the map to set the destination.`, "Drag the route or a place to change it."][Math.min(count, 2)];
+export function hint(count, kind) {
+  if (kind === "reach" || kind === "towards") return count ? "Drag the place, or set another one." : `${point()} the map to set the place.`;
+  const next = kind === "trip" ? `${point()} the map to add a place to visit.` : ["", `${point()} the map to set the destination.`, "Drag the route or a place to change it."][Math.min(count, 2)];
+  return count ? next : `${point()} the map to set the start.`;
 }
+
+// What the page is called while it shows this.
+export const titles = { route: "Routes", trip: "Round trip", reach: "Isochrones", towards: "Who gets here" };
 
 // The place that a text names: latitude and longitude in degrees, as maps write them, or with N, S, E and W in any order; null for
 // what is none.

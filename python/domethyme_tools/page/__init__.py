@@ -7,8 +7,8 @@ server, on a computer or a phone, and asks for nothing from a network.
 
 In the page a click sets the start, then the destination, then places between; a place and the route can be dragged. It shows the
 shortest route with its streets, metres and minutes, and which roads are reached within minutes. Places are the nearest points of
-roads, by the rules of `domethyme-serve`. Its contours and its instructions for turns the page hasn't got. Lengths and nodes come
-from the proved library; all else in the page is tested. docs/BROWSER.md has the details.
+roads, by the rules of `domethyme-serve`. Its round trips, contours and instructions for turns the page hasn't got. Lengths and nodes
+come from the proved library; all else in the page is tested. docs/BROWSER.md has the details.
 
 A page has at most 300,000 nodes, which are some 14 MB. Larger networks need a page that is served, and fetches them.
 

@@ -11,8 +11,9 @@ export class Panel {
     this.steps.replaceChildren();
   }
 
-  set(found, count) {
-    const route = found.routes[0], way = document.createElement("b");
+  // Shows a route between so many places.
+  set(route, count) {
+    const way = document.createElement("b");
     way.textContent = takes(route);
     this.total.replaceChildren(way, far(route.distance));
     const rows = route.legs.flatMap((leg, number) => leg.steps.map((step, place) => this.row(step, place ? null : roleOf(number, count))));

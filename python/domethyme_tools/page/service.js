@@ -27,6 +27,7 @@ function begin() {
 
 export const service = {
   about: begin,
+  offers: async () => ({ trip: false, towards: false, alternatives: 0 }),
   tile: (key) => ask("tile", key),
   route: (places) => ask("route", places),
   async reach(place, isMinutes, limits) {
