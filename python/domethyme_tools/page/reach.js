@@ -88,7 +88,7 @@ export class Reach {
 export function save(found) {
   const link = document.createElement("a");
   link.href = URL.createObjectURL(new Blob([JSON.stringify(found)], { type: "application/geo+json" }));
-  link.download = "reach.geojson";
+  link.download = "isochrones.geojson";
   link.click();
   setTimeout(() => URL.revokeObjectURL(link.href), 10_000);
 }
