@@ -28,7 +28,7 @@ if TYPE_CHECKING:
     from .batch import Summer
     from .network.directions import Directions, Match, Tour
     from .network.isochrones import Shape
-    from .network.network import Bearings, Network, Snapping
+    from .network.network import Approaches, Bearings, Network, Snapping
     from .network.snapping import SnappedPoint
     from .routes import Routes
     from .tours import Destination, Source
@@ -339,14 +339,15 @@ class Hierarchy:
 
     def directions(
         self, places: Any, *, radius: float = DEFAULT_RADIUS, bearings: "Bearings" = None, radiuses: Sequence[float | None] | None = None,
-        snapping: "Snapping" = "default", waypoints: Sequence[int] | None = None, continue_straight: bool = False
+        snapping: "Snapping" = "default", approaches: "Approaches" = None, waypoints: Sequence[int] | None = None,
+        continue_straight: bool = False
     ) -> "Directions | None":
         """The Directions by two or more places in degrees in their order: a shortest path from each to the next, between the nearest
         points of roads, each of which leaves its place in either direction. None if there is no path. Needs the network.
 
         places    rows (lon, lat), a frame of pandas with the columns lon and lat, points of shapely or geopandas, or what
                   Network.points_on_roads of this network returned
-        radius, bearings, radiuses, snapping   as for Network.points_on_roads
+        radius, bearings, radiuses, snapping, approaches   as for Network.points_on_roads
         waypoints   the places at which a leg begins or ends, numbers from 0 that rise: the first and the last place are among them; None
                     for all
         continue_straight   True: it goes on in its direction at each place within a road but the first and the last
@@ -354,7 +355,7 @@ class Hierarchy:
         The service's `/route` answers the same. Raises NoSuchNode if a road isn't near enough, NetworkError for points on the roads
         of another network, and ValueError.
         """
-        points = self._points(places, radius, bearings, radiuses, snapping)
+        points = self._points(places, radius, bearings, radiuses, snapping, approaches)
         if len(points) < 2:
             raise ValueError("directions need two places or more")
         from .network import directions
@@ -503,7 +504,7 @@ class Hierarchy:
 
     def _points(
         self, places: Any, radius: float, bearings: "Bearings" = None, radiuses: Sequence[float | None] | None = None,
-        snapping: "Snapping" = "default"
+        snapping: "Snapping" = "default", approaches: "Approaches" = None
     ) -> "list[SnappedPoint]":
         """The points on roads for places, which may be such points of the network already."""
         need("numpy")
@@ -511,9 +512,11 @@ class Hierarchy:
 
         network = self._need_network()
         if not (isinstance(places, Sequence) and places and all(isinstance(each, SnappedPoint) for each in places)):
-            return network.points_on_roads(places, radius, bearings=bearings, radiuses=radiuses, snapping=snapping)
-        if bearings is not None or radiuses is not None:
-            raise ValueError("places that are points on roads already have no bearings or radiuses")
+            return network.points_on_roads(
+                places, radius, bearings=bearings, radiuses=radiuses, snapping=snapping, approaches=approaches
+            )
+        if not bearings is radiuses is approaches is None:
+            raise ValueError("places that are points on roads already have no bearings, radiuses or approaches")
         for number, point in enumerate(places):
             network.roads.check_point(number, point)
         return list(places)

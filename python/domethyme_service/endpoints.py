@@ -116,7 +116,7 @@ ENDPOINTS = (
                   ROUNDTRIP, SOURCE, DESTINATION, *OF_ROUTES),
     osrm_endpoint("match", "the way of a vehicle along roads, by 2 to 500 places where it was measured to be",
                   handlers.places(osrm_match.match), range(2, 501), "TRACE*P + PAIR*G + NODE*W + POINT*V", "Matchings",
-                  DEVIATIONS, TIMESTAMPS, GAPS, TIDY, WAYPOINTS, *OF_ROUTES),
+                  DEVIATIONS, TIMESTAMPS, GAPS, TIDY, WAYPOINTS, unsupported("approaches", "unrestricted"), *OF_ROUTES),
     Endpoint("/isochrone", "/isochrone/v1/PROFILE/PLACE", "isochrones: what is within minutes or metres of a place, or leads to it, as GeoJSON",
              handlers.places(isochrone.answer), Kind.PLACES, range(1, 2),
              (CONTOURS_MINUTES, CONTOURS_METERS, CONTOURS_COLORS, POLYGONS, GENERALIZE, DENOISE, RADIUSES, BEARINGS,

@@ -8,7 +8,7 @@ from typing import NamedTuple
 import numpy as np
 
 from domethyme.network.alternatives import alternatives
-from domethyme.network.bearings import BearingRange, nearest_with_bearing
+from domethyme.network.bearings import Approach, BearingRange, at_curb, nearest_by_approach
 from domethyme.network.leg_geometry import LegTotals, RouteGeometry, leg_totals
 from domethyme.network.legs import Leg, find_legs
 from domethyme.network.snapping import RoadIndex, SnappedPoint
@@ -20,13 +20,15 @@ from .osrm_geometry import Budget, annotations_json, join_lines, line_json, simp
 from .osrm_request import Request
 from .osrm_steps import LegSteps, build_steps
 from .parameters import (
-    ALTERNATIVES, ANNOTATIONS, BEARINGS, CONTINUE_STRAIGHT, GENERATE_HINTS, GEOMETRIES, NUMBER, OVERVIEW, RADIUSES, SKIP_WAYPOINTS, SNAPPING,
+    ALTERNATIVES, ANNOTATIONS, APPROACHES, BEARINGS, CONTINUE_STRAIGHT, GENERATE_HINTS, GEOMETRIES, NUMBER, OVERVIEW, RADIUSES, SKIP_WAYPOINTS, SNAPPING,
     STEPS, WAYPOINTS
 )
 from .queries import Queries
 
 # A place is near the network if it is within this many degrees of the bounding box of its roads.
 NEAR_DEGREES = 0.2
+# The approaches of an endpoint without the parameter, which has one place.
+NOWHERE = [False]
 # Places that are snapped at once.
 SNAP_BATCH = 128
 
@@ -55,14 +57,16 @@ def nearest(engine: Engine, request: Request) -> str:
 def snap_candidates(engine: Engine, request: Request, number: int, count: int) -> list[SnappedPoint]:
     """The nearest points of roads to a place, within its radius and its bearing."""
     place, radius, bearing = request.places[number], request.values[RADIUSES][number], request.values[BEARINGS][number]
+    is_curb = request.values.get(APPROACHES, NOWHERE)[number]
     engine.meter.spend(Work.PLACE, count)
     is_any = may_be_any(request)
     if bearing is None and count == 1:
-        return [snapped for snapped in engine.roads.nearest_within([place], [radius], is_any) if snapped is not None]
-    if bearing is None:
-        return engine.roads.nearest(place, count, within=radius, is_any=is_any)
-    engine.meter.spend(Work.BEARING)
-    return nearest_with_bearing(engine.roads, place, count, BearingRange(*bearing), radius, is_any)
+        found = [snapped for snapped in engine.roads.nearest_within([place], [radius], is_any) if snapped is not None]
+        return [at_curb(engine.roads, place, snapped) or snapped for snapped in found] if is_curb else found
+    if bearing is not None:
+        engine.meter.spend(Work.BEARING)
+    approach = Approach(bearing and BearingRange(*bearing), is_curb)
+    return nearest_by_approach(engine.roads, place, count, approach, radius, is_any)
 
 
 def may_be_any(request: Request) -> bool:
@@ -90,7 +94,11 @@ def snap_places(engine: Engine, request: Request) -> list[SnappedPoint]:
 def snap_part(engine: Engine, request: Request, part: slice) -> Iterable[SnappedPoint | None]:
     places, radiuses = request.places[part], request.values[RADIUSES][part]
     engine.meter.spend(Work.PLACE, len(places))
-    return engine.roads.nearest_within(places, radiuses, may_be_any(request))
+    found = engine.roads.nearest_within(places, radiuses, may_be_any(request))
+    if not any(curbs := request.values.get(APPROACHES, NOWHERE)[part]):
+        return found
+    rows = zip(places, found, curbs)
+    return (at_curb(engine.roads, place, point) if is_curb and point is not None else point for place, point, is_curb in rows)
 
 
 def no_segment_error(roads: RoadIndex, request: Request, number: int) -> RequestError:

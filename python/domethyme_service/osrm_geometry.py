@@ -1,6 +1,5 @@
 """The lines of OSRM's answers, simplified, as polylines or GeoJSON; and annotations of their segments. Lines are arrays of points in
 microdegrees, of shape (points, 2)."""
-import itertools
 import math
 from collections.abc import Iterator, Sequence
 

@@ -1,6 +1,7 @@
 """The steps of a leg. A step begins where the name of the road changes, or a ferry, at a turn of more than 45 degrees at a junction, and
 at a roundabout, until after its exit. Types are depart, turn, new name, continue, roundabout and arrive. A step has the intersections
 that it passes."""
+import functools
 import itertools
 from collections.abc import Sequence
 from typing import NamedTuple
@@ -9,9 +10,10 @@ import numpy as np
 from numpy.typing import NDArray
 
 from domethyme.network.columns import TEXTS
-from domethyme.network.groups import Ints, offsets
+from domethyme.network.groups import Ints
 from domethyme.network.junctions import MIN_DEGREE, Junctions, junctions
 from domethyme.network.leg_geometry import RouteGeometry, microdegrees
+from domethyme.network.snapping import RoadIndex
 
 from .json_text import Texts, join_array, number_texts, point_texts, string_json
 from .osrm_geometry import line_string, polylines_json
@@ -23,7 +25,7 @@ MODIFIERS = [("straight", f"slight {side}", side, f"sharp {side}", "uturn") for 
 KINDS = ("continue", "new name", "turn", "roundabout")
 # The first members of a maneuver, by kind, side and modifier.
 TURNS = [f'"type":"{kind}","modifier":"{modifier}"' for kind in KINDS for side in MODIFIERS for modifier in side]
-DEPART = '"type":"depart"'
+DEPART, ARRIVE = '"type":"depart"', '"type":"arrive"'
 # The columns of arc_texts that steps have.
 NAME_COLUMNS = [TEXTS.index(name) for name in ("name", "ref", "destination")]
 # What a step's JSON has of its totals: a weight, seconds or None, and metres.
@@ -92,20 +94,22 @@ class StepBuilder:
         is_new[geometry.first[:-1][np.diff(geometry.first) > 0]] = True
         return is_new
 
-    def steps(self, locations: Sequence[str], shapes: Sequence[str]) -> tuple[list[str], list[RoadTexts]]:
-        """The JSON of the steps without arrivals, from that of their beginnings and of their lines; and the texts of their roads."""
+    def steps(self, locations: Sequence[str], shapes: Sequence[str], passed: list[str]) -> tuple[list[str], list[RoadTexts]]:
+        """The JSON of the steps without arrivals, from that of their beginnings, of their lines and of the junctions that they pass; and the
+        texts of their roads."""
         roads = self.road_texts()
         before = np.where(self.is_leg_first, 0, self.last_bearings[self.begins - 1]).tolist()
         after = self.first_bearings[self.begins].tolist()
         totals = self.geometry.totals(self.begins, self.ends).rows
-        modes = ["ferry" if is_on else "driving" for is_on in self.is_on_ferry[self.begins].tolist()]
-        passed = self.intersections()
+        modes = [mode_json(self.roads, is_ferry) for is_ferry in (False, True)]
+        ways = [modes[is_on] for is_on in self.is_on_ferry[self.begins].tolist()]
         for step in np.flatnonzero(self.is_leg_first).tolist():
             passed[step] = f'{intersection_json(locations[step], after[step], "out")}{"," if passed[step] else ""}{passed[step]}'
-        return [*map(step_json, self.turns(), locations, before, after, roads, totals, shapes, passed, modes)], roads
+        maneuvers = map(maneuver_json, self.turns(), locations, before, after)
+        return [*map(step_json, maneuvers, roads, totals, shapes, passed, ways)], roads
 
-    def intersections(self) -> list[str]:
-        """The JSON of the junctions of each step, with commas between, that where it begins first unless a leg begins there."""
+    def junctions(self) -> Junctions:
+        """Those that steps begin at, but the first one of a leg, or pass."""
         geometry = self.geometry
         is_begin = np.zeros(len(geometry.arcs) + 1, bool)
         is_begin[self.begins] = True
@@ -115,11 +119,12 @@ class StepBuilder:
         is_there |= is_begin[:-1]
         is_there[geometry.first[geometry.first < len(is_there)]] = False
         arcs = np.flatnonzero(is_there)
-        if not len(arcs):
-            return [""] * len(self.begins)
-        found = junctions(geometry, arcs, is_begin[arcs])
-        texts = intersection_texts(found, point_texts(geometry.shown[geometry.slices(found.arcs, found.arcs + 1)[0]], 6))
-        bounds = np.searchsorted(found.arcs, [*self.begins, len(geometry.arcs)]).tolist()
+        return junctions(geometry, arcs, is_begin[arcs])
+
+    def intersections(self, found: Junctions, locations: Sequence[str]) -> list[str]:
+        """The JSON of the junctions of each step, at these places, with commas between."""
+        texts = intersection_texts(found, locations)
+        bounds = np.searchsorted(found.arcs, [*self.begins, len(self.geometry.arcs)]).tolist()
         return [",".join(texts[low:high]) for low, high in itertools.pairwise(bounds)]
 
     def road_texts(self) -> list[RoadTexts]:
@@ -153,18 +158,22 @@ class StepBuilder:
         return f',"exit":{1 + sum(self.roads.count_exits(node) for node in nodes[:-1])}'
 
 
-def intersection_texts(found: Junctions, locations: Texts) -> list[str]:
+def intersection_texts(found: Junctions, locations: Sequence[str]) -> list[str]:
     """The JSON of junctions at these places."""
-    words = "".join(["true," if is_open else "false," for is_open in found.entries.tolist()])
-    bearings, entries = number_texts(found.bearings, 0), Texts(words, offsets(np.where(found.entries, 5, 6)))
-    rows = zip(
-        locations.rows(np.arange(len(found.arcs))), *(each.arrays(found.begins[:-1], found.begins[1:]) for each in (bearings, entries)),
-        found.into.tolist(), found.out.tolist(),
-    )
+    begins, behind = found.begins[:-1], found.begins[1:]
+    flags, bounds = found.entries.tobytes(), itertools.pairwise(found.begins.tolist())
+    entries = (entry_json(flags[low:high]) for low, high in bounds)
+    rows = zip(locations, number_texts(found.bearings, 0).arrays(begins, behind), entries, found.into.tolist(), found.out.tolist())
     return [
-        f'{{"location":{location},"bearings":{bearing},"entry":{entry},"in":{into},"out":{out}}}'
-        for location, bearing, entry, into, out in rows
+        f'{{"location":{location},"bearings":{bearings},"entry":{entry},"in":{into},"out":{out}}}'
+        for location, bearings, entry, into, out in rows
     ]
+
+
+@functools.lru_cache(1 << 10)
+def entry_json(flags: bytes) -> str:
+    """Which roads may be entered, by 0 or 1 for each."""
+    return f'[{",".join("true" if flag else "false" for flag in flags)}]'
 
 
 def intersection_json(location: str, bearing: int, side: str) -> str:
@@ -172,15 +181,22 @@ def intersection_json(location: str, bearing: int, side: str) -> str:
     return f'{{"location":{location},"bearings":[{bearing}],"entry":[true],"{side}":0}}'
 
 
-def step_json(
-    turn: str, location: str, before: int, after: int, road: RoadTexts, totals: StepTotals, shape: str, passed: str, mode: str = "driving"
-) -> str:
-    """An OSRM step; `passed` is the JSON of its intersections."""
+def mode_json(roads: RoadIndex, is_on_ferry: bool = False) -> str:
+    """The members of a step that say how one is on the way."""
+    return f'"mode":"{"ferry" if is_on_ferry else roads.arrays.mode}","driving_side":"{roads.arrays.driving_side}"'
+
+
+def maneuver_json(turn: str, location: str, before: int, after: int) -> str:
+    return f'{{{turn},"location":{location},"bearing_before":{before},"bearing_after":{after}}}'
+
+
+def step_json(maneuver: str, road: RoadTexts, totals: StepTotals, shape: str, passed: str, mode: str) -> str:
+    """An OSRM step; `passed` is the JSON of its intersections, `mode` what `mode_json` returns."""
     weight, seconds, metres = totals
     return (
-        f'{{"maneuver":{{{turn},"location":{location},"bearing_before":{before},"bearing_after":{after}}},"name":{road.name_json},'
-        f'"mode":"{mode}","driving_side":"right","weight":{weight!r},"duration":{"null" if seconds is None else repr(seconds)},'
-        f'"distance":{metres!r},"geometry":{shape},"intersections":[{passed}]{road.more}}}'
+        f'{{"maneuver":{maneuver},"name":{road.name_json},{mode},"weight":{weight!r},'
+        f'"duration":{"null" if seconds is None else repr(seconds)},"distance":{metres!r},"geometry":{shape},'
+        f'"intersections":[{passed}]{road.more}}}'
     )
 
 
@@ -189,15 +205,17 @@ def build_steps(geometry: RouteGeometry, format_: str) -> list[LegSteps]:
     ends, numbers = microdegrees(geometry.ends), np.arange(len(geometry.ends))
     of_places = point_texts(ends, 6)
     places, at_places = of_places.rows(numbers), shapes_of(ends, of_places, numbers, numbers + 1, format_)
-    nothing = (0.0, 0.0 if geometry.roads.has_seconds else None, 0.0)
+    nothing, mode = (0.0, 0.0 if geometry.roads.has_seconds else None, 0.0), mode_json(geometry.roads)
     texts, roads, bounds, last_bearings = list[str](), list[RoadTexts](), [0] * len(ends), list[int]()
     if len(geometry.arcs):
         builder = StepBuilder(geometry)
         firsts, behind = geometry.slices(builder.begins, builder.ends)
-        is_whole = format_ == "geojson"
-        shown = point_texts(geometry.shown if is_whole else geometry.shown[firsts], 6)
-        locations = shown.rows(firsts if is_whole else np.arange(len(firsts)))
-        texts, roads = builder.steps(locations, shapes_of(geometry.shown, shown, firsts, behind, format_))
+        at_junctions, is_whole = builder.junctions(), format_ == "geojson"
+        chosen = np.append(firsts, geometry.slices(at_junctions.arcs, at_junctions.arcs + 1)[0])
+        shown = point_texts(geometry.shown if is_whole else geometry.shown[chosen], 6)
+        locations = shown.rows(chosen if is_whole else np.arange(len(chosen)))
+        passed = builder.intersections(at_junctions, locations[len(firsts) :])
+        texts, roads = builder.steps(locations, shapes_of(geometry.shown, shown, firsts, behind, format_), passed)
         bounds = np.searchsorted(builder.begins, geometry.first).tolist()
         last_bearings = builder.last_bearings[geometry.first[1:] - 1].tolist()
     found = []
@@ -206,10 +224,10 @@ def build_steps(geometry: RouteGeometry, format_: str) -> list[LegSteps]:
         if not some:
             names = [RoadTexts.of("", "", "")]
             passed = intersection_json(places[leg], 0, "out")
-            some = [step_json(DEPART, places[leg], 0, 0, names[0], nothing, at_places[leg], passed)]
+            some = [step_json(maneuver_json(DEPART, places[leg], 0, 0), names[0], nothing, at_places[leg], passed, mode)]
         arrival, place = names[-1]._replace(more=""), places[leg + 1]
         passed = intersection_json(place, (before + 180) % 360, "in")
-        some.append(step_json('"type":"arrive"', place, before, 0, arrival, nothing, at_places[leg + 1], passed))
+        some.append(step_json(maneuver_json(ARRIVE, place, before, 0), arrival, nothing, at_places[leg + 1], passed, mode))
         found.append(LegSteps(join_array(some), ", ".join(first_names(names))))
     return found
 

@@ -179,6 +179,14 @@ def parse_bearing(word: str, _context: Context) -> tuple[int, int] | None:
     return int(degrees), int(deviation)
 
 
+def parse_approach(word: str, _context: Context) -> bool:
+    """Whether a route has to come to the place, and to leave it, with it at the side of the road on which vehicles are."""
+    if word == "opposite":
+        raise not_implemented("approaches=opposite isn't supported")
+    require(word in ("", "unrestricted", "curb"))
+    return word == "curb"
+
+
 def parse_colors(text: str, _context: Context) -> list[str]:
     words = text.split(",")
     require(all(map(COLOR.fullmatch, words)))
@@ -232,6 +240,11 @@ BEARINGS = Parameter(
     "bearings", "for each place `DEGREES,RANGE`, from north, clockwise, to 360 and 180, or nothing",
     per_place(parse_bearing, "there has to be a bearing for each place, or nothing between semicolons"),
     "are DEGREES,RANGE, from 0 to 360 and from 0 to 180", "",
+)
+APPROACHES = Parameter(
+    "approaches", "for each place `unrestricted`, or nothing, or `curb`: with the place at the side of the road on which vehicles are",
+    per_place(parse_approach, "there has to be an approach for each place, or nothing between semicolons"),
+    "are unrestricted or curb", "", "`opposite`",
 )
 FALLBACK_SPEED, SCALE_FACTOR = [
     Parameter(name, "a number above 0", parse_number(METRES, float, lambda number: number > 0), "is a number above 0")
@@ -288,6 +301,6 @@ FROM, TO, FROM_KEY, TO_KEY = node("from"), node("to"), any_text("from_key", ""),
 
 # The parameters of all of OSRM's services.
 COMMON: tuple[Parameter[Any], ...] = (
-    RADIUSES, any_text("hints"), GENERATE_HINTS, SKIP_WAYPOINTS, BEARINGS, unsupported("approaches", "unrestricted"),
+    RADIUSES, any_text("hints"), GENERATE_HINTS, SKIP_WAYPOINTS, BEARINGS, APPROACHES,
     EXCLUDE, SNAPPING, choice("format", "json", rejected=["flatbuffers"], message="flatbuffers aren't supported"),
 )

@@ -48,6 +48,7 @@ from domethyme.belonging import older_hierarchy
 from domethyme.csv_tables import Form
 from domethyme.errors import raised_as
 from domethyme.network import from_tables, net_file
+from domethyme.network.columns import DRIVING_SIDES
 from domethyme.network.components import in_largest, islands, keep, quartiles
 from domethyme.network.table_files import bytes_of, tables_there, write_graph_of, write_tables
 from domethyme.network.tables import ARC_COLUMNS, NODE_COLUMNS, Files, has_columns, read_attribution
@@ -69,6 +70,7 @@ def parse_args() -> argparse.Namespace:
     parser.add_argument("--largest", action="store_true", help="keep the largest set of nodes that can all reach one another")
     parser.add_argument("--tables", action="store_true", help="write OUT.nodes.csv and OUT.arcs.csv too")
     parser.add_argument("--attribution", metavar="TEXT", help="the attribution that maps show (that in OUT.gr)")
+    parser.add_argument("--driving-side", choices=DRIVING_SIDES, default="right", help="the side of the road on which vehicles are (right)")
     options = parser.parse_args()
     if options.delimiter == options.decimal:
         parser.error("a comma is between fields too: give --delimiter, as ';'")
@@ -124,7 +126,7 @@ def main() -> None:
             marks = write_tables(tables, arrays)
         write_graph_of(bytes_of(graph), arrays, attribution)
         with raised_as(ToolError, options.arcs, ValueError):
-            arrays.about |= marks
+            arrays.about |= {**marks, "driving_side": DRIVING_SIDES.index(options.driving_side)}
             net_file.write(bytes_of(network), arrays)
     for line in said:
         warn(line)

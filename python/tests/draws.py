@@ -84,7 +84,7 @@ def networks(draw: Any, kinds: Sequence[str] = KINDS, most: int = 8, origins: Se
             arcs.append(draw_arc(draw, kind, start, end, line, texts))
     turns = [(a, b) for a, one in enumerate(arcs) for b, other in enumerate(arcs) if one.end == other.start]
     forbidden = draw(st.sets(st.sampled_from(turns), max_size=4)) if turns and draw(st.integers(0, 2)) == 0 else set()
-    roads = Network(nodes, arcs, forbidden)
+    roads = Network(nodes, arcs, forbidden, draw(st.booleans()))
     return Drawn(roads, split(roads) if forbidden else roads, has_keys)
 
 
@@ -127,7 +127,7 @@ def split(roads: Network) -> Network:
     ]
     assert set(words) == set(turn_restrictions.ENDS)
     rows = zip(arc.tolist(), starts.tolist(), ends.tolist())
-    return Network([*before, *more], [roads.arcs[row]._replace(start=one, end=other) for row, one, other in rows])
+    return Network([*before, *more], [roads.arcs[row]._replace(start=one, end=other) for row, one, other in rows], is_left=roads.is_left)
 
 
 # Files
@@ -138,7 +138,8 @@ def write_network(drawn: Drawn, prefix: pathlib.Path, *words: str) -> str:
     folder = prefix.parent / f"{prefix.name}-tables"
     folder.mkdir(exist_ok=True)
     write_tables(drawn, folder)
-    said = run_tool("to_network", folder / "nodes.csv", folder / "arcs.csv", prefix, *words)[1]
+    side = ("--driving-side", "left") if drawn.tables.is_left else ()
+    said = run_tool("to_network", folder / "nodes.csv", folder / "arcs.csv", prefix, *side, *words)[1]
     domethyme.prepare(f"{prefix}.gr", f"{prefix}.rch", order="depth", workers=0).close()
     return said
 
@@ -255,7 +256,6 @@ LIMITS = ("5,3", "5,5", "0", "1,2,3,4,5", "5;6", "1,,2", "1000001", "0.00001,0.0
 KNOWN: dict[str, dict[str, dict[str, Sequence[str]]]] = {
     "osrm": {
         "hints": coded("", "a;b"), "generate_hints": YES_NO, "skip_waypoints": YES_NO, "exclude": EXCLUDE,
-        "approaches": coded("", "unrestricted", NotImplemented=["unrestricted;curb", "Unrestricted", "unrestricted,"]),
         "unknown": {"InvalidQuery": ["1"]}, "snapping": invalid(["default", "any"], "x", "", "any;"),
         "format": coded("json", NotImplemented=["flatbuffers"], InvalidValue=["x", "json5", ""]),
     },
@@ -274,6 +274,7 @@ KNOWN: dict[str, dict[str, dict[str, Sequence[str]]]] = {
         "timestamps": coded("0;1", "5;5", InvalidQuery=["1", "1;2;3"], InvalidValue=[
             "1;0", "1;", ";", "1;x", "-1;2", "1.5;2", "1,2", "", "9999999999999;9999999999999"
         ]),
+        "approaches": coded("", "unrestricted", "unrestricted;", NotImplemented=["curb", "unrestricted;curb", "opposite"]),
         "gaps": invalid(["split", "ignore"], "Split", "", "true"), "tidy": YES_NO, "waypoints": WAYPOINTS, "steps": YES_NO,
         "overview": invalid(["simplified", "full", "false"], "x", ""), "annotations": YES_NO,
         "geometries": invalid(["polyline", "polyline6", "geojson"], "wkt"),
@@ -297,6 +298,7 @@ KNOWN: dict[str, dict[str, dict[str, Sequence[str]]]] = {
 WORDS = {
     "radiuses": invalid(["unlimited", "10", "50.5", "1000", "0"], "-1", "1e3", "Unlimited", "5m", *WRONG[1:9]),
     "bearings": invalid(["360,90"], "361,5", "10,181", "10", "a,b", "5,", ",5", "-5,5", "5,5,5", "1e1,5", "n,s"),
+    "approaches": coded("curb", "unrestricted", InvalidValue=["Curb", "kerb", "curb,", "both"], NotImplemented=["opposite"]),
 }
 
 
@@ -321,6 +323,8 @@ def texts_of(service: str, count: int, directions: Sequence[int], is_wrong: bool
     found = {name: any_of(texts) for name, texts in known.items()}
     found["radiuses"] = of_places(any_of(DEVIATIONS if service == "match" else WORDS["radiuses"]))
     found["bearings"] = of_places(st.one_of(bearings, bearings, any_of(WORDS["bearings"])))
+    if service not in ("match", "isochrone"):
+        found["approaches"] = of_places(any_of(WORDS["approaches"]))
     annotations = ["duration", "distance", "weight", *(ANNOTATIONS[3:] if is_wrong or service in ("route", "trip", "match") else ())]
     some = st.lists(st.sampled_from(annotations), min_size=1, max_size=4, unique=not is_wrong)
     if service == "match":

@@ -34,20 +34,22 @@ def test_as_the_model(data: Any) -> None:
     made = data.draw(networks())
     spots = data.draw(places(made.roads, 5))
     bearings = data.draw(st.lists(st.sampled_from([None, None, (0, 60), (90, 20), (270, 180)]), min_size=len(spots), max_size=len(spots)))
+    approaches = data.draw(st.lists(st.sampled_from([None, "curb"]), min_size=len(spots), max_size=len(spots)))
     radiuses = data.draw(st.lists(st.sampled_from([None, 60.5, math.inf]), min_size=len(spots), max_size=len(spots)))
     with tempfile.TemporaryDirectory() as folder:
         write_network(made, pathlib.Path(folder) / "net")
         hierarchy = domethyme.Hierarchy(f"{folder}/net.rch", network=f"{folder}/net")
         try:
-            points = [made.roads.snap(spot, radius or 1000.0, each) for spot, radius, each in zip(spots, radiuses, bearings)]
+            rows = zip(spots, radiuses, bearings, approaches)
+            points = [made.roads.snap(spot, radius or 1000.0, each, side == "curb") for spot, radius, each, side in rows]
         except Ambiguous:
             return
         if None in points:
             with pytest.raises(domethyme.NoSuchNode) as raised:
-                hierarchy.network.points_on_roads(spots, bearings=bearings, radiuses=radiuses)
+                hierarchy.network.points_on_roads(spots, bearings=bearings, radiuses=radiuses, approaches=approaches)
             assert raised.value.key == points.index(None)
             return
-        snapped = hierarchy.network.points_on_roads(spots, bearings=bearings, radiuses=radiuses)
+        snapped = hierarchy.network.points_on_roads(spots, bearings=bearings, radiuses=radiuses, approaches=approaches)
         try:
             legs = {pair: made.roads.legs(*pair) for pair in itertools.product(points, repeat=2)}
         except Ambiguous:
@@ -62,7 +64,7 @@ def test_as_the_model(data: Any) -> None:
             assert any(abs(metres - each) < 0.01 for each in wanted) if wanted else math.isnan(metres)
         if len(spots) > 1:
             stops = sorted({0, *data.draw(st.sets(st.integers(0, len(spots) - 1))), len(spots) - 1})
-            found = hierarchy.directions(spots, bearings=bearings, radiuses=radiuses, waypoints=stops)
+            found = hierarchy.directions(spots, bearings=bearings, radiuses=radiuses, approaches=approaches, waypoints=stops)
             check_directions(made.roads, found, points, legs, stops)
             check_straight(made.roads, hierarchy.directions(snapped, continue_straight=True), points)
         for setting in SETTINGS:
@@ -85,7 +87,7 @@ def test_points_of_another_network(made: Any, data: Any) -> None:
                 hierarchy.table(others)
         else:
             assert hierarchy.table(others).tolist() == hierarchy.table(spots, radius=math.inf).tolist()
-        with pytest.raises(ValueError, match="have no bearings or radiuses"):
+        with pytest.raises(ValueError, match="have no bearings, radiuses or approaches"):
             hierarchy.directions(hierarchy.network.points_on_roads(spots, math.inf), bearings=[None] * len(spots))
 
 
@@ -299,6 +301,8 @@ class FramesTests(ToolCase):
                 hierarchy.directions(wrong)
         with pytest.raises(ValueError, match="one for each place"):
             hierarchy.directions(places, bearings=[(0, 10)])
+        with pytest.raises(ValueError, match="approaches are .unrestricted. or .curb., and not .left."):
+            hierarchy.directions(places, approaches=["left", None, "curb"])
         with pytest.raises(ValueError, match="a bearing is"):
             hierarchy.directions(places, bearings=[(400, 10), None, None])
         for stops in ([], [0, 1], [1, 2], [0, 2, 1, 2], [0, 1, 1, 2], [0, 3]):

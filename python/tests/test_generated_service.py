@@ -63,7 +63,7 @@ def requests(draw: Any, drawn: Drawn, service: str) -> tuple[Request, set[str]]:
     count, is_wrong = draw(st.sampled_from(COUNTS[service])), draw(st.integers(0, 5)) == 0
     where = draw(places(drawn.roads, count))
     texts = texts_of(service, count, directions(drawn.roads), is_wrong)
-    names = ["bearings", "steps", "overview", "annotations", "waypoints", *(["radiuses", "timestamps"] if service == "match" else [])]
+    names = ["bearings", "approaches", "steps", "overview", "annotations", "waypoints", *(["radiuses", "timestamps"] if service == "match" else [])]
     often = [name for name in names for _ in range(4) if name in texts]
     chosen = draw(st.lists(st.sampled_from([*sorted(texts), *often]), max_size=6))
     rows = {name: draw(texts[name]) for name in dict.fromkeys(chosen)}

@@ -127,6 +127,7 @@ class MemberTests(ToolCase):
 
     def test_members_with_faults(self):
         cases = [
+            ({"driving_side": "middle"}, "driving_side isn't one of right, left"), ({"mode": ["driving"]}, "mode isn't one of driving, cycling, walking"),
             ({"turns": {"around": 5}}, "turns isn't hundredths of a second from 0 to 360000 by the words left, right, back"),
             ({"turns": {"left": 1.5}}, "turns isn't hundredths"),
             ({"turns": {"left": -1}}, "turns isn't hundredths"),

@@ -165,6 +165,9 @@ GOING_ON = (
     Kind(400, "InvalidValue", "places of legs that are none", tuple(
         f"/{service}/v1/$text/$place;$place;$place?waypoints={wrong}" for service in ("route", "match") for wrong in (
             "$bad", "0", "$few", "2;0", "0;1;2;3", "0,2", "0;2;", ";0;2", "0;;2", "0;$few$few;2", "1;2", "0;1", "all", "0;$bad;2"))),
+    Kind(400, "InvalidValue", "a side that is none", tuple(
+        f"/{service}/v1/$text/$place;$place?approaches={wrong}" for service in ("route", "table", "trip") for wrong in (
+            "$text;curb", "curb;$text", "Curb;", ";CURB", "curb%20;", "$bad;curb", "curb,curb;", "left;right"))),
     Kind(400, "InvalidVersion", "another version", tuple(f"/$many/{version}/$text/$places" for version in (
         "", "v0", "v2", "v5", "V1", "v1.0", "v11", "1", "v", "v%31", "v1%00", "v-1", "latest", "v2$few$few"))),
     Kind(400, "InvalidUrl", "a path that ends early", (

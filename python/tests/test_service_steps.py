@@ -1,11 +1,20 @@
-"""Steps and their intersections where junctions are split, by hand; the generated tests have those of other networks."""
+"""Steps and their intersections where junctions are split, the side on which vehicles are, and what they are, by hand; the generated tests
+have what is on other networks."""
+import json
 import pathlib
 from typing import Any
+from unittest import mock
 
 import pytest
-from draws import Drawn, split, write_network
+from draws import Drawn, run_tool, split, write_network
 from model.network import Arc, Network, Node
 from test_generated_service import ask, open_service
+from tool_case import VILLAGE
+
+import domethyme
+from domethyme.maps.vehicle_profile import PROFILES
+from domethyme.network import net_file
+from domethyme.network.columns import ABOUT
 
 CENTRE, WEST, EAST, NORTH, SOUTH = (0.0, 0.0), (-0.001, 0.0), (0.001, 0.0), (0.0, 0.001), (0.0, -0.001)
 PLACES = [CENTRE, WEST, EAST, NORTH, SOUTH]
@@ -55,3 +64,63 @@ def test_one_leg_by_a_place_between(tmp_path: pathlib.Path) -> None:
         "type": "continue", "modifier": "uturn", "location": [-0.0003, 0.0], "bearing_before": 90, "bearing_after": 270
     }
     assert back["intersections"] == [{"location": [-0.0003, 0.0], "bearings": [270], "entry": [True], "in": 0, "out": 0}]
+
+
+@pytest.mark.parametrize("base, more, mode, side", [
+    ("car", {}, "driving", "right"), ("car", {"driving_side": "left"}, "driving", "left"), ("bicycle", {}, "cycling", "right"),
+    ("foot", {"driving_side": "left"}, "walking", "left"),
+])
+def test_what_a_profile_says_of_steps(tmp_path: pathlib.Path, base: str, more: dict[str, str], mode: str, side: str) -> None:
+    """Steps have the mode and the side of the profile. A place a metre north of a road from west to east is left, and come to, westwards
+    where vehicles are on the right, and eastwards on the left; on the line of the road, and on a one-way one, any way will do."""
+    members = json.loads((PROFILES / f"{base}.json").read_text(encoding="utf-8"))
+    (tmp_path / "own.json").write_text(json.dumps({**members, **more}))
+    run_tool("osm_to_gr", VILLAGE, tmp_path / "v", "--keep-islands", "--profile", tmp_path / "own.json")
+    domethyme.prepare(tmp_path / "v.gr", tmp_path / "v.rch").close()
+    service = open_service(tmp_path / "v")
+
+    def ends(places: str, approaches: str) -> list[int]:
+        status, found = ask(service, f"/route/v1/car/{places}?steps=true&approaches={approaches}")
+        assert status == 200, found
+        (leg,) = found["routes"][0]["legs"]
+        assert {(step["mode"], step["driving_side"]) for step in leg["steps"]} == {(mode, side)}
+        return [leg["steps"][0]["maneuver"]["bearing_after"], leg["steps"][-1]["maneuver"]["bearing_before"]]
+
+    # (north, on the line, and south of High Street)
+    west, east = (270, 90) if side == "right" else (90, 270)
+    for place, wanted in (("0.003,0.00001", west), ("0.003,-0.00001", east)):
+        assert ends(f"{place};0.0045,0", "curb;")[0] == wanted
+        assert ends(f"0.0045,0;{place}", ";curb")[1] == wanted
+        assert ends(f"0.0045,0;{place}", ";unrestricted")[1] == 270
+    for approaches in ("curb;curb", ";"):
+        assert ends("0.003,0;0.0045,0", approaches) == [90, 90]
+    if base == "car":  # (Up Street leads north alone)
+        assert ends("0.00199,0.0005;0.00201,0.0008", "curb;curb") == [0, 0]
+    hierarchy = domethyme.Hierarchy(tmp_path / "v.rch", network=tmp_path / "v")
+    free, bound = (hierarchy.directions([(0.003, 0.00001), (0.0045, 0)], approaches=each) for each in (None, ["curb", None]))
+    assert (free.weight < bound.weight) == (side == "right")
+
+
+def test_files_without_a_side(tmp_path: pathlib.Path) -> None:
+    """A file that was made before it had one is read as of cars on the right, and one with an unknown one is refused. New speeds keep it."""
+    written = net_file.write
+    for number, (names, about, side) in enumerate([
+        (ABOUT, {}, "right"), (ABOUT, {"driving_side": 1, "mode": 2}, "left"), (ABOUT[: ABOUT.index("driving_side")], {"driving_side": 1}, "right"),
+        (ABOUT, {"driving_side": 2}, None), (ABOUT, {"mode": 3}, None), (ABOUT[:-1], {}, None),
+    ]):
+        def write(file: Any, arrays: Any) -> None:
+            arrays.about |= about
+            with mock.patch.object(net_file, "ABOUT", names):
+                written(file, arrays)
+
+        prefix = tmp_path / str(number)
+        with mock.patch.object(net_file, "write", write):
+            run_tool("osm_to_gr", VILLAGE, prefix)
+        if side is None:
+            with pytest.raises(domethyme.NetworkError, match="about has"):
+                domethyme.Network(prefix).roads
+            continue
+        network = domethyme.Network(prefix)
+        assert (network.arrays.driving_side, network.arrays.mode) == (side, "walking" if side == "left" else "driving")
+        network.reweigh([], f"{prefix}-new")
+        assert domethyme.Network(f"{prefix}-new").arrays.driving_side == side

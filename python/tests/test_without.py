@@ -33,14 +33,14 @@ def is_toll(arc: Any) -> bool:
 def without(roads: Network, is_left_out: Callable[[Arc], bool]) -> Network | None:
     """The network of the other roads between nodes of the largest set that can all reach one another; None if there are several."""
     arcs = [arc for arc in roads.arcs if not is_left_out(arc)]
-    plain = Network(roads.nodes, arcs)
+    plain = Network(roads.nodes, arcs, is_left=roads.is_left)
     reached = [set(plain.lengths({node: 0})) for node in range(len(roads.nodes))]
     sets = {frozenset(other for other in reached[node] if node in reached[other]) for node in range(len(roads.nodes))}
     most = max(map(len, sets))
     if [len(each) for each in sets].count(most) > 1:
         return None
     largest = next(each for each in sets if len(each) == most)
-    found = Network(roads.nodes, [arc for arc in arcs if arc.start in largest and arc.end in largest])
+    found = Network(roads.nodes, [arc for arc in arcs if arc.start in largest and arc.end in largest], is_left=roads.is_left)
     vars(found).update(unit=roads.unit, has_seconds=roads.has_seconds)
     return found if found.arcs else None
 

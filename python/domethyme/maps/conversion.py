@@ -25,7 +25,7 @@ from .road_network import (
 )
 from .turn_restrictions import Bools, Report, Restriction
 from .vehicle_profile import (
-    Profile, blocks_way, conditional_keys, judge, other_ways, road_tags, seconds_of, structure_of, unsupported_tags, way_keys
+    KEPT, Profile, blocks_way, conditional_keys, judge, other_ways, road_tags, seconds_of, structure_of, unsupported_tags, way_keys
 )
 
 # metres: the most of a longest arc
@@ -215,6 +215,7 @@ def write_network(map_path: StrPath, out: str, profile: Profile, options: Option
             attribution = " ".join(options.attribution.split())
             with folder.step("arcs"):
                 arrays = to_arrays(network, options.weight, rows_of, attribution, report)
+                arrays.about |= {name: known.index(getattr(profile, name)) for name, known in KEPT.items()}
                 kilometres = metres_of_roads(network) / 1000
             del network, rows_of
             with folder.step("files"):

@@ -9,6 +9,7 @@ from typing import Any, NamedTuple, TypeVar
 
 from ..csv_tables import open_input
 from ..errors import MapError
+from ..network.columns import DRIVING_SIDES, MODES
 from ..program import StrPath
 
 Tags = dict[str, str]
@@ -33,6 +34,8 @@ FERRY = "ferry"
 DURATION, ISO_DURATION = re.compile(r"[0-9]{1,4}(:[0-5][0-9]){0,2}"), re.compile(r"PT(?:([0-9]{1,3})H)?(?:([0-9]{1,4})M)?(?:([0-9]{1,4})S)?")
 # hundredths of a second
 TURNS, MAX_PENALTY = ("left", "right", "back"), 360_000
+# What the network keeps of a profile, and what it may be.
+KEPT = {"driving_side": DRIVING_SIDES, "mode": MODES}
 ONEWAY = {"yes": "forward", "true": "forward", "1": "forward", "-1": "backward", "reverse": "backward"}
 
 
@@ -56,6 +59,8 @@ class Profile(NamedTuple):
     only_where_allowed: list[str] = []
     restrictions: list[str] | None = None
     turns: dict[str, int] = {}
+    driving_side: str = "right"
+    mode: str = "driving"
 
 
 class Judgement(NamedTuple):
@@ -111,6 +116,8 @@ def member_error(name: str, value: Any) -> str:
             kind in TURNS and type(penalty) is int and 0 <= penalty <= MAX_PENALTY for kind, penalty in value.items()
         )
         return "" if fits else f"hundredths of a second from 0 to {MAX_PENALTY} by the words {', '.join(TURNS)}"
+    if name in KEPT:
+        return "" if value in KEPT[name] else f"one of {', '.join(KEPT[name])}"
     if name == "fastest":
         return speed_error({"fastest": value}) and f"a speed from {SLOWEST} to {FASTEST}"
     if name in ("speeds", "maxspeed_words", "surfaces"):

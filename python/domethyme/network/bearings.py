@@ -1,4 +1,4 @@
-"""The nearest point of a road in a given direction, for OSRM's `bearings`."""
+"""The nearest point of a road in a given direction, for OSRM's `bearings`, and of the side of a place, for `approaches`."""
 import itertools
 from typing import NamedTuple
 
@@ -9,7 +9,8 @@ from .columns import UNITS
 from .geo import Point, bearing
 from .grid import Ints, concat_ranges
 from .parallel import differs_from_previous
-from .snapping import Arc, RoadIndex, SnappedPoint
+from .snapping import END_TOLERANCE, SEGMENT_END_OFFSETS, Arc, RoadIndex, SnappedPoint
+from .sphere import unit_vectors
 
 # How many of the nearest edges are examined, until enough have a road in the direction.
 CANDIDATES = (8, 64, 512, 4096)
@@ -27,15 +28,29 @@ class BearingRange(NamedTuple):
         return abs((direction - self.bearing + 180) % 360 - 180) <= self.tolerance
 
 
-def nearest_with_bearing(
-    roads: RoadIndex, place: Point, count: int, bearing_range: BearingRange, radius: float, is_any: bool = False
+class Approach(NamedTuple):
+    """The directions in which a route may come to a place and leave it: those of a range, or any, and with `is_curb` those for which the
+    place is at the side of the road on which vehicles are."""
+
+    bearing_range: BearingRange | None = None
+    is_curb: bool = False
+
+
+def nearest_by_approach(
+    roads: RoadIndex, place: Point, count: int, approach: Approach, radius: float, is_any: bool = False
 ) -> list[SnappedPoint]:
-    """The `count` nearest points, up to `radius`, of roads with a direction in the range, which routes keep to; of ferries only with `is_any`."""
+    """The `count` nearest points, up to `radius`, of roads with such a direction, which routes keep to; of ferries only with `is_any`."""
+    bearing_range = approach.bearing_range
+    if bearing_range is None:
+        nearest = roads.nearest(place, count, within=radius, is_any=is_any)
+        return [at_curb(roads, place, point) or point for point in nearest] if approach.is_curb else nearest
     found: list[SnappedPoint] = []
     for limit in CANDIDATES:
         edges = roads.nearest_edges(place, limit, within=radius, is_any=is_any)
         chosen = (roads.snap(place, edge) for edge in likely_edges(roads, place, edges, bearing_range))
         restricted = (restrict_to_bearing(roads, snapped, bearing_range) for snapped in chosen)
+        if approach.is_curb:
+            restricted = (at_curb(roads, place, snapped) for snapped in restricted if snapped is not None)
         found = list(itertools.islice((snapped for snapped in restricted if snapped is not None), count))
         if len(found) >= count or len(edges) < limit:
             break
@@ -82,6 +97,31 @@ def restrict_to_bearing(roads: RoadIndex, snapped: SnappedPoint, bearing_range: 
     arcs = roads.edge(snapped.edge).arcs
     kept = {number: arc for number, arc in arcs.items() if bearing_range.contains(bearing_at(roads, arc, snapped.fraction))}
     return roads.keep_arcs(snapped, kept) if kept else None
+
+
+def at_curb(roads: RoadIndex, place: Point, snapped: SnappedPoint) -> SnappedPoint | None:
+    """The point of a place with those of its arcs for which the place is at the side on which vehicles are; None if there is none. On a road
+    of one way, and for a place on the line of the road, any will do."""
+    arcs = roads.edge(snapped.edge).arcs
+    if len({arc.is_along for arc in arcs.values()}) < 2 or snapped.metres <= END_TOLERANCE:
+        return snapped
+    is_along = (roads.arrays.driving_side == "left") == is_left(roads, place, snapped.edge)
+    kept = {number: arc for number, arc in arcs.items() if arc.is_along == is_along and (not snapped.arcs or number in snapped.arcs)}
+    return roads.keep_arcs(snapped, kept) if kept else None
+
+
+def is_left(roads: RoadIndex, place: Point, edge: int) -> bool:
+    """Whether a place is to the left of an edge: of its nearest segment, or of the mean direction of two at whose common end it is."""
+    ways = roads.project(np.array(place), np.array([edge]))
+    begins, ends = unit_vectors(*(roads.arrays.points[ways.rows + SEGMENT_END_OFFSETS] / UNITS).transpose(2, 0, 1))
+    steps = ends - begins
+    is_way = steps.any(axis=1)
+    best = int(np.where(is_way, ways.metres, np.inf).argmin())
+    near = [row for row in (best - 1, best, best + 1) if 0 <= row < len(steps) and is_way[row] and ways.metres[row] == ways.metres[best]]
+    # (differences of vectors, since these are exact to a nanometre)
+    normals = np.cross(begins[near], steps[near])
+    normals /= np.linalg.norm(normals, axis=1)[:, None]
+    return bool(normals.sum(axis=0) @ (unit_vectors(*np.array(place)) - begins[near[-1]]) > 0)
 
 
 def bearing_at(roads: RoadIndex, arc: Arc, fraction: float) -> float:

@@ -18,6 +18,8 @@ NO_OSM = INT64[0]
 # Which ends of routes a node may be, both, one or none.
 ENDS = ("", "from", "to", "no")
 UNITS_OF_WEIGHTS = ("weight", "duration", "distance")
+# Of the profile: the side of the road on which vehicles are, and what OSRM's clients call a step with one.
+DRIVING_SIDES, MODES = ("right", "left"), ("driving", "cycling", "walking")
 # The classes of roads of which maps show one after the other.
 ROAD_CLASSES: tuple[tuple[str, ...], ...] = (
     ("motorway", "trunk"), ("primary",), ("secondary",), ("tertiary",), ("unclassified", "residential", "living_street"), ()
@@ -25,12 +27,13 @@ ROAD_CLASSES: tuple[tuple[str, ...], ...] = (
 # The texts of an arc: columns of NETWORK.arcs.csv, and of `row_texts`, of which those behind them are 0. Tables may lack all but two.
 TEXTS = ("highway", "name", "ref", "junction", "destination", "structure", "toll")
 TEXTS_PER_ROW = 8
-# The numbers of the column `about`; files of versions 2 and 3 lack those from nodes_sum on, which are 0 then.
+# The numbers of the column `about`; files of versions 2 and 3 lack those from nodes_sum on, and others made before 1.1 those from
+# driving_side on, which are 0 then.
 ABOUT = (
     "nodes_size", "arcs_size", "unit", "begins", "ends", "node_height", "edge_height", "west", "south", "east", "north",
-    *(f"shown_{kind}" for kind in range(len(ROAD_CLASSES))), "nodes_sum", "arcs_sum",
+    *(f"shown_{kind}" for kind in range(len(ROAD_CLASSES))), "nodes_sum", "arcs_sum", "driving_side", "mode",
 )
-ABOUT_SIZES = ABOUT.index("nodes_sum"), len(ABOUT)
+ABOUT_SIZES = ABOUT.index("nodes_sum"), ABOUT.index("driving_side"), len(ABOUT)
 # Those by which edited tables are told from the ones that the file has: the bytes and the CRC-32 of each, 0 where there is none.
 OF_TABLES = ("nodes_size", "arcs_size", "nodes_sum", "arcs_sum")
 # The versions of the file that are read, and the parts that each has beside the columns of every network.

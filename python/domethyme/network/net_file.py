@@ -23,7 +23,7 @@ from ..program import StrPath
 from . import column_file, indexes
 from .column_file import Column, MappedFile
 from .columns import (
-    ABOUT, ABOUT_SIZES, COLUMNS, ENDS, OF_TABLES, PARTS, TEXTS, UNITS, UNITS_OF_WEIGHTS, columns_of
+    ABOUT, ABOUT_SIZES, COLUMNS, DRIVING_SIDES, ENDS, MODES, OF_TABLES, PARTS, TEXTS, UNITS, UNITS_OF_WEIGHTS, columns_of
 )
 from .geo import Point
 from .grid import Grid, concat_ranges
@@ -304,8 +304,9 @@ class MappedNetwork(NetworkColumns):
 
     def _grid(self, name: str) -> Grid:
         found, height = self.file.columns, self.about[f"{name}_height"] / UNITS
-        has_unit = 0 <= self.about["unit"] < len(UNITS_OF_WEIGHTS)
-        if not (has_unit and indexes.MIN_BAND_HEIGHT <= height <= 2 * indexes.MAX_BAND_HEIGHT):
+        words = {"unit": UNITS_OF_WEIGHTS, "driving_side": DRIVING_SIDES, "mode": MODES}
+        are_known = all(0 <= self.about[each] < len(known) for each, known in words.items())
+        if not (are_known and indexes.MIN_BAND_HEIGHT <= height <= 2 * indexes.MAX_BAND_HEIGHT):
             raise self.file.damaged_error("about has wrong numbers")
         margin = 0.001 if name == "node" else indexes.grid_margin(height)
         return Grid(height, margin, found[f"{name}_keys"], found[f"{name}_cells"], found[f"{name}_things"])
@@ -315,6 +316,16 @@ class MappedNetwork(NetworkColumns):
         """What weights are, as `weight_unit` has it."""
         unit = UNITS_OF_WEIGHTS[self.about["unit"]]
         return "weight" if unit == "duration" and not self.has_seconds else unit
+
+    @property
+    def driving_side(self) -> str:
+        """The side of the road on which vehicles are, of DRIVING_SIDES."""
+        return DRIVING_SIDES[self.about["driving_side"]]
+
+    @property
+    def mode(self) -> str:
+        """How one is on the way but on ferries, of MODES."""
+        return MODES[self.about["mode"]]
 
     @functools.cached_property
     def has_seconds(self) -> bool:

@@ -21,7 +21,7 @@ from ..program import StrPath
 from ..route import Route, Rows
 from ..routes import Routes
 from . import from_tables, net_file
-from .bearings import BearingRange, nearest_with_bearing
+from .bearings import Approach, BearingRange, at_curb, nearest_by_approach
 from .columns import ENDS, NO_OSM, OF_ARCS, UNITS
 from .geo import Point, to_geojson_geometry
 from .matching import Trace
@@ -36,6 +36,8 @@ from .without import parse_classes, without
 # For each place None, or (bearing, tolerance) in degrees.
 Bearings = Sequence[tuple[int, int] | None] | None
 Snapping = Literal["default", "any"]
+# For each place None or "unrestricted", or "curb".
+Approaches = Sequence[Literal["unrestricted", "curb"] | None] | None
 
 
 class Network:
@@ -250,7 +252,7 @@ class Network:
 
     def points_on_roads(
         self, places: Rows, radius: float = DEFAULT_RADIUS, *, bearings: Bearings = None, radiuses: Sequence[float | None] | None = None,
-        snapping: Snapping = "default", max_metres: float | None = None
+        snapping: Snapping = "default", approaches: Approaches = None, max_metres: float | None = None
     ) -> list[SnappedPoint]:
         """The nearest point of a road to a place (lon, lat) in degrees, or to each of several: rows, a frame with the columns lon and
         lat, or points of shapely or geopandas.
@@ -259,6 +261,8 @@ class Network:
         bearings  for each place None, or (bearing, tolerance) in whole degrees clockwise from north: a route begins and ends
                   there in a direction from bearing - tolerance to bearing + tolerance
         snapping  "any": also points on ferries
+        approaches  for each place "curb", if a route has to come and to leave with the place at the side of the road on which vehicles are,
+                  or None
 
         Raises NoSuchNode where no such road is near enough, ValueError for what are no degrees, and NetworkError.
         """
@@ -269,16 +273,24 @@ class Network:
         check_degrees(rows[:, 0], rows[:, 1])
         if snapping not in ("default", "any"):
             raise ValueError(f'snapping has to be "default" or "any", not {snapping!r}')
-        is_any = snapping == "any"
+        wanted_sides = each_place("approaches", approaches, len(rows))
+        if unknown := [each for each in wanted_sides if each not in (None, "unrestricted", "curb")]:
+            raise ValueError(f'approaches are "unrestricted" or "curb", and not {unknown[0]!r}')
+        is_any, curbs = snapping == "any", [each == "curb" for each in wanted_sides]
         limits = [radius if each is None else each for each in each_place("radiuses", radiuses, len(rows))]
         ranges = [each and bearing_range(each) for each in each_place("bearings", bearings, len(rows))]
         spots = [(lon, lat) for lon, lat in rows.tolist()]
         points: Iterable[SnappedPoint | None] = self.roads.nearest_within(spots, [math.inf] * len(spots), is_any)
         if any(ranges):
+            wishes = (Approach(*each) for each in zip(ranges, curbs))
             points = (
-                next(iter(nearest_with_bearing(self.roads, spot, 1, wanted, limit, is_any)), None) if wanted
-                else next(iter(self.roads.nearest(spot, is_any=is_any)), None)
-                for spot, wanted, limit in zip(spots, ranges, limits)
+                next(iter(nearest_by_approach(self.roads, spot, 1, wish, limit if wish.bearing_range else math.inf, is_any)), None)
+                for spot, wish, limit in zip(spots, wishes, limits)
+            )
+        elif any(curbs):
+            points = (
+                at_curb(self.roads, spot, point) if is_curb and point is not None else point
+                for spot, point, is_curb in zip(spots, points, curbs)
             )
         found = []
         for number, (point, limit) in enumerate(zip(points, limits)):

@@ -4,7 +4,7 @@ import heapq
 from collections.abc import Callable, Collection, Iterable, Iterator, Mapping, Sequence
 from typing import NamedTuple
 
-from .sphere import EARTH_RADIUS, Point, along, bearing, interpolate, metres_between, nearest_on_segment
+from .sphere import EARTH_RADIUS, Point, along, bearing, interpolate, metres_between, metres_left, nearest_on_segment
 
 # A point is a line's end within so many metres of it. Rounding may decide about so many metres, and degrees of bearings.
 END_TOLERANCE, METRES_TOLERANCE, EQUAL, BEARING_TOLERANCE = 0.005, 2e-6, 1e-8, 1.0
@@ -70,10 +70,13 @@ Part = tuple[int, float, float, int]
 
 
 class Network:
-    """nodes, arcs: the rows of the tables; forbidden: pairs of arcs of which the second may not follow on the first."""
+    """nodes, arcs: the rows of the tables; forbidden: pairs of arcs of which the second may not follow on the first; is_left: whether
+    vehicles are on the left."""
 
-    def __init__(self, nodes: Iterable[Node], arcs: Iterable[Arc], forbidden: Collection[tuple[int, int]] = ()) -> None:
-        self.nodes, self.arcs, self.forbidden = list(nodes), list(arcs), frozenset(forbidden)
+    def __init__(
+        self, nodes: Iterable[Node], arcs: Iterable[Arc], forbidden: Collection[tuple[int, int]] = (), is_left: bool = False
+    ) -> None:
+        self.nodes, self.arcs, self.forbidden, self.is_left = list(nodes), list(arcs), frozenset(forbidden), is_left
         known: dict[object, Edge] = {}
         for number, arc in enumerate(self.arcs):
             line = min(arc.line, arc.line[::-1])
@@ -114,7 +117,7 @@ class Network:
     def turned(self) -> "Network":
         """The network with each arc turned round, and with the same edges: its routes are those of this one backwards."""
         arcs = [arc._replace(start=arc.end, end=arc.start, line=arc.line[::-1]) for arc in self.arcs]
-        found = Network(self.nodes, arcs, [(second, first) for first, second in self.forbidden])
+        found = Network(self.nodes, arcs, [(second, first) for first, second in self.forbidden], self.is_left)
         # (a line that goes back as it came is the same turned round, and its arc goes the other way all the same)
         found.edges = [Edge(edge.line, {arc: not is_along for arc, is_along in edge.arcs.items()}) for edge in self.edges]
         return found
@@ -155,11 +158,13 @@ class Network:
 
     # Places on roads
 
-    def snap(self, place: Point, radius: float, bearings: tuple[int, int] | None = None) -> SnappedPoint | None:
+    def snap(
+        self, place: Point, radius: float, bearings: tuple[int, int] | None = None, is_curb: bool = False
+    ) -> SnappedPoint | None:
         """The nearest point of a road within so many metres, of a road of that direction, and of equally near roads of the first
         in the file; None for none. Raises Ambiguous where rounding decides which."""
         found: SnappedPoint | None = None
-        for metres, point in self.by_distance(place, bearings):
+        for metres, point in self.by_distance(place, bearings, is_curb):
             if metres > (radius if found is None else found.metres) + METRES_TOLERANCE:
                 break
             if metres > radius - METRES_TOLERANCE or found is not None and is_other_by_rounding(metres, found.metres):
@@ -167,7 +172,9 @@ class Network:
             found = found or point
         return found
 
-    def by_distance(self, place: Point, bearings: tuple[int, int] | None) -> Iterator[tuple[float, SnappedPoint | None]]:
+    def by_distance(
+        self, place: Point, bearings: tuple[int, int] | None, is_curb: bool = False
+    ) -> Iterator[tuple[float, SnappedPoint | None]]:
         """For each edge, the nearest first and equally near ones as in the file, the metres and the nearest point, None where it
         has not that direction."""
         rows = []
@@ -179,7 +186,22 @@ class Network:
         for metres, number, near, ways in sorted(rows):
             if len(near) > 1 and is_other_by_rounding(max(ways[step][0] for step in near), min(ways)[0]):
                 raise Ambiguous
-            yield metres, self.point_on(number, near[0], ways[near[0]][1], metres, bearings)
+            point = self.point_on(number, near[0], ways[near[0]][1], metres, bearings)
+            yield metres, self.at_curb(place, point, near) if is_curb and point is not None else point
+
+    def at_curb(self, place: Point, point: SnappedPoint, near: Sequence[int]) -> SnappedPoint | None:
+        """The point with those of its arcs for which the place is at the side on which vehicles are, by the nearest steps of its edge; None
+        for none. On a road of one way, or for a place on its line, any will do."""
+        edge = self.edges[point.edge]
+        if abs(point.metres - END_TOLERANCE) < METRES_TOLERANCE:
+            raise Ambiguous
+        if len(set(edge.arcs.values())) < 2 or point.metres < END_TOLERANCE:
+            return point
+        aside = [metres_left(place, edge.line[step], edge.line[step + 1]) for step in near]
+        if min(aside) < 1e-3 and max(aside) > -1e-3:
+            raise Ambiguous
+        kept = frozenset(arc for arc, way in edge.arcs.items() if way == ((aside[0] > 0) == self.is_left) and (point.arcs is None or arc in point.arcs))
+        return point._replace(arcs=kept) if kept else None
 
     def point_on(
         self, number: int, step: int, share: float, metres: float, bearings: tuple[int, int] | None

@@ -33,6 +33,10 @@ class Request(NamedTuple):
         pairs = [word.partition(",") for word in self.words("bearings")]
         return [(int(degrees), int(deviation)) if comma else None for degrees, comma, deviation in pairs]
 
+    def approaches(self) -> list[bool]:
+        """Whether each place has to be at the side of the road on which vehicles are."""
+        return [word == "curb" for word in self.words("approaches")]
+
     def annotations(self) -> list[str]:
         text = self.value("annotations", "false")
         return [] if text == "false" else [*ANNOTATIONS] if text == "true" else text.split(",")

@@ -56,6 +56,15 @@ def nearest_on_segment(place: Point, begin: Point, end: Point) -> tuple[float, f
     return min(ends, (EARTH_RADIUS * angle(here, foot), gone / whole)) if 0 < gone < whole else ends
 
 
+def metres_left(place: Point, begin: Point, end: Point) -> float:
+    """How far a place is to the left of a great circle from one point to another; 0 where these are one."""
+    here = vector(begin)
+    along, aside = ((x - here[0], y - here[1], z - here[2]) for x, y, z in (vector(end), vector(place)))
+    across = cross(here, along)
+    size = math.sqrt(dot(across, across))
+    return EARTH_RADIUS * dot(across, aside) / size if size else 0.0
+
+
 def bearing(begin: Point, end: Point) -> float:
     """The direction from a point to a near one, in degrees from north, clockwise."""
     east = math.remainder(end[0] - begin[0], 360) * math.cos(math.radians(begin[1]))

@@ -120,7 +120,8 @@ def steps(
     ways, name = (Direction(last[-1]) if leg else 0, 0), NOWHERE._replace(name=found[-1]["name"])
     back = (last[-1] if leg else 0) + 180
     passed = [Intersection(near(end.place), [(back, True)], back, None)]
-    return [*found, step({"type": "arrive"}, ways, name, nothing, [end.place] * 2, form, passed)]
+    found.append(step({"type": "arrive"}, ways, name, nothing, [end.place] * 2, form, passed))
+    return [{**each, "driving_side": "left" if network.is_left else "right"} for each in found]
 
 
 def is_near_limit(angle: float) -> bool:
@@ -156,5 +157,5 @@ def step(
     texts |= {"destinations": ", ".join(map(str.strip, named.destination.split(";")))} if named.destination else {}
     return {
         "maneuver": {**turn, "location": place, "bearing_before": ways[0], "bearing_after": ways[1]}, "name": named.name,
-        "mode": "driving", "driving_side": "right", **figures, "geometry": Line(line, form), **texts, "intersections": [*passed],
+        "mode": "driving", **figures, "geometry": Line(line, form), **texts, "intersections": [*passed],
     }
