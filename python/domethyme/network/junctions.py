@@ -13,7 +13,7 @@ from .columns import ENDS, UNITS
 from .geo import bearing
 from .grid import concat_ranges
 from .groups import Ints, offsets
-from .leg_geometry import RouteGeometry, whole_bearings
+from .leg_geometry import RouteGeometry, are_equal, whole_bearings
 from .parallel import differs_from_previous
 from .snapping import RoadIndex
 
@@ -43,70 +43,58 @@ class Junctions(NamedTuple):
 
 def junctions(geometry: RouteGeometry, arcs: Ints, are_kept: NDArray[np.bool_]) -> Junctions:
     """Those of the places before some of the route's arcs, of which none is a leg's first, where MIN_DEGREE edges meet or that are kept."""
-    roads, arrays = geometry.roads, geometry.roads.arrays
+    roads, count = geometry.roads, len(arcs)
     before, behind = geometry.arcs[arcs - 1], geometry.arcs[arcs]
-    here = np.flatnonzero(~np.isin(arcs, geometry.joints)) if len(geometry.joints) else np.arange(len(arcs))
-    starts, ends = arrays.arc_from[behind[here]], arrays.arc_to[before[here]]
-    is_split = arrays.node_ends[starts - 1] != 0
-    number = np.arange(len(arcs)) << ROAD_BITS
-    into, out = number | roads_of(roads, before, False), number | roads_of(roads, behind, True)
-    open_roads = leaving(roads, starts, number[here])
-    others = [one_way_into(roads, twins(roads, before[here], ends, arrays.arc_to, "to"), number[here])]
-    if is_split.any():
-        split = here[is_split]
-        others.append(leaving(roads, twins(roads, behind[split], starts[is_split], arrays.arc_from, "from"), number[split]))
-    rows = np.unique(np.concatenate([into, out, open_roads, *others]))
-    places = [np.searchsorted(rows, some) for some in (into, out, open_roads)]
-    entries = np.zeros(len(rows), bool)
-    entries[places[1]] = entries[places[2]] = True
-    bearings = road_bearings(roads, rows & (1 << ROAD_BITS) - 1)
+    numbers, others, are_starts, open_count = roads_around(geometry, arcs, before, behind)
+    every = np.concatenate((before, behind, others))
+    numbers = np.concatenate((np.arange(count), np.arange(count), numbers))
+    are_starts = np.concatenate((np.zeros(count, bool), np.ones(count, bool), are_starts))
+    keys = numbers << ROAD_BITS | 2 * roads.arrays.arc_edge[every].astype(np.int64) + (roads.arrays.arc_along[every] != are_starts)
+    rows = np.sort(keys, kind="stable")  # (which is quick, since most are sorted)
+    rows = rows[differs_from_previous(rows)]
+    place, owner = np.searchsorted(rows, keys[: 2 * count + open_count]), rows >> ROAD_BITS
+    entries, bearings = np.zeros(len(rows), bool), road_bearings(roads, rows & (1 << ROAD_BITS) - 1)
+    entries[place[count:]] = True
     first, last = geometry.bearings
-    bearings[places[0]], bearings[places[1]] = (last[arcs - 1] + 180) % 360, first[arcs]
-    owner = rows >> ROAD_BITS
-    is_kept = are_kept | (np.bincount(owner[differs_from_previous(rows >> 1)], minlength=len(arcs)) >= MIN_DEGREE)
+    bearings[place[:count]], bearings[place[count : 2 * count]] = (last[arcs - 1] + 180) % 360, first[arcs]
+    is_kept = are_kept | (np.bincount(owner[differs_from_previous(rows >> 1)], minlength=count) >= MIN_DEGREE)
     order = np.argsort(owner * 360 + bearings, kind="stable")
-    rank, counts = np.empty(len(rows), np.int64), np.bincount(owner, minlength=len(arcs))
+    rank, counts = np.empty(len(rows), np.int64), np.bincount(owner, minlength=count)
     rank[order] = np.arange(len(rows))
-    own_places = (rank[some] - offsets(counts)[:-1] for some in places[:2])
+    into, out = (rank[place[: 2 * count]].reshape(2, count) - offsets(counts)[:-1])[:, is_kept]
     order = order[is_kept[owner[order]]]
-    return Junctions(
-        arcs[is_kept], offsets(counts[is_kept]), bearings[order], entries[order], *(some[is_kept] for some in own_places)
-    )
+    return Junctions(arcs[is_kept], offsets(counts[is_kept]), bearings[order], entries[order], into, out)
 
 
-def roads_of(roads: RoadIndex, arcs: Ints, are_starts: bool) -> Ints:
-    """The ends of edges at which arcs start, or end: twice the edge, and 1 more for the end of its line."""
-    found = 2 * roads.arrays.arc_edge[arcs].astype(np.int64)
-    return np.asarray(found + (roads.arrays.arc_along[arcs] != are_starts))
-
-
-def leaving(roads: RoadIndex, nodes: Ints, numbers: Ints) -> Ints:
-    """The roads into which arcs lead from nodes, each with the number of its node."""
-    begins = roads.arrays.out_begin[nodes - 1]
-    owner, rows = concat_ranges(begins, roads.arrays.out_begin[nodes] - begins)
-    return numbers[owner] | roads_of(roads, roads.arrays.out_arcs[rows], True)
-
-
-def one_way_into(roads: RoadIndex, nodes: Ints, numbers: Ints) -> Ints:
-    """The same of the roads by which arcs lead to nodes, and none leads away."""
-    ends, arcs = roads.one_way
-    begins = np.searchsorted(ends, nodes)
-    owner, rows = concat_ranges(begins, np.searchsorted(ends, nodes, side="right") - begins)
-    return numbers[owner] | roads_of(roads, arcs[rows], False)
-
-
-def twins(roads: RoadIndex, arcs: Ints, nodes: Ints, column: Column, side: str) -> Ints:
-    """For the nodes of arcs, in a column of arcs, those of their junctions on one side: at which all routes begin, or end."""
-    arrays, found = roads.arrays, nodes.astype(np.int64)
-    split = np.flatnonzero(arrays.node_ends[nodes - 1] != 0)
+def roads_around(geometry: RouteGeometry, arcs: Ints, before: Ints, behind: Ints) -> tuple[Ints, Ints, NDArray[np.bool_], int]:
+    """The junctions between pairs of arcs, by their numbers, and the arcs of all roads there, which start at the junction or end; those into
+    which a route may go on are the first ones, so many. A place within a road has none."""
+    roads, arrays = geometry.roads, geometry.roads.arrays
+    here = np.flatnonzero(~np.isin(arcs, geometry.joints)) if len(geometry.joints) else np.arange(len(arcs))
+    starts, ends, owners = arrays.arc_from[behind[here]], arrays.arc_to[before[here]], here
+    open_count, split = len(here), np.flatnonzero(arrays.node_ends[starts - 1])
     if len(split):
-        edges = arrays.arc_edge[arcs[split]]
-        first = arrays.edge_first[edges]
-        owner, rows = concat_ranges(first, arrays.edge_first[edges + 1] - first)
-        others = arrays.edge_arcs[rows]
-        is_same_way = arrays.arc_along[others] == arrays.arc_along[arcs[split]][owner]
-        is_side = arrays.node_ends[column[others] - 1] == ENDS.index(side)
-        found[split[owner[is_same_way & is_side]]] = column[others[is_same_way & is_side]]
+        starts = np.append(starts, twins(roads, behind[here[split]], arrays.arc_from, "from"))
+        owners, ends = np.append(here, here[split]), ends.copy()
+        ends[split] = twins(roads, before[here[split]], arrays.arc_to, "to")
+    begins, (one_way_ends, one_way) = arrays.out_begin[starts - 1], roads.one_way
+    junction, rows = concat_ranges(begins, arrays.out_begin[starts] - begins)
+    low, high = (np.searchsorted(one_way_ends, ends, side=side) for side in ("left", "right"))
+    other, other_rows = concat_ranges(low, high - low)
+    are_starts = np.arange(len(rows) + len(other_rows)) < len(rows)
+    leading = np.concatenate((arrays.out_arcs[rows], one_way[other_rows]))
+    return np.concatenate((owners[junction], here[other])), leading, are_starts, int(np.searchsorted(junction, open_count))
+
+
+def twins(roads: RoadIndex, arcs: Ints, column: Column, side: str) -> Ints:
+    """For the nodes of arcs, in a column of arcs, those of their junctions on one side: at which all routes begin, or end."""
+    arrays, found = roads.arrays, column[arcs].astype(np.int64)
+    edges = arrays.arc_edge[arcs]
+    first = arrays.edge_first[edges]
+    owner, rows = concat_ranges(first, arrays.edge_first[edges + 1] - first)
+    others = arrays.edge_arcs[rows]
+    fits = (arrays.arc_along[others] == arrays.arc_along[arcs][owner]) & (arrays.node_ends[column[others] - 1] == ENDS.index(side))
+    found[owner[fits]] = column[others[fits]]
     return found
 
 
@@ -116,7 +104,7 @@ def road_bearings(roads: RoadIndex, ends: Ints) -> Ints:
     at = np.where(side == 0, arrays.edge_begin[edges], arrays.edge_begin[edges + 1] - 1)
     here, there = arrays.points[at], arrays.points[at + 1 - 2 * side]
     found = whole_bearings(here, there)
-    for row in np.flatnonzero((here == there).all(axis=1)).tolist():
+    for row in np.flatnonzero(are_equal(here, there)).tolist():
         begin, behind = arrays.edge_begin[edges[row] : edges[row] + 2].tolist()
         place, *line = (arrays.points[begin:behind] / UNITS)[:: 1 - 2 * int(side[row])].tolist()
         found[row] = bearing(tuple(place), tuple(next((each for each in line if each != place), place)))

@@ -1,10 +1,12 @@
 """The legs of a route in arrays: the arcs, their weights, seconds, metres and points, and their bearings."""
 import functools
 import itertools
+import math
 from collections.abc import Iterator, Sequence
 from typing import NamedTuple
 
 import numpy as np
+from numpy.typing import NDArray
 
 from .column_file import Column
 from .columns import UNITS
@@ -232,7 +234,7 @@ class RouteGeometry:
         places, others = points[begins], points[begins + 1]
         found = whole_bearings(places, others)
         # (where the segment has no length, the next point that is another one tells)
-        for index in np.flatnonzero((places == others).all(axis=1)).tolist():
+        for index in np.flatnonzero(are_equal(places, others)).tolist():
             arc_index, step = index % len(self.arcs), 1 if index < len(self.arcs) else -1
             line = points[arc_begins[arc_index] : arc_begins[arc_index + 1]][::step] / UNITS
             here, *rest = [(lon, lat) for lon, lat in line.tolist()]
@@ -240,11 +242,18 @@ class RouteGeometry:
         return found[: len(self.arcs)], found[len(self.arcs) :]
 
 
+def are_equal(places: Ints, others: Ints) -> NDArray[np.bool_]:
+    """Whether each place is the other one, of shape (places, 2)."""
+    return np.asarray((places[:, 0] == others[:, 0]) & (places[:, 1] == others[:, 1]))
+
+
 def whole_bearings(places: Ints, others: Ints) -> Ints:
     """The directions from places to others near them, in units, in whole degrees from north, clockwise."""
-    east, north = (others - places.astype(np.int64)).T
-    ways = wrapped_difference(east) * np.cos(np.radians(places[:, 1] / UNITS))
-    return np.asarray(np.rint(np.degrees(np.arctan2(ways, north))) % 360, np.int64)
+    east, north = others[:, 0] - places[:, 0].astype(float), others[:, 1] - places[:, 1].astype(float)
+    if np.abs(east).max(initial=0) > 180 * UNITS:
+        east = wrapped_difference(east)
+    found = np.rint(np.arctan2(east * np.cos(places[:, 1] * (math.pi / 180 / UNITS)), north) * (180 / math.pi)).astype(np.int64)
+    return np.asarray(np.where(found < 0, found + 360, found))
 
 
 def leg_totals(roads: RoadIndex, parts: Sequence[Leg]) -> LegTotals:
