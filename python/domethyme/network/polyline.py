@@ -19,7 +19,7 @@ def pairs_of(are_last: bool) -> NDArray[np.uint16]:
     low, high = np.arange(1 << PAIR_BITS) & 31, np.arange(1 << PAIR_BITS) >> 5
     second = np.where(high > 0, high + 63, 0) if are_last else high + 63 + 32
     first = low + 63 + 32 * (not are_last or high > 0)
-    return (first | second << 8).astype(np.uint16)
+    return np.asarray(first | second << 8, np.uint16)
 
 
 # Those before others, and then the last ones. A number of six digits or fewer has up to three pairs.
