@@ -26,7 +26,7 @@ from typing import NamedTuple
 import numpy as np
 from contourpy import FillType, contour_generator
 from numpy.typing import NDArray
-from scipy.ndimage import distance_transform_edt, uniform_filter
+from scipy.ndimage import distance_transform_edt
 from shapely.geometry import MultiPolygon, Polygon, box as rectangle
 from shapely.ops import unary_union
 
@@ -203,9 +203,9 @@ class Field:
         west, east = np.full(mesh.points // 4, NONE, np.uint8), np.zeros(mesh.points // 4, np.uint8)
         # (of shorter edges both ends are points enough)
         for edges in reach.edges_near(mesh.box, self._half, zone):
-            rows, shares, points = reach.vertices(edges).spaced(self._half)
-            numbers, is_on = mesh.nearest(points)
-            extend(np.minimum, least, numbers, reach.shares(edges).levels(rows[is_on], shares[is_on]))
+            spaced = reach.vertices(edges).spaced(self._half)
+            numbers, is_on = mesh.nearest(spaced.points)
+            extend(np.minimum, least, numbers, spaced.levels(reach.shares(edges, mesh.first))[is_on])
         for points, levels in reach.nodes_near(mesh.box, zone):
             numbers, is_on = mesh.nearest(points)
             squares = numbers // (2 * mesh.width) * (mesh.width // 2) + numbers % mesh.width // 2
@@ -236,8 +236,9 @@ class Field:
         rows, columns = (np.flatnonzero(is_inside.any(axis=axis)) for axis in (1, 0))
         if not len(rows):
             return
-        is_inside = np.pad(is_inside[rows[0] : rows[-1] + 1, columns[0] : columns[-1] + 1], 1)
-        around = uniform_filter(np.where(is_inside, np.int8(9), np.int8(-9)), 3)
+        is_inside = np.pad(is_inside[rows[0] : rows[-1] + 1, columns[0] : columns[-1] + 1], 2)
+        around = 2 * sums_of_nine(is_inside.view(np.int8)) - np.int8(9)
+        is_inside = is_inside[1:-1, 1:-1]
         # the line divides the way between two points by their values: 1 to 3 at most, and on the finest grids in the middle
         least = np.int8(3 if self._half >= MIN_STEP else 9)
         values = np.where(is_inside, np.maximum(around, least), np.minimum(around, -least))
@@ -256,6 +257,12 @@ class Field:
             for low, high, first in ((box.west, box.east, self.mesh.left), (box.south, box.north, self.mesh.bottom))
         )
         return slice(south, north), slice(west, east)
+
+
+def sums_of_nine(values: NDArray[np.int8]) -> NDArray[np.int8]:
+    """The sum of each number and its eight neighbours, but for those of the rim."""
+    rows = values[:-2] + values[1:-1] + values[2:]
+    return rows[:, :-2] + rows[:, 1:-1] + rows[:, 2:]
 
 
 def extend(choose: np.ufunc, found: Levels, numbers: Ints, levels: Levels) -> None:

@@ -158,7 +158,10 @@ def grid_margin(height: float) -> float:
 
 def wrapped_difference(east: NDArray[Any]) -> NDArray[Any]:
     """Differences of longitudes in units, the shorter way round."""
-    return np.asarray((east + FULL_CIRCLE // 2) % FULL_CIRCLE - FULL_CIRCLE // 2)
+    half = FULL_CIRCLE // 2
+    if -half <= east.min(initial=0) and east.max(initial=0) < half:
+        return east
+    return np.asarray((east + half) % FULL_CIRCLE - half)
 
 
 def segment_middles(points: Any, steps: NDArray[Any]) -> Floats:

@@ -15,6 +15,7 @@ import numpy as np
 from numpy.typing import NDArray
 from scipy.ndimage import maximum_filter
 
+from ..protocol import FAR
 from .columns import UNITS
 from .from_tables import FARTHEST_END
 from .geo import EARTH_RADIUS, Point, split_at_antimeridian
@@ -175,8 +176,8 @@ class Vertices(NamedTuple):
         return found
 
 
-    def spaced(self, metres: float) -> tuple[Ints, Floats, Floats]:
-        """Points of the edges, so many metres apart at most, and their first and last points: the rows, the shares and the points."""
+    def spaced(self, metres: float) -> "Spaced":
+        """Points of the edges, so many metres apart at most, and their first and last points."""
         parts = np.maximum(1, np.ceil(self.metres / metres))
         # (of each step the first point at its beginning or behind, by its number on the edge, and the points before the next step)
         steps = np.flatnonzero(~self.is_last)
@@ -184,29 +185,67 @@ class Vertices(NamedTuple):
         whole = parts[rows]
         first, behind = np.ceil(begins * whole), np.where(self.is_last[steps + 1], whole + 1, np.ceil(ends * whole))
         counts = np.maximum(behind - first, 0).astype(np.int64)
-        number = np.arange(int(counts.sum())) - (counts.cumsum() - counts - first).repeat(counts)
-        shares = number / whole.repeat(counts)
+        step = np.arange(len(steps)).repeat(counts)
+        numbers = np.arange(len(step)) - (counts.cumsum() - counts - first).take(step)
         long = np.where(ends > begins, ends - begins, 1.0)
-        slopes = (self.points[steps + 1] - self.points[steps]) / (long * whole)[:, None]
-        starts = self.points[steps] - slopes * (begins * whole)[:, None]
-        points = np.empty((len(number), 2))
-        for axis in range(2):
-            points[:, axis] = slopes[:, axis].repeat(counts) * number + starts[:, axis].repeat(counts)
-        return rows.repeat(counts), shares, points
+        slopes = ((self.points[steps + 1] - self.points[steps]) / (long * whole)[:, None]).T
+        starts = self.points[steps].T - slopes * (begins * whole)
+        points = np.empty((2, len(step)))
+        for axis, slope, start in zip(points, slopes, starts):
+            np.multiply(np.ascontiguousarray(slope).take(step), numbers, out=axis)
+            axis += start.take(step)
+        return Spaced(rows.take(step), numbers, parts, points.T)
+
+
+class Spaced(NamedTuple):
+    """Points of edges: the row of the edge, the number of the point on it, from 0, and the point; and into how many parts the points of each
+    edge part it."""
+
+    rows: Ints
+    numbers: Floats
+    parts: Floats
+    points: Floats
+
+    def levels(self, shares: "Shares") -> Levels:
+        """The levels of the points. On most edges all have one."""
+        levels, are_mixed = shares.whole
+        found = levels.take(self.rows)
+        mixed = np.flatnonzero(are_mixed.take(self.rows))
+        rows = self.rows[mixed]
+        found[mixed] = shares.levels(rows, self.numbers[mixed] / self.parts[rows])
+        return found
 
 
 class Shares(NamedTuple):
     """How far edges are reached, of shape (limits, edges): the share from the first point, and from the last; -1 if not
-    even that is. And for the places the row of the edge, and for each limit the shares between which it is reached."""
+    even that is. And for the places the row of the edge, and for each limit the shares between which it is reached. The limits are the last
+    ones of `count`."""
 
     first: Floats
     last: Floats
     parts: list[tuple[int, Floats, Floats]]
+    count: int
+
+    def are_reached(self, limit: int) -> NDArray[np.bool_]:
+        """Whether a point of each edge is, within a limit."""
+        found = np.maximum(self.first[limit], self.last[limit]) >= 0
+        found[[row for row, _, _ in self.parts]] = True
+        return found
+
+    @property
+    def whole(self) -> tuple[Levels, NDArray[np.bool_]]:
+        """The levels of edges whose points all have one, and whether an edge is none of them."""
+        levels, are_mixed = np.full(self.first.shape[1], self.count, np.uint8), np.zeros(self.first.shape[1], bool)
+        for first, last in zip(self.first, self.last):
+            is_whole = (first >= 1) | (last >= 1)
+            levels -= is_whole
+            are_mixed |= ((first >= 0) | (last >= 0)) & ~is_whole
+        are_mixed[[row for row, _, _ in self.parts]] = True
+        return levels, are_mixed
 
     def levels(self, rows: Ints, shares: Floats) -> Levels:
-        count = len(self.first)
-        found = np.full(len(rows), count, np.uint8)
-        for limit in range(count):
+        found = np.full(len(rows), self.count, np.uint8)
+        for limit in range(len(self.first)):
             is_reached = (shares <= self.first[limit, rows]) | (shares >= 1 - self.last[limit, rows])
             for row, lows, highs in self.parts:
                 is_reached |= (rows == row) & (lows[limit] <= shares) & (shares <= highs[limit])
@@ -298,7 +337,7 @@ class Reach:
         zone = self._zone_of_nodes(boxes[-1])
         for limit, box in enumerate(boxes):
             if box.west < np.inf:
-                for edges in self.edges_near(box.grown(FARTHEST_END), min(box.sides) / SHORT, zone):
+                for edges in self.edges_near(box.grown(FARTHEST_END), min(box.sides) / SHORT, zone, box):
                     box = box.with_(self._box_of(edges, limit, box))
                 self.boxes[limit] = box
 
@@ -308,8 +347,8 @@ class Reach:
         assert box is not None
         found = self._zone_of_nodes(box)
         for edges in [*self.edges_near(box, LONG, found)]:
-            rows, shares, points = self.vertices(edges).spaced(LONG)
-            found.add(points[self.shares(edges).levels(rows, shares) < len(self.limits)])
+            spaced = self.vertices(edges).spaced(LONG)
+            found.add(spaced.points[spaced.levels(self.shares(edges)) < len(self.limits)])
         return found.grown(LONG + metres)
 
     def _zone_of_nodes(self, box: Box) -> Zone:
@@ -325,6 +364,7 @@ class Reach:
         begins = self.network.edge_begin[edges]
         rows, places = concat_ranges(begins, self.network.edge_begin[edges + 1] - begins)
         edges = edges[np.unique(rows[~known.has(self.plane.of(self.network.points[places]))])]
+        edges = edges[self.shares(edges).are_reached(limit)]
         vertices, shares = self.vertices(edges), self.shares(edges)
         rows, lows, highs = shares.intervals(limit)
         ends = vertices.at(np.tile(rows, 2), np.concatenate((lows, highs)))
@@ -334,10 +374,11 @@ class Reach:
         """The points of nodes in the plane."""
         return self.plane.of(np.column_stack((self.network.node_lon[nodes], self.network.node_lat[nodes])))
 
-    def edges_near(self, box: Box, metres: float = -1.0, zone: Zone | None = None) -> Iterator[Ints]:
-        """The edges in a box, and in a zone, that are longer than so many metres, and others near there, which rise, some at a time."""
+    def edges_near(self, box: Box, metres: float = -1.0, zone: Zone | None = None, known: Box | None = None) -> Iterator[Ints]:
+        """The edges in a box, and in a zone, that are longer than so many metres, and others near there, which rise, some at a time; without
+        most of those that are within a box that is known."""
         network = self.network
-        for edges in chunks_of(self._near(network.edge_grid, len(network.edge_begin) - 1, box, zone)):
+        for edges in chunks_of(self._near(network.edge_grid, len(network.edge_begin) - 1, box, zone, known)):
             # (all arcs of an edge have its metres)
             yield edges[network.arc_metres[network.first_arcs(edges)] > metres]
 
@@ -346,8 +387,8 @@ class Reach:
         nodes = self._near(self.network.node_grid, len(self.network.node_lon), box, zone)
         return zip(map(self._points_of, chunks_of(nodes)), chunks_of(self.node_levels(nodes)))
 
-    def _near(self, grid: Grid, count: int, box: Box, zone: Zone | None) -> Ints:
-        """The things of a grid with so many in a box, and in a zone, and others near there."""
+    def _near(self, grid: Grid, count: int, box: Box, zone: Zone | None, known: Box | None = None) -> Ints:
+        """The things of a grid with so many in a box, and in a zone, and others near there; and of those within a known box some."""
         middle = self.plane.degrees(np.array([[(box.west + box.east) / 2, (box.south + box.north) / 2]]))
         lon, lat = (middle[:, 0] + 180) % 360 - 180, np.clip(middle[:, 1], -90, 90)
         corners = self.plane.degrees(np.array([(x, y) for x in (box.west, box.east) for y in (box.south, box.north)]))
@@ -358,6 +399,8 @@ class Reach:
             is_in = box.grown(grid.cell_metres).has(middles)
             if zone is not None:
                 is_in &= zone.grown(grid.cell_metres).has(middles)
+            if known is not None:
+                is_in &= ~known.grown(-grid.cell_metres).has(middles)
             cells = cells[is_in]
         is_near = np.zeros(count, dtype=bool)
         is_near[grid.things_in(cells)] = True
@@ -380,26 +423,29 @@ class Reach:
             found -= (lengths >= 0) & (lengths <= limit)
         return found
 
-    def shares(self, edges: Ints) -> Shares:
-        """How far edges, which rise, are reached."""
-        network = self.network
+    def shares(self, edges: Ints, first: int = 0) -> Shares:
+        """How far edges, which rise, are reached within the limits from the first one that is asked for."""
+        network, limits = self.network, self.limits[first:]
         begins = network.edge_first[edges]
         counts = network.edge_first[edges + 1] - begins
         _, places = concat_ranges(begins, counts)
         arcs = network.edge_arcs[places]
         lengths = self._lengths[(network.arc_to if self.towards else network.arc_from)[arcs] - 1]
+        lengths[lengths < 0] = FAR
         weights, is_first = network.arc_weight[arcs], network.arc_along[arcs] != self.towards
         groups = (counts.cumsum() - counts)[counts > 0]
-        found = np.full((2, len(self.limits), len(edges)), -1.0)
-        for row, limit in enumerate(self.limits if len(groups) else ()):
+        found = np.full((2, len(limits), len(edges)), -1.0)
+        for row, limit in enumerate(limits if len(groups) else ()):
             left = limit - lengths
-            share = np.where((lengths < 0) | (left < 0), -1.0, np.where(left < weights, left / np.maximum(weights, 1), 1.0))
+            share = np.where(left >= weights, 1.0, -1.0)
+            some = np.flatnonzero((left >= 0) & (left < weights))
+            share[some] = left[some] / weights[some]
             for side, is_there in zip(found, (is_first, ~is_first)):
                 side[row, counts > 0] = np.maximum.reduceat(np.where(is_there, share, -1.0), groups)
         rows = np.searchsorted(edges, np.array([edge for edge, _, _ in self._parts], np.int64)).tolist()
         known = zip(rows, self._parts)
-        parts = [(row, lows, highs) for row, (edge, lows, highs) in known if row < len(edges) and edges[row] == edge]
-        return Shares(found[0], found[1], parts)
+        parts = [(row, lows[first:], highs[first:]) for row, (edge, lows, highs) in known if row < len(edges) and edges[row] == edge]
+        return Shares(found[0], found[1], parts, len(self.limits))
 
     def _parts_at(self, place: PlaceOnRoad) -> Iterator[tuple[int, Floats, Floats]]:
         """For each arc at a place: its edge, and for each limit the shares of the edge between which that arc reaches."""
