@@ -273,8 +273,11 @@ def driven_sum(column: Column, parts: Sequence[Leg]) -> float:
 
 def driven_thousandths(column: Column, leg: Leg) -> int:
     """The same in thousandths. Each arc has a whole number of these, and so has a part of the first and of the last arc."""
-    values: list[int] = thousandths(column[leg.arcs]).tolist()
-    return sum(values) - round(leg.begin * values[0]) - values[-1] + round(leg.end * values[-1]) if values else 0
+    if not len(leg.arcs):
+        return 0
+    values = thousandths(column[leg.arcs])
+    first, last = int(values[0]), int(values[-1])
+    return int(values.sum()) - round(leg.begin * first) - last + round(leg.end * last)
 
 
 def thousandths(values: Floats) -> Ints:

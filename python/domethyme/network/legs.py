@@ -112,11 +112,12 @@ def leg_without_nodes(roads: RoadIndex, start: SnappedPoint, end: SnappedPoint) 
 def leg_via_route(roads: RoadIndex, start: SnappedPoint, end: SnappedPoint, route: RouteReply) -> Leg:
     """The leg of a route between the points' nodes. Raises NetworkError if the network isn't the hierarchy's."""
     (before, first), (behind, last) = start.exits[route.source - 1], end.entries[route.target - 1]
-    arcs = roads.lightest(route.nodes)
-    if (arcs == NO_ARC).any():
+    between = roads.lightest(route.nodes)
+    if (between == NO_ARC).any():
         raise NetworkError("lacks an arc of the hierarchy's graph", roads.arrays.path)
-    weights: Ints = np.hstack((before, roads.arrays.arc_weight[arcs], behind))
-    arcs = np.hstack((first, arcs, last))
+    weights, arcs = np.empty((2, len(between) + 2), np.int64)
+    weights[0], weights[1:-1], weights[-1] = before, roads.arrays.arc_weight[between], behind
+    arcs[0], arcs[1:-1], arcs[-1] = first, between, last
     is_arc = arcs != NO_ARC
     begin = 0.0 if first == NO_ARC else roads.arc_fraction(roads.edge(start.edge).arcs[first], start.fraction)
     stop = 1.0 if last == NO_ARC else roads.arc_fraction(roads.edge(end.edge).arcs[last], end.fraction)

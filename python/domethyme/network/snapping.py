@@ -253,14 +253,16 @@ class RoadIndex:
     def _snap_nearby(self, places: Sequence[Point], reach: float, count: int, is_any: bool) -> dict[int, list[SnappedPoint]]:
         """By the index of their places the nearest points of the `count` nearest edges up to `reach` metres, for places that have any."""
         which, edges = self.arrays.edge_grid.candidates_of_each(places, reach)
-        is_there = self._are_open(edges, is_any)
-        pairs = np.sort(which[is_there] << EDGE_BITS | edges[is_there])
+        if self._may_be_closed(is_any):
+            is_there = self._are_open(edges, is_any)
+            which, edges = which[is_there], edges[is_there]
+        pairs = np.sort(which << EDGE_BITS | edges)
         pairs = pairs[differs_from_previous(pairs)]  # (an edge is in several cells)
         if not len(pairs):
             return {}
         which, edges = pairs >> EDGE_BITS, pairs & (1 << EDGE_BITS) - 1
         ways = self.project(np.array(places)[which], edges)
-        bounds: list[int] = which[ways.which].searchsorted(np.arange(len(places) + 1)).tolist()
+        bounds: list[int] = which[ways.which].searchsorted(range(len(places) + 1)).tolist()
         chosen = [(number, way) for number, some in enumerate(itertools.pairwise(bounds)) for way in nearest_ways(ways, *some, count, reach)]
         numbers = edges[ways.which[[way for _, way in chosen]]].tolist() if chosen else []
         lines, found = self.find_edges(numbers), dict[int, list[SnappedPoint]]()
@@ -277,12 +279,20 @@ class RoadIndex:
     def are_ferries(self, arcs: NDArray[np.int64]) -> NDArray[np.bool_]:
         return np.asarray(self._ferry_rows[self.arrays.arc_row[arcs]])
 
+    @functools.cached_property
+    def _has_ferries(self) -> bool:
+        return bool(self._ferry_rows.any())
+
+    def _may_be_closed(self, is_any: bool) -> bool:
+        """Whether there are edges for which `_are_open` is false."""
+        return self.arrays.is_partial or not is_any and self._has_ferries
+
     def _are_open(self, edges: NDArray[Any], is_any: bool) -> NDArray[np.bool_]:
         """Whether edges have arcs, as they all have unless some arcs are left out, and are no ferries' unless any will do."""
         found, first = np.ones(len(edges), dtype=bool), self.arrays.edge_first
         if self.arrays.is_partial:
             found &= first[edges] < first[edges + 1]
-        if not is_any and self._ferry_rows.any():
+        if not is_any and self._has_ferries:
             found &= ~self.are_ferries(self.arrays.first_arcs(edges))
         return found
 

@@ -21,7 +21,8 @@ def unit_vectors(lon: ArrayLike, lat: ArrayLike) -> Floats:
 
 
 def angles(begins: Floats, ends: Floats) -> Floats:
-    chords = np.sqrt(np.square(ends - begins).sum(axis=-1))
+    x, y, z = np.moveaxis(np.square(ends - begins), -1, 0)
+    chords = np.sqrt(x + y + z)
     found: Floats = 2 * np.arcsin(np.minimum(1, chords / 2))
     return found
 
@@ -78,7 +79,7 @@ def nearest_on_segments(place: Floats, ways: Floats) -> tuple[Floats, Floats]:
     points come along lines from the earth's centre to the plane that touches it there: ways are straight there, and a
     share is right to 4 millionths."""
     east, north, up = local_components(place, ways)
-    if up.min() < COS_FLAT:
+    if np.minimum.reduce(up, axis=None) < COS_FLAT:
         return nearest_on_segments_far(
             unit_vectors(place[..., 0], place[..., 1]), *unit_vectors(ways[..., 0], ways[..., 1])
         )
