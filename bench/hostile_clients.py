@@ -3,7 +3,7 @@
 
     hostile_clients.py HIERARCHY NETWORK [--seconds S] [--rounds N] [--only WORD]
 
-NETWORK is the beginning of the names of a network's files, as osm_to_gr or bench/make_roads.py write them. The client has eight
+NETWORK is the prefix of a network's files, as osm_to_gr or bench/make_roads.py write them. The client has eight
 connections, each of which asks again at once: routes, tables, isochrones and places far away, some of which nginx refuses. Then there are
 two batches of 4 MiB, forty connections with places at the antipode, and 1,600 heads that never end. Meanwhile another public client
 asks for routes by two near places, one after the other, each on a connection of its own. Each line has its median and its slowest

@@ -3,7 +3,7 @@
 
     service_load.py HIERARCHY NETWORK [--answers] [--direct] [--workers N] [--connections N] [--seconds S] [--rounds N]
 
-NETWORK is the beginning of the names of a network's files, as bench/make_roads.py writes them. Near pairs are those whose numbers
+NETWORK is the prefix of a network's files, as bench/make_roads.py writes them. Near pairs are those whose numbers
 are at most 3,000 apart, which in such networks are some 90 arcs. It needs Debian's wrk, and asks through nginx, with the configuration
 that ships and its processor time counted, or with --direct the service's own port. Each line has the requests in a second,
 the median and the 99th percentile in ms, and the processor time of the service and of wrk for each request, since

@@ -71,7 +71,7 @@ class Hierarchy:
         keys         a key for each node, in order, or a mapping from keys to nodes from 0; Keys.load has those that Graph.prepare
                      saved. Saved keys of another file are refused, and others that contradict those saved beside it, or the keys
                      that the network's nodes have
-        network      the network of the nodes: a Network, or the beginning of its files' names. It is compared with the hierarchy,
+        network      the network of the nodes: a Network, or the prefix of its files. It is compared with the hierarchy,
                      which takes a second for a million nodes: their nodes, and the weights of all links that are arcs
         compare_all  all links are compared with the network, also of a file with more than ten million; else 5,000 of these
 

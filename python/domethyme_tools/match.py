@@ -1,6 +1,6 @@
 """Finds the way of a vehicle along roads, by places where it was measured to be, and writes it as GeoJSON.
 
-NETWORK is the beginning of the names of a network's files, and HIERARCHY the file of its hierarchy; one of another network is
+NETWORK is the prefix of a network's files, and HIERARCHY the file of its hierarchy; one of another network is
 refused. TRACE is a CSV file with the columns lon and lat, in degrees (`-` is standard input), and a row for each place in the order
 in which they were measured. In a column seconds it may have when that was, in numbers that don't fall, and in a column deviation the
 standard deviation of the error of each place in metres, above 0 and to 200; an empty field is --deviation. Other columns are the user's own.

@@ -1,6 +1,6 @@
 """Finds the node of a network nearest to each place of a table, and writes the pairs that `routecli route` answers.
 
-NETWORK is the beginning of the names of a network's files, of which NETWORK.net is read, or without it NETWORK.nodes.csv,
+NETWORK is the prefix of a network's files, of which NETWORK.net is read, or without it NETWORK.nodes.csv,
 or a file of coordinates of the DIMACS challenge, whose name ends in `.co`.
 
 TRIPS is a CSV file with a row for each trip and the columns from_lon, from_lat, to_lon and to_lat, in degrees; they

@@ -92,7 +92,7 @@ def parse_args() -> argparse.Namespace:
     out = options.out
     if not os.path.basename(out) or os.path.isdir(out):
         fault = f"{out} is a folder" if out else "it is empty"
-        parser.error(f"OUT is the beginning of the names of files, as {os.path.join(out, 'map')}, and {fault}")
+        parser.error(f"OUT is a prefix of files, as {os.path.join(out, 'map')}, and {fault}")
     refuse_overwriting(parser, outputs_of(out, chosen(options)), [options.map, options.profile])
     return options
 

@@ -1,7 +1,7 @@
 """Writes what is reached from a place, or from the nearest of several, within minutes or metres, or with --towards what leads there, as
 GeoJSON.
 
-NETWORK is the beginning of the names of a network's files, and HIERARCHY the file of its hierarchy; one of another network is
+NETWORK is the prefix of a network's files, and HIERARCHY the file of its hierarchy; one of another network is
 refused. PLACES is a CSV file with the columns lon and lat, in degrees (`-` is standard input). What is reached begins at the
 nearest point of a road, in both directions.
 

@@ -1,6 +1,6 @@
 """Makes a network with new speeds on some of its roads, for traffic and closed roads.
 
-NETWORK is the beginning of the names of a network's files that osm_to_gr has made; it isn't changed. SPEEDS is a CSV file (`-` is
+NETWORK is the prefix of a network's files that osm_to_gr has made; it isn't changed. SPEEDS is a CSV file (`-` is
 standard input) with a row for each speed, in km/h, and no other columns:
 
   FROM,TO,KMH    from a point of the map to a neighbouring one of the same road, in this direction, by their ids in OpenStreetMap, as OSRM
@@ -42,11 +42,11 @@ def parse_args() -> argparse.Namespace:
     parser = argument_parser(__doc__, "%(prog)s out/li speeds.csv out/now")
     parser.add_argument("network", metavar="NETWORK", help="the network")
     parser.add_argument("speeds", metavar="SPEEDS", help="the new speeds")
-    parser.add_argument("out", metavar="OUT", help="the beginning of the names of the files that are written")
+    parser.add_argument("out", metavar="OUT", help="the prefix of the files that are written")
     parser.add_argument("--unmatched", metavar="FILE", help="write the numbers of the rows that match nothing, a line each")
     options = parser.parse_args()
     if not os.path.basename(options.out) or os.path.isdir(options.out):
-        parser.error("OUT is the beginning of the names of files, as out/now, and no folder")
+        parser.error("OUT is a prefix of files, as out/now, and no folder")
     names = Files(options.out)
     refuse_overwriting(parser, [names.graph, names.binary, options.unmatched], [options.speeds, *paths_of(options.network)])
     return options

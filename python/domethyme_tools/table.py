@@ -1,6 +1,6 @@
 """Makes a table of lengths, from each place of one table to each of another.
 
-NETWORK is the beginning of the names of a network's files, or a file of coordinates of the DIMACS challenge, whose name ends
+NETWORK is the prefix of a network's files, or a file of coordinates of the DIMACS challenge, whose name ends
 in `.co`. HIERARCHY is the file that `routecli prepare` made of its graph: that of another network is refused.
 
 SOURCES and TARGETS are CSV files with a row for each place and the columns lon and lat, in degrees. They are in any order, and

@@ -1,6 +1,6 @@
 """Turns the answers of `routecli route` into routes along the real road, as GeoJSON or CSV.
 
-NETWORK is the beginning of the names of the network's files, of which NETWORK.net is read, or without it the tables; or a
+NETWORK is the prefix of the network's files, of which NETWORK.net is read, or without it the tables; or a
 DIMACS file X.co, whose graph is X.gr: then routes are straight from node to node, and have no seconds.
 ANSWERS is what `routecli route` or `routecli answer` printed (`-` is standard input).
 

@@ -10,8 +10,8 @@ ARCS is a CSV table with a row for each arc and the columns from and to. Other c
   weight    an integer from 0 to 4294967295: routes have the least sum. Without it it is the milliseconds of seconds, or
             with --weight length the centimetres of metres, at least 1
   metres    or km; without both the length of the line
-  seconds   without it those of the metres at kmh kilometres an hour. An arc needs one of weight, seconds and kmh; with weight alone,
-            and in files of DIMACS, it takes 0 seconds
+  seconds   default: metres at kmh km/h. An arc needs one of weight, seconds and kmh; with weight only, and in files of DIMACS,
+            the network has no seconds (null in answers)
   WKT       the line, LINESTRING (LON LAT, LON LAT, ..); without it the straight one
   name, highway, ref, junction, destination, structure, toll, osm    as in NETWORK.arcs.csv of osm_to_gr
 
@@ -19,11 +19,10 @@ ARCS is a CSV table with a row for each arc and the columns from and to. Other c
 --largest keeps the largest set of nodes that can all reach one another, as osm_to_gr does; without it all are kept, and their number is
 reported, with the least, the quartiles and the greatest of the metres and km/h of arcs.
 
-An empty field is as if its column weren't there. Columns may be in other letters, and have common names: id for node; lng,
+An empty field counts as missing. Column names are case-insensitive, and have common forms: id for node; lng,
 longitude or x for lon; latitude or y for lat; source and target, or from_id and to_id, for from and to. Columns that aren't used
 are named on standard error. The names of nodes come back in answers, as from_key and to_key; a column key has other ones for
-that. All files may be compressed by gzip. Or ARCS is a file X.gr of the DIMACS challenge: its arcs are straight, and
-take 0 seconds.
+that. All files may be compressed by gzip. Or ARCS is a file X.gr of the DIMACS challenge: its arcs are straight.
 
 What is written, both or none:
 
@@ -75,7 +74,7 @@ def parse_args() -> argparse.Namespace:
     if options.delimiter == options.decimal:
         parser.error("a comma is between fields too: give --delimiter, as ';'")
     if not os.path.basename(options.out) or os.path.isdir(options.out):
-        parser.error("OUT is the beginning of the names of files, as out/firm, and no folder")
+        parser.error("OUT is a prefix of files, as out/firm, and no folder")
     paths = Files(options.out)
     tables = [paths.nodes, paths.arcs, *paths.forms] if options.tables else []
     options.outputs = [paths.graph, *tables, paths.binary]

@@ -1,6 +1,6 @@
 """Makes the graph of a network without the roads of some classes.
 
-NETWORK is the beginning of the names of a network's files. CLASSES are one or more of motorway, toll, ferry and tunnel, with commas
+NETWORK is the prefix of a network's files. CLASSES are one or more of motorway, toll, ferry and tunnel, with commas
 between. OUT.gr is the graph of the other roads, with the same nodes. Of these only the largest set keeps its arcs that can all reach one
 another: a road that leads to the rest by a motorway alone is left out with it. `routecli prepare` makes its hierarchy, which
 `domethyme-serve --exclude CLASSES=HIERARCHY` and `domethyme.Network(NETWORK, exclude=..)` take beside the same NETWORK.

@@ -40,5 +40,5 @@ class NetworkTests(ToolCase):
         with self.assertRaisesRegex(domethyme.NetworkError, "b.net: No such file"):
             domethyme.Network(self.folder / "b")
         for name in ("v.gr", "v.net", "v.nodes.csv", "v.arcs.csv"):
-            with self.assertRaisesRegex(domethyme.NetworkError, f"{name}: .*name the network by the beginning of its files' names"):
+            with self.assertRaisesRegex(domethyme.NetworkError, f"{name}: .*name the network by the prefix of its files"):
                 domethyme.Network(self.folder / name)

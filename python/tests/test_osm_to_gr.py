@@ -500,7 +500,7 @@ class BadInput(NetworkCase):
         (self.folder / "there").mkdir()
         for out in ("", "folder/", "./", ".", "there", "there/"):
             said = self.run_tool("osm_to_gr", VILLAGE, out, status=2).stderr
-            self.assertIn("OUT is the beginning of the names of files", said)
+            self.assertIn("OUT is a prefix of files", said)
         self.assertEqual(self.contents(), before)
 
     def test_a_full_disk_names_the_file(self):

@@ -230,7 +230,7 @@ class Networks(SharedCase):
                 self.assert_fault(f"{self.folder / name}{says}", self.write_and, read, name, text)
 
     def test_words_that_name_no_network(self):
-        by = "name the network by the beginning of its files' names"
+        by = "name the network by the prefix of its files"
         for word, says in [
             ("li.net", f"{by}, li"), ("li.gr", f"is a graph: {by}, li, or a file of coordinates, li.co"),
             ("li.rch", f"is a hierarchy: {by}"), ("li.nodes.csv", f"{by}, li"), ("li.arcs.csv", f"{by}, li"),

@@ -44,7 +44,7 @@ class Network:
     """The files of a network. They are opened once, when they are first needed or when a Hierarchy compares them with its own:
     files that take their names later change nothing.
 
-    prefix   the beginning of their names
+    prefix   how their names begin
     exclude  the classes of roads that are left out
     """
 

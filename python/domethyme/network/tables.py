@@ -35,7 +35,7 @@ WGS_84 = (
     'GEOGCS["WGS 84",DATUM["WGS_1984",SPHEROID["WGS 84",6378137,298.257223563]],PRIMEM["Greenwich",0],'
     'UNIT["degree",0.0174532925199433],AUTHORITY["EPSG","4326"]]'
 )
-NAME_IT = "name the network by the beginning of its files' names"
+NAME_IT = "name the network by the prefix of its files"
 WRONG_SUFFIXES = {
     ".gr": f"is a graph: {NAME_IT}, {{0}}, or a file of coordinates, {{0}}.co",
     ".rch": f"is a hierarchy: {NAME_IT}",

@@ -1,6 +1,6 @@
 """Draws routes, or what is reached, over their network: a picture, or a page for a browser that needs no connection.
 
-NETWORK is the beginning of the names of the network's files, of which NETWORK.net is read, or without it the tables. ROUTES is what `to_geojson` wrote as a collection or as
+NETWORK is the prefix of the network's files, of which NETWORK.net is read, or without it the tables. ROUTES is what `to_geojson` wrote as a collection or as
 lines, or what `reach` wrote as polygons (`-` is standard input). OUT is a picture (SVG) if its name ends in .svg, and a page
 (HTML) if it ends in .html.
 

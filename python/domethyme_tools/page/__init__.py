@@ -1,6 +1,6 @@
 """Makes one HTML file that finds routes in a browser, offline, by the proved library as WebAssembly.
 
-NETWORK is the beginning of the names of the network's files, of which NETWORK.net is read, or without it the tables, and NETWORK.gr
+NETWORK is the prefix of the network's files, of which NETWORK.net is read, or without it the tables, and NETWORK.gr
 for the attribution that the licence of its data requires. HIERARCHY is what `routecli prepare` made of its graph; one of another
 network is refused. OUT.html has all inside it: the library, the hierarchy and the roads. It is opened from a folder, a stick or a
 server, on a computer or a phone, and asks for nothing from a network.
