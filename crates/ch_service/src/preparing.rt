@@ -4,7 +4,7 @@ ghost use Rattle.ch_service.specs.Preparation.{IsPreparation};
 use crate::error::ServiceError;
 use crate::refusing::refuse;
 use ch_estimate::{Estimator, Leases};
-use ch_workers::{Built, Disposal, Gate, Options, build_plain};
+use ch_workers::{Built, Gate, Options, Resources, build_plain};
 use grfile::read_graph;
 use std::alloc::Global;
 use std::io::{Read, Write};
@@ -31,51 +31,39 @@ pub fn prepare<G: Read, W: Write, P: Gate, R: Threads + Wait + Sync>(
     ensures prepared { IsPreparation result options (vec_len lists) (G.remaining gr.old) (G.remaining gr.new) (W.contents out.old) (W.contents out.new) }
     ensures leases { leases.new ≡ record leases.old { out = 0 } }
 {
-    let mut disposal = Disposal::new();
-    let prepared = prepare_beside(
-        rt,
-        alloc,
-        gr,
-        out,
-        options,
-        lists,
-        leases,
-        gate,
-        &mut disposal,
-    );
-    disposal.wait(rt);
+    let mut resources = Resources::new(rt, alloc);
+    let prepared = prepare_beside(&mut resources, gr, out, options, lists, leases, gate);
+    resources.wait();
     prepared
 }
 
 /// Prepares a hierarchy as [`prepare`] does. What the build needs no longer may still be dropped after it has returned:
-/// `disposal` waits for that.
+/// [`Resources::wait`] waits for that.
 pub fn prepare_beside<G: Read, W: Write, P: Gate, R: Threads + Wait + Sync>(
-    rt: &R,
-    alloc: Global,
+    resources: &mut Resources<'_, R>,
     gr: &mut G,
     out: &mut W,
     options: Options,
     lists: Vec<Vec<Box<dyn Estimator + Send>>>,
     leases: &mut Leases,
     gate: &P,
-    disposal: &mut Disposal,
 ) -> Result<(), ServiceError>
     requires untold { All (λ list. All (λ estimator. heard estimator ≡ []) list.items) lists.items }
     ensures prepared { IsPreparation result options (vec_len lists) (G.remaining gr.old) (G.remaining gr.new) (W.contents out.old) (W.contents out.new) }
     ensures leases { leases.new ≡ record leases.old { out = 0 } }
 {
-    let graph = match read_graph(alloc, gr) {
+    let graph = match read_graph(resources.alloc, gr) {
         Ok(graph) => graph,
-        Err(fault) => return refuse(rt, ServiceError::Graph(fault), lists, leases),
+        Err(fault) => return refuse(resources.rt, ServiceError::Graph(fault), lists, leases),
     };
-    let built = build_plain(rt, alloc, graph, options, lists, leases, gate, disposal)?;
+    let built = build_plain(resources, graph, options, lists, leases, gate)?;
     let Built {
         hierarchy,
         receipts,
         log,
         queue,
     } = built;
-    disposal.take(rt, (receipts, log, queue));
+    resources.dispose((receipts, log, queue));
     hierfile::write(&hierarchy, out)?;
     Ok(())
 }

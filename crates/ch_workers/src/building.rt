@@ -4,12 +4,12 @@ ghost use Rattle.ch_workers.specs.Options.{queue_of};
 
 use crate::boxed::box_lists;
 use crate::built::{Built, with_index};
-use crate::disposal::Disposal;
 use crate::error::BuildError;
 use crate::finishing::finish;
 use crate::gate::Gate;
 use crate::good_options::GoodOptions;
 use crate::options::Options;
+use crate::resources::Resources;
 use crate::run::{Waiting, Worked, contract};
 use crate::trouble::Trouble;
 use ch_contract::Ledger;
@@ -47,54 +47,41 @@ pub fn build<G: Gate, R: Threads + Wait + Sync>(
     ensures built { IsBuild result graph options (vec_len estimators) }
     ensures leases { leases.new ≡ record leases.old { out = 0 } }
 {
-    let mut disposal = Disposal::new();
-    let built = build_plain(
-        rt,
-        alloc,
-        graph,
-        options,
-        estimators,
-        leases,
-        gate,
-        &mut disposal,
-    );
+    let mut resources = Resources::new(rt, alloc);
+    let built = build_plain(&mut resources, graph, options, estimators, leases, gate);
     let indexed = with_index(alloc, built);
-    disposal.wait(rt);
+    resources.wait();
     indexed
 }
 
 /// Builds as [`build`] does, and makes no index of the hierarchy's links, which its file doesn't have.
 ///
-/// Rows and books that are needed no longer are dropped beside what comes next, also after it has returned: `disposal`
-/// waits for that.
+/// Rows and books that are needed no longer are dropped beside what comes next, also after it has returned:
+/// [`Resources::wait`] waits for that.
 pub fn build_plain<G: Gate, R: Threads + Wait + Sync>(
-    rt: &R,
-    alloc: Global,
+    resources: &mut Resources<'_, R>,
     graph: Graph,
     options: Options,
     estimators: Vec<Vec<Box<dyn Estimator + Send>>>,
     leases: &mut Leases,
     gate: &G,
-    disposal: &mut Disposal,
 ) -> Result<Built, BuildError>
     requires untold { All (λ list. All (λ estimator. heard estimator ≡ []) list.items) estimators.items }
     ensures built { IsBuild result graph options (vec_len estimators) }
     ensures leases { leases.new ≡ record leases.old { out = 0 } }
 {
-    let built = build_with_good(rt, alloc, graph, options, estimators, gate, disposal);
-    leases.wait(rt);
+    let built = build_with_good(resources, graph, options, estimators, gate);
+    leases.wait(resources.rt);
     built
 }
 
 /// Builds where the options are good, which is tested first. The estimators are dropped when it returns.
 fn build_with_good<G: Gate, R: Threads + Wait + Sync>(
-    rt: &R,
-    alloc: Global,
+    resources: &mut Resources<'_, R>,
     graph: Graph,
     options: Options,
     estimators: Vec<Vec<Box<dyn Estimator + Send>>>,
     gate: &G,
-    disposal: &mut Disposal,
 ) -> Result<Built, BuildError>
     requires untold { All (λ list. All (λ estimator. heard estimator ≡ []) list.items) estimators.items }
     ensures { IsBuild result graph options (vec_len estimators) }
@@ -103,7 +90,7 @@ fn build_with_good<G: Gate, R: Threads + Wait + Sync>(
         return Err(BuildError::BadOptions);
     }
     let good = GoodOptions { options };
-    match build_by_good(rt, alloc, graph, good, estimators, gate, disposal) {
+    match build_by_good(resources, graph, good, estimators, gate) {
         Ok(built) => Ok(built),
         Err(trouble) => Err(trouble.error()),
     }
@@ -111,50 +98,46 @@ fn build_with_good<G: Gate, R: Threads + Wait + Sync>(
 
 /// Builds by workers and then by a sweep. What they need no longer is dropped beside them.
 fn build_by_good<G: Gate, R: Threads + Wait + Sync>(
-    rt: &R,
-    alloc: Global,
+    resources: &mut Resources<'_, R>,
     graph: Graph,
     good: GoodOptions,
     estimators: Vec<Vec<Box<dyn Estimator + Send>>>,
     gate: &G,
-    disposal: &mut Disposal,
 ) -> Result<Built, Trouble>
     requires as_many { vec_len estimators ≡ good.options.workers }
     requires untold { All (λ list. All (λ estimator. heard estimator ≡ []) list.items) estimators.items }
     ensures built { IfOk result (IsBuilt graph (good.options.workers + 1)) }
     ensures queue { IfOk result (λ b. IsClosed good.options b.queue) }
 {
-    let lists = box_lists(alloc, estimators)?;
-    let ledger = Ledger::new_by(rt, alloc, graph, good.options.workers)?;
-    let (worked, waiting) = contract(rt, alloc, ledger, good, lists, gate, disposal)?;
-    finish_beside(rt, alloc, worked, waiting, good, disposal)
+    let lists = box_lists(resources.alloc, estimators)?;
+    let ledger = Ledger::new_by(resources.rt, resources.alloc, graph, good.options.workers)?;
+    let (worked, waiting) = contract(resources, ledger, good, lists, gate)?;
+    finish_beside(resources, worked, waiting, good)
 }
 
 /// Closes the queue, if there is one, in a thread of its own, and makes the hierarchy beside it. Both are done when it
 /// returns, and what the queue is refused for is reported first.
 fn finish_beside<R: Threads + Wait + Sync>(
-    rt: &R,
-    alloc: Global,
+    resources: &mut Resources<'_, R>,
     worked: Worked,
     waiting: Option<Waiting>,
     good: GoodOptions,
-    disposal: &mut Disposal,
 ) -> Result<Built, Trouble>
     requires waiting { MatchOption waiting (good.options.workers ≡ 0) (λ waiting. waiting.queue ≡ queue_of good.options) }
     ensures built { IfOk result (IsBuilt worked.ledger.graph (vec_len worked.receipts + 1)) }
     ensures queue { IfOk result (λ b. IsClosed good.options b.queue) }
 {
     let Some(waiting) = waiting else {
-        return finish(rt, alloc, worked, good, disposal);
+        return finish(resources, worked, good);
     };
     let (closed, built) = thread::join(
-        rt,
+        resources.rt,
         move || -> Result<Closed, Trouble>
             ensures closed { IfOk result (λ closed. closed.queue ≡ waiting.queue) }
         { waiting.close() },
         move || -> Result<Built, Trouble>
             ensures built { IfOk result (IsBuilt worked.ledger.graph (vec_len worked.receipts + 1)) }
-        { finish(rt, alloc, worked, good, disposal) },
+        { finish(resources, worked, good) },
     );
     let queue = Some(closed?);
     Ok(Built { queue, ..built? })

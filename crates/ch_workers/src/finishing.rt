@@ -8,8 +8,8 @@ ghost use Rattle.ch_workers.specs.Built.{IsBuilt};
 
 use crate::account::is_account;
 use crate::built::Built;
-use crate::disposal::Disposal;
 use crate::good_options::GoodOptions;
+use crate::resources::Resources;
 use crate::run::Worked;
 use crate::trouble::Trouble;
 use crate::workplace::Swept;
@@ -24,19 +24,17 @@ use std::thread::Threads;
 /// Contracts what the workers left, and makes the hierarchy, with no index. The rows are dropped beside what comes next.
 /// The queue is put in when it is closed.
 pub(crate) fn finish<R: Threads + Wait>(
-    rt: &R,
-    alloc: Global,
+    resources: &mut Resources<'_, R>,
     worked: Worked,
     good: GoodOptions,
-    disposal: &mut Disposal,
 ) -> Result<Built, Trouble>
     ensures built { IfOk result (IsBuilt worked.ledger.graph (vec_len worked.receipts + 1)) }
     ensures queue { IfOk result (λ b. b.queue ≡ None) }
 {
     let Worked { ledger, receipts } = worked;
-    let swept = sweep(rt, alloc, ledger, good, disposal)?;
-    let (built, rows) = built_of_swept(alloc, swept, receipts)?;
-    disposal.take_last(rt, rows);
+    let swept = sweep(resources, ledger, good)?;
+    let (built, rows) = built_of_swept(resources.alloc, swept, receipts)?;
+    resources.dispose_last(rows);
     Ok(built)
 }
 
@@ -66,33 +64,29 @@ pub(crate) fn built_of_swept(
 
 /// Contracts each node that is left, by a board whose book is new. There is none where no node is left.
 fn sweep<R: Threads + Wait>(
-    rt: &R,
-    alloc: Global,
+    resources: &mut Resources<'_, R>,
     ledger: Ledger,
     good: GoodOptions,
-    disposal: &mut Disposal,
 ) -> Result<Swept, Trouble>
     ensures graph { IfOk result (λ swept. swept.ledger.graph ≡ ledger.graph) }
     ensures over { IfOk result (λ swept. IsOver (state_of swept.ledger.overlay)) }
 {
     if ledger.is_over() {
-        let receipts = Vec::new(alloc);
+        let receipts = Vec::new(resources.alloc);
         return Ok(Swept { ledger, receipts });
     }
     let rows = ledger.overlay();
-    let blank = Blank::new(alloc, rows.nodes(), rows.bound())?;
-    sweep_named::<Brand, R>(rt, alloc, blank, ledger, good, disposal)
+    let blank = Blank::new(resources.alloc, rows.nodes(), rows.bound())?;
+    sweep_named::<Brand, R>(resources, blank, ledger, good)
 }
 
 /// Contracts each node that is left, by a board of a type that names the graph and the book. The book is dropped beside
 /// what comes next.
 fn sweep_named<S: Site + Send + Sync + 'static, R: Threads + Wait>(
-    rt: &R,
-    alloc: Global,
+    resources: &mut Resources<'_, R>,
     blank: Blank,
     ledger: Ledger,
     good: GoodOptions,
-    disposal: &mut Disposal,
 ) -> Result<Swept, Trouble>
     requires of_graph { S.graph ≡ ledger.graph }
     requires of_book { S.book ≡ name_of blank }
@@ -101,13 +95,13 @@ fn sweep_named<S: Site + Send + Sync + 'static, R: Threads + Wait>(
     ensures graph { IfOk result (λ swept. swept.ledger.graph ≡ ledger.graph) }
     ensures over { IfOk result (λ swept. IsOver (state_of swept.ledger.overlay)) }
 {
-    let mut board = match Board::<S>::of_ledger(rt, alloc, blank, ledger) {
+    let mut board = match Board::<S>::of_ledger(resources.rt, resources.alloc, blank, ledger) {
         Ok((board, _)) => board,
         Err((_, refused)) => return Err(refused.into()),
     };
-    let receipts = board.sweep(rt, good.options.settle)?;
+    let receipts = board.sweep(resources.rt, good.options.settle)?;
     let (ledger, pen) = board.into_parts();
-    disposal.take(rt, pen);
+    resources.dispose(pen);
     Ok(Swept { ledger, receipts })
 }
 

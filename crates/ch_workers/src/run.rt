@@ -2,10 +2,10 @@ ghost use Rattle.std.specs.Prelude.{◌≡◌, ◌<◌, ◌≤◌, [], All, IfOk
 ghost use Rattle.ch_multiqueue.specs.Accounts.{AreBalanced};
 ghost use Rattle.ch_workers.specs.Options.{queue_of};
 
-use crate::disposal::Disposal;
 use crate::gate::Gate;
 use crate::good_options::{CrewOptions, GoodOptions};
 use crate::hiring::{Crew, hire};
+use crate::resources::Resources;
 use crate::shift::{Work, shift};
 use crate::trouble::Trouble;
 use crate::worker::Worker;
@@ -40,13 +40,11 @@ pub(crate) struct Left {
 /// Lets workers contract nodes of a ledger, as many workers as there are lists of estimators, which are dropped. Returns
 /// their queue too, if there is a worker.
 pub(crate) fn contract<E: Estimator + Send, G: Gate, R: Threads + Wait + Sync>(
-    rt: &R,
-    alloc: Global,
+    resources: &mut Resources<'_, R>,
     ledger: Ledger,
     good: GoodOptions,
     estimators: Vec<Vec<E>>,
     gate: &G,
-    disposal: &mut Disposal,
 ) -> Result<(Worked, Option<Waiting>), Trouble>
     requires as_many { vec_len estimators ≡ good.options.workers }
     requires untold { All (λ list. All (λ estimator. E.heard estimator ≡ []) list.items) estimators.items }
@@ -56,11 +54,11 @@ pub(crate) fn contract<E: Estimator + Send, G: Gate, R: Threads + Wait + Sync>(
 {
     let options = good.options;
     if options.workers == 0 {
-        let receipts = Vec::new(alloc);
+        let receipts = Vec::new(resources.alloc);
         return Ok((Worked { ledger, receipts }, None));
     }
     let crew = CrewOptions { options };
-    let Crew { queue, workers } = hire(alloc, crew, estimators)?;
+    let Crew { queue, workers } = hire(resources.alloc, crew, estimators)?;
     let work = Work {
         ledger,
         queue,
@@ -70,32 +68,30 @@ pub(crate) fn contract<E: Estimator + Send, G: Gate, R: Threads + Wait + Sync>(
         ledger,
         queue,
         workers,
-    } = go_on(rt, alloc, work, crew, gate, disposal)?;
-    let Left { waiting, receipts } = take_apart(alloc, queue, workers)?;
+    } = go_on(resources, work, crew, gate)?;
+    let Left { waiting, receipts } = take_apart(resources.alloc, queue, workers)?;
     Ok((Worked { ledger, receipts }, Some(waiting)))
 }
 
 /// Lets workers go on shift after shift, until each has ended or a shift contracts no node.
 fn go_on<E: Estimator + Send, G: Gate, R: Threads + Wait + Sync>(
-    rt: &R,
-    alloc: Global,
+    resources: &mut Resources<'_, R>,
     work: Work<E>,
     crew: CrewOptions,
     gate: &G,
-    disposal: &mut Disposal,
 ) -> Result<Work<E>, Trouble>
     ensures graph { IfOk result (λ after. after.ledger.graph ≡ work.ledger.graph) }
     ensures count { IfOk result (λ after. vec_len after.workers ≡ vec_len work.workers) }
     ensures queue { IfOk result (λ after. after.queue ≡ work.queue) }
 {
     let nodes = work.ledger.overlay().nodes();
-    let mut work = shift(rt, alloc, work, crew, gate, disposal)?;
+    let mut work = shift(resources, work, crew, gate)?;
     'shifts: for _ in 1..nodes {
         if have_ended(work.workers.as_slice()) {
             break;
         }
         let before = work.ledger.log().len();
-        work = shift(rt, alloc, work, crew, gate, disposal)?;
+        work = shift(resources, work, crew, gate)?;
         if work.ledger.log().len() == before {
             break;
         }

@@ -3,9 +3,9 @@ ghost use Rattle.ch_rowbook.specs.Blanks.{name_of};
 
 use crate::at_board::work_at;
 use crate::build_state::BuildState;
-use crate::disposal::Disposal;
 use crate::gate::Gate;
 use crate::good_options::CrewOptions;
+use crate::resources::Resources;
 use crate::trouble::Trouble;
 use crate::worker::Worker;
 use ch_contract::{Board, Ledger, Site};
@@ -36,20 +36,18 @@ struct OnShift<S: Site, E: Estimator> {
 /// Lets the workers go on for a shift: by a board whose book is new, so that it keeps no row that isn't current, until
 /// each of them has ended or enough nodes are contracted for the book to be renewed.
 pub(crate) fn shift<E: Estimator + Send, G: Gate, R: Threads + Wait + Sync>(
-    rt: &R,
-    alloc: Global,
+    resources: &mut Resources<'_, R>,
     work: Work<E>,
     crew: CrewOptions,
     gate: &G,
-    disposal: &mut Disposal,
 ) -> Result<Work<E>, Trouble>
     ensures graph { IfOk result (λ after. after.ledger.graph ≡ work.ledger.graph) }
     ensures count { IfOk result (λ after. vec_len after.workers ≡ vec_len work.workers) }
     ensures queue { IfOk result (λ after. after.queue ≡ work.queue) }
 {
     let rows = work.ledger.overlay();
-    let blank = Blank::new(alloc, rows.nodes(), rows.bound())?;
-    shift_named::<Brand, E, G, R>(rt, alloc, blank, work, crew, gate, disposal)
+    let blank = Blank::new(resources.alloc, rows.nodes(), rows.bound())?;
+    shift_named::<Brand, E, G, R>(resources, blank, work, crew, gate)
 }
 
 /// Lets the workers go on for a shift, by a board of a type that names the graph and the book.
@@ -59,13 +57,11 @@ fn shift_named<
     G: Gate,
     R: Threads + Wait + Sync,
 >(
-    rt: &R,
-    alloc: Global,
+    resources: &mut Resources<'_, R>,
     blank: Blank,
     work: Work<E>,
     crew: CrewOptions,
     gate: &G,
-    disposal: &mut Disposal,
 ) -> Result<Work<E>, Trouble>
     requires of_graph { S.graph ≡ work.ledger.graph }
     requires of_book { S.book ≡ name_of blank }
@@ -80,18 +76,23 @@ fn shift_named<
         queue,
         workers,
     } = work;
-    let (board, mut reader) = match Board::<S>::of_ledger(rt, alloc, blank, ledger) {
+    let (board, mut reader) = match Board::<S>::of_ledger(
+        resources.rt,
+        resources.alloc,
+        blank,
+        ledger,
+    ) {
         Ok(made) => made,
         Err((_, refused)) => return Err(refused.into()),
     };
-    let mut on_shift = begin(alloc, &mut reader, workers)?;
+    let mut on_shift = begin(resources.alloc, &mut reader, workers)?;
     drop(reader);
-    let shared = BuildState::new(alloc, board, queue, crew);
-    run_all(rt, &shared, gate, on_shift.as_mut_slice());
-    let workers = end(alloc, on_shift)?;
+    let shared = BuildState::new(resources.alloc, board, queue, crew);
+    run_all(resources.rt, &shared, gate, on_shift.as_mut_slice());
+    let workers = end(resources.alloc, on_shift)?;
     let (board, queue) = shared.into_parts();
     let (ledger, pen) = board.into_parts();
-    disposal.take(rt, pen);
+    resources.dispose(pen);
     Ok(Work {
         ledger,
         queue,

@@ -10,7 +10,7 @@ use crate::outcome::outcome_of;
 use ch_estimate::key::{Balanced, Depth, EdgeDifference, Neighbours};
 use ch_estimate::{Estimator, Lease, Leases};
 use ch_service::{ServiceError, causes_tell_refusals, prepare_beside, prepare_sequential};
-use ch_workers::{Disposal, Gate, Options};
+use ch_workers::{Gate, Options, Resources};
 use jobs::{Order, Preparation, Stint, Workers};
 use outcomes::Ending;
 use std::alloc::{AllocError, Global};
@@ -47,29 +47,28 @@ pub fn perform_preparation<G: Read, W: Write, P: Gate, R: Threads + Wait + Sync>
     ensures told { TellsPrepared result (G.remaining graph.old) (W.contents out.old) (W.contents out.new) }
     ensures status { IsPreparingStatus (status_after result) }
 {
-    let mut disposal = Disposal::new();
-    let prepared = prepare_by(rt, alloc, preparation, graph, out, gate, &mut disposal);
-    disposal.wait(rt);
+    let mut resources = Resources::new(rt, alloc);
+    let prepared = prepare_by(&mut resources, preparation, graph, out, gate);
+    resources.wait();
     outcome_of(prepared)
 }
 
 /// Prepares a hierarchy of a graph by workers, each with an estimator for each of its orders, or on the calling thread.
-/// What the build needs no longer may still be dropped after it has returned: `disposal` waits for that. Takes memory for
+/// What the build needs no longer may still be dropped after it has returned: [`Resources::wait`] waits for that. Takes memory for
 /// the estimators, and then that of `prepare_beside` or `prepare_sequential`.
 pub(crate) fn prepare_by<G: Read, W: Write, P: Gate, R: Threads + Wait + Sync>(
-    rt: &R,
-    alloc: Global,
+    resources: &mut Resources<'_, R>,
     preparation: &Preparation<'_>,
     graph: &mut G,
     out: &mut W,
     gate: &P,
-    disposal: &mut Disposal,
 ) -> Result<(), ServiceError>
     ensures { TellsPrepared (outcome_of result) (G.remaining graph.old) (W.contents out.old) (W.contents out.new) }
 {
     causes_tell_refusals();
     let workers = preparation.workers.unwrap_or(Workers::one());
     let options = options(workers, preparation.seed, preparation.stint());
+    let alloc = resources.alloc;
     let mut leases = Leases::new(alloc)?;
     let lists = a_list_each(
         alloc,
@@ -88,8 +87,9 @@ pub(crate) fn prepare_by<G: Read, W: Write, P: Gate, R: Threads + Wait + Sync>(
         },
     )?;
     match preparation.workers {
-        Some(_) => prepare_beside(
-            rt,
+        Some(_) => prepare_beside(resources, graph, out, options, lists, &mut leases, gate),
+        None => prepare_sequential(
+            resources.rt,
             alloc,
             graph,
             out,
@@ -97,8 +97,6 @@ pub(crate) fn prepare_by<G: Read, W: Write, P: Gate, R: Threads + Wait + Sync>(
             lists,
             &mut leases,
             gate,
-            disposal,
         ),
-        None => prepare_sequential(rt, alloc, graph, out, options, lists, &mut leases, gate),
     }
 }

@@ -6,7 +6,7 @@ ghost use Rattle.performing.specs.Status.{HasPrepared, IsPreparingStatus, TellsP
 
 use crate::outcome::outcome_of;
 use crate::preparing::prepare_by;
-use ch_workers::{Disposal, Gate};
+use ch_workers::{Gate, Resources};
 use jobs::Preparation;
 use outcomes::{Cause, Ending};
 use std::alloc::Global;
@@ -37,16 +37,8 @@ pub fn prepare_whole<G: Read, D: Destination, P: Gate, R: Threads + Wait + Sync>
     let Ok(mut draft) = destination.draft() else {
         return Ending::Refused(Cause::Memory);
     };
-    let mut disposal = Disposal::new();
-    let prepared = prepare_by(
-        rt,
-        alloc,
-        preparation,
-        graph,
-        &mut draft,
-        gate,
-        &mut disposal,
-    );
+    let mut resources = Resources::new(rt, alloc);
+    let prepared = prepare_by(&mut resources, preparation, graph, &mut draft, gate);
     finish(destination, draft, outcome_of(prepared))
 }
 
