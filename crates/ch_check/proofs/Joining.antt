@@ -30,7 +30,7 @@ use Rattle.ch_witness.specs.Kept.{Kept, AreKept, IsKept}
 use Rattle.ch_witness.specs.declared.way.Way.{Way}
 use Rattle.ch_witness.specs.Ways.{AreWays, IsFound, way_at}
 use Rattle.ch_graph.specs.Walk.{Walk}
-use Rattle.ch_check.specs.Pairs.{HasArc, IsOpenRow, row_in, AreSorted, CostMore, IsAdded, IsDue, IsPairAmong, AreJoined, HaveWays, IsJoined, Joins, LeadsDirectly, LeadsOver, AreRowsOf, ShowsRow, AreOwed, AreAround, AreLeft, AreUnmet}
+use Rattle.ch_check.specs.Pairs.{HasArc, IsOpenRow, row_in, AreSorted, CostMore, IsAdded, IsDue, IsPairAmong, AreJoined, HaveWays, IsJoined, Joins, LeadsDirectly, LeadsOver, AreRowsOf, ShowsRow, AreOwed, AreAround, AreByEnds, AreLeft, AreUnmet}
 use Rattle.ch_check.specs.declared.share.Share.{Share}
 use Rattle.ch_check.specs.declared.share.Share.TheVariants.{Spared, Put, Owed}
 use Rattle.ch_check.specs.Replay.{Replay, IsReplay, MayPut}
@@ -282,6 +282,36 @@ module _ {o : Overlay} {v : ℕ} {row first : Row} {into : Entry} (mid_row : IsO
         ];
   }
 
+  -- where all are searched, and those that are left get a shortcut
+  pub is_joined_anew : owed ≡ [] → {left : List Shortcut} → AreLeft o v put left → IsJoined o v row into left
+  is_joined_anew nothing {left} of_search = record {
+    from = λ p h. ap (λ (s : Shortcut). s.from) ((are.from_put p (of_search.among p h)).2.2);
+    rising = of_search.rising are.rising;
+    shortcuts = λ p h. shortcut_is p (of_search.among p h);
+    ways = λ w sum t within none.
+        let p : Shortcut = record { from = into.other; to = w; cost = sum } in
+        elim (are.every t.second.entry p t.second.among (pair_is t within)) [
+          | inl pending ↦ elim pending [
+            | inl in_put ↦ elim (of_search.ways p in_put) [
+              | inl in_left ↦ absurd (none p in_left (refl, refl))
+              | inr way ↦ way
+            ]
+            | inr in_owed ↦ absurd (contains_none p (subst (λ (ps : List Shortcut). Contains ps p) nothing in_owed))
+          ]
+          | inr way ↦ way
+        ];
+  }
+
+  -- and a way may be owed for each
+  pub put_are_owed : AreOwed o v into.other put
+  put_are_owed p h =
+      let has = are.from_put p h in
+      let is = has.2.2 in (
+        ap (λ (s : Shortcut). s.from) is,
+        λ e. end_apart has.0 has.1 (sym (ap (λ (s : Shortcut). s.to) is) ∙ e),
+        subst (λ (c : Cost). IsWithin c o.bound) (sym (ap (λ (s : Shortcut). s.cost) is)) has.2.1,
+      )
+
 -- From all
 
 module _ {o : Overlay} {v : ℕ} {row : Row} {inns : List Entry} {into : Entry} (rises : Rises (inns ++ into ∷ [])) {old put : List Shortcut} (are : AreJoined o v row inns old) (is : IsJoined o v row into put) where
@@ -370,6 +400,7 @@ module _ (o : Overlay) (v u : ℕ) where
   pub left_over : {owed : List Shortcut} {ways : List (Option Way)} {left : List Shortcut} → AreOwed o v u owed → AreAround o v u (map (λ p. p.to) owed) ways → AreUnmet owed ways (length owed) left → AreLeft o v owed left
   left_over {owed} {ways} are around unmet = record {
     among = unmet.among;
+    rising = unmet.rising;
     ways = λ p among.
         let k = among.0 in
         let here : slice_get owed k ≡ Some p = slice_get-get_or owed k p among.1 ∙ ap (λ (s : Shortcut). Some s) among.2 in
@@ -390,10 +421,28 @@ module _ (o : Overlay) (v u : ℕ) where
 pub left_of_left : {o : Overlay} {v : ℕ} {owed some few : List Shortcut} → AreLeft o v owed some → AreLeft o v some few → AreLeft o v owed few
 left_of_left first second = record {
   among = λ p among. first.among p (second.among p among);
+  rising = λ rises. second.rising (first.rising rises);
   ways = λ p among. elim (first.ways p among) [
     | inl in_some ↦ second.ways p in_some
     | inr way ↦ inr way
   ];
+}
+
+-- all pairs are left where there is no search
+pub all_left : {o : Overlay} {v : ℕ} (owed left : List Shortcut) → left ≡ owed → AreLeft o v owed left
+all_left owed left same = record {
+  among = λ p among. subst (λ (ps : List Shortcut). Contains ps p) same among;
+  rising = λ rises. subst AreByEnds (sym same) rises;
+  ways = λ p among. inl (subst (λ (ps : List Shortcut). Contains ps p) (sym same) among);
+}
+
+-- and none at first
+pub none_unmet : (owed : List Shortcut) (ways : List (Option Way)) → AreUnmet owed ways 0 []
+none_unmet owed ways = record {
+  among = λ p among. absurd (contains_none p among);
+  before = λ p among. absurd (contains_none p among);
+  rising = λ rises i j d low high. absurd (omega (arith, high));
+  found = λ k p low. absurd (omega (arith, low));
 }
 
 module _ {owed : List Shortcut} {ways : List (Option Way)} {k : ℕ} {q : Shortcut} {left : List Shortcut} (here : slice_get owed k ≡ Some q) (are : AreUnmet owed ways k left) where
@@ -406,6 +455,8 @@ module _ {owed : List Shortcut} {ways : List (Option Way)} {k : ℕ} {q : Shortc
   pub unmet_met : IsFound ways k q.cost → AreUnmet owed ways (k + 1) left
   unmet_met found = record {
     among = are.among;
+    before = λ p among. let at = are.before p among in (at.0, omega (arith, at.1), at.2);
+    rising = are.rising;
     found = λ j p low is. elim (cases_lt j k) [
       | inl below ↦ are.found j p below is
       | inr high ↦
@@ -421,6 +472,14 @@ module _ {owed : List Shortcut} {ways : List (Option Way)} {k : ℕ} {q : Shortc
       | inl old ↦ are.among p old
       | inr last ↦ subst (λ (s : Shortcut). Contains owed s) last (k, slice_get_within owed k q here, get_or_from_slice_get owed k q q here)
     ];
+    before = λ p among. elim (Contains-push_cases left q p among) [
+      | inl old ↦ let at = are.before p old in (at.0, omega (arith, at.1), at.2)
+      | inr last ↦ subst (λ (s : Shortcut). (j : ℕ) × (j < k + 1) × (slice_get owed j ≡ Some s)) last (k, omega arith, here)
+    ];
+    rising = λ rises. all_pairs_push (λ (a b : Shortcut). a.to < b.to) left q (are.rising rises) (λ i d inside. let p = get_or left i d in let at = are.before p (Contains-get_or left i d inside) in
+        subst (λ (s : Shortcut). p.to < s.to) (get_or_from_slice_get owed k q q here)
+        (subst (λ (s : Shortcut). s.to < (get_or owed k q).to) (get_or_from_slice_get owed at.0 p q at.2)
+        (rises at.0 k q at.1 (slice_get_within owed k q here))));
     found = λ j p low is. elim (cases_lt j k) [
       | inl below ↦ elim (are.found j p below is) [
         | inl in_left ↦ inl (Contains-append_left left (q ∷ []) p in_left)

@@ -1,5 +1,5 @@
 -- The pairs by way of a node, what is due for each, and searches for ways around the node.
-use Rattle.std.specs.Prelude.{ℕ, ◌≡◌, ◌≢◌, ◌<◌, ◌⊎◌, List, [], ◌∷◌, ◌++◌, length, Option, Some, None, AllPairs, Contains, IfSome, slice_index}
+use Rattle.std.specs.Prelude.{ℕ, ◌≡◌, ◌≢◌, ◌<◌, ◌≤◌, ◌^◌, ◌⊎◌, List, [], ◌∷◌, ◌++◌, length, Option, Some, None, AllPairs, Contains, IfSome, slice_index}
 use Rattle.std.specs.List.{slice_get}
 use Rattle.ch_cost.specs.declared.cost.Cost.{Cost}
 use Rattle.ch_cost.specs.Cost.{◌⊕◌, ◌≼◌, ◌≺◌, IsWithin}
@@ -18,6 +18,7 @@ use Rattle.ch_witness.specs.declared.way.Way.{Way}
 use Rattle.ch_witness.specs.Kept.{Kept, AllNamed, AreKept}
 use Rattle.ch_witness.specs.Ways.{IsFound, way_at}
 use Rattle.ch_check.specs.declared.pairs.ContractionTask.{ContractionTask}
+use Rattle.ch_check.specs.declared.anew.AnewTask.{AnewTask}
 use Rattle.ch_check.specs.declared.share.Share.{Share}
 use Rattle.ch_check.specs.declared.share.Share.TheVariants.{Spared, Put, Owed}
 
@@ -51,6 +52,13 @@ pub record IsTask (t : ContractionTask) : Type 0 where
   pub bound : IsBound t.overlay.now.bound
   pub row : IsOpenRow t.overlay.now t.node t.row.now
 
+-- and so it is where no hierarchy names the shortcuts; a search settles some nodes, and not too many
+pub record IsAnew (t : AnewTask) : Type 0 where
+  pub bound : IsBound t.overlay.now.bound
+  pub row : IsOpenRow t.overlay.now t.node t.row.now
+  pub some : 1 ≤ t.settle
+  pub few : t.settle ≤ 2 ^ 16
+
 -- one of these arcs leads to where the pair does, and costs no more
 pub record LeadsDirectly (outs : List Entry) (p : Shortcut) : Type 0 where
   pub cost : Cost
@@ -77,6 +85,11 @@ abbrev pub IsDue : Overlay → ℕ → Row → Entry → Entry → Share → Typ
 IsDue o v first into out Spared = (p : Shortcut) → IsPairOf o.bound into out (Some p) → HasWay (row_in o) v p.from p.to p.cost
 IsDue o v first into out (Put p) = IsPairOf o.bound into out (Some p) × CostMore first.out p
 IsDue o v first into out (Owed p) = IsPairOf o.bound into out (Some p)
+
+-- a shortcut is due for a pair that was found
+abbrev pub share_of : Option Shortcut → Share
+share_of (Some p) = Put p
+share_of None = Spared
 
 -- a pair is added to those that it is due to
 abbrev pub IsAdded : Share → List Shortcut → List Shortcut → List Shortcut → List Shortcut → Type 0
@@ -144,12 +157,19 @@ pub record AreAround (o : Overlay) (v u : ℕ) (targets : List ℕ) (ways : List
   pub many : length ways ≡ length targets
   pub leads : (k : ℕ) → k < length targets → IfSome (way_at ways k) (λ w. Walk (SeenArc (row_in o) v) u (slice_index targets k) w.cost)
 
--- these are some of the pairs, and each other one among the first n is reached at no more than it costs
+-- pairs by their ends
+abbrev pub AreByEnds : List Shortcut → Type 0
+AreByEnds pairs = AllPairs (λ p q. p.to < q.to) pairs
+
+-- these are some of the first n pairs, in their order, and each other one among them is reached at no more than it costs
 pub record AreUnmet (owed : List Shortcut) (ways : List (Option Way)) (n : ℕ) (left : List Shortcut) : Type 0 where
   pub among : (p : Shortcut) → Contains left p → Contains owed p
+  pub before : (p : Shortcut) → Contains left p → (k : ℕ) × (k < n) × (slice_get owed k ≡ Some p)
+  pub rising : AreByEnds owed → AreByEnds left
   pub found : (k : ℕ) (p : Shortcut) → k < n → slice_get owed k ≡ Some p → Contains left p ⊎ IsFound ways k p.cost
 
--- these are some of the pairs, and a way leads around v for each other one
+-- these are some of the pairs, in their order, and a way leads around v for each other one
 pub record AreLeft (o : Overlay) (v : ℕ) (owed left : List Shortcut) : Type 0 where
   pub among : (p : Shortcut) → Contains left p → Contains owed p
+  pub rising : AreByEnds owed → AreByEnds left
   pub ways : (p : Shortcut) → Contains owed p → Contains left p ⊎ HasWay (row_in o) v p.from p.to p.cost

@@ -9,6 +9,7 @@
 //!   believed.
 //! - [`is_refuted_by`] compares the distance of two nodes in the graph with that in the hierarchy. If it returns true, the
 //!   hierarchy isn't right.
+//! - [`work_out_anew`] finds which shortcuts a contraction needs where no hierarchy names them.
 //! - [`CheckError`] says where a check ended, which is no proof that the hierarchy is wrong but for
 //!   [`CheckError::Nodes`].
 //!
@@ -25,6 +26,7 @@
 //! ```
 #![tactic(auto)]
 
+mod anew;
 mod buffers;
 mod checking;
 mod comparing;
@@ -40,6 +42,8 @@ mod watch;
 mod ways;
 mod working;
 
+pub use anew::work_out_anew;
+pub use buffers::Buffers;
 pub use checking::{check, check_watched};
 pub use error::CheckError;
 pub use ranks::nodes_by_rank;

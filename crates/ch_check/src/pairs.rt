@@ -95,7 +95,7 @@ fn add(share: Share, put: &mut Vec<Shortcut>, owed: &mut Vec<Shortcut>) -> Resul
 }
 
 /// Whether one of these arcs leads where the pair does and costs no more.
-fn has_direct(outs: &[Entry], pair: &Shortcut) -> bool
+pub fn has_direct(outs: &[Entry], pair: &Shortcut) -> bool
     requires rises { Rises outs.now }
     ensures yes { IsTrue result → LeadsDirectly outs.now pair.now }
     ensures no { IsFalse result → CostMore outs.now pair.now }
@@ -108,7 +108,7 @@ fn has_direct(outs: &[Entry], pair: &Shortcut) -> bool
 
 /// Whether one of these arcs and one of those out of its end lead around a node to where the pair does, and cost no more
 /// together. `inns` are the arcs into that end.
-fn has_two_arcs(outs: &[Entry], inns: &[Entry], via: u32, pair: &Shortcut) -> bool
+pub fn has_two_arcs(outs: &[Entry], inns: &[Entry], via: u32, pair: &Shortcut) -> bool
     requires rises { Rises outs.now }
     ensures { IsTrue result → LeadsOver outs.now inns.now via pair.now }
 {

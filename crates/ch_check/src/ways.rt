@@ -13,7 +13,7 @@ ghost use Rattle.ch_check.specs.Pairs.{HaveWays, AreAround, AreLeft, AreOwed, Ar
 use crate::fault::Fault;
 use crate::overlay_rows::OverlayRows;
 use ch_cost::Cost;
-use ch_laws::Shortcut;
+use ch_laws::{Entry, Shortcut};
 use ch_overlay::{Overlay, find_ends, greatest_cost};
 use ch_witness::{Aim, Rule, SearchError, Searcher, Traced, Way};
 use std::alloc::{AllocError, Global};
@@ -153,6 +153,35 @@ impl Finder {
         Ok(left)
     }
 
+    /// Searches ways to the ends of these pairs, settling at most so many nodes, and returns those pairs for which it found
+    /// none that costs no more, in their order. There is no search where a way of three arcs has no room.
+    pub fn leave(
+        &mut self,
+        overlay: &Overlay,
+        via: u32,
+        from: u32,
+        owed: &[Shortcut],
+        settle: u32,
+    ) -> Result<Vec<Shortcut>, AllocError>
+        requires some { 1 ≤ settle }
+        requires few { settle ≤ 2 ^ 16 }
+        requires bound { IsBound overlay.now.bound }
+        requires inside { IsNode overlay.now from }
+        requires start { from ≢ via }
+        requires owed { AreOwed overlay.now via from owed.now }
+        requires kept { AreRowsOf overlay.now (kept_of self.old.searcher.rows) }
+        ensures left { IfOk result (λ left. AreLeft overlay.now via owed.now left.items) }
+        ensures kept { OnOk result (AreRowsOf overlay.now (kept_of self.new.searcher.rows)) }
+    {
+        if !aim(overlay, via, from, owed, &mut self.aims)? {
+            return owed.to_vec(self.alloc);
+        }
+        let found = self.trace_ways(overlay, via, from, owed, settle)?;
+        let left = unmet(self.alloc, owed, &found.ways)?;
+        self.earlier = found;
+        Ok(left)
+    }
+
     /// The best ways to the ends of these pairs that a search has come to when it ends.
     fn trace_ways(
         &mut self,
@@ -161,7 +190,7 @@ impl Finder {
         from: u32,
         owed: &[Shortcut],
         settle: u32,
-    ) -> Result<Traced, Fault>
+    ) -> Result<Traced, AllocError>
         requires some { 1 ≤ settle }
         requires few { settle ≤ 2 ^ 16 }
         requires bound { IsBound overlay.now.bound }
@@ -196,13 +225,13 @@ fn rest_of(rest: u64, settled: usize) -> Result<u64, Fault>
 }
 
 /// What a search found that had each row, or that memory ran out.
-fn seen_all(found: Result<Traced, SearchError>) -> Result<Traced, Fault>
+fn seen_all(found: Result<Traced, SearchError>) -> Result<Traced, AllocError>
     requires { found ≡ Err Unseen → ⊥ }
     ensures { IfOk result (λ traced. found ≡ Ok traced) }
 {
     match found {
         Ok(traced) => Ok(traced),
-        Err(SearchError::OutOfMemory) => Err(Fault::OutOfMemory),
+        Err(SearchError::OutOfMemory) => Err(AllocError),
         Err(SearchError::Unseen) => unreachable!(),
     }
 }
@@ -247,4 +276,62 @@ fn find_aims(pairs: &[Shortcut], aims: &mut Vec<Aim>) -> Result<(), AllocError> 
         })?;
     }
     Ok(())
+}
+
+/// Lets a search look for ways that cost no more than these pairs, which lead from one neighbour of a node, and tells it
+/// what the last arc of each costs at least. It takes the place of what the list had. Returns whether a way of three arcs
+/// or more may cost so little.
+fn aim(
+    overlay: &Overlay,
+    via: u32,
+    from: u32,
+    pairs: &[Shortcut],
+    aims: &mut Vec<Aim>,
+) -> Result<bool, AllocError> {
+    aims.clear();
+    let mut has_room = false;
+    'pairs: for pair in pairs {
+        let aim = aim_of(overlay, via, pair);
+        aims.push(aim)?;
+        if is_room(overlay, via, from, aim) {
+            has_room = true;
+        }
+    }
+    Ok(has_room)
+}
+
+/// What a search may know of the end of a pair by way of a node.
+fn aim_of(overlay: &Overlay, via: u32, pair: &Shortcut) -> Aim {
+    let mut last_arc = Cost::ZERO;
+    if pair.to < overlay.nodes() {
+        last_arc = least_cost(overlay.row(pair.to).inn(), via, pair.from);
+    }
+    Aim {
+        enough: pair.cost.cost(),
+        last_arc,
+    }
+}
+
+/// Whether an arc out of a node and then the last one may cost no more than is wanted.
+fn is_room(overlay: &Overlay, via: u32, from: u32, aim: Aim) -> bool {
+    if from >= overlay.nodes() {
+        return true;
+    }
+    let first_arc = least_cost(overlay.row(from).out(), via, from);
+    let Some(least) = first_arc.checked_plus(aim.last_arc) else {
+        return false;
+    };
+    least.is_at_most(aim.enough)
+}
+
+/// What each of these arcs costs at least, but for those that lead to these two nodes or from them.
+fn least_cost(arcs: &[Entry], one: u32, other: u32) -> Cost {
+    let mut least = Cost::GREATEST;
+    'arcs: for arc in arcs {
+        let cost = arc.cost.cost();
+        if arc.other != one && arc.other != other && cost.is_below(least) {
+            least = cost;
+        }
+    }
+    least
 }
