@@ -12,8 +12,9 @@ use outcomes::{Cause, Ending};
 use std::alloc::Global;
 use std::io::{Read, Write};
 
-/// How many nodes a search for a way around a node settles at most, as where a hierarchy is prepared.
-const SETTLE: u32 = 64;
+/// How many nodes a search for a way around a node settles at most. Where a hierarchy is prepared it is fewer, since nodes are
+/// searched around more than once there.
+const SETTLE: u32 = 256;
 
 /// Makes the hierarchy of a graph by the ranks of another hierarchy.
 ///

@@ -5,6 +5,9 @@ use Rattle.ch_graph.specs.Graph.{Graph}
 use Rattle.ch_graph.specs.Hierarchy.{Hierarchy}
 use Rattle.ch_laws.specs.Contraction.{State, IsAlive, IsOver, IsMade}
 use Rattle.ch_check.specs.Ranks.Laws.{in_order, not_yet, ranked_inside}
+use Rattle.ch_laws.specs.declared.shortcut.Shortcut.{Shortcut}
+use Rattle.ch_check.specs.Replay.{IsReplay, MayPut}
+use Rattle.ch_contract.specs.Ledger.{Ledger, AreLawful, IsLedger}
 use Rattle.ch_sequential.specs.InOrder.{IsOrderBy}
 
 -- the next node isn't contracted yet
@@ -39,3 +42,17 @@ ranks_stay {n} {ranks} {order} is g s h made order_is nodes = ext_get_or 0 h.ran
         let new : slice_index h.ranks x ≡ k = ap (λ (y : ℕ). slice_index h.ranks y) (sym here) ∙ made_at in
         let old : slice_index ranks x ≡ k = ap (λ (y : ℕ). slice_index ranks y) (sym here) ∙ is.ordered.by_rank k at.1 in
         new ∙ sym old
+
+-- a ledger's rows are those of a replay of its graph
+pub as_replay : (l : Ledger) → IsLedger l → IsReplay (record { graph = l.graph; overlay = l.overlay })
+as_replay l is = record {
+  graph = is.graph;
+  overlay = is.overlay;
+  bound = is.bound;
+  log = l.log;
+  reached = is.reached;
+}
+
+-- and what may be put into them may be put into it
+pub may_be_put : (l : Ledger) (node : ℕ) (put : List Shortcut) → MayPut l.overlay node put → AreLawful l node put
+may_be_put l node put may = record { plan = may.plan; witnessed = may.witnessed }

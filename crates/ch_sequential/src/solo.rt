@@ -1,16 +1,17 @@
 ghost use Rattle.std.specs.Prelude.{◌≡◌, ◌<◌, ◌≤◌, ◌++◌, ◌∷◌, ℕ, [], IfOk, OnOk, length};
 ghost use Rattle.ch_laws.specs.Contraction.{IsAlive};
 ghost use Rattle.ch_overlay.specs.Overlay.{state_of};
-ghost use Rattle.ch_contract.specs.Ledger.{IsContracted, IsGone, IsNode, IsStartLedger};
+ghost use Rattle.ch_contract.specs.Ledger.{AreLawful, IsContracted, IsGone, IsNode, IsStartLedger};
 ghost use Rattle.ch_contract.specs.Commit.{Agrees};
 
 use crate::telling::tell_rest;
+use ch_check::{Buffers, work_out_anew};
 use ch_contract::{
     CommitError, Contraction, Facts, Ledger, Proposal, ProposeError, Receipt, Scratch, Site,
     agreement_is_lawful, propose_with, versions_from,
 };
 use ch_estimate::Estimator;
-use ch_overlay::changes_write_their_rows;
+use ch_overlay::{Shortcut, changes_write_their_rows};
 use ch_workers::{Listener, OwnWorkplace, Swept, Workplace};
 use std::alloc::{AllocError, Global};
 use std::marker::{Model, PhantomData};
@@ -38,21 +39,30 @@ impl<S: Site> Model for Solo<S> {
 }
 
 impl<S: Site> Solo<S> {
+    /// Contracts a node, and puts these shortcuts in.
+    fn put_in(&mut self, node: u32, shortcuts: &[Shortcut]) -> Result<Receipt, AllocError>
+        requires { AreLawful self.old node shortcuts.now }
+        ensures { IfOk result (λ receipt. IsContracted self.old node shortcuts.now receipt self.new) }
+    {
+        changes_write_their_rows();
+        let _ = self.ledger.log();
+        let planned = self.ledger.plan(node, shortcuts)?;
+        let count = planned.rows().len();
+        let versions = versions_from(self.alloc, self.next, count)?;
+        let receipt = self.ledger.enter(planned, versions.as_slice());
+        self.next += count as u64;
+        Ok(receipt)
+    }
+
     /// Contracts the node of a proposal that was made by the rows as they are.
     fn contract(&mut self, proposal: &Proposal) -> Result<Receipt, AllocError>
         requires { Agrees self.old proposal.now }
         ensures { IfOk result (λ receipt. IsContracted self.old proposal.now.node proposal.now.shortcuts receipt self.new) }
     {
         agreement_is_lawful();
-        changes_write_their_rows();
-        let _ = self.ledger.log();
         let _ = proposal.rests_on();
-        let planned = self.ledger.plan(proposal.node(), proposal.shortcuts())?;
-        let count = planned.rows().len();
-        let versions = versions_from(self.alloc, self.next, count)?;
-        let receipt = self.ledger.enter(planned, versions.as_slice());
-        self.next += count as u64;
-        Ok(receipt)
+        self.ledger.holds();
+        self.put_in(proposal.node(), proposal.shortcuts())
     }
 
     /// A ledger in which no node is contracted yet. Takes no memory.
@@ -78,12 +88,12 @@ impl<S: Site> Solo<S> {
         self.ledger
     }
 
-    /// Contracts a node that isn't contracted.
+    /// Contracts a node that isn't contracted, with a shortcut for each pair for which no way around it is found.
     pub(crate) fn contract_next(
         &mut self,
         node: u32,
         settle: u32,
-        scratch: &mut Scratch,
+        buffers: &mut Buffers,
     ) -> Result<(), AllocError>
         requires alive { IsAlive (state_of self.old.overlay) node }
         requires some { 0 < settle }
@@ -92,16 +102,9 @@ impl<S: Site> Solo<S> {
         ensures nodes { OnOk result (length self.new.overlay.rows ≡ length self.old.overlay.rows) }
     {
         self.ledger.holds();
-        match propose_with(self.alloc, self, scratch, node, settle) {
-            Ok(proposal) => {
-                let _receipt = self.contract(&proposal)?;
-                scratch.keep(proposal);
-                Ok(())
-            }
-            Err(ProposeError::OutOfMemory) => Err(AllocError),
-            Err(ProposeError::Unseen) => unreachable!(),
-            Err(ProposeError::Contracted) => unreachable!(),
-        }
+        work_out_anew(self.ledger.overlay(), buffers, node, settle)?;
+        let _receipt = self.put_in(node, &buffers.shortcuts)?;
+        Ok(())
     }
 
     /// Contracts a node, unless it is contracted, and puts the receipt behind the others.

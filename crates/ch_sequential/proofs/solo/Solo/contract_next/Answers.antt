@@ -1,21 +1,21 @@
-use Rattle.std.proofs.Common.{ℕ, Result, Err, ap, subst, ◌∙◌}
-use Rattle.ch_laws.specs.Rows.{Row}
-use Rattle.ch_contract.specs.declared.error.ProposeError.{ProposeError}
-use Rattle.ch_contract.specs.Ledger.{Ledger, IsGone, IsLedger}
-use Rattle.ch_contract.specs.Commit.{IsRowOf}
-use Rattle.ch_contract.specs.Proposal.{Proposal}
-use Rattle.ch_sequential.proofs.Turns.{gone_by_rank}
+use Rattle.std.proofs.Common.{List, sym, subst}
+use Rattle.ch_laws.specs.declared.shortcut.Shortcut.{Shortcut}
+use Rattle.ch_overlay.specs.Overlay.{Overlay}
+use Rattle.ch_check.specs.Replay.{IsReplay, MayPut}
+use Rattle.ch_contract.specs.Ledger.{Ledger, AreLawful}
+use Rattle.ch_sequential.proofs.Ordered.{as_replay, may_be_put}
 use Rattle.ch_sequential.proofs.solo.Solo.contract_next.Goals as goal
 
-abbrev of_propose : ProposeError → Result Proposal ProposeError
-of_propose e = Err e
+pub work_out_anew-requires-clause-reached : goal.work_out_anew-requires-clause-reached
+work_out_anew-requires-clause-reached g c = (
+  c.self.inside.ledger.graph,
+  subst (λ (o : Overlay). IsReplay (record { graph = c.self.inside.ledger.graph; overlay = o })) (sym c.overlay.ensures) (as_replay c.self.inside.ledger c.holds.ensures),
+)
 
-pub unreachable-requires-in-Err-Contracted : goal.unreachable-requires-in-Err-Contracted
-unreachable-requires-in-Err-Contracted g c =
-    let is = ap of_propose c.in-Err-Contracted.field-0-is in
-    let found = c.in-Err-Contracted.ensures.contracted (λ other. cc) (λ other. cc) in
-    let now = c.args.self.now in
-    let ledger : IsLedger now = subst (λ (l : Ledger). IsLedger l) c.self.view_is c.holds.ensures in
-    let shown : IsRowOf now found.row = subst (λ (l : Ledger). IsRowOf l found.row) c.propose_with.ensures.stays found.shows in
-    let gone = gone_by_rank now ledger found.row.node shown.in_range (λ none. found.ranked.0 is (ap (λ (r : Row). r.rank) shown.same ∙ none)) in
-    c.requires.alive.waits (subst (λ (x : ℕ). IsGone now x) found.of_node gone)
+pub put_in-requires : goal.put_in-requires
+put_in-requires g c =
+    let put = c.work_out_anew.new.buffers.shortcuts.items in
+    subst (λ (ps : List Shortcut). AreLawful c.args.self.now c.args.node ps) (sym c.deref.ensures.value)
+    (subst (λ (l : Ledger). AreLawful l c.args.node put) c.self.view_is
+    (may_be_put c.self.inside.ledger c.args.node put
+    (subst (λ (o : Overlay). MayPut o c.args.node put) c.overlay.ensures c.in_ok-work_out_anew.ensures)))
