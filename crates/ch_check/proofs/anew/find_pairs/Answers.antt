@@ -1,7 +1,6 @@
 use Rattle.std.proofs.Common.{◌≡◌, ◌<◌, List, [], length, get_or, ap, sym, subst, ◌∙◌}
 use Rattle.ch_laws.specs.declared.entry.Entry.{Entry}
 use Rattle.ch_laws.specs.declared.shortcut.Shortcut.{Shortcut}
-use Rattle.ch_laws.specs.Rows.{Row}
 use Rattle.ch_check.specs.Pairs.{AreSorted, IsDue, share_of}
 use Rattle.ch_check.proofs.Joining.{next_sorted, sorted_none}
 use Rattle.ch_check.proofs.anew.find_pairs.Goals as goal

@@ -1,6 +1,5 @@
 use Rattle.std.proofs.Common.{◌≡◌, ◌<◌, List, length, get_or, ap, subst, ◌∙◌}
 use Rattle.ch_laws.specs.declared.entry.Entry.{Entry}
-use Rattle.ch_laws.specs.Rows.{Row}
 use Rattle.ch_check.specs.Pairs.{Joins}
 use Rattle.ch_check.proofs.Joining.{next_joined}
 use Rattle.ch_check.proofs.anew.join_all.Goals as goal

@@ -1,7 +1,6 @@
-use Rattle.std.proofs.Common.{All, Contains, List, ap, subst, ◌∙◌}
+use Rattle.std.proofs.Common.{All, Contains, List, subst}
 use Rattle.std.proofs.lemmas.Result.{on_ok_weaker}
 use Rattle.ch_laws.specs.declared.entry.Entry.{Entry}
-use Rattle.ch_laws.specs.Rows.{Row}
 use Rattle.ch_check.specs.Comparing.{link_in, link_out}
 use Rattle.ch_check.proofs.comparing.compare_row.Goals as goal
 

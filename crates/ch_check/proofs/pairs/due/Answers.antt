@@ -1,7 +1,6 @@
-use Rattle.std.proofs.Common.{List, Some, ap, subst, ◌∙◌}
+use Rattle.std.proofs.Common.{List, Some, subst}
 use Rattle.ch_cost.specs.declared.cost.Cost.{Cost}
 use Rattle.ch_laws.specs.declared.entry.Entry.{Entry}
-use Rattle.ch_laws.specs.Rows.{Row}
 use Rattle.ch_overlay.specs.Pairs.{IsPairOf}
 use Rattle.ch_check.specs.Pairs.{LeadsDirectly, LeadsOver}
 use Rattle.ch_check.proofs.Joining.{direct_pair, two_pair}
