@@ -5,7 +5,9 @@ use std::thread::{JoinHandle, Threads};
 /// What a build works with: a runtime and an allocator, and the threads that drop what it needs no longer.
 #[derive(Drop)]
 pub struct Resources<'r, R: Threads> {
+    /// The runtime.
     pub rt: &'r R,
+    /// The allocator.
     pub alloc: Global,
     // drops what one shift leaves
     thread: Option<JoinHandle<()>>,
