@@ -19,7 +19,6 @@ from domethyme.network import geo, indexes, net_file, table_files, tables
 STEP, LON, LAT = 400.0, 9.0, 47.0
 METRES = geo.EARTH_RADIUS * np.pi / 180
 KINDS = [(128, "motorway", 110), (32, "primary", 80), (8, "tertiary", 50), (1, "residential", 30)]
-CHUNK = 1_000_000
 ON_ROAD = np.array([0, 0, 0, 0, 1, 1, 2, 2, 2, 3])
 
 
@@ -70,12 +69,12 @@ def arrays_of(places, starts, stops, single, kind, name):
     cells = np.clip((places + 1) * 16, 0, (1 << 16) - 1).astype(np.int64)
     order = np.argsort(spread(cells[:, 0]) | spread(cells[:, 1]) << 1, kind="stable")
     number = np.empty(len(places), np.int64)
-    number[order] = np.arange(1, len(places) + 1)
+    number[order] = np.arange(len(places))
     lat = LAT + places[order, 1] * STEP / METRES
     lon = LON + places[order, 0] * STEP / METRES / np.cos(np.radians(LAT))
     units = np.round(np.column_stack((lon, lat)) * net_file.UNITS).astype(np.int32)
     starts, stops = number[starts], number[stops]
-    lines = np.stack((units[starts - 1], units[stops - 1]), axis=1)
+    lines = np.stack((units[starts], units[stops]), axis=1)
     is_turned = (lines[:, 0, 0] > lines[:, 1, 0]) | (lines[:, 0, 0] == lines[:, 1, 0]) & (lines[:, 0, 1] > lines[:, 1, 1])
     lines[is_turned] = lines[is_turned][:, ::-1]
     steps = (lines[:, 1] - lines[:, 0]) / net_file.UNITS * METRES
@@ -130,11 +129,8 @@ def main():
     arrays = make(given.nodes, given.seed)
     if problem := net_file.find_inconsistency(arrays):
         raise AssertionError(problem)
-    arcs = np.column_stack((arrays.arc_from, arrays.arc_to, arrays.arc_weight))
-    with open(f"{given.network}.gr", "w") as file:
-        file.write(f"p sp {len(arrays.node_osm)} {len(arcs)}\n")
-        for begin in range(0, len(arcs), CHUNK):
-            file.writelines(f"a {start} {end} {weight}\n" for start, end, weight in arcs[begin : begin + CHUNK].tolist())
+    with open(f"{given.network}.gr", "wb") as file:
+        table_files.write_graph_of(file, arrays, "")
     if given.tables:
         arrays.about |= write_tables(given.network, arrays)
     with open(tables.Files(given.network).binary, "wb") as file:

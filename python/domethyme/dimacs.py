@@ -1,6 +1,5 @@
-"""Graphs, pairs and answers as texts, in the formats of docs/FORMATS.md, where nodes are numbered from 1. The path `-`
-is standard input. What is wrong is a NetworkError with file and row. Needs nothing but Python's own library."""
-import itertools
+"""Graphs, pairs and answers as texts, in the formats of docs/FORMATS.md, where nodes are numbered from 1, and from 0 in what is
+read and written here. The path `-` is standard input. What is wrong is a NetworkError with file and row. Needs nothing but Python's own library."""
 from collections.abc import Collection, Iterable, Iterator, Sequence
 from typing import IO, TYPE_CHECKING, Any, NamedTuple
 
@@ -8,7 +7,7 @@ from .csv_tables import open_input, parse_int
 from .errors import NetworkError
 from .limits import MAX_LINES, MAX_NODES
 from .program import StrPath
-from .protocol import RouteReply, parse_reply
+from .protocol import RouterResult, parse_reply
 
 if TYPE_CHECKING:
     from numpy.typing import NDArray
@@ -18,7 +17,7 @@ ROWS_AT_ONCE = 1 << 14
 
 
 class GraphLists(NamedTuple):
-    """A graph: the number of its nodes, which count from 1, and its arcs in the file's order."""
+    """A graph: the number of its nodes, and its arcs in the file's order."""
 
     nodes: int
     starts: list[int]
@@ -41,8 +40,8 @@ def read_graph(path: StrPath) -> GraphLists:
     announced = 0
     for row, fields in dimacs_lines(path):
         if fields[0] == b"a" and graph is not None and len(fields) == 4:
-            graph.starts.append(parse_int(fields[1], "node", path, row, 1, graph.nodes))
-            graph.ends.append(parse_int(fields[2], "node", path, row, 1, graph.nodes))
+            graph.starts.append(parse_int(fields[1], "node", path, row, 1, graph.nodes) - 1)
+            graph.ends.append(parse_int(fields[2], "node", path, row, 1, graph.nodes) - 1)
             graph.weights.append(parse_int(fields[3], "weight", path, row))
         elif fields[:2] == [b"p", b"sp"] and graph is None and len(fields) == 4:
             graph = GraphLists(parse_int(fields[2], "the number of nodes", path, row, 0, MAX_NODES), [], [], [])
@@ -60,13 +59,16 @@ def write_graph(
     file: IO[bytes], nodes: int, arcs: "Sequence[Sequence[int] | NDArray[Any]]", comments: Iterable[str] = ()
 ) -> None:
     """Writes a .gr file: the comments, a line each, the problem line, and a line for each arc. `arcs` are three lists or arrays, of
-    which parts are in memory as text: the nodes from and to, from 1, and the weights."""
+    which parts are in memory as text: the nodes from and to, from 0, and the weights."""
     file.writelines(f"c {comment}\n".encode() for comment in comments)
     file.write(b"p sp %d %d\n" % (nodes, len(arcs[0])))
     for low in range(0, len(arcs[0]), ROWS_AT_ONCE):
         parts = [column[low : low + ROWS_AT_ONCE] for column in arcs]
         are_arrays = not any(isinstance(part, Sequence) for part in parts)
-        file.write(lines_of(parts) if are_arrays else b"a %d %d %d\n" * len(parts[0]) % tuple(itertools.chain.from_iterable(zip(*parts))))
+        if are_arrays:
+            file.write(lines_of([parts[0] + 1, parts[1] + 1, parts[2]]))  # type: ignore[operator]
+        else:
+            file.writelines(b"a %d %d %d\n" % (start + 1, end + 1, weight) for start, end, weight in zip(*parts))
 
 
 def lines_of(columns: "Sequence[Any]") -> bytes:
@@ -88,13 +90,13 @@ def lines_of(columns: "Sequence[Any]") -> bytes:
 
 
 def write_pairs(file: IO[str], pairs: Collection[tuple[int, int]], comments: Iterable[str] = ()) -> None:
-    """Writes a query file, the comments first, a line each."""
+    """Writes a query file of pairs of nodes, the comments first, a line each."""
     file.writelines(f"c {comment}\n" for comment in comments)
     file.write(f"p aux sp p2p {len(pairs)}\n")
-    file.writelines(f"q {source} {target}\n" for source, target in pairs)
+    file.writelines(f"q {source + 1} {target + 1}\n" for source, target in pairs)
 
 
-def read_answers(path: StrPath) -> Iterator[RouteReply]:
+def read_answers(path: StrPath) -> Iterator[RouterResult]:
     """The answers that `routecli route` prints, one after the other (`-` is standard input)."""
     with open_input(path) as stream:
         for row, line in enumerate(stream, 1):

@@ -129,7 +129,7 @@ class Graph:
     def write(self, path: StrPath) -> None:
         """Writes the text of the graph. The file is whole; at an exception it is as it was before. Raises OSError."""
         with atomic_write(path, "wb") as file:
-            dimacs.write_graph(file, self.nodes, [self.from_nodes + 1, self.to_nodes + 1, self.weights])
+            dimacs.write_graph(file, self.nodes, [self.from_nodes, self.to_nodes, self.weights])
 
     def prepare(self, hierarchy: StrPath, **options: Any) -> Hierarchy:
         """Prepares the graph as `prepare` does, and returns the Hierarchy with the graph's keys. Keys that are all str or int are

@@ -17,9 +17,9 @@ from .limits import DEFAULT_DEVIATION, DEFAULT_RADIUS
 from .network.tables import Side
 from .program import StrPath
 from .progress import Progress
-from .protocol import FAR, NO_PATH
+from .protocol import FAR, NO_PATH, RouterResult
 from .route import Route, Rows
-from .router import Router, RouterResult
+from .router import Router
 
 if TYPE_CHECKING:
     import numpy as np

@@ -51,7 +51,7 @@ class Links(NamedTuple):
     def arcs(self, network: "MappedNetwork") -> NDArray[np.int64]:
         """The network's lightest arc of each link without a middle, in order."""
         ends = (part[part["middle"] == NO_MIDDLE] for part in self.parts())
-        arcs = [network.lightest(part["start"].astype(np.int64) + 1, part["end"].astype(np.int64) + 1) for part in ends]
+        arcs = [network.lightest(part["start"].astype(np.int64), part["end"].astype(np.int64)) for part in ends]
         return np.concatenate([np.empty(0, np.int64), *arcs])
 
     def thousandths(self, network: "MappedNetwork", columns: Sequence["Column"]) -> list[NDArray[np.uint32]]:
@@ -92,7 +92,7 @@ class Links(NamedTuple):
         draw, compared = np.random.default_rng(self.size), 0
         for _ in range(ROUNDS):
             part = self.rows(np.sort(draw.integers(0, self.size, DRAWN)))
-            arcs = network.lightest(part["start"].astype(np.int64) + 1, part["end"].astype(np.int64) + 1)
+            arcs = network.lightest(part["start"].astype(np.int64), part["end"].astype(np.int64))
             weights = np.where(arcs == NO_ARC, NO_ARC, network.arc_weight[np.maximum(arcs, 0)])
             if (found := wrong_link(part, weights)) is not None:
                 return found
@@ -114,10 +114,10 @@ class Links(NamedTuple):
 
 def least_arcs(network: "MappedNetwork", behind: int, last: int) -> tuple[NDArray[np.int64], NDArray[np.int64]]:
     """The least arcs between different nodes whose keys lie behind one key, up to another: their keys, which rise, and
-    weights. A key is the number of the first node, from 0, and 32 bits with that of the second."""
+    weights. A key is the number of the first node and 32 bits with that of the second."""
     first, end = max(behind, 0) >> 32, min((last >> 32) + 1, len(network.out_begin) - 1)
     arcs = network.out_arcs[int(network.out_begin[first]) : int(network.out_begin[end])]
-    starts, ends = network.arc_from[arcs].astype(np.int64) - 1, network.arc_to[arcs].astype(np.int64) - 1
+    starts, ends = network.arc_from[arcs].astype(np.int64), network.arc_to[arcs].astype(np.int64)
     keys = starts << 32 | ends
     is_wanted = differs_from_previous(keys) & (starts != ends) & (keys > behind) & (keys <= last)
     return keys[is_wanted], network.arc_weight[arcs[is_wanted]]

@@ -1,5 +1,5 @@
 """The lines of `routecli serve` and `routecli route`, as docs/FORMATS.md has them: what a reply says, and to which request.
-Nodes are numbered from 1, as there, and requests and replies are without their line feed."""
+Nodes are numbered from 1 there, and from 0 here. Requests and replies are without their line feed."""
 from typing import NamedTuple
 
 from .errors import HierarchyError, OutOfMemory
@@ -14,13 +14,15 @@ NOT_A_REPLY = "is no answer of routecli"
 NO_PATH, FAR = -1, 1 << 60
 
 
-class RouteReply(NamedTuple):
-    """What a reply says of a pair: the length and the nodes, NO_PATH and () if there is no path."""
+class RouterResult(NamedTuple):
+    """A shortest path: its ends, its length, with what is added at its ends, its nodes, and what is added. In an answer for a pair without a
+    path the length is NO_PATH, and there are no nodes."""
 
     source: int
     target: int
     length: int
-    nodes: tuple[int, ...]
+    nodes: list[int]
+    added: int = 0
 
 
 def parse_ready(line: bytes) -> tuple[int, int] | None:
@@ -31,7 +33,7 @@ def parse_ready(line: bytes) -> tuple[int, int] | None:
     return int(words[1]), int(words[2])
 
 
-def parse_reply(line: bytes) -> RouteReply:
+def parse_reply(line: bytes) -> RouterResult:
     """What a line `r` or `n S T` says. Raises ValueError for any other one."""
     kind, *fields = line.split() or [b""]
     if fields and not b"".join(fields).isdigit():
@@ -39,16 +41,16 @@ def parse_reply(line: bytes) -> RouteReply:
         raise ValueError(f"the number {wrong[:40]!r} isn't an integer")
     values = tuple(map(int, fields))
     if kind == b"n" and len(values) == 2:
-        return RouteReply(values[0], values[1], NO_PATH, ())
+        return RouterResult(values[0] - 1, values[1] - 1, NO_PATH, [])
     if kind != b"r" or len(values) < 5:
         raise ValueError(NOT_A_REPLY)
     source, target, length, arcs = values[:4]
     if len(values) != arcs + 5 or (values[4], values[-1]) != (source, target):
         raise ValueError("has nodes that don't fit its pair and its number of arcs")
-    return RouteReply(source, target, length, values[4:])
+    return RouterResult(source - 1, target - 1, length, [node - 1 for node in values[4:]])
 
 
-def parse_reply_to(reply: bytes) -> RouteReply | None:
+def parse_reply_to(reply: bytes) -> RouterResult | None:
     """What a line that `matches_request` says, None for no path. Raises the error that it names, and ValueError."""
     if reply in ERROR_REPLIES:
         error, message, status = ERROR_REPLIES[reply]

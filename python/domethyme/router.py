@@ -13,13 +13,14 @@ import time
 import weakref
 from collections.abc import Iterator, Sequence
 from ctypes import addressof, byref
-from typing import TYPE_CHECKING, Any, NamedTuple
+from typing import TYPE_CHECKING, Any
 
 from .errors import HierarchyError, LibraryError, OutOfMemory
 from .library import (
     CODE_NO_PATH, FIRST_FAULT, NO_LENGTH, NO_ROOM, OK, OUT_OF_MEMORY, TOO_LONG, BetweenInfo, Handle, RouteInfo, Seed,
     error_message, load_later_call, load_library
 )
+from .protocol import RouterResult
 
 if TYPE_CHECKING:
     import numpy as np
@@ -29,16 +30,6 @@ if TYPE_CHECKING:
 INITIAL_NODES = 1 << 10
 # Where there is no memory for a searcher, how long one that is lent is waited for, and how often that is looked at, in seconds.
 PATIENCE, PAUSE = 60.0, 0.01
-
-
-class RouterResult(NamedTuple):
-    """A shortest path: its ends, its length, with what is added at its ends, its nodes, and what is added."""
-
-    source: int
-    target: int
-    length: int
-    nodes: list[int]
-    added: int = 0
 
 
 class Searcher:

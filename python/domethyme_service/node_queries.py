@@ -1,4 +1,4 @@
-"""Routes and lengths between nodes by number, from 1, as in files: of one pair, or of a batch of pairs as NDJSON.
+"""Routes and lengths between nodes by number, from 1 in requests and answers, as in files: of one pair, or of a batch of pairs as NDJSON.
 A block of valid lines is parsed by one call of `json`, any other line by line."""
 import functools
 import io
@@ -7,7 +7,7 @@ import json
 from collections.abc import Callable, Iterator, Sequence
 from typing import NamedTuple
 
-from domethyme.protocol import NO_PATH, RouteReply
+from domethyme.protocol import NO_PATH, RouterResult
 
 from .costs import Work
 from .errors import RequestError, invalid_query, invalid_value, too_big
@@ -44,17 +44,15 @@ def find_node(queries: Queries, values: Values, number: Parameter[int], key: Par
     return node
 
 
-def route_json(pair: Pair, route: RouteReply | None) -> bytes:
+def route_json(pair: Pair, route: RouterResult | None) -> bytes:
     if route is None:
-        return b'{"from":%d,"to":%d,"length":null,"arcs":null,"nodes":null}' % pair
-    nodes = ",".join(map(str, route.nodes)).encode()
-    return b'{"from":%d,"to":%d,"length":%d,"arcs":%d,"nodes":[%b]}' % (*pair, route.length, len(route.nodes) - 1, nodes)
+        return length_json(pair, NO_PATH)[:-1] + b',"arcs":null,"nodes":null}'
+    nodes = ",".join([str(node + 1) for node in route.nodes]).encode()
+    return b'%b,"arcs":%d,"nodes":[%b]}' % (length_json(pair, route.length)[:-1], len(route.nodes) - 1, nodes)
 
 
 def length_json(pair: Pair, length: int) -> bytes:
-    if length == NO_PATH:
-        return b'{"from":%d,"to":%d,"length":null}' % pair
-    return b'{"from":%d,"to":%d,"length":%d}' % (*pair, length)
+    return b'{"from":%d,"to":%d,"length":%b}' % (pair[0] + 1, pair[1] + 1, b"null" if length == NO_PATH else b"%d" % length)
 
 
 class Block(NamedTuple):
@@ -121,7 +119,8 @@ def parse_pairs_fast(lines: list[bytes], nodes: int) -> list[Pair] | None:
     except (ValueError, TypeError, KeyError, RecursionError):
         return None
     is_good = len(found) == 2 * count - 1 and all(type(one) is int is type(two) for one, two in pairs)
-    return pairs if is_good and all(1 <= one <= nodes and 1 <= two <= nodes for one, two in pairs) else None
+    is_good = is_good and all(1 <= one <= nodes and 1 <= two <= nodes for one, two in pairs)
+    return [(one - 1, two - 1) for one, two in pairs] if is_good else None
 
 
 def parse_pair(line: bytes, queries: Queries) -> Pair | RequestError:

@@ -65,7 +65,7 @@ class StepBuilder:
         self.is_on_ferry = self.roads.are_ferries(geometry.arcs)
         self.first_bearings, self.last_bearings = geometry.bearings
         self.starts = self.roads.arrays.arc_from[geometry.arcs]
-        self.is_junction = self.roads.degree[self.starts] >= MIN_DEGREE
+        self.is_junction = self.roads.arrays.degree(self.starts) >= MIN_DEGREE
         self.begins = np.flatnonzero(self._is_first())
         self.ends = np.append(self.begins[1:], len(geometry.arcs))
         self.is_leg_first = np.isin(self.begins, geometry.first)

@@ -222,13 +222,13 @@ def parse_waypoints(text: str, context: Context) -> list[int] | None:
 
 
 def parse_node(text: object, name: str, nodes: int) -> int:
-    """The node of a text or of a JSON number, from 1 to `nodes`. Raises RequestError."""
+    """The node, from 0, of a text or of a JSON number from 1 to `nodes`. Raises RequestError."""
     if text is None:
         raise invalid_query(f"{name} is missing")
     digits = str(text) if isinstance(text, (int, str)) and not isinstance(text, bool) else ""
     if not NODE.fullmatch(digits) or not 1 <= int(digits) <= nodes:
         raise invalid_value(f"{name} has to be a node from 1 to {nodes}")
-    return int(digits)
+    return int(digits) - 1
 
 
 SNAPPING = choice("snapping", "default", "any")

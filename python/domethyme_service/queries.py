@@ -1,4 +1,4 @@
-"""Queries to a hierarchy in this process's memory (domethyme.router), which the library proves. Nodes are numbered from 1."""
+"""Queries to a hierarchy in this process's memory (domethyme.router), which the library proves."""
 import functools
 import json
 from collections.abc import Mapping, Sequence
@@ -13,7 +13,7 @@ from domethyme.network.alternatives import MAX_ALTERNATIVES
 from domethyme.network.groups import Ints
 from domethyme.network.legs import SnapEnds
 from domethyme.network.net_file import MappedNetwork
-from domethyme.protocol import RouteReply
+from domethyme.protocol import RouterResult
 from domethyme.router import Router
 
 from .costs import Meter, Work, selected_links
@@ -80,25 +80,23 @@ class Queries:
     def length(self, source: int, target: int) -> int | None:
         """The length of a shortest path, None if there is no path."""
         self._count(1, Work.PAIR, 1)
-        return self.router.length(source - 1, target - 1)
+        return self.router.length(source, target)
 
-    def route(self, source: int, target: int) -> RouteReply | None:
+    def route(self, source: int, target: int) -> RouterResult | None:
         """A shortest path, None if there is none."""
-        return self.between({source - 1: (0, 0)}, {target - 1: (0, 0)})
+        return self.between({source: (0, 0)}, {target: (0, 0)})
 
-    def between(self, exits: SnapEnds, entries: SnapEnds) -> RouteReply | None:
-        """A shortest path from one of several nodes to one of several, with the weights of both ends added; or None. The nodes
-        that are given count from 0."""
+    def between(self, exits: SnapEnds, entries: SnapEnds) -> RouterResult | None:
+        """A shortest path from one of several nodes to one of several, with the weights of both ends added; or None."""
         self._count(1, Work.PAIR, 1)
         sides = [[(node, side[node][0]) for node in sorted(side)] for side in (exits, entries)]
         found = self.router.between(sides[0], sides[1])
-        if found is None:
-            return None
-        self.meter.spend(Work.NODE, len(found.nodes))
-        return RouteReply(found.source + 1, found.target + 1, found.length, tuple([node + 1 for node in found.nodes]))
+        if found is not None:
+            self.meter.spend(Work.NODE, len(found.nodes))
+        return found
 
     def reach(self, starts: Sequence[tuple[int, int]], limit: int, towards: bool = False) -> Ints:
-        """The least length of each node from the nearest of several, from 0, each with what is added there; or NO_PATH. With
+        """The least length of each node from the nearest of several, each with what is added there; or NO_PATH. With
         `towards` it is that to the nearest."""
         router = self.turned if towards else self.router
         if router is None:
@@ -112,12 +110,12 @@ class Queries:
     def lengths(self, pairs: Sequence[Pair]) -> list[int]:
         """The length of a shortest path of each pair, NO_PATH if there is none."""
         self._count(len(pairs), Work.PAIR, len(pairs))
-        found: list[int] = batch.lengths(self.router, np.array(pairs, np.int64).reshape(-1, 2) - 1).tolist()
+        found: list[int] = batch.lengths(self.router, np.array(pairs, np.int64).reshape(-1, 2)).tolist()
         return found
 
     def table(self, sources: Ints, targets: Ints) -> Ints:
         """The length of a shortest path from each source to each target, NO_PATH if there is none: a new array with a row
-        for each source. Here nodes are numbered from 0. More rows to the same targets take less time. A row is a query."""
+        for each source. More rows to the same targets take less time. A row is a query."""
         self._count(len(sources), Work.ROW, len(sources) * (1 + selected_links(self.nodes, self.links, len(targets)) / 10_000))
         rows, columns = (np.ascontiguousarray(nodes, np.uint32) for nodes in (sources, targets))
         out = np.empty((len(rows), len(columns)), np.int64)

@@ -145,20 +145,19 @@ def read_places(path: str) -> Trips:
 
 
 def nodes_at(index: NodeIndex, places: list[Point], side: Side = "from") -> tuple[Ints, Floats]:
-    """The nearest node, from 1, to each (lon, lat) where routes begin (from) or end (to), and the metres to it."""
+    """The nearest node to each (lon, lat) where routes begin (from) or end (to), and the metres to it."""
     lon, lat = numpy.array(places, dtype=float).reshape(-1, 2).T
-    nodes, metres = index.nearest(lon, lat, side)
-    return nodes + 1, metres
+    return index.nearest(lon, lat, side)
 
 
 def begins_of(index: NodeIndex, ends: Ints) -> Ints:
     """The nodes where routes begin at the junctions of nodes where they end: others only where turns have split them."""
-    different, places = numpy.unique(ends - 1, return_inverse=True)
+    different, places = numpy.unique(ends, return_inverse=True)
     begins = (
         next((each for each in index.split_nodes(node) if index.ends[each] == ENDS.index("from")), node)
         for node in different.tolist()
     )
-    return numpy.fromiter(begins, numpy.int64, len(different))[places] + 1
+    return numpy.fromiter(begins, numpy.int64, len(different))[places]
 
 
 def snap(trips: Trips, index: NodeIndex, radius: float, skip_far: bool) -> tuple[list[list[Any]], list[Ints], list[Floats]]:
@@ -220,8 +219,8 @@ def snapped_rows(
     from_metres, to_metres = ([f"{away:.1f}" for away in some.tolist()] for some in metres)
     for (source, target), (start, end) in zip(itertools.product(rows, repeat=2) if is_matrix else zip(rows, rows), pairs):
         own = [*fields[source], *fields[target]] if is_matrix else fields[source]
-        of_nodes = [keys[node - 1] for node in (start, end)] if keys else []
-        yield [*own, start, from_metres[source], end, to_metres[target], *of_nodes]
+        of_nodes = [keys[node] for node in (start, end)] if keys else []
+        yield [*own, start + 1, from_metres[source], end + 1, to_metres[target], *of_nodes]
 
 
 def main() -> None:

@@ -93,7 +93,7 @@ def rows_by_nodes(ask: NodeTables, network: Network, sources: Trips, targets: Tr
     begins = begins_of(index, ends)
 
     def rows(some: Ints) -> list[Ints]:
-        found = [*ask(some - 1, ends - 1)]
+        found = [*ask(some, ends)]
         for values in found:
             values[some[:, None] == begins] = 0
         return found
@@ -103,7 +103,7 @@ def rows_by_nodes(ask: NodeTables, network: Network, sources: Trips, targets: Tr
 
 
 def nodes_near(index: NodeIndex, places: Trips, side: Side, radius: float) -> Ints:
-    """The node nearest to each place, from 1. Raises ToolError for one that is too far."""
+    """The node nearest to each place. Raises ToolError for one that is too far."""
     nodes, metres = nodes_at(index, places.ends[0], side)
     if (metres > radius).any():
         raise too_far_error(places, [metres], index, radius)

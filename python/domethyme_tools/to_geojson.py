@@ -60,7 +60,7 @@ from domethyme.network.groups import Ints
 from domethyme.network.net_file import MappedNetwork
 from domethyme.network.snapping import RoadIndex
 from domethyme.network.tables import paths_of
-from domethyme.protocol import NO_PATH, RouteReply
+from domethyme.protocol import NO_PATH, RouterResult
 
 from .cli import (
     ToolError, add_hierarchy, argument_parser, current_arguments, need_hierarchy, refuse_overwriting, write_rows
@@ -123,7 +123,7 @@ def open_trips(path: str | None) -> Iterator[tuple[list[str], Iterator[Trip]]]:
 
 
 def routes_of(
-    options: argparse.Namespace, network: MappedNetwork, answers: Iterable[tuple[int, RouteReply]], trips: Iterator[Trip]
+    options: argparse.Namespace, network: MappedNetwork, answers: Iterable[tuple[int, RouterResult]], trips: Iterator[Trip]
 ) -> Iterator[Route]:
     """The routes of the answers, which come with their row numbers, in order. Fields of a trip that name the pair or its
     keys have to be the answer's."""
@@ -134,9 +134,9 @@ def routes_of(
             raise ToolError(f"is an answer more than {options.trips} has rows", options.answers, row)
         arcs = arcs_along(network, answer, options.answers, row)
         if answer.length == NO_PATH and reach.leads(answer.source, answer.target):
-            problem = f"says that no path leads from node {answer.source} to node {answer.target}, and one does"
+            problem = f"says that no path leads from node {answer.source + 1} to node {answer.target + 1}, and one does"
             raise ToolError(f"{problem}: is it of another network?", options.answers, row)
-        ends: dict[str, Any] = dict(zip(PAIR, answer))
+        ends: dict[str, Any] = {name: node + 1 for name, node in zip(PAIR, answer[:2])}
         if network.has_keys:
             ends |= {name: network.key(node) for name, node in zip(KEYS, answer[:2])}
         for name, value in ends.items():
@@ -150,7 +150,7 @@ def routes_of(
 
 
 class Reach:
-    """From which nodes, counted from 1, arcs lead to which: parts whose nodes reach one another, and which of these follow on each."""
+    """From which nodes arcs lead to which: parts whose nodes reach one another, and which of these follow on each."""
 
     def __init__(self, network: MappedNetwork) -> None:
         self.network = network
@@ -164,7 +164,7 @@ class Reach:
     @functools.cached_property
     def parts(self) -> tuple[Ints, Any]:
         """The part of each node, and the matrix of arcs between parts."""
-        arcs, size = self.network.are_open(), len(self.network.node_osm) + 1
+        arcs, size = self.network.are_open(), len(self.network.node_osm)
         starts, ends = self.network.arc_from[arcs], self.network.arc_to[arcs]
         count, labels = connected_components(matrix_of(starts, ends, size), directed=True, connection="strong")
         return labels, matrix_of(labels[starts], labels[ends], count)
@@ -177,17 +177,17 @@ def matrix_of(starts: Ints, ends: Ints, size: int) -> Any:
     return coo_array((numpy.ones(len(starts), bool), (starts, ends)), shape=(size, size)).tocsr()
 
 
-def arcs_along(network: MappedNetwork, answer: RouteReply, path: str, row: int) -> Ints:
+def arcs_along(network: MappedNetwork, answer: RouterResult, path: str, row: int) -> Ints:
     """The arcs of an answer's route, whose weights sum to its length."""
     count = len(network.node_osm)
     for node in answer.nodes or (answer.source, answer.target):
-        if not 1 <= node <= count:
-            raise ToolError(f"has node {node}, and the network has {count} nodes", path, row)
+        if not 0 <= node < count:
+            raise ToolError(f"has node {node + 1}, and the network has {count} nodes", path, row)
     nodes = numpy.array(answer.nodes, dtype=numpy.int64)
     arcs = network.lightest(nodes[:-1], nodes[1:])
     if -1 in arcs:
-        start, end = nodes[int(arcs.argmin()) :][:2].tolist()
-        raise ToolError(f"leads from node {start} to node {end}, where the network has no arc", path, row)
+        start, end = answer.nodes[int(arcs.argmin()) :][:2]
+        raise ToolError(f"leads from node {start + 1} to node {end + 1}, where the network has no arc", path, row)
     weight = int(network.arc_weight[arcs].sum())
     if answer.length not in (NO_PATH, weight):
         fault = f"has the length {answer.length}, and its arcs' weights sum to {weight}"
@@ -196,7 +196,7 @@ def arcs_along(network: MappedNetwork, answer: RouteReply, path: str, row: int) 
 
 
 def make_route(
-    network: MappedNetwork, answer: RouteReply, arcs: Ints, ends: dict[str, Any], fields: dict[str, str]
+    network: MappedNetwork, answer: RouterResult, arcs: Ints, ends: dict[str, Any], fields: dict[str, str]
 ) -> Route:
     """The route along arcs, which follow one another from the answer's source."""
     if answer.length == NO_PATH:
@@ -209,7 +209,7 @@ def make_route(
         begin, end = end, end + len(list(street))
         total = totals(seconds and seconds[begin:end], metres[begin:end])
         steps.append({"name": name, "metres": total[1], "seconds": total[0]})
-    here = network.node_lon[answer.source - 1] / UNITS, network.node_lat[answer.source - 1] / UNITS
+    here = network.node_lon[answer.source] / UNITS, network.node_lat[answer.source] / UNITS
     line = join_lines([[here], *map(network.line, arcs.tolist())])
     figures = answer.length, len(arcs), *totals(seconds, metres)
     return Route(fields, ends | dict(zip(FIGURES, figures)), steps, line if len(line) > 1 else line * 2)

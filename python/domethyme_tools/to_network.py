@@ -111,7 +111,7 @@ def main() -> None:
     form = Form(options.delimiter, options.decimal, True)
     named = from_tables.read_nodes(options.nodes, warn, form)
     nodes, arcs = named.arrays, from_tables.read_arcs(options.arcs, named, options.weight, warn, form)
-    kept = in_largest(nodes.columns["node_ends"], arcs.columns["arc_from"] - 1, arcs.columns["arc_to"] - 1)
+    kept = in_largest(nodes.columns["node_ends"], arcs.columns["arc_from"], arcs.columns["arc_to"])
     said = islands(arcs, kept)
     if options.largest:
         nodes, arcs = keep(nodes, arcs, kept)

@@ -59,7 +59,7 @@ def prepared(nodes, roads, prefix, **words):
     built = arrays(nodes, roads)
     with open(f"{prefix}.net", "wb") as file:
         net_file.write(file, built)
-    graph = domethyme.Graph(built.arc_from - 1, built.arc_to - 1, built.arc_weight, len(built.node_lon))
+    graph = domethyme.Graph(built.arc_from, built.arc_to, built.arc_weight, len(built.node_lon))
     graph.prepare(f"{prefix}.rch", workers=1).close()
     return domethyme.Hierarchy(f"{prefix}.rch", network=prefix, **words)
 
@@ -72,7 +72,7 @@ def lengths(net, starts, towards=False):
     """The least length of each node from the nearest of `starts`, a dict of nodes and what is added there, or towards it;
     -1 for none."""
     count = len(net.node_lon)
-    ends = [net.arc_from[:] - 1, net.arc_to[:] - 1]
+    ends = [net.arc_from[:], net.arc_to[:]]
     rows, columns = ends[::-1] if towards else ends
     rows, columns = np.append(rows, [count] * len(starts)), np.append(columns, list(starts))
     # (a weight of 0 would be no arc, so all weigh one more: 1 is less than a weight by far)

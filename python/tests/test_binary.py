@@ -53,7 +53,7 @@ def answers(prefix):
     roads = RoadIndex(prefix)
     columns = [column[:].tolist() for column in roads.arrays.file.columns.values()]
     return str(
-        (columns, roads.nearest((0.0004, 0.0001), 2), roads.lightest((1, 2, 1)).tolist(), roads.unit, Tiles(roads.arrays).about)
+        (columns, roads.nearest((0.0004, 0.0001), 2), roads.lightest((0, 1, 0)).tolist(), roads.unit, Tiles(roads.arrays).about)
     )
 
 
@@ -268,7 +268,7 @@ class SmallTests(BinaryCase):
             file.seek(begin)
             file.write(b"\x0b")
         roads = RoadIndex(self.prefix)
-        self.assertEqual(roads.lightest((1, 2, 3)).tolist(), [0, 2])
+        self.assertEqual(roads.lightest((0, 1, 2)).tolist(), [0, 2])
         for _ in range(2):
             with self.assertRaisesRegex(domethyme.NetworkError, r"v\.net: is damaged: arc_weight has another checksum"):
                 roads.arc(0)

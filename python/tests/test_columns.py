@@ -164,7 +164,7 @@ def test_keys_take_no_memory_of_a_process(tmp_path, is_old):
     """Each key is found in the file, whatever its order, and none that isn't there. A file of version 3 has no order of keys."""
     names = [f"{chr(0x2460 + number % 20)}{number * 7919 % 20_011}" for number in range(20_000)]
     nodes = NodeArrays({f"node_{name}": np.full(20_000, NO_OSM if name == "osm" else 0) for name in OF_NODES}, names)
-    arcs = from_tables.straight_arcs(*(np.array([each]) for each in (1, 2, 3)), nodes)
+    arcs = from_tables.straight_arcs(*(np.array([each]) for each in (0, 1, 3)), nodes)
     path = tmp_path / "net.net"
     with open(path, "w+b") as file:
         net_file.write(file, net_file.build_arrays(nodes, arcs))
@@ -175,8 +175,8 @@ def test_keys_take_no_memory_of_a_process(tmp_path, is_old):
             column_file.write(file, net_file.FORMS[3], 3, {**columns, "about": columns["about"][:-2]}.items())
     tracemalloc.start()
     keys = NodeKeys(net_file.read(path))
-    assert [keys.node(names[number], "from_key") for number in (0, 77, 19_999)] == [1, 78, 20_000]
-    assert json.loads(keys.add_keys(b'{"a":1}', (3, 5))) == {"a": 1, "from_key": names[2], "to_key": names[4]}
+    assert [keys.node(names[number], "from_key") for number in (0, 77, 19_999)] == [0, 77, 19_999]
+    assert json.loads(keys.add_keys(b'{"a":1}', (2, 4))) == {"a": 1, "from_key": names[2], "to_key": names[4]}
     _, peak = tracemalloc.get_traced_memory()
     tracemalloc.stop()
     assert is_old or peak < 20 * len(names)

@@ -126,7 +126,7 @@ def check_alternative(net: Network, arrays: Any, leg: Any, sides: list[dict[int,
     there, back = net.lengths(sides[0]), net.turned.lengths(sides[1])
     arcs, sums = leg.arcs.tolist(), [0, *itertools.accumulate(leg.weights.tolist())]
     assert sums[-1] == leg.weight <= 1.25 * best
-    ends = [(int(arrays.arc_from[arc]) - 1, int(arrays.arc_to[arc]) - 1) for arc in arcs]
+    ends = [(int(arrays.arc_from[arc]), int(arrays.arc_to[arc])) for arc in arcs]
     assert all(one[1] == other[0] for one, other in itertools.pairwise(ends))
     # (the nodes, and what is driven to each: a leg may begin and end on a part of an arc)
     nodes = [(ends[0][0], 0)] * (sides[0].get(ends[0][0]) == 0) + [(one[1], total) for one, total in zip(ends, sums[1:-1])]

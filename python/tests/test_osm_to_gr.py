@@ -122,7 +122,7 @@ class Village(NetworkCase):
         graph, rows = self.graph(), self.rows()
         self.assertEqual(graph.nodes, len(self.nodes()))
         self.assertEqual(
-            list(zip(graph.starts, graph.ends, graph.weights)), [(arc.start, arc.end, arc.weight) for arc in rows]
+            list(zip(graph.starts, graph.ends, graph.weights)), [(arc.start - 1, arc.end - 1, arc.weight) for arc in rows]
         )
 
     def test_nodes_lie_where_the_map_has_them(self):
@@ -398,7 +398,7 @@ class Routes(NetworkCase):
         self.convert(*words)
         count = len(self.nodes())
         with open(self.folder / "all.pairs", "w", encoding="utf-8") as file:
-            write_pairs(file, list(itertools.product(range(1, count + 1), repeat=2)))
+            write_pairs(file, list(itertools.product(range(count), repeat=2)))
         program = find_program()
         self.run_program([program, "prepare", "--order", "depth", "village.gr", "village.rch"])
         told = self.run_program([program, "route", "village.rch", "all.pairs"])

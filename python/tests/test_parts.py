@@ -155,11 +155,11 @@ def test_shares_of_a_map(tmp_path):
 
 
 def test_the_text_of_a_graph(monkeypatch):
-    wanted = "c a comment\np sp 8 8\n" + "".join(f"a {start} {end} {weight}\n" for start, end, weight in zip(*ARCS))
+    wanted = "c a comment\np sp 9 8\n" + "".join(f"a {start + 1} {end + 1} {weight}\n" for start, end, weight in zip(*ARCS))
     monkeypatch.setattr(dimacs, "ROWS_AT_ONCE", 3)
     for arcs in (ARCS, [each.tolist() for each in ARCS]):
         file = io.BytesIO()
-        dimacs.write_graph(file, 8, arcs, ["a comment"])
+        dimacs.write_graph(file, 9, arcs, ["a comment"])
         assert file.getvalue().decode() == wanted
 
 

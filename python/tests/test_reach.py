@@ -63,7 +63,7 @@ def test_a_town_road_by_road(towards):
     found, limit = lengths(net, {100: 0}, towards), 90_000
     wanted = {}
     for arc in range(len(net.arc_from)):
-        start, weight = int((net.arc_to if towards else net.arc_from)[arc]) - 1, int(net.arc_weight[arc])
+        start, weight = int((net.arc_to if towards else net.arc_from)[arc]), int(net.arc_weight[arc])
         share = min(1.0, (limit - found[start]) / weight) if 0 <= found[start] <= limit else 0.0
         wanted.setdefault(int(net.arc_edge[arc]), []).append(share)
     metres = {int(edge): float(long) for edge, long in zip(net.arc_edge[:], net.arc_metres[:])}

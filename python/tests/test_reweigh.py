@@ -171,7 +171,7 @@ def test_closed_ways(data: Any) -> None:
             found = model_of(folder / "after")
             assert found.arcs == wanted.arcs and [node.place for node in found.nodes] == [node.place for node in wanted.nodes]
             graph = read_graph(folder / "after.gr")
-            assert list(zip(*graph[1:])) == [(arc.start + 1, arc.end + 1, arc.weight) for arc in wanted.arcs]
+            assert list(zip(*graph[1:])) == [(arc.start, arc.end, arc.weight) for arc in wanted.arcs]
 
 
 @drawn(20)
@@ -209,7 +209,7 @@ class ToolTests(ToolCase):
 
     def arcs(self, name):
         graph, osm = read_graph(self.folder / f"{name}.gr"), domethyme.Network(self.folder / name).keys()
-        return {(osm.key(start - 1), osm.key(end - 1)): weight for start, end, weight in zip(*graph[1:])}
+        return {(osm.key(start), osm.key(end)): weight for start, end, weight in zip(*graph[1:])}
 
     def test_rows(self):
         """By hand: 111.195 m are 13,343.4 ms at 30 km/h, 5,718.6 at 70 and 40,030.2 at 10; the last row counts."""

@@ -47,7 +47,7 @@ class RouteManyCase(ToolCase):
     def setUp(self):
         super().setUp()
         draw = random.Random(1)
-        arcs = [(draw.randint(1, 280), draw.randint(1, 300), draw.randint(1, 1000)) for _ in range(900)]
+        arcs = [(draw.randint(0, 279), draw.randint(0, 299), draw.randint(1, 1000)) for _ in range(900)]
         with open(self.folder / "network.gr", "wb") as file:
             write_graph(file, 300, list(zip(*arcs)))
         self.program = find_program()

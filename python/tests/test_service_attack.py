@@ -162,8 +162,7 @@ class RestartTests(ServiceCase):
         process = self.serve()
         wanted = self.ask(PATH)
         path, graph = self.folder / "v.rch", self.graph
-        ends = ([node - 1 for node in nodes] for nodes in (graph.starts, graph.ends))
-        domethyme.write_graph(self.folder / "n.gr", *ends, [2 * weight for weight in graph.weights], nodes=graph.nodes)
+        domethyme.write_graph(self.folder / "n.gr", graph.starts, graph.ends, [2 * weight for weight in graph.weights], nodes=graph.nodes)
         domethyme.prepare(self.folder / "n.gr", self.folder / "n.rch", workers=1).close()
         with open(path, "r+b") as file:
             file.write((self.folder / "n.rch").read_bytes())

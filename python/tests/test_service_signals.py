@@ -63,9 +63,8 @@ class SignalTests(ServiceCase):
     def prepare(self, factor):
         """Replaces the hierarchy by one with this many times the village's weights."""
         graph = self.graph
-        ends = ([node - 1 for node in nodes] for nodes in (graph.starts, graph.ends))
         weights = [factor * weight for weight in graph.weights]
-        domethyme.write_graph(self.folder / "n.gr", *ends, weights, nodes=graph.nodes)
+        domethyme.write_graph(self.folder / "n.gr", graph.starts, graph.ends, weights, nodes=graph.nodes)
         domethyme.prepare(self.folder / "n.gr", self.folder / "v.rch", workers=1).close()
 
     def test_a_new_hierarchy(self):

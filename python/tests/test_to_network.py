@@ -51,7 +51,7 @@ class TableTests(ToolCase):
         self.write("arcs.csv", "from,to,weight\n1,2,3\n3,1,4\n")
         network = self.made()
         self.assertEqual(network.node_osm[:].tolist(), [17, NO_OSM, -5])
-        self.assertEqual((network.arc_from[:].tolist(), network.arc_to[:].tolist()), ([1, 3], [2, 1]))
+        self.assertEqual((network.arc_from[:].tolist(), network.arc_to[:].tolist()), ([0, 2], [1, 0]))
         self.assertEqual(domethyme.Network(self.folder / "net").keys().node(17), 0)
 
     def test_tables_that_it_writes(self):

@@ -11,7 +11,7 @@ from tool_case import PYTHON, SECONDS, TAKES_SIGNALS, ToolCase
 
 from domethyme import DomethymeError, atomic_files, csv_tables, dimacs, find_program
 from domethyme.network import from_tables, geo, table_files, tables
-from domethyme.protocol import NO_PATH, RouteReply
+from domethyme.protocol import NO_PATH, RouterResult
 
 
 class SharedCase(ToolCase):
@@ -257,12 +257,12 @@ class Networks(SharedCase):
                 write(file, network)
             self.assertEqual((self.folder / "again.csv").read_text(), text)
         with atomic_files.atomic_write(self.folder / "n.gr", "wb") as file:
-            dimacs.write_graph(file, 3, [[1, 1, 3], [2, 2, 3], [7, 8, 1]], ["a comment"])
+            dimacs.write_graph(file, 3, [[0, 0, 2], [1, 1, 2], [7, 8, 1]], ["a comment"])
         text = (self.folder / "n.gr").read_text(encoding="ascii")
         self.assertEqual(text, "c a comment\np sp 3 3\na 1 2 7\na 1 2 8\na 3 3 1\n")
-        self.assertEqual(dimacs.read_graph(self.folder / "n.gr"), dimacs.GraphLists(3, [1, 1, 3], [2, 2, 3], [7, 8, 1]))
+        self.assertEqual(dimacs.read_graph(self.folder / "n.gr"), dimacs.GraphLists(3, [0, 0, 2], [1, 1, 2], [7, 8, 1]))
         with atomic_files.atomic_write(self.folder / "pairs") as file:
-            dimacs.write_pairs(file, [(1, 2), (3, 3)])
+            dimacs.write_pairs(file, [(0, 1), (2, 2)])
         self.assertEqual((self.folder / "pairs").read_text(encoding="ascii"), "p aux sp p2p 2\nq 1 2\nq 3 3\n")
 
     def test_coordinates_and_answers(self):
@@ -270,7 +270,7 @@ class Networks(SharedCase):
         places = self.write_and(from_tables.read_co, "ny.co", text)
         self.assertEqual(places.tolist(), [[-735305380, 410860980], [-735307670, 410853960]])
         answers = self.write_and(dimacs.read_answers, "answers", "r 1 2 9 2 1 5 2\nn 2 1\nr 3 3 0 0 3\n")
-        self.assertEqual(answers, [RouteReply(1, 2, 9, (1, 5, 2)), RouteReply(2, 1, NO_PATH, ()), RouteReply(3, 3, 0, (3,))])
+        self.assertEqual(answers, [RouterResult(0, 1, 9, [0, 4, 1]), RouterResult(1, 0, NO_PATH, []), RouterResult(2, 2, 0, [2])])
 
     def test_lines(self):
         points = [(-0.0016667, 0.0), (9.5, 47.1878542)]

@@ -234,7 +234,7 @@ def to_arrays(network: RoadNetwork, kind: str, rows_of: RowsOf, attribution: str
     lon, lat = (np.ascontiguousarray(degrees) for degrees in network.node_place.T)
     return net_file.Arrays({
         "node_osm": network.node_osm, "node_lon": lon, "node_lat": lat, "node_ends": network.node_ends,
-        "arc_from": network.start + np.int32(1), "arc_to": network.end + np.int32(1), "arc_weight": weight, "arc_seconds": seconds,
+        "arc_from": network.start, "arc_to": network.end, "arc_weight": weight, "arc_seconds": seconds,
         "arc_metres": metres, "arc_osm": osm, "arc_row": arc_row, "arc_edge": edge, "arc_along": along, "arc_penalty": network.penalty,
         "row_texts": row_texts, "edge_begin": edge_begin, "edge_metres": edge_metres, "points": points, "point_osm": point_osm,
         **net_file.text_columns(encoded),

@@ -11,7 +11,7 @@ from typing import NamedTuple
 
 import numpy as np
 
-from ..protocol import RouteReply
+from ..protocol import RouterResult
 from .grid import concat_ranges
 from .groups import Ints
 from .legs import Between, Leg, leg_via_route
@@ -58,7 +58,7 @@ def plateaus(network: MappedNetwork, there: Ints, back: Ints, best: int) -> Iter
     begins = network.out_begin[near]
     rows, places = concat_ranges(begins, network.out_begin[near + 1] - begins)
     arcs = network.out_arcs[places]
-    tails, heads, weights = near[rows], network.arc_to[arcs] - 1, network.arc_weight[arcs].astype(np.int64)
+    tails, heads, weights = near[rows], network.arc_to[arcs], network.arc_weight[arcs].astype(np.int64)
     is_tight = (there[heads] == there[tails] + weights) & (back[heads] >= 0) & (back[tails] == back[heads] + weights)
     # (of several tight arcs that leave a node, or come to one, the first is taken)
     tails, heads = tails[is_tight][::-1], heads[is_tight][::-1]
@@ -88,10 +88,10 @@ def leg_by(roads: RoadIndex, start: SnappedPoint, end: SnappedPoint, plateau: Pl
     before, behind = between(start.exits, {first: (0, NO_ARC)}), between({last: (0, NO_ARC)}, end.entries)
     if before is None or behind is None:
         return None
-    nodes = (*before.nodes, *(node + 1 for node in inner), *behind.nodes)
+    nodes = [*before.nodes, *inner, *behind.nodes]
     if len({*nodes}) < len(nodes):
         return None
-    return leg_via_route(roads, start, end, RouteReply(before.source, behind.target, plateau.weight, nodes))
+    return leg_via_route(roads, start, end, RouterResult(before.source, behind.target, plateau.weight, nodes))
 
 
 def shared(leg: Leg, other: Leg) -> int:

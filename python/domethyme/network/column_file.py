@@ -47,7 +47,7 @@ def write(file: IO[bytes], form: Schema, version: int, arrays: Iterable[tuple[st
     for (expected, spec), (name, array) in zip(form.items(), arrays, strict=True):
         if name != expected:
             raise ValueError(f"array {name} comes where {expected} is next")
-        values = np.ascontiguousarray(array, dtype=spec.kind)
+        values = np.ascontiguousarray(array + spec.base if spec.base else array, dtype=spec.kind)
         if values.shape[1:] != spec.row_shape:
             raise ValueError(f"array {name} has rows of another length")
         rows.append(len(values))
@@ -154,7 +154,8 @@ class MappedFile:
 
 class Column:
     """An array of the file. What an index takes is verified before: rows by a number, a slice or an array of numbers, and with a
-    second index their members. Numbers of rows aren't below 0. Memory is taken for what an array of numbers takes alone.
+    second index their members. Numbers of rows aren't below 0. Memory is taken for what an array of numbers takes alone, and
+    for values that the file has with a base, which is subtracted.
     `spec` says which values there may be; it is set before anything is read.
     """
 
@@ -186,7 +187,7 @@ class Column:
     def __getitem__(self, index: Any) -> Any:
         if not self._all_verified:
             self.verify_rows(index[0] if isinstance(index, tuple) else index)
-        return self._values[index]
+        return self._values[index] - self.spec.base if self.spec.base else self._values[index]
 
     def verify_rows(self, rows: Any) -> None:
         """Verifies the blocks of the rows that an index takes, those that aren't yet."""
@@ -220,7 +221,7 @@ class Column:
             part, with_next = self._values[begin:end], self._values[begin : end + 1]
             if zlib.crc32(part.data) != self._sums[block]:
                 raise self._file.damaged_error(f"{self._name} has another checksum")
-            if problem := problem_of(self.spec, part, with_next):
+            if problem := problem_of(self.spec, part - self.spec.base if self.spec.base else part, with_next):
                 raise self._file.damaged_error(f"{self._name} {problem}")
             self._verified[block] = True
         self._all_verified = bool(self._verified.all())

@@ -52,6 +52,7 @@ class ColumnSpec(NamedTuple):
     part        of PARTS, "" for a column of every network
     min_step    how much more each value is at least than the one before, from 0 to `high`: it has offsets
     is_derived  whether it is made of others where the file is written
+    base        what is added to each value in files and tables
     """
 
     kind: str
@@ -64,6 +65,7 @@ class ColumnSpec(NamedTuple):
     part: str = ""
     min_step: int | None = None
     is_derived: bool = False
+    base: int = 0
 
     @property
     def row_shape(self) -> tuple[int, ...]:
@@ -82,9 +84,9 @@ def columns_of(size: Mapping[str, int]) -> dict[str, ColumnSpec]:
         "node_lon": ColumnSpec("<i4", nodes, -FAR_EAST, FAR_EAST, ".7f"),
         "node_lat": ColumnSpec("<i4", nodes, -FAR_NORTH, FAR_NORTH, ".7f"),
         "node_ends": ColumnSpec("|u1", nodes, 0, len(ENDS) - 1, "word", 0),
-        # the nodes, from 1; the id of the way
-        "arc_from": ColumnSpec("<i4", arcs, 1, nodes, "d"),
-        "arc_to": ColumnSpec("<i4", arcs, 1, nodes, "d"),
+        # the nodes, which files and tables number from 1; the id of the way
+        "arc_from": ColumnSpec("<i4", arcs, 0, nodes - 1, "d", base=1),
+        "arc_to": ColumnSpec("<i4", arcs, 0, nodes - 1, "d", base=1),
         "arc_weight": ColumnSpec("<i8", arcs, 0, MAX_WEIGHT, "d"),
         "arc_seconds": ColumnSpec("<f8", arcs, 0, 1e12, ".3f"),
         "arc_metres": ColumnSpec("<f8", arcs, 0, 1e12, ".2f"),

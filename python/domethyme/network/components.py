@@ -13,7 +13,7 @@ from .net_file import ArcArrays, NodeArrays
 
 
 def in_largest(node_ends: NDArray[np.uint8], starts: NDArray[np.integer[Any]], stops: NDArray[np.integer[Any]]) -> NDArray[np.bool_]:
-    """Which nodes, from 0, are of the largest set that can all reach one another along the arcs, or are where a route of these may begin
+    """Which nodes are of the largest set that can all reach one another along the arcs, or are where a route of these may begin
     or end and none may pass."""
     count = len(node_ends)
     arcs = coo_matrix((np.ones(len(starts), np.int8), (starts, stops)), shape=(count, count))
@@ -28,8 +28,8 @@ def in_largest(node_ends: NDArray[np.uint8], starts: NDArray[np.integer[Any]], s
 
 def keep(nodes: NodeArrays, arcs: ArcArrays, kept: NDArray[np.bool_]) -> tuple[NodeArrays, ArcArrays]:
     """The nodes that are kept, in their order, and the arcs between them."""
-    number: Ints = np.cumsum(kept)
-    starts, stops = (arcs.columns[name] - 1 for name in ("arc_from", "arc_to"))
+    number: Ints = np.cumsum(kept) - 1
+    starts, stops = arcs.columns["arc_from"], arcs.columns["arc_to"]
     chosen = np.flatnonzero(kept[starts] & kept[stops])
     begins, rows = rows_of_groups(arcs.begins, chosen)
     columns = {name: column[chosen] for name, column in arcs.columns.items()}

@@ -13,7 +13,7 @@ import numpy as np
 
 from ..batch import Summer, table
 from ..features import picture
-from ..protocol import RouteReply
+from ..protocol import RouterResult
 from ..router import Router
 from .alternatives import Reached
 from .alternatives import alternatives as other_legs
@@ -207,13 +207,10 @@ def directions_along(
     return Directions(weight, seconds, metres, legs, list(points), roads.texts[0])
 
 
-def ask_router(router: Router, exits: SnapEnds, entries: SnapEnds) -> RouteReply | None:
-    """The shortest path between the nodes of two points on roads, whose nodes count from 1."""
+def ask_router(router: Router, exits: SnapEnds, entries: SnapEnds) -> RouterResult | None:
+    """The shortest path between the nodes of two points on roads."""
     starts, ends = ([(node, side[node][0]) for node in sorted(side)] for side in (exits, entries))
-    found = router.between(starts, ends)
-    if found is None:
-        return None
-    return RouteReply(found.source + 1, found.target + 1, found.length, tuple([node + 1 for node in found.nodes]))
+    return router.between(starts, ends)
 
 
 def weights(router: Router, roads: RoadIndex, starts: Sequence[SnappedPoint], ends: Sequence[SnappedPoint]) -> Ints:

@@ -82,7 +82,7 @@ def take_columns(table: Table, known: Mapping[str, tuple[str, ...]], needed: Ite
 
 @dataclasses.dataclass
 class Nodes:
-    """Nodes, their rows by their names, None where these are numbers from 1, and their table. Keys are names in answers."""
+    """Nodes, their numbers by their names, None where these are rows' numbers, and their table. Keys are names in answers."""
 
     arrays: NodeArrays
     rows: dict[str, int] | None = None
@@ -93,13 +93,13 @@ class Nodes:
         return len(self.arrays.columns["node_osm"])
 
     def number(self, fields: Row, column: str) -> int:
-        """The number of a node by its name in a row of arcs, from 1."""
+        """The number of a node by its name in a row of arcs."""
         name = fields[column]
         if self.rows is None:
             if self.columns and not name.lstrip("+-").isdecimal():
                 why = f"{self.path} has no column node, so its nodes are numbered by rows; its columns are {', '.join(self.columns)}"
                 raise fields.error(f"{column} {excerpt(name)} is not a number, and {why}")
-            return fields.read_int(column, 1, len(self))
+            return fields.read_int(column, 1, len(self)) - 1
         if name not in self.rows:
             whole = name.removesuffix(".0")
             doubt = f": is it {whole}? A table program may have made numbers of the names" if whole != name and whole in self.rows else ""
@@ -127,12 +127,12 @@ def read_nodes(path: StrPath, say: Say = lambda line: None, form: Form = Form(),
             for name, column in OF_NODES.items():
                 values[name].append(read_value(fields, name, column))
             for name, into in named:
-                if into.setdefault(fields[name], number) != number:
+                if into.setdefault(fields[name], number - 1) != number - 1:
                     raise fields.error(f"{name} {excerpt(fields[name])} comes twice")
     if not 0 < len(values["lon"]) <= MAX_NODES:
         raise NetworkError(f"has {len(values['lon'])} nodes, and a network has from 1 to {MAX_NODES}", path)
     told = keys or rows
-    shown_keys = () if all(name == str(row) for name, row in told.items()) else list(told)
+    shown_keys = () if all(name == str(node + 1) for name, node in told.items()) else list(told)
     own = {f"node_{name}": np.array(column) for name, column in values.items()}
     own |= {name: np.round(own[name] * UNITS).astype(np.int32) for name in ("node_lon", "node_lat")}
     return Nodes(NodeArrays(own, shown_keys), rows if is_named else None, path, columns)
@@ -195,7 +195,7 @@ class RoadRows:
         self._read_lines()
         row, start, stop, direction, count, *others = np.array(self._numbers, np.int64).reshape(-1, 6 + len(PLAIN)).T
         given, places = np.array(self._figures).reshape(-1, 4).T, self.nodes.arrays.places
-        counts, ends = np.concatenate(self._counts), places[np.stack((start - 1, stop - 1), axis=1)]
+        counts, ends = np.concatenate(self._counts), places[np.stack((start, stop), axis=1)]
         # a straight road has the places of its nodes
         is_straight, lines = counts == 0, offsets(np.where(counts, counts, 2))
         points = np.empty((int(lines[-1]), 2), np.int32)
@@ -245,7 +245,7 @@ def read_arcs(
     if not 0 < len(starts) <= MAX_LINES:
         raise NetworkError(f"has {len(starts)} arcs, and a network has from 1 to {MAX_LINES}", path)
     places = nodes.arrays.places
-    straight = great_circle_metres(*(unit_vectors(*places[each - 1].T / UNITS) for each in (starts, stops)))
+    straight = great_circle_metres(*(unit_vectors(*places[each].T / UNITS) for each in (starts, stops)))
     for is_doubted, says in doubts(given, straight, weight):
         doubt(is_doubted, says, path, say)
     lengths = np.where(np.isnan(given[2]), np.round(line_metres(begins, points), 2), given[2])
@@ -331,7 +331,7 @@ def line_metres(begins: Ints, points: NDArray[np.int32]) -> NDArray[np.float64]:
 def straight_arcs(starts: Ints, ends: Ints, weights: Ints, nodes: NodeArrays) -> ArcArrays:
     """Arcs that lead straight from node to node, without a way, a name and seconds."""
     places = nodes.places
-    points = np.stack((places[starts - 1], places[ends - 1]), axis=1).reshape(-1, 2)
+    points = np.stack((places[starts], places[ends]), axis=1).reshape(-1, 2)
     lengths = np.empty(len(starts))
     for low in range(0, len(starts), ARCS_AT_ONCE):
         part = points[2 * low : 2 * (low + ARCS_AT_ONCE)] / UNITS
@@ -414,7 +414,7 @@ def read_gr(path: StrPath, nodes: int) -> tuple[Ints, Ints, Ints]:
     rows = read_rows_fast(path, b"p sp %d " % nodes, b"a")
     if rows is not None and ((rows >= (1, 1, 0)) & (rows <= (nodes, nodes, MAX_WEIGHT))).all():
         starts, ends, weights = rows.T.copy()
-        return starts, ends, weights
+        return starts - 1, ends - 1, weights
     read = read_graph(path)
     if read.nodes != nodes:
         raise NetworkError(f"has {read.nodes} nodes, and there are places of {nodes}", path)

@@ -9,7 +9,7 @@ from numpy.typing import NDArray
 from .columns import TEXTS_PER_ROW, UNITS
 from .geo import EARTH_RADIUS
 from .grid import Grid, build_grid, cell_keys, pack_keys
-from .groups import Ints, expand
+from .groups import Ints, expand, offsets
 from .parallel import differs_from_previous, map_slices, parallel_argsort
 from .sphere import angles, interpolate, unit_vectors
 from .zoom_levels import Floats, morton_codes, road_class, sort_by_cell, to_mercator
@@ -25,8 +25,8 @@ MAX_BAND_HEIGHT = 80.0
 
 
 def outgoing_arcs(starts: NDArray[np.int32], ends: NDArray[np.int32], weights: Ints, nodes: int) -> tuple[Ints, NDArray[np.int32]]:
-    """The arcs from node n, counted from 1, are arcs[begins[n - 1]:begins[n]]: by the node they lead to, and then by weight."""
-    begins = np.cumsum(np.bincount(starts, minlength=nodes + 1))
+    """The arcs from node n are arcs[begins[n]:begins[n + 1]]: by the node they lead to, and then by weight."""
+    begins = offsets(np.bincount(starts, minlength=nodes))
     arcs = parallel_argsort(starts)
 
     def sort_slice(nodes: slice) -> None:
@@ -50,7 +50,7 @@ def argsort_arcs(start: NDArray[np.int32], end: NDArray[np.int32], weight: Ints)
 
 
 def node_degrees(arrays: "Arrays") -> NDArray[np.uint8]:
-    """How many edges meet at each node, 255 for more; the first figure is of none."""
+    """How many edges meet at each node, 255 for more, behind a first figure of none."""
     of_edge = np.full(len(arrays.edge_begin) - 1, -1, dtype=np.int32)
     of_edge[arrays.arc_edge] = np.arange(len(arrays.arc_edge), dtype=np.int32)
     odd = np.zeros(len(of_edge), dtype=bool)
@@ -70,7 +70,7 @@ def node_degrees(arrays: "Arrays") -> NDArray[np.uint8]:
     rows = np.flatnonzero(odd[arrays.arc_edge])
     pairs = np.column_stack((np.concatenate(ends(rows)).astype(np.int64), np.tile(arrays.arc_edge[rows], 2)))
     more = np.unique(pairs, axis=0)[:, 0]
-    found = np.bincount(np.concatenate((*ends(plain), more)), minlength=len(arrays.node_osm) + 1)
+    found = np.bincount(np.concatenate((*ends(plain), more)) + 1, minlength=len(arrays.node_osm) + 1)
     return np.minimum(found, 255).astype(np.uint8)
 
 

@@ -72,13 +72,13 @@ def roads_around(geometry: RouteGeometry, arcs: Ints, before: Ints, behind: Ints
     roads, arrays = geometry.roads, geometry.roads.arrays
     here = np.flatnonzero(~np.isin(arcs, geometry.joints)) if len(geometry.joints) else np.arange(len(arcs))
     starts, ends, owners = arrays.arc_from[behind[here]], arrays.arc_to[before[here]], here
-    open_count, split = len(here), np.flatnonzero(arrays.node_ends[starts - 1])
+    open_count, split = len(here), np.flatnonzero(arrays.node_ends[starts])
     if len(split):
         starts = np.append(starts, twins(roads, behind[here[split]], arrays.arc_from, "from"))
         owners, ends = np.append(here, here[split]), ends.copy()
         ends[split] = twins(roads, before[here[split]], arrays.arc_to, "to")
-    begins, (one_way_ends, one_way) = arrays.out_begin[starts - 1], roads.one_way
-    junction, rows = concat_ranges(begins, arrays.out_begin[starts] - begins)
+    begins, (one_way_ends, one_way) = arrays.out_begin[starts], roads.one_way
+    junction, rows = concat_ranges(begins, arrays.out_begin[starts + 1] - begins)
     low, high = (np.searchsorted(one_way_ends, ends, side=side) for side in ("left", "right"))
     other, other_rows = concat_ranges(low, high - low)
     are_starts = np.arange(len(rows) + len(other_rows)) < len(rows)
@@ -93,7 +93,7 @@ def twins(roads: RoadIndex, arcs: Ints, column: Column, side: str) -> Ints:
     first = arrays.edge_first[edges]
     owner, rows = concat_ranges(first, arrays.edge_first[edges + 1] - first)
     others = arrays.edge_arcs[rows]
-    fits = (arrays.arc_along[others] == arrays.arc_along[arcs][owner]) & (arrays.node_ends[column[others] - 1] == ENDS.index(side))
+    fits = (arrays.arc_along[others] == arrays.arc_along[arcs][owner]) & (arrays.node_ends[column[others]] == ENDS.index(side))
     found[owner[fits]] = column[others[fits]]
     return found
 

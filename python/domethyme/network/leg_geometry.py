@@ -217,7 +217,7 @@ class RouteGeometry:
         return np.asarray(np.bincount(segment[is_shown], metres[is_shown], len(self.shown)), float)
 
     def shown_nodes(self) -> tuple[Ints, Ints]:
-        """The nodes, counted from 1, at points that are shown, and the indices of these; the first of those of one point is its own."""
+        """The nodes at points that are shown, and the indices of these; the first of those of one point is its own."""
         arrays, (first, last) = self.roads.arrays, self._shown_arcs
         parts = [self._parts[number] for number in self._driven]
         is_at_node = np.ones(len(self.arcs), dtype=bool)

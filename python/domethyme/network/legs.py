@@ -11,14 +11,14 @@ from typing import NamedTuple
 import numpy as np
 
 from ..errors import NetworkError
-from ..protocol import RouteReply
+from ..protocol import RouterResult
 from .groups import Ints
 from .snapping import NO_ARC, RoadIndex, SnappedPoint
 
-# Candidate nodes of a snapped point, from 0: node -> (weight, arc) of the part of the arc between.
+# Candidate nodes of a snapped point: node -> (weight, arc) of the part of the arc between.
 SnapEnds = dict[int, tuple[int, int]]
 # A shortest path from one of several nodes to one of several, with the weights of both ends added; or None.
-Between = Callable[[SnapEnds, SnapEnds], RouteReply | None]
+Between = Callable[[SnapEnds, SnapEnds], RouterResult | None]
 
 
 class Leg(NamedTuple):
@@ -87,7 +87,7 @@ def is_same_node(start: SnappedPoint, end: SnappedPoint) -> bool:
     return bool(start.copies) and start.copies == end.copies and not (start.arcs and end.arcs)
 
 
-def choose_leg(roads: RoadIndex, start: SnappedPoint, end: SnappedPoint, route: RouteReply | None) -> Leg | None:
+def choose_leg(roads: RoadIndex, start: SnappedPoint, end: SnappedPoint, route: RouterResult | None) -> Leg | None:
     """The leg, given the shortest path between the points' nodes, or None; None if there is no path."""
     straight = leg_without_nodes(roads, start, end)
     if route is None or straight is not None and straight.weight <= route.length:
@@ -109,9 +109,9 @@ def leg_without_nodes(roads: RoadIndex, start: SnappedPoint, end: SnappedPoint) 
     return min(found, key=lambda leg: leg.weight) if found else None
 
 
-def leg_via_route(roads: RoadIndex, start: SnappedPoint, end: SnappedPoint, route: RouteReply) -> Leg:
+def leg_via_route(roads: RoadIndex, start: SnappedPoint, end: SnappedPoint, route: RouterResult) -> Leg:
     """The leg of a route between the points' nodes. Raises NetworkError if the network isn't the hierarchy's."""
-    (before, first), (behind, last) = start.exits[route.source - 1], end.entries[route.target - 1]
+    (before, first), (behind, last) = start.exits[route.source], end.entries[route.target]
     between = roads.lightest(route.nodes)
     if (between == NO_ARC).any():
         raise NetworkError("lacks an arc of the hierarchy's graph", roads.arrays.path)

@@ -232,8 +232,8 @@ class Matcher:
         sums = np.bincount(owner[begins], arrays.arc_metres[arrays.lightest(nodes[begins], nodes[begins + 1])], len(pairs))
         ends = [
             math.inf if reply is None
-            else part_metres(self._roads, start, start.exits[reply.source - 1][1], True)
-            + part_metres(self._roads, end, end.entries[reply.target - 1][1], False)
+            else part_metres(self._roads, start, start.exits[reply.source][1], True)
+            + part_metres(self._roads, end, end.entries[reply.target][1], False)
             for reply, (start, end) in zip(replies, pairs)
         ]
         return sums + ends

@@ -224,7 +224,7 @@ def derived_arrays(arrays: Arrays) -> Iterator[NDArray[Any]]:
 
 
 def nodes_by_key(arrays: "Arrays | MappedNetwork") -> NDArray[np.int32]:
-    """The nodes, from 0, in the order of the bytes of their keys."""
+    """The nodes in the order of the bytes of their keys."""
     begins, whole = arrays.text_begin[:].tolist(), arrays.text_bytes[:].tobytes()
     keys = [whole[begins[number] : begins[number + 1]] for number in arrays.node_texts[:].tolist()]
     return np.array(sorted(range(len(keys)), key=keys.__getitem__), np.int32)
@@ -357,15 +357,15 @@ class MappedNetwork(NetworkColumns):
         return f"{zlib.crc32(np.array(sums, '<u4').tobytes()):08x}"
 
     def key(self, node: int) -> str | None:
-        """The key of a node, counted from 1; None where nodes have none."""
-        return self.texts[int(self.node_texts[node - 1])] if self.has_keys else None
+        """The key of a node; None where nodes have none."""
+        return self.texts[int(self.node_texts[node])] if self.has_keys else None
 
     def node(self, key: str) -> int | None:
-        """The node of a key, counted from 1; None where there is none. It is searched for in the file, in some 0.1 ms."""
+        """The node of a key; None where there is none. It is searched for in the file, in some 0.1 ms."""
         # (what is no text isn't that of a key, in which such a part is replaced)
         wanted, nodes = key.encode("utf-8", "surrogatepass"), self._key_nodes
         row = bisect.bisect_left(range(len(nodes)), wanted, key=lambda row: self._key_bytes(nodes[row]))
-        return int(nodes[row]) + 1 if row < len(nodes) and self._key_bytes(nodes[row]) == wanted else None
+        return int(nodes[row]) if row < len(nodes) and self._key_bytes(nodes[row]) == wanted else None
 
     @functools.cached_property
     def _key_nodes(self) -> Any:
@@ -376,10 +376,14 @@ class MappedNetwork(NetworkColumns):
         begin, end = self.text_begin[number : number + 2].tolist()
         return bytes(self.text_bytes[begin:end].tobytes())
 
+    def degree(self, nodes: Any) -> NDArray[np.uint8]:
+        """How many edges meet at nodes, 255 for more."""
+        return np.asarray(self.degrees[nodes + 1])
+
     def lightest(self, starts: NDArray[np.int64], ends: NDArray[np.int64]) -> NDArray[np.int64]:
-        """The lightest arc from each node to another, counted from 1; -1 where there is none."""
-        begins = self.out_begin[starts - 1]
-        counts = self.out_begin[starts] - begins
+        """The lightest arc from each node to another; -1 where there is none."""
+        begins = self.out_begin[starts]
+        counts = self.out_begin[starts + 1] - begins
         pair, rows = concat_ranges(begins, counts)
         arcs = self.out_arcs[rows]
         hits = np.flatnonzero(self.arc_to[arcs] == ends.repeat(counts))[::-1]

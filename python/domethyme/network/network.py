@@ -116,8 +116,7 @@ class Network:
         pandas = load("pandas")
         arrays, arcs = self._arrays, np.flatnonzero(self._arrays.are_open())
         numbers = {name: getattr(arrays, f"arc_{name}")[arcs].astype(column.kind[1] + "8") for name, column in OF_ARCS.items()}
-        frame = pandas.DataFrame({**numbers, **texts_of_arcs(arrays, arcs), "WKT": lines_of_arcs(arrays, arcs)})
-        return frame.assign(**{end: frame[end] - 1 for end in ("from", "to")})
+        return pandas.DataFrame({**numbers, **texts_of_arcs(arrays, arcs), "WKT": lines_of_arcs(arrays, arcs)})
 
     def to_geodataframe(self) -> Any:
         """The frame of `arcs_frame` as a GeoDataFrame of geopandas, with the line of each arc in WGS 84 in place of WKT."""
@@ -190,8 +189,8 @@ class Network:
 
     def _arcs(self, nodes: "list[int]") -> list[int]:
         """The lightest arc from each of the nodes, from 0, to the next."""
-        line, count = np.array(nodes, dtype=np.int64) + 1, len(self._arrays.node_osm)
-        if line.min() < 1 or line.max() > count:
+        line, count = np.array(nodes, dtype=np.int64), len(self._arrays.node_osm)
+        if line.min() < 0 or line.max() >= count:
             raise NetworkError(f"a route has a node that it hasn't: it has {count} nodes", self._files.arcs)
         arcs: list[int] = self._arrays.lightest(line[:-1], line[1:]).tolist()
         if -1 in arcs:

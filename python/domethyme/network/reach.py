@@ -430,7 +430,7 @@ class Reach:
         counts = network.edge_first[edges + 1] - begins
         _, places = concat_ranges(begins, counts)
         arcs = network.edge_arcs[places]
-        lengths = self._lengths[(network.arc_to if self.towards else network.arc_from)[arcs] - 1]
+        lengths = self._lengths[(network.arc_to if self.towards else network.arc_from)[arcs]]
         lengths[lengths < 0] = FAR
         weights, is_first = network.arc_weight[arcs], network.arc_along[arcs] != self.towards
         groups = (counts.cumsum() - counts)[counts > 0]

@@ -281,7 +281,7 @@ def without_closed(network: MappedNetwork, is_kept: NDArray[np.bool_]) -> Mapped
     view = with_arcs(network, is_kept)
     if not len(view.out_arcs):
         raise NetworkError("would have no arc that is open", network.path)
-    has_arc = mask(len(network.node_osm), network.arc_from[view.out_arcs] - 1, network.arc_to[view.out_arcs] - 1)
+    has_arc = mask(len(network.node_osm), network.arc_from[view.out_arcs], network.arc_to[view.out_arcs])
     vars(view)["node_ends"] = np.where(has_arc, network.node_ends[:], ENDS.index("no")).astype(np.uint8)
     return view
 

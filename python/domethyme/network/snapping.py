@@ -95,7 +95,7 @@ class SegmentProjections(NamedTuple):
 
 
 class RoadIndex:
-    """The roads of a network: of its mapped file, or of the files with this beginning of their names. Nodes are numbered from 1.
+    """The roads of a network: of its mapped file, or of the files with this beginning of their names. Nodes count from 0.
     All methods raise NetworkError if the file is damaged.
 
     unit         of weights: `duration` (milliseconds), `distance` (centimetres), or `weight` for anything else
@@ -111,14 +111,14 @@ class RoadIndex:
         self.nodes, self.edges = len(self.arrays.node_osm), len(self.arrays.edge_begin) - 1
         if not len(self.arrays.arc_from):
             raise NetworkError("has no arcs", self.arrays.path)
-        self.texts, self.unit, self.degree = self.arrays.texts, self.arrays.unit, self.arrays.degrees
+        self.texts, self.unit = self.arrays.texts, self.arrays.unit
         self.has_seconds, self.box = self.arrays.has_seconds, self.arrays.box
         self._kept: tuple[int, dict[int, Edge]] = 0, {}
         self.places = NodeIndex(self.arrays)
 
     def osm_ids(self, nodes: NDArray[Any]) -> Ints:
         """The OpenStreetMap ids of nodes; 0 for one that has none."""
-        found = self.arrays.node_osm[nodes - 1]
+        found = self.arrays.node_osm[nodes]
         return np.where(found == NO_OSM, 0, found)
 
     def lightest(self, nodes: Sequence[int]) -> Ints:
@@ -157,7 +157,7 @@ class RoadIndex:
 
     def count_exits(self, node: int) -> int:
         """How many roads leave a roundabout at a node."""
-        begin, end = self.arrays.out_begin[node - 1 : node + 1].tolist()
+        begin, end = self.arrays.out_begin[node : node + 2].tolist()
         arcs = self.arrays.out_arcs[begin:end]
         return len(np.unique(self.arrays.arc_edge[arcs[~self.is_roundabout(arcs)]]))
 
@@ -321,7 +321,7 @@ class RoadIndex:
     def _at_end(self, arcs: dict[int, Arc], fraction: float) -> tuple[dict[int, tuple[int, int]], dict[int, tuple[int, int]], tuple[int, ...]]:
         """The exits, entries and copies of the node at an end of an edge with these arcs."""
         first = next(iter(arcs.values()))
-        copies = self.places.split_nodes((first.start if first.is_along == (fraction == 0.0) else first.end) - 1)
+        copies = self.places.split_nodes(first.start if first.is_along == (fraction == 0.0) else first.end)
         exits, entries = (
             {node: (0, NO_ARC) for node in copies if ENDS[self.arrays.node_ends[node]] in ("", side)} for side in ("from", "to")
         )
@@ -338,12 +338,12 @@ class RoadIndex:
         raise NetworkError(f"place {number} is a point on the roads of another network", self.arrays.path)
 
     def split_arcs(self, arcs: dict[int, Arc], fraction: float) -> tuple[dict[int, tuple[int, int]], dict[int, tuple[int, int]]]:
-        """The exits and the entries of a point that splits these arcs at a fraction of their edge; nodes from 0."""
+        """The exits and the entries of a point that splits these arcs at a fraction of their edge."""
         exits: dict[int, tuple[int, int]] = {}
         entries: dict[int, tuple[int, int]] = {}
         for number, arc in arcs.items():
             before = self.weight_before(arc, fraction)
-            for found, node, weight in ((exits, arc.end - 1, arc.weight - before), (entries, arc.start - 1, before)):
+            for found, node, weight in ((exits, arc.end, arc.weight - before), (entries, arc.start, before)):
                 if node not in found or weight < found[node][0]:
                     found[node] = weight, number
         return exits, entries

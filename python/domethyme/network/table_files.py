@@ -87,7 +87,7 @@ def texts_of(column: ColumnSpec, values: NDArray[Any]) -> list[str]:
     if column.text == "word":
         return [ENDS[each] for each in values.tolist()]
     if column.text == "d":
-        return ["" if each == NO_OSM else str(each) for each in values.tolist()]
+        return ["" if each == NO_OSM else str(each + column.base) for each in values.tolist()]
     return [format(each, column.text) for each in (values / UNITS if column.kind == "<i4" else values).tolist()]
 
 

@@ -54,7 +54,7 @@ def with_arcs(network: MappedNetwork, is_kept: NDArray[np.bool_]) -> MappedNetwo
     """The network with some of its arcs, and without what the others cut off."""
     from .components import in_largest  # (which needs scipy)
 
-    starts, ends = network.arc_from[:] - 1, network.arc_to[:] - 1
+    starts, ends = network.arc_from[:], network.arc_to[:]
     is_in = in_largest(network.node_ends[:], starts[is_kept], ends[is_kept])
     is_kept = is_kept & is_in[starts] & is_in[ends]
     view = copy.copy(network)

@@ -22,7 +22,7 @@ def network_bytes(network: MappedNetwork, attribution: str = "") -> bytes:
     """The bytes of a network; an attribution is shown beside its own."""
     arcs = network.edge_arcs[:]
     names, numbers = np.unique(network.arc_texts(arcs, NAME), return_inverse=True)
-    starts, ends = (column[:][arcs].astype(np.int64) - 1 for column in (network.arc_from, network.arc_to))
+    starts, ends = (column[:][arcs].astype(np.int64) for column in (network.arc_from, network.arc_to))
     points, begins = network.points[:].astype(np.int64), network.edge_begin[:]
     split, groups = split_nodes(network)
     columns: dict[str, tuple[str, NDArray[Any]]] = {
