@@ -114,7 +114,7 @@ class StepBuilder:
         is_begin = np.zeros(len(geometry.arcs) + 1, bool)
         is_begin[self.begins] = True
         # (nodes that restrictions split may be a junction that has more edges)
-        is_there = self.is_junction | (self.roads.arrays.node_ends[self.starts - 1] != 0)
+        is_there = self.is_junction | (self.roads.arrays.node_ends[self.starts] != 0)
         is_there[geometry.joints] = False
         is_there |= is_begin[:-1]
         is_there[geometry.first[geometry.first < len(is_there)]] = False

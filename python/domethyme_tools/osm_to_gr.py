@@ -9,8 +9,8 @@ order. What is written, all files or none:
 With --tables there are these too, for other programs:
 
   OUT.nodes.csv   node, osm, lon, lat, ends: where each node is; `osm` is empty for a point where a long piece is cut
-  OUT.arcs.csv    from, to, weight, seconds, metres, osm, highway, name, ref, junction, destination, structure, toll, WKT: the
-                  piece of road of each arc of OUT.gr, in the same order; `osm` is the way, `name` its name or else its
+  OUT.arcs.csv    ARC_COLUMNS
+                  the piece of road of each arc of OUT.gr, in the same order; `osm` is the way, `name` its name or else its
                   ref, `structure` tunnel or bridge, `toll` yes, WKT its line, longitude first
   OUT.nodes.csvt, OUT.nodes.prj, OUT.arcs.csvt, OUT.arcs.prj    the types and the projection of these tables, for GDAL and QGIS
 
@@ -43,12 +43,13 @@ import contextlib
 import dataclasses
 import os
 import sys
+import textwrap
 
 from domethyme.belonging import older_hierarchy
 from domethyme.maps.conversion import MAX_METRES, Options, outputs_of, write_network
 from domethyme.maps.road_network import WEIGHTS
 from domethyme.maps.vehicle_profile import read_profile
-from domethyme.network.tables import OSM_ATTRIBUTION
+from domethyme.network.tables import ALL_ARC_COLUMNS, OSM_ATTRIBUTION
 from domethyme.progress import reporting
 
 from .cli import argument_parser, current_arguments, refuse_overwriting
@@ -72,8 +73,9 @@ def share(text: str) -> float:
 
 
 def parse_args() -> argparse.Namespace:
+    columns = textwrap.fill(f"{', '.join(ALL_ARC_COLUMNS)}:", 110).replace("\n", "\n" + 18 * " ")
     parser = argument_parser(
-        __doc__, "%(prog)s country.osm.pbf out/country", "%(prog)s country.osm.pbf out/bicycle --profile bicycle"
+        (__doc__ or "").replace("ARC_COLUMNS", columns), "%(prog)s country.osm.pbf out/country", "%(prog)s country.osm.pbf out/bicycle --profile bicycle"
     )
     parser.add_argument("map", metavar="MAP", help="a .osm, .osm.bz2 or .osm.pbf file")
     parser.add_argument("out", metavar="OUT", help="prefix of the output files: OUT.gr, OUT.net")

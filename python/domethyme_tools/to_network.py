@@ -13,7 +13,7 @@ ARCS is a CSV table with a row for each arc and the columns from and to. Other c
   seconds   default: metres at kmh km/h. An arc needs one of weight, seconds and kmh; with weight only, and in files of DIMACS,
             the network has no seconds (null in answers)
   WKT       the line, LINESTRING (LON LAT, LON LAT, ..); without it the straight one
-  name, highway, ref, junction, destination, structure, toll, osm    as in NETWORK.arcs.csv of osm_to_gr
+  osm, highway, name, and the other texts    as in NETWORK.arcs.csv of osm_to_gr
 
 --delimiter and --decimal are for tables with other marks than a comma between fields and a point before decimals, as ";" and ",".
 --largest keeps the largest set of nodes that can all reach one another, as osm_to_gr does; without it all are kept, and their number is

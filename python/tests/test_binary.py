@@ -207,7 +207,7 @@ class SmallTests(BinaryCase):
         """Sizes that are as great as can be, with the right checksum."""
         whole = self.path.read_bytes()
         tail = int(np.frombuffer(whole[: column_file.HEAD.itemsize], column_file.HEAD)["tail"][0])
-        for array in range(len(net_file.FORMS[net_file.VERSION])):
+        for array in range(len(net_file.FORMS[4])):
             for rows in (1 << 62, (1 << 64) - 1, 1 << 33, 10**9):
                 place = tail + 8 * array
                 self.keep(whole[:place] + rows.to_bytes(8, "little") + whole[place + 8 :])
@@ -241,7 +241,7 @@ class SmallTests(BinaryCase):
         ]:
             with open(self.path, "wb") as file:
                 column_file.write(
-                    file, net_file.FORMS[net_file.VERSION], net_file.VERSION, {**before, name: change(before[name])}.items()
+                    file, net_file.FORMS[4], 4, {**before, name: change(before[name])}.items()
                 )
             with self.subTest(name=name):
                 self.refused("is damaged: ")
@@ -257,7 +257,7 @@ class SmallTests(BinaryCase):
         arrays = net_file.read(str(self.path))
         columns = {name: column[:] for name, column in arrays.file.columns.items()}
         with open(self.folder / "old.net", "w+b") as file:
-            column_file.write(file, net_file.FORMS[net_file.VERSION], 2, {**columns, "about": columns["about"][:-2]}.items())
+            column_file.write(file, net_file.FORMS[4], 2, {**columns, "about": columns["about"][:-2]}.items())
         self.assert_same(net_file.read(self.folder / "old.net"), arrays)
 
     def test_a_route_that_meets_a_damaged_block(self):

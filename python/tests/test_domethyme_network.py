@@ -32,7 +32,7 @@ class NetworkTests(ToolCase):
             ("a.nodes.csv", "node,osm,lon,lat\n1,1,x,0\n", "row 2: lon 'x' is not a number"),
             ("a.nodes.csv", "node,osm,lon\n1,1,0\n", "row 1: has no column lat; its columns are node, osm, lon"),
             ("a.nodes.csv", "node,osm,lon,lat\n1,1\n", "a.nodes.csv, row 2: has 2 fields in place of 4"),
-            ("a.nodes.csv", "node,osm,lon,lat\n", "has no nodes"),
+            ("a.nodes.csv", "node,osm,lon,lat\n", "has 0 nodes"),
         ]:
             self.write(name, text)
             with self.subTest(says=says), self.assertRaisesRegex(domethyme.NetworkError, says):

@@ -92,7 +92,7 @@ class NearestTests(ToolCase):
         self.assert_refused("nearest", "nowhere", "trips.csv", says="nowhere.net: No such file")
         self.write("empty.nodes.csv", "node,osm,lon,lat\n")
         self.write("trips.csv", f"{HEAD}\n9.5,47.1,9.5,47.1\n47.1,9.5,9.5,47.1\n")
-        self.assert_refused("nearest", "empty", "trips.csv", says="empty.nodes.csv: has no nodes")
+        self.assert_refused("nearest", "empty", "trips.csv", says="empty.nodes.csv: has 0 nodes")
         self.write("town.nodes.csv", "node,osm,lon,lat\n1,,9.5,47.1\n")
         self.assert_refused("nearest", "town", "trips.csv", says="are longitude and latitude swapped?")
 

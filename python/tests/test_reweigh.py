@@ -330,6 +330,6 @@ def test_damaged_sizes(tmp_path):
     for name, values in (("edge_arcs", whole["edge_arcs"][:-1]), ("out_arcs", np.append(whole["out_arcs"], 0)), ("arc_penalty", whole["arc_penalty"][:-1]),
                          ("point_osm", whole["point_osm"][1:]), ("edge_metres", whole["edge_metres"][:0])):
         with open(tmp_path / "map.net", "wb") as file:
-            column_file.write(file, net_file.FORMS[net_file.WITH_IDS], net_file.WITH_IDS, {**whole, name: values}.items())
+            column_file.write(file, net_file.FORMS[6], 6, {**whole, name: values}.items())
         with pytest.raises(domethyme.NetworkError, match="is damaged: .* has another size"):
             net_file.read(tmp_path / "map.net")

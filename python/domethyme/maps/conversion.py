@@ -12,6 +12,7 @@ from ..atomic_files import atomic_write_all
 from ..errors import MapError, raised_as
 from ..limits import MAX_LINES, MAX_NODES
 from ..network import net_file
+from ..network.columns import TEXTS
 from ..network.groups import offsets
 from ..network.sphere import Floats
 from ..network.table_files import bytes_of, tables_there, write_graph_of, write_tables
@@ -25,7 +26,7 @@ from .road_network import (
 )
 from .turn_restrictions import Bools, Report, Restriction
 from .vehicle_profile import (
-    KEPT, Profile, blocks_way, conditional_keys, judge, other_ways, road_tags, seconds_of, structure_of, unsupported_tags, way_keys
+    KEPT, ROAD_TEXTS, Profile, blocks_way, conditional_keys, judge, other_ways, road_tags, seconds_of, unsupported_tags, way_keys
 )
 
 # metres: the most of a longest arc
@@ -127,15 +128,13 @@ def judge_tags(ways: WayArrays, profile: Profile, report: Report) -> tuple[Bools
 def text_rows(ways: WayArrays) -> RowsOf:
     """A function that gives for each of some labels of ways its texts, by TEXTS of columns.py."""
     texts = [" ".join(text.split()) for text in ways.texts]
-    of_tags = [
-        (tags["highway"], " ".join(tags.get("junction", "").split()), structure_of(tags), "yes" if tags.get("toll", "no") == "yes" else "")
-        for tags in ways.tags
-    ]
+    of_tags = [{name: text(tags) for name, text in ROAD_TEXTS.items()} for tags in ways.tags]
 
     def rows_of(used: NDArray[np.int64]) -> Iterator[tuple[str, ...]]:
         for tags, name, ref, destination in ways.labels[used].tolist():
-            highway, junction, *others = of_tags[tags]
-            yield highway, texts[name if ways.texts[name] else ref], texts[ref], junction, texts[destination], *others
+            named = {"name": texts[name if ways.texts[name] else ref], "ref": texts[ref], "destination": texts[destination]}
+            row = of_tags[tags] | named
+            yield tuple([row[column] for column in TEXTS])
 
     return rows_of
 

@@ -4,7 +4,7 @@ import math
 import os
 import pathlib
 import re
-from collections.abc import Iterable, Iterator, Mapping
+from collections.abc import Callable, Iterable, Iterator, Mapping
 from typing import Any, NamedTuple, TypeVar
 
 from ..csv_tables import open_input
@@ -292,3 +292,12 @@ def seconds_of(tags: Tags) -> float:
 def structure_of(tags: Tags) -> str:
     """Whether a way is a tunnel or a bridge: that word, or the empty text."""
     return next((word for word in ("tunnel", "bridge") if tags.get(word, "no") != "no"), "")
+
+
+# The texts of a road (network.columns.TEXTS) that its tags give, for which `way_keys` has their keys; map_arrays.TEXTS are the others.
+ROAD_TEXTS: Mapping[str, Callable[[Tags], str]] = {
+    "highway": lambda tags: tags["highway"],
+    "junction": lambda tags: " ".join(tags.get("junction", "").split()),
+    "structure": structure_of,
+    "toll": lambda tags: "yes" if tags.get("toll", "no") == "yes" else "",
+}

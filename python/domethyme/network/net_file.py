@@ -31,8 +31,6 @@ from .groups import Ints, first_of_equal, mask, offsets, rows_of_groups
 from .parallel import map_slices
 from .tables import ARC_COLUMNS, NODE_COLUMNS, Files, has_columns
 
-# What is written: without and with the keys of nodes, and with what `reweigh` needs of a map.
-VERSION, WITH_KEYS, WITH_IDS = 4, 5, 6
 FORMS: Mapping[int, column_file.Schema] = {
     version: {name: column for name, column in COLUMNS.items() if column.part in ("", *parts)}
     for version, parts in PARTS.items()
@@ -184,18 +182,25 @@ def write(file: IO[bytes], arrays: Arrays) -> None:
     """Writes a network's file to an empty file that can seek. Raises ValueError for arrays that don't fit together."""
     if problem := find_inconsistency(arrays):
         raise ValueError(problem)
-    version = WITH_KEYS if len(arrays.node_texts) else WITH_IDS if len(arrays.point_osm) else VERSION
-    derived = derived_arrays(arrays)
+    version, derived = version_of(arrays), derived_arrays(arrays)
     columns = ((name, next(derived) if COLUMNS[name].is_derived else getattr(arrays, name)) for name in FORMS[version])
     column_file.write(file, FORMS[version], version, columns)
 
 
 def write_view(file: IO[bytes], view: "MappedNetwork") -> None:
-    """Writes the file of a view of a network that is WITH_IDS, whose arrays are as long, but for arcs that are left out."""
+    """Writes the file of a view of a network, whose arrays are as long, but for arcs that are left out."""
     def array_of(name: str) -> NDArray[Any]:
         return np.array([*view.about.values()]) if name == "about" else np.asarray(getattr(view, name)[:])
 
-    column_file.write(file, FORMS[WITH_IDS], WITH_IDS, ((name, array_of(name)) for name in FORMS[WITH_IDS]))
+    version = version_of(view)
+    column_file.write(file, FORMS[version], version, ((name, array_of(name)) for name in FORMS[version]))
+
+
+def version_of(network: NetworkColumns) -> int:
+    """The last version of the file that has the parts which a network has, but for what is derived."""
+    own = {name: column.part for name, column in COLUMNS.items() if column.part and not column.is_derived}
+    parts = {part for name, part in own.items() if len(getattr(network, name))}
+    return max(version for version, some in PARTS.items() if parts == {*some}.intersection(own.values()))
 
 
 def derived_arrays(arrays: Arrays) -> Iterator[NDArray[Any]]:

@@ -2,7 +2,7 @@
 
 A network is files with one beginning of their names, NETWORK: the graph NETWORK.gr, both tables, which `osm_to_gr --help`
 describes, and NETWORK.net, which has them and what is derived from them, to be mapped: it is read in their place where it
-is no older. The columns ends, ref, junction, destination, structure and toll of tables may be missing, and are empty then.
+is no older. Columns that tables of earlier versions lack may be missing, and are empty then.
 
 Beside each table lie NAME.csvt and NAME.prj, by which GDAL and QGIS know the kinds of its columns and that it has degrees of
 WGS 84; no tool here reads them.
