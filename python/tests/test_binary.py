@@ -228,7 +228,7 @@ class SmallTests(BinaryCase):
         """Right checksums, and values that can't be: they are refused where they are read."""
         before = {name: column[:].copy() for name, column in net_file.read(str(self.path)).file.columns.items()}
         for name, change in [
-            ("arc_from", lambda old: old + 100), ("arc_to", lambda old: old * 0), ("node_ends", lambda old: old + 4),
+            ("arc_from", lambda old: old + 100), ("arc_to", lambda old: old * 0 - 1), ("node_ends", lambda old: old + 4),
             ("edge_begin", lambda old: old[::-1]), ("edge_begin", lambda old: old[:-1]), ("points", lambda old: old[:-1]),
             ("points", lambda old: old + 2_000_000_000), ("arc_row", lambda old: old + 7),
             ("row_texts", lambda old: old - 2), ("arc_weight", lambda old: old - 10**9),
