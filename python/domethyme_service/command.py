@@ -37,7 +37,8 @@ EXAMPLES = """examples:
 NGINX = "packaging/nginx/domethyme.conf (/usr/share/doc/domethyme/examples/nginx.conf)"
 # The least number of workers: a long request occupies one.
 MIN_WORKERS = 4
-# The path of the socket for probes is that of the other with this suffix.
+# The path of the socket for probes, that is for what asks whether the service is alive, is that of the other with this suffix. A
+# worker of its own answers there, so it is no later while all others are busy.
 PROBE_SUFFIX = ".probe"
 BACKLOG = 1024
 # Bytes that the kernel buffers of a client: a worker peeks at the complete head of a request before it reads it.

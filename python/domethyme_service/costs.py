@@ -3,7 +3,7 @@ that are looked at or calls of the library, each with a price in units, which ar
 are counted while it is answered (Meter). So what a request may do depends on no clock, and how long its path is decides nothing.
 
     up to SHORT   it is answered at once
-    up to MOST    it is a long request, which needs a slot (worker.Slots); so is one that passes SHORT while it is answered
+    up to MOST    it is a long request, which needs a slot (slots.Slots); so is one that passes SHORT while it is answered
     beyond        it is refused as TooBig, before or while it is answered
 """
 import collections

@@ -41,8 +41,8 @@ class DatasetPaths(NamedTuple):
 
 class Dataset(NamedTuple):
     """The open files, the number of the hierarchy's links, the state of its file, the router of the hierarchy with each link turned
-    round, if what leads to places is answered, what is served without some classes of roads, by these, and what sums up the
-    thousandths along paths, by the name of an annotation."""
+    round, if what leads to places is answered, and what is served without some classes of roads, by these. `summers` sum up what isn't the
+    weight along paths, in thousandths of a second or a metre, by the names `duration` and `distance`."""
 
     router: Router
     links: int

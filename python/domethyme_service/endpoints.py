@@ -93,7 +93,7 @@ def osrm_endpoint(
 
 NOWHERE = "there is no such parameter"
 NO_PARAMETERS = "this path has no parameters"
-ENDS = (FROM, TO, FROM_KEY, TO_KEY)
+OF_PAIRS = (FROM, TO, FROM_KEY, TO_KEY)
 SNAPPING = "PLACE*P + BEARING*B"
 OF_ROUTES: tuple[Parameter[Any], ...] = (ANNOTATIONS, OVERVIEW, GEOMETRIES, STEPS)
 ENDPOINTS = (
@@ -123,9 +123,9 @@ ENDPOINTS = (
               any_text("access_token"), REVERSE, EXCLUDE, unsupported("depart_at")), f"{SNAPPING} + REACH*N + CONTOUR*C + DRAWN*R",
              "FeatureCollection", unknown="isochrone has no parameter {!r}"),
     osrm_endpoint("tile", "", handlers.unsupported, range(0), "", ""),
-    Endpoint("/nodes/route", "/nodes/route", "a route between nodes by their numbers, from 1", handlers.route, parameters=ENDS,
+    Endpoint("/nodes/route", "/nodes/route", "a route between nodes by their numbers, from 1", handlers.route, parameters=OF_PAIRS,
              cost="PAIR + NODE*W", schema="NodeRoute"),
-    Endpoint("/nodes/length", "/nodes/length", "only its length; null if there is no path", handlers.length, parameters=ENDS,
+    Endpoint("/nodes/length", "/nodes/length", "only its length; null if there is no path", handlers.length, parameters=OF_PAIRS,
              cost="PAIR", schema="NodeLength"),
     Endpoint("/nodes/routes", "/nodes/routes", "a route for each line of the body, as a line of JSON", handlers.routes, Kind.LINES,
              cost="T*(LINE + PAIR) + NODE*W", schema="NodeRoutes", media=BATCH_TYPES[0], method="POST", unknown=NO_PARAMETERS),

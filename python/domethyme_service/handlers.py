@@ -49,7 +49,8 @@ class Call(NamedTuple):
     environ: Environ
 
     def begin(self, variables: dict[str, float]) -> None:
-        """Computes the cost of the request by its variables, and begins to count it. Raises NeedsSlot, and RequestError."""
+        """Computes the cost of the request by its variables (costs.VARIABLES), and begins to count it. Raises NeedsSlot for a long
+        request without a slot, which the worker begins anew once it has one, and RequestError."""
         cost, has_slot = self.endpoint.formula(variables), self.environ.get("domethyme.has_slot", True)
         self.service.meter.begin(cost, has_slot, self.endpoint.has_lines)
 

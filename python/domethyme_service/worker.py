@@ -120,7 +120,9 @@ class BufferedHead:
 
 
 class Worker(SyncWorker):  # type: ignore[misc] # (gunicorn has no types)
-    """A worker. Before the fork the arbiter sets its metrics, the slots of all, and whether the access log has paths."""
+    """A worker. Before the fork the arbiter sets its metrics, the slots of all, and whether the access log has paths. What isn't set
+    here or there, as cfg, sockets, alive and PIPE, is gunicorn's; so are the names init_process, init_signals, load_wsgi, run, notify and
+    age, which it calls or reads."""
 
     row: Row
     slots: Slots

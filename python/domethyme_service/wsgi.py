@@ -2,7 +2,9 @@
 starts no process and opens no socket: timeouts and processes are the caller's (gunicorn_app).
 
 It reads RAW_URI, the percent-encoded target, which gunicorn adds to WSGI's keys. For logs it stores in `environ`
-`domethyme.endpoint`, the name by which the request is counted, and `domethyme.error`, the RequestError of an error response.
+`domethyme.endpoint`, the name by which the request is counted, and `domethyme.error`, the RequestError of an error response. The worker
+sets `domethyme.has_slot`; where that is False a long request raises NeedsSlot, and the worker calls again with the same `environ`, in
+which `domethyme.body` is what was read.
 A request on a unix socket comes from nginx, so its X-Local-Address is trusted."""
 import http
 import logging
