@@ -63,14 +63,14 @@ OLD_WORDS = [
 
 
 @pytest.mark.parametrize("old, new, holds", OLD_NAMES, ids=[old for old, *_ in OLD_NAMES])
-def test_names(hierarchy, old, new, holds):
+def test_methods_by_old_names(hierarchy, old, new, holds):
     with pytest.warns(DeprecationWarning, match=f"{old}.*{new}") as caught:
         assert holds(hierarchy)
     assert [each.filename for each in caught] == [__file__]
 
 
 @pytest.mark.parametrize("old, new, before, now", OLD_WORDS)
-def test_words(village, old, new, before, now):
+def test_arguments_by_old_names(village, old, new, before, now):
     with domethyme.Hierarchy(village[0] / "v.rch", network=village[0] / "v") as hierarchy:
         with pytest.warns(DeprecationWarning, match=f"{old}.*{new}") as caught:
             assert before(hierarchy) == now(hierarchy)

@@ -144,7 +144,7 @@ print(domethyme.Hierarchy("--help").length(0, 2))
             with self.subTest(says=says), self.assertRaisesRegex(ValueError, says):
                 hierarchy.routes(wrong)
 
-    def test_refusals(self):
+    def test_errors_by_their_kinds(self):
         graph, file = self.write("bad.gr", "p sp 2 1\na 1 3 5\n"), self.folder / "bad.rch"
         for kind, message, status, attempt in [
             (domethyme.GraphError, "routecli: graph: NodeRange line 2", 3, lambda: domethyme.prepare(graph, file)),

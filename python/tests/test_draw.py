@@ -84,7 +84,7 @@ def roads_in(picture):
 
 
 class Picture(DrawCase):
-    def test_places(self):
+    def test_pixels_of_places(self):
         # The routes are 0.004 degrees wide, and 200 m are 0.0017986: with a tenth and that on each side 0.0083973 in 1000
         # pixels. The height is 0.56 of that, and the equator in its middle.
         picture = self.picture_of(EAST, words=[])
@@ -254,7 +254,7 @@ class Picture(DrawCase):
 
 
 class Page(DrawCase):
-    def test_routes(self):
+    def test_routes_on_the_page(self):
         _, data = self.page_of(EAST, NO_WAY)
         east, nowhere = data["routes"]
         self.assertEqual((east["label"], east["figures"]), (LABEL, "0.44 km, 1.5 min"))
@@ -322,7 +322,7 @@ class Page(DrawCase):
         for part in ["Vladimir Agafonkin", "Redistributions in binary form", "EVEN IF ADVISED OF THE POSSIBILITY"]:
             self.assertEqual(text.count(part), 1, part)
 
-    def test_tiles(self):
+    def test_tiles_by_address(self):
         text, data = self.page_of(EAST, words=["--tiles", "https://tiles.example/{z}/{x}/{y}.png"])
         self.assertEqual(data["tiles"], "https://tiles.example/{z}/{x}/{y}.png")
         self.assertIn("img-src data: file: http: https:", text)
@@ -377,7 +377,7 @@ class BadInput(DrawCase):
         self.assert_routes_refused("[" * 100_000, ", row 1: isn't GeoJSON")
         self.assert_routes_refused("1" * 5000, ", row 1: isn't GeoJSON")
 
-    def test_features(self):
+    def test_features_that_are_refused(self):
         point = {**EAST, "geometry": {"type": "Point", "coordinates": [0, 0]}}
         for bad, says in [
             (7, "has no properties"), ({"type": "Feature", "geometry": None}, "has no properties"),
@@ -423,7 +423,7 @@ class BadInput(DrawCase):
         self.write("out.svg", "as it was\n")
         self.assert_routes_refused("{}", ", row 1: is neither")
 
-    def test_words(self):
+    def test_arguments_that_are_refused(self):
         routes = self.routes(EAST)
         for words in [
             [], ["net", routes], ["net", routes, "out.png"], ["net", routes, "-"],
@@ -436,7 +436,7 @@ class BadInput(DrawCase):
 
 
 class Geometry(ToolCase):
-    def test_plane(self):
+    def test_mercator(self):
         # By the projection of web maps 45 degrees north lie at log(1 + sqrt(2)) / (2 pi) = 0.140275 above the middle.
         (west, equator), (middle, north), (east, south) = geometry.to_mercator([(-180, 0), (0, 45), (180, -90)])
         self.assertEqual([west, equator, middle, east], [0, 0.5, 0.5, 1])

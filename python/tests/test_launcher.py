@@ -17,7 +17,7 @@ class LauncherTests(ToolCase):
         files = [path.name for path in TOOLS.iterdir() if path.is_file() and started in path.read_text(encoding="utf-8")]
         self.assertEqual(sorted(name.removeprefix("domethyme-") for name in files), sorted(COMMANDS))
 
-    def test_names(self):
+    def test_tools_by_their_names(self):
         for name in ("domethyme-to-geojson", "to_geojson"):
             (self.folder / name).symlink_to(LAUNCHER)
             self.assertIn(f"usage: {name} ", self.run_program([self.folder / name, "--help"]).stdout)

@@ -23,7 +23,7 @@ def village(tmp_path_factory):
 
 
 @pytest.mark.parametrize("cells, most_rows", [(1, 256), (60, 256), (1 << 20, 5), (1 << 20, 1)])
-def test_parts(village, monkeypatch, cells, most_rows):
+def test_tables_by_parts(village, monkeypatch, cells, most_rows):
     hierarchy, roads, points = village
     (whole,) = leg_tables.weight_rows(hierarchy.matrix, roads, points, points, 1 << 20)
     monkeypatch.setattr(leg_tables, "MAX_ROWS", most_rows)

@@ -93,7 +93,7 @@ class VillageTests(ToolCase):
         self.assertEqual(self.hierarchy.match(trace, [0, 9, 12, 20, 15 + 9], tidy=True).matchings[0].points, [0, 2, 4])
         self.assertEqual(self.hierarchy.match(trace, [0, 9, 12, 14, 16], tidy=True).matchings[0].points, [0, 2])
 
-    def test_refusals(self):
+    def test_arguments_that_are_refused(self):
         for words, says in [
             ({"trace": [(0, 0)]}, "two places or more"), ({"deviation": 0}, "above 0"), ({"deviation": 201}, "above 0"),
             ({"deviation": [5]}, "one for each place"), ({"seconds": [1]}, "one for each place"), ({"seconds": [2, 1]}, "don't fall"),

@@ -80,7 +80,7 @@ class NearestTests(ToolCase):
         self.assertEqual(ended.stderr, "nearest: left out 2 of 4 rows, which are too far from each node\n")
         self.assertEqual(self.snapped().splitlines()[1:], ["0.002,0,0,0,near,3,0.0,1,0.0", "0,0,0,0,there,1,0.0,1,0.0"])
 
-    def test_refusals(self):
+    def test_refused_input_leaves_the_files(self):
         """Files that are there stay."""
         for name in ("pairs", "s"):
             self.write(name, "as it was\n")
@@ -96,7 +96,7 @@ class NearestTests(ToolCase):
         self.write("town.nodes.csv", "node,osm,lon,lat\n1,,9.5,47.1\n")
         self.assert_refused("nearest", "town", "trips.csv", says="are longitude and latitude swapped?")
 
-    def test_words(self):
+    def test_arguments_that_are_refused(self):
         trips = ["street", "trips.csv"]
         for words in [[], ["street"], [*trips, "--radius", "-1"], [*trips, "--radius", "nan"], [*trips, "--radius", "near"],
                       ["street", "places.co"], [*trips, "-o", "x", "--snapped", "x"]]:

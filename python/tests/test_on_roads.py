@@ -20,7 +20,7 @@ Nowhere,0.001,0,0.001,0
 
 
 class OnRoadsTests(ServiceCase):
-    def test_refusals(self):
+    def test_input_that_is_refused(self):
         self.write("trips.csv", TRIPS)
         says = "trips.csv, row 2: from_lon 0.0003, from_lat 1e-05 is 1 m from the nearest road, and --radius is 0.5 m"
         self.assert_refused("nearest", "v", "trips.csv", "--on-roads", "--radius", "0.5", says=says)

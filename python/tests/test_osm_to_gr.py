@@ -487,7 +487,7 @@ class BadInput(NetworkCase):
         (self.folder / "half.osm.pbf").write_bytes((self.folder / "village.osm.pbf").read_bytes()[:700])
         self.refused("half.osm.pbf", says="half.osm.pbf: PBF error")
 
-    def test_profiles(self):
+    def test_profiles_that_are_refused(self):
         says = "there is no profile boat: there is bicycle, car, foot, lorry; for another"
         self.refused(VILLAGE, "--profile", "boat", says=says)
         for members, says in BAD_PROFILES:
@@ -517,7 +517,7 @@ class BadInput(NetworkCase):
         self.assert_refused("osm_to_gr", VILLAGE, "out", "--tables", says="out.arcs.csv: is a folder")
         self.run_tool("osm_to_gr", VILLAGE, "out")
 
-    def test_words(self):
+    def test_arguments_that_are_refused(self):
         for words in ([], [VILLAGE], [VILLAGE, "out", "--longest-arc", "0"], [VILLAGE, "out", "--weight", "days"]):
             with self.subTest(words):
                 self.run_tool("osm_to_gr", *words, status=2)

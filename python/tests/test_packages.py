@@ -84,7 +84,7 @@ class CheckPackages(PackagesCase):
         says = "are missing: as root, apt-get install first-package second-package\n"
         self.assert_refused("check_packages", "packages", says=says, environment=self.path)
 
-    def test_words(self):
+    def test_arguments_that_are_refused(self):
         self.run_tool("check_packages", "none", status=2)
         self.run_tool("check_packages", "packages", "packages", status=2)
         self.assertIn("packages.txt", self.run_tool("check_packages", "--help").stdout)
@@ -116,6 +116,6 @@ class FetchExtract(PackagesCase):
         self.path = {"PATH": str(self.programs)}
         self.refused("can't be had: there is no apt-get on this machine")
 
-    def test_words(self):
+    def test_arguments_that_are_refused(self):
         self.run_tool("fetch_extract", ".", "..", status=2)
         self.assertIn("ODbL", self.run_tool("fetch_extract", "--help").stdout)

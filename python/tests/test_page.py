@@ -123,7 +123,7 @@ def length_of(lines) -> float:
 class TestRules:
     """Nearest roads, parts of arcs, streets, reach and tiles are those of the service, and the hierarchy is the file's."""
 
-    def test_hierarchy(self, network, tmp_path):
+    def test_hierarchy_in_the_page(self, network, tmp_path):
         data = (network / "n.rch").read_bytes()
         columns = columns_of_hierarchy(data, "n.rch")
         assert len(columns) < 0.75 * len(data)
@@ -134,7 +134,7 @@ class TestRules:
         data = b"RCH2" + count.to_bytes(4, "big") + bytes(16) + bytes(4 * count)
         assert hierarchy_of_page(columns_of_hierarchy(data, "n.rch"), tmp_path) == data
 
-    def test_routes(self, network, tmp_path):
+    def test_routes_as_the_library_has_them(self, network, tmp_path):
         roads, router = RoadIndex(str(network / "n")), Router((network / "n.rch").read_bytes(), "n.rch")
         places = places_near(roads, 300)
         pairs = list(zip(places[::2], places[1::2]))
@@ -164,7 +164,7 @@ class TestRules:
             assert length_of([line]) == pytest.approx(length_of([wanted.line]), abs=2e-5)
         assert several > 20
 
-    def test_reach(self, network, tmp_path):
+    def test_reach_as_the_library_has_it(self, network, tmp_path):
         roads, router = RoadIndex(str(network / "n")), Router((network / "n.rch").read_bytes(), "n.rch")
         places, limits = places_near(roads, 25, 6), [500, 20_000, 60_000]
         found = asked_of_page(network, tmp_path, pairs=[(place, place) for place in places], limits=limits, tiles=[])["reached"]
@@ -173,7 +173,7 @@ class TestRules:
             for number, lines in enumerate(answer):
                 assert length_of(lines) == pytest.approx(length_of(reach.roads(number)), abs=1e-5 + 2e-6 * len(lines))
 
-    def test_tiles(self, network, tmp_path):
+    def test_tiles_as_the_service_has_them(self, network, tmp_path):
         """The same steps of roads by kind and name as the service's, at zooms with names; fewer repeated ones without."""
         arrays = load_network(str(network / "n"))
         tiles, (west, south, east, north) = Tiles(arrays), arrays.box
@@ -422,7 +422,7 @@ class TestTheCommand:
         (["n.co", "n.rch", "a.html", "--library", "web"], 1, "has no roads but nodes"),
         (["none", "n.rch", "a.html", "--library", "web"], 1, "none"), (["n", "none.rch", "a.html", "--library", "web"], 7, "none.rch: No such file"),
     ])
-    def test_refusals(self, folder, words, status, says):
+    def test_input_that_is_refused(self, folder, words, status, says):
         given = [word if word.startswith("--") else folder / word for word in words]
         ended = run(TOOLS / "page", *given, status=status)
         assert says in ended.stderr and not (folder / "a.html").exists()

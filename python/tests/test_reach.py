@@ -148,7 +148,7 @@ def test_within(made_town, form, kinds, towards):
     ((0, 0), {"minutes": [float("nan")]}, ValueError, "above 0"), ((0, 0), {"minutes": [0, 1]}, ValueError, "above 0"),
     ((0, 0), {"minutes": [float("inf")]}, ValueError, "above 0"), ((0, 0), {"shape": "circles"}, ValueError, "shape"),
 ])
-def test_what_is_refused(row, place, words, error, says):
+def test_arguments_that_are_refused(row, place, words, error, says):
     with pytest.raises(error, match=says):
         row.within(place, **words)
 

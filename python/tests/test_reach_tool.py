@@ -24,7 +24,7 @@ class ReachCase(ToolCase):
 
 
 class ReachToolTests(ReachCase):
-    def test_forms(self):
+    def test_output_formats(self):
         """Of standard input, in the shape of roads, and what leads there; and a file, which has a feature on each line."""
         place = (9.004, 47.004)
         found = json.loads(self.run_tool("reach", "town", "town.rch", "-", "--minutes", "1", "--shape", "roads", given=PLACES).stdout)
@@ -36,13 +36,13 @@ class ReachToolTests(ReachCase):
         text = (self.folder / "out").read_text()
         self.assertEqual((json.loads(text), len(text.splitlines())), (self.hierarchy.within(place), 5))
 
-    def test_metres(self):
+    def test_weights_that_are_no_times(self):
         prepared([(0, 0), (0.01, 0)], [Road(0, 1, 111_195, 111_195)], self.folder / "road").close()
         self.assert_refused("reach", "road", "road.rch", "places.csv", says="places.csv, row 2: has no road within 1000 m")
         self.write("at.csv", "lon,lat\n0,0\n")
         self.assert_refused("reach", "road", "road.rch", "at.csv", "--metres", "5", says="road: the weights of the")
 
-    def test_refusals(self):
+    def test_places_that_are_refused(self):
         for name, text, says in (("far", "lon,lat\n9,47\n9.004,48\n", "far, row 3: has no road within 1000 m"),
                                  ("none", "lon,lat\n", "none: has no place"), ("odd", "lon,lat\n9,x\n", "odd, row 2"),
                                  ("names", "x,y\n9,47\n", "lon")):

@@ -276,7 +276,7 @@ class OneMachineTests(RouteManyCase):
         self.assertEqual((self.folder / "elsewhere/answers").read_text(), self.wanted)
         self.assertEqual(os.listdir(self.folder / "elsewhere"), ["answers"])
 
-    def test_words(self):
+    def test_arguments_that_are_refused(self):
         words = ["network.rch", "pairs", "out"]
         more = [["--jobs", "0"], ["--pairs-per-part", "1.5"], ["--jobs", "2", "--split-only"]]
         outs = [["network.rch", "pairs", out] for out in ["-", "/dev/null", "new/", ".", "pairs"]]
@@ -367,7 +367,7 @@ class RefusalTests(RouteManyCase):
         self.assertEqual(self.contents(), before)
         self.assertEqual(sorted(os.listdir(self.folder)), sorted({*self.before, "out"}))
 
-    def test_queries(self):
+    def test_query_files_that_are_refused(self):
         """Wrong counts, problem lines, and the first fault of several, also behind others."""
         pairs, lines = "q 1 2\n" * 200, ["p aux sp p2p 1000", "c", ""] + ["q 1 2"] * 1000
         lines[903], lines[999] = "q 1", "q 1 x"
@@ -409,7 +409,7 @@ class RefusalTests(RouteManyCase):
         self.assert_untouched()
         self.assertLess(len(self.parts_begun()), 20)  # (none of the 20 begins once one is known to have failed)
 
-    def test_hierarchy(self):
+    def test_hierarchies_that_are_refused(self):
         whole = (self.folder / "network.rch").read_bytes()
         (self.folder / "network.rch").write_bytes(b"RCX" + whole[3:])
         self.assert_program_refuses("routecli: hierarchy: BadMagic", status=4)

@@ -172,7 +172,7 @@ class RouterTests(ToolCase):
         ended = subprocess.run(command, env=environment, capture_output=True, text=True)
         self.assertEqual((ended.stdout.split(), ended.stderr), (["refused", "1"] * 5, ""))
 
-    def test_the_end(self):
+    def test_calls_after_close(self):
         with self.ring() as hierarchy:
             hierarchy.length(0, 1)
         for attempt in (lambda: hierarchy.length(0, 1), lambda: hierarchy.lengths([[0, 1]]), lambda: hierarchy.matrix([0])):

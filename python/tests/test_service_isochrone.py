@@ -61,7 +61,7 @@ class IsochroneTests(ServiceCase):
             self.assertEqual((feature["properties"]["color"], feature["properties"]["contour"]), (color, contour))
             self.assertEqual(feature["properties"]["metric"], "time")
 
-    def test_what_is_refused(self):
+    def test_requests_that_are_refused(self):
         """Messages; and paths, since a profile may have two words. (Other texts of parameters are in draws.py.)"""
         for query, code, says in [
             ("", "InvalidQuery", "one of contours_minutes and contours_meters"),

@@ -35,7 +35,7 @@ class RequestTests(OsrmCase):
         self.assertEqual((status, found["code"]), (400, "TooBig"))
         self.assertIn("5 cells (--max-table-cells)", found["message"])
 
-    def test_profiles(self):
+    def test_profiles_that_are_allowed(self):
         """Any word, or those of --profile alone."""
         self.serve("--network", self.folder / "v", "--profile", "car", "--profile", "driving")
         for service, places in (("route", HIGH), ("table", HIGH), ("nearest", "0,0"), ("isochrone", "0,0")):

@@ -160,7 +160,7 @@ command.main()
             process.send_signal(signal.SIGTERM)
             self.assertEqual(process.wait(SECONDS), 0)
 
-    def test_the_end(self):
+    def test_sigterm_answers_accepted_requests(self):
         """Accepted requests are answered; a connection in the backlog is reset or refused."""
         process = self.serve()
         right = self.ask(PATH)[1]["length"]

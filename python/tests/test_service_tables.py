@@ -4,7 +4,7 @@ from service_case import ServiceCase
 
 
 class TableTests(ServiceCase):
-    def test_queries(self):
+    def test_queries_are_counted(self):
         """A table has a query for each node that its sources lead to, here 1, 11, 2, 21, 3 and 4, and for each sum."""
         self.serve("--network", self.folder / "v")
         words = ";".join(f"{0.0005 * number},0.00005" for number in range(10))

@@ -36,7 +36,7 @@ class TableTests(ToolCase):
     def table(self, *words, places=("sources.csv", "targets.csv")):
         return self.run_tool("table", "net", "net.rch", *places, *words).stdout
 
-    def test_forms(self):
+    def test_output_formats(self):
         wanted = "from,1,2\n1,200,300\n2,100,200\n3,,\n"
         self.assertEqual(self.table(), wanted)
         self.table("-o", "table.csv")
@@ -52,7 +52,7 @@ class TableTests(ToolCase):
             self.table("--on-roads", "-o", "t.npy", places=(sources, targets))
             self.assertEqual(np.load(self.folder / "t.npy").shape, shape)
 
-    def test_metres(self):
+    def test_a_second_table_of_metres(self):
         """A second table has the metres along these paths, by nodes and on roads, as arrays and as CSV."""
         with domethyme.Hierarchy(self.folder / "net.rch", network=self.folder / "net") as hierarchy:
             places = [[(0.0001, 0.001), (0.0, 0.0), (0.002, 0.0)], [(0.0011, 0.0), (0.001, 0.0009)]]
@@ -69,7 +69,7 @@ class TableTests(ToolCase):
         refused = self.run_tool("table", "net", "net.rch", "sources.csv", "targets.csv", "--metres", "targets.csv", status=2)
         self.assertIn("would be overwritten", refused.stderr)
 
-    def test_refusals(self):
+    def test_input_that_is_refused(self):
         for words, sources, targets, says in REFUSED:
             self.write("sources.csv", sources)
             self.write("targets.csv", targets)

@@ -60,7 +60,7 @@ class RoutesTests(ToolCase):
         """What is printed for a text of answers."""
         return self.run_tool("to_geojson", "net", "-", *words, given=answers).stdout
 
-    def test_forms(self):
+    def test_output_formats(self):
         text = self.routes_of(ANSWERS)
         self.assertEqual(json.loads(text), {"type": "FeatureCollection", "features": FEATURES})
         self.assertEqual([json.loads(line.rstrip(",")) for line in text.splitlines()[1:-1]], FEATURES)
@@ -83,7 +83,7 @@ class RoutesTests(ToolCase):
         found = json.loads(self.routes_of("r 1 3 300 2 1 2 3\n", "--trips", "snapped.csv", "--format", "lines"))["properties"]
         self.assertEqual(found, {"trip": "a", "to_metres": "2.5", **FORTH})
 
-    def test_refusals(self):
+    def test_refused_input_leaves_the_file(self):
         """A file that is there stays."""
         self.write("routes", "as it was\n")
         words = ("net", "answers", "-o", "routes")
@@ -105,7 +105,7 @@ class RoutesTests(ToolCase):
         self.assert_refused("to_geojson", "net", "answers", says="net.arcs.csv, row 2: weight 'light'")
         self.assert_refused("to_geojson", "nowhere", "answers", says="nowhere.net: No such file")
 
-    def test_words(self):
+    def test_arguments_that_are_refused(self):
         for words in [[], ["net"], ["net", "-", "--format", "picture"]]:
             self.assertEqual(self.run_tool("to_geojson", *words, status=2).stdout, "")
         self.assertIn("--no-steps", self.run_tool("to_geojson", "--help").stdout)

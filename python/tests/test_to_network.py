@@ -75,7 +75,7 @@ class TableTests(ToolCase):
         for name in IN_TABLES:
             np.testing.assert_array_equal(getattr(after, name), getattr(before, name), name)
 
-    def test_refusals(self):
+    def test_tables_that_are_refused(self):
         for nodes, arcs, says in [
             ("lon,lat\n0,x\n", None, "nodes.csv, row 2: lat 'x' is not a number"),
             ("lon,lat\n0,91\n", None, "nodes.csv, row 2: lat '91' isn't from -90 to 90"),
@@ -127,7 +127,7 @@ class DimacsTests(ToolCase):
             with self.subTest(number=number):
                 self.assertEqual(self.made(co, gr, f"net{number}"), found)
 
-    def test_refusals(self):
+    def test_dimacs_files_that_are_refused(self):
         for co, gr, says in [
             (self.CO.replace("v 3 1000 2000\n", ""), self.GR, "x.co: has no coordinates of node 3"),
             (self.CO.replace("1000 0", "180000001 0"), self.GR, "x.co, row 4: x 180000001 isn't from"),

@@ -292,7 +292,7 @@ class Program(SharedCase):
         with mock.patch.dict(os.environ, {"PATH": "/nowhere", **environment}, clear=True):
             return find_program(named)
 
-    def test_order(self):
+    def test_which_program_is_found(self):
         named, told, on_path = (str(self.put_program(name)) for name in ("named", "told", "routecli"))
         environment = {"ROUTECLI": told, "PATH": str(self.folder)}
         self.assertEqual(self.find(named, **environment), named)
