@@ -15,7 +15,7 @@ from domethyme.network.snapping import RoadIndex, SnappedPoint
 
 from .costs import Meter, Work, things
 from .errors import RequestError
-from .json_text import figure_json, join_array, join_object, string_json
+from .json_text import Texts, figure_json, join_array, join_object, point_texts, string_json
 from .osrm_geometry import Budget, annotations_json, join_lines, line_json, simplify_lines
 from .osrm_request import Request
 from .osrm_steps import LegSteps, build_steps
@@ -177,11 +177,20 @@ def route_parts(engine: Engine, request: Request, way: Way, budget: Budget, more
         "weight_name": string_json(roads.unit), "weight": figure_json(weight),
         "duration": figure_json(duration if roads.has_seconds else None), "distance": figure_json(distance), **more,
     }
+    texts = None
+    if geometry is not None and request.values[GEOMETRIES] == "geojson" and shows_all_points(request):
+        texts = point_texts(geometry.shown, 6)
     if geometry is not None and request.values[OVERVIEW] != "false":
         lines = geometry.lines()
         line = join_lines(simplify_lines(lines, budget) if request.values[OVERVIEW] == "simplified" else lines)
-        whole["geometry"] = line_json(line, request.values[GEOMETRIES])
-    return ['{"legs":[', ",".join(leg_texts(request, totals, geometry)), f"],{join_object(whole)[1:]}"]
+        is_shown = texts is not None and len(lines) == 1 and len(line) == len(geometry.shown)
+        whole["geometry"] = line_json(line, request.values[GEOMETRIES], texts if is_shown else None)
+    return ['{"legs":[', ",".join(leg_texts(request, totals, geometry, texts)), f"],{join_object(whole)[1:]}"]
+
+
+def shows_all_points(request: Request) -> bool:
+    """Whether an answer shows all points of the route."""
+    return request.values[OVERVIEW] == "full" or request.values[STEPS] == "true"
 
 
 def needs_points(request: Request) -> bool:
@@ -190,12 +199,12 @@ def needs_points(request: Request) -> bool:
     return values[OVERVIEW] != "false" or values[STEPS] == "true" or bool(values[ANNOTATIONS])
 
 
-def leg_texts(request: Request, totals: Sequence[LegTotals], geometry: RouteGeometry | None) -> Iterator[str]:
-    """The OSRM legs of a route, with their totals."""
+def leg_texts(request: Request, totals: Sequence[LegTotals], geometry: RouteGeometry | None, texts: Texts | None) -> Iterator[str]:
+    """The OSRM legs of a route, with their totals. `texts` are those of the points that are shown, if there are any."""
     steps: Iterable[LegSteps] = itertools.repeat(LegSteps("[]", ""))
     annotations: Iterable[str] = itertools.repeat("")
     if geometry is not None and request.values[STEPS] == "true":
-        steps = build_steps(geometry, request.values[GEOMETRIES])
+        steps = build_steps(geometry, request.values[GEOMETRIES], texts)
     if geometry is not None and request.values[ANNOTATIONS]:
         annotations = (f',"annotation":{text}' for text in annotations_json(geometry, request.values[ANNOTATIONS]))
     for some, annotation, (weight, duration, distance) in zip(steps, annotations, totals):

@@ -132,11 +132,11 @@ def farthest_points(flat: NDArray[np.complex128], lows: Ints, highs: Ints, toler
     return found
 
 
-def line_json(line: Ints, format_: str) -> str:
-    """A line as polyline, polyline6 or geojson."""
+def line_json(line: Ints, format_: str, texts: Texts | None = None) -> str:
+    """A line as polyline, polyline6 or geojson, for which the texts of its points may be known."""
     if format_ != "geojson":
         return polylines_json(line, np.array([0]), np.array([len(line)]), format_)[0]
-    return line_string(point_texts(line, 6).array(0, len(line)))
+    return line_string((point_texts(line, 6) if texts is None else texts).array(0, len(line)))
 
 
 def line_string(coordinates: str) -> str:

@@ -200,20 +200,22 @@ def step_json(maneuver: str, road: RoadTexts, totals: StepTotals, shape: str, pa
     )
 
 
-def build_steps(geometry: RouteGeometry, format_: str) -> list[LegSteps]:
-    """The steps of each leg, with geometries as `format_`."""
+def build_steps(geometry: RouteGeometry, format_: str, shown: Texts | None) -> list[LegSteps]:
+    """The steps of each leg, with geometries as `format_`; `shown` are the texts of the points that are shown, for GeoJSON."""
     ends, numbers = microdegrees(geometry.ends), np.arange(len(geometry.ends))
     of_places = point_texts(ends, 6)
-    places, at_places = of_places.rows(numbers), shapes_of(ends, of_places, numbers, numbers + 1, format_)
+    places, at_places = of_places.rows(numbers), shapes_of(ends, None if shown is None else of_places, numbers, numbers + 1, format_)
     nothing, mode = (0.0, 0.0 if geometry.roads.has_seconds else None, 0.0), mode_json(geometry.roads)
     texts, roads, bounds, last_bearings = list[str](), list[RoadTexts](), [0] * len(ends), list[int]()
     if len(geometry.arcs):
         builder = StepBuilder(geometry)
         firsts, behind = geometry.slices(builder.begins, builder.ends)
-        at_junctions, is_whole = builder.junctions(), format_ == "geojson"
+        at_junctions = builder.junctions()
         chosen = np.append(firsts, geometry.slices(at_junctions.arcs, at_junctions.arcs + 1)[0])
-        shown = point_texts(geometry.shown if is_whole else geometry.shown[chosen], 6)
-        locations = shown.rows(chosen if is_whole else np.arange(len(chosen)))
+        if shown is None:
+            locations = point_texts(geometry.shown[chosen], 6).rows(np.arange(len(chosen)))
+        else:
+            locations = shown.rows(chosen)
         passed = builder.intersections(at_junctions, locations[len(firsts) :])
         texts, roads = builder.steps(locations, shapes_of(geometry.shown, shown, firsts, behind, format_), passed)
         bounds = np.searchsorted(builder.begins, geometry.first).tolist()
@@ -238,10 +240,10 @@ def first_names(roads: Sequence[RoadTexts]) -> list[str]:
     return [first, *itertools.islice((road.name for road in roads if road.name not in ("", first)), 1)] if first else []
 
 
-def shapes_of(points: Ints, texts: Texts, firsts: Ints, behind: Ints, format_: str) -> list[str]:
-    """The JSON of the lines points[firsts[k]:behind[k]], of which `texts` are those of all points in GeoJSON; of two equal points if it
+def shapes_of(points: Ints, texts: Texts | None, firsts: Ints, behind: Ints, format_: str) -> list[str]:
+    """The JSON of the lines points[firsts[k]:behind[k]], of which `texts` are those of all points, for GeoJSON; of two equal points if it
     is of one."""
-    if format_ != "geojson":
+    if texts is None:
         return polylines_json(points, firsts, behind, format_)
     arrays = zip(texts.arrays(firsts, behind), (behind - firsts == 1).tolist())
     return [line_string(f"{array[:-1]},{array[1:]}" if is_point else array) for array, is_point in arrays]
