@@ -86,7 +86,8 @@ def table_members(engine: Engine, request: Request, points: list[SnappedPoint], 
             some["duration"] *= scale
         for name, each in some.items():
             found = decimal_texts(each.ravel(), DIGITS[unit if name == "weight" else name])
-            shown = [found.array(begin, begin + each.shape[1]) for begin in range(0, each.size, each.shape[1])]
+            firsts = np.arange(0, each.size, each.shape[1])
+            shown = found.arrays(firsts, firsts + each.shape[1])
             engine.meter.spend(Work.BYTE, sum(len(text) * times[source] for text, source in zip(shown, froms)))
             texts[name] += shown
         done += count
