@@ -242,7 +242,10 @@ class Field:
         # the line divides the way between two points by their values: 1 to 3 at most, and on the finest grids in the middle
         least = np.int8(3 if self._half >= MIN_STEP else 9)
         values = np.where(is_inside, np.maximum(around, least), np.minimum(around, -least))
-        lines = contour_generator(z=values, fill_type=FillType.OuterOffset).filled(0.0, 9.0)
+        # (contourpy takes half of the time where its numbers come as floats, and places with them)
+        x, y = np.empty((2, *values.shape))
+        x[:], y[:] = np.arange(values.shape[1]), np.arange(values.shape[0])[:, None]
+        lines = contour_generator(x, y, values.astype(float), fill_type=FillType.OuterOffset).filled(0.0, 9.0)
         corner = self.mesh.left + columns[0] - 0.5, self.mesh.bottom + rows[0] - 0.5
         for points, offsets in zip(*lines):
             # (one of both is an integer, but for last bits)
