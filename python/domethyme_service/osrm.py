@@ -190,7 +190,7 @@ def route_parts(engine: Engine, request: Request, way: Way, budget: Budget, more
 
 def shows_all_points(request: Request) -> bool:
     """Whether an answer shows all points of the route."""
-    return request.values[OVERVIEW] == "full" or request.values[STEPS] == "true"
+    return bool(request.values[OVERVIEW] == "full" or request.values[STEPS] == "true")
 
 
 def needs_points(request: Request) -> bool:

@@ -265,7 +265,7 @@ class Field:
 def sums_of_nine(values: NDArray[np.int8]) -> NDArray[np.int8]:
     """The sum of each number and its eight neighbours, but for those of the rim."""
     rows = values[:-2] + values[1:-1] + values[2:]
-    return rows[:, :-2] + rows[:, 1:-1] + rows[:, 2:]
+    return np.asarray(rows[:, :-2] + rows[:, 1:-1] + rows[:, 2:])
 
 
 def extend(choose: np.ufunc, found: Levels, numbers: Ints, levels: Levels) -> None:

@@ -218,24 +218,24 @@ class Spaced(NamedTuple):
 
 class Shares(NamedTuple):
     """How far edges are reached, of shape (limits, edges): the share from the first point, and from the last; -1 if not
-    even that is. And for the places the row of the edge, and for each limit the shares between which it is reached. The limits are the last
-    ones of `count`."""
+    even that is. And for the places the row of the edge, and for each limit the shares between which it is reached. Limits may be the last ones
+    alone of all; `none` is the level of what isn't reached within any."""
 
     first: Floats
     last: Floats
     parts: list[tuple[int, Floats, Floats]]
-    count: int
+    none: int
 
     def are_reached(self, limit: int) -> NDArray[np.bool_]:
         """Whether a point of each edge is, within a limit."""
-        found = np.maximum(self.first[limit], self.last[limit]) >= 0
+        found: NDArray[np.bool_] = np.maximum(self.first[limit], self.last[limit]) >= 0
         found[[row for row, _, _ in self.parts]] = True
         return found
 
     @property
     def whole(self) -> tuple[Levels, NDArray[np.bool_]]:
         """The levels of edges whose points all have one, and whether an edge is none of them."""
-        levels, are_mixed = np.full(self.first.shape[1], self.count, np.uint8), np.zeros(self.first.shape[1], bool)
+        levels, are_mixed = np.full(self.first.shape[1], self.none, np.uint8), np.zeros(self.first.shape[1], bool)
         for first, last in zip(self.first, self.last):
             is_whole = (first >= 1) | (last >= 1)
             levels -= is_whole
@@ -244,7 +244,7 @@ class Shares(NamedTuple):
         return levels, are_mixed
 
     def levels(self, rows: Ints, shares: Floats) -> Levels:
-        found = np.full(len(rows), self.count, np.uint8)
+        found = np.full(len(rows), self.none, np.uint8)
         for limit in range(len(self.first)):
             is_reached = (shares <= self.first[limit, rows]) | (shares >= 1 - self.last[limit, rows])
             for row, lows, highs in self.parts:
