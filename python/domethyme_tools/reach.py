@@ -43,7 +43,7 @@ def parse_args() -> argparse.Namespace:
     parser.add_argument("places", metavar="PLACES", help="the table of places")
     parser.add_argument("-o", dest="output", metavar="OUT", default="-", help="by default standard output")
     limits = parser.add_mutually_exclusive_group()
-    limits.add_argument("--minutes", metavar="LIST", type=numbers, default=[], help="numbers that rise (default: 5,10,15)")
+    limits.add_argument("--minutes", metavar="LIST", type=numbers, default=[], help="increasing numbers (default: 5,10,15)")
     limits.add_argument("--metres", metavar="LIST", type=numbers, default=[], help="the same where weights are lengths")
     parser.add_argument("--towards", action="store_true", help="what leads to the place, or to the nearest of several")
     parser.add_argument("--shape", choices=SHAPES, default="polygons", help="default: polygons")
