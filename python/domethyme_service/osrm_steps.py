@@ -225,11 +225,11 @@ def build_steps(geometry: RouteGeometry, format_: str, shown: Texts | None) -> l
         some, names, before = texts[low:high], roads[low:high], last_bearings[leg] if low < high else 0
         if not some:
             names = [RoadTexts.of("", "", "")]
-            passed = intersection_json(places[leg], 0, "out")
-            some = [step_json(maneuver_json(DEPART, places[leg], 0, 0), names[0], nothing, at_places[leg], passed, mode)]
+            crossing = intersection_json(places[leg], 0, "out")
+            some = [step_json(maneuver_json(DEPART, places[leg], 0, 0), names[0], nothing, at_places[leg], crossing, mode)]
         arrival, place = names[-1]._replace(more=""), places[leg + 1]
-        passed = intersection_json(place, (before + 180) % 360, "in")
-        some.append(step_json(maneuver_json(ARRIVE, place, before, 0), arrival, nothing, at_places[leg + 1], passed, mode))
+        crossing = intersection_json(place, (before + 180) % 360, "in")
+        some.append(step_json(maneuver_json(ARRIVE, place, before, 0), arrival, nothing, at_places[leg + 1], crossing, mode))
         found.append(LegSteps(join_array(some), ", ".join(first_names(names))))
     return found
 

@@ -79,8 +79,8 @@ def roads_around(geometry: RouteGeometry, arcs: Ints, before: Ints, behind: Ints
         ends[split] = twins(roads, before[here[split]], arrays.arc_to, "to")
     begins, (one_way_ends, one_way) = arrays.out_begin[starts], roads.one_way
     junction, rows = concat_ranges(begins, arrays.out_begin[starts + 1] - begins)
-    low, high = (np.searchsorted(one_way_ends, ends, side=side) for side in ("left", "right"))
-    other, other_rows = concat_ranges(low, high - low)
+    low = np.searchsorted(one_way_ends, ends)
+    other, other_rows = concat_ranges(low, np.searchsorted(one_way_ends, ends, side="right") - low)
     are_starts = np.arange(len(rows) + len(other_rows)) < len(rows)
     leading = np.concatenate((arrays.out_arcs[rows], one_way[other_rows]))
     return np.concatenate((owners[junction], here[other])), leading, are_starts, int(np.searchsorted(junction, open_count))
@@ -88,8 +88,8 @@ def roads_around(geometry: RouteGeometry, arcs: Ints, before: Ints, behind: Ints
 
 def twins(roads: RoadIndex, arcs: Ints, column: Column, side: str) -> Ints:
     """For the nodes of arcs, in a column of arcs, those of their junctions on one side: at which all routes begin, or end."""
-    arrays, found = roads.arrays, column[arcs].astype(np.int64)
-    edges = arrays.arc_edge[arcs]
+    arrays, edges = roads.arrays, roads.arrays.arc_edge[arcs]
+    found: Ints = column[arcs].astype(np.int64)
     first = arrays.edge_first[edges]
     owner, rows = concat_ranges(first, arrays.edge_first[edges + 1] - first)
     others = arrays.edge_arcs[rows]
@@ -106,6 +106,6 @@ def road_bearings(roads: RoadIndex, ends: Ints) -> Ints:
     found = whole_bearings(here, there)
     for row in np.flatnonzero(are_equal(here, there)).tolist():
         begin, behind = arrays.edge_begin[edges[row] : edges[row] + 2].tolist()
-        place, *line = (arrays.points[begin:behind] / UNITS)[:: 1 - 2 * int(side[row])].tolist()
-        found[row] = bearing(tuple(place), tuple(next((each for each in line if each != place), place)))
+        place, *line = [(lon, lat) for lon, lat in (arrays.points[begin:behind] / UNITS)[:: 1 - 2 * int(side[row])].tolist()]
+        found[row] = bearing(place, next((each for each in line if each != place), place))
     return found
