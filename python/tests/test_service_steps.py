@@ -101,6 +101,14 @@ def test_what_a_profile_says_of_steps(tmp_path: pathlib.Path, base: str, more: d
     assert (free.weight < bound.weight) == (side == "right")
 
 
+def test_a_place_at_the_end_of_an_arc(tmp_path: pathlib.Path) -> None:
+    """A route that has to come by a road up to its very end, and goes on, begins in the direction of the road."""
+    first, *_ = steps(tmp_path, crossing(), "0.0,0.0;0.0005,0", "&bearings=90,20;")
+    assert first["maneuver"]["bearing_after"] == 90 and first["intersections"][0]["bearings"] == [90]
+    first, second, *_ = steps(tmp_path, crossing(), "0.0,-0.00005;0.0005,0", "&bearings=0,20;")
+    assert (first["maneuver"]["bearing_after"], second["maneuver"]["modifier"]) == (0, "right")
+
+
 def test_files_without_a_side(tmp_path: pathlib.Path) -> None:
     """A file that was made before it had one is read as of cars on the right, and one with an unknown one is refused. New speeds keep it."""
     written = net_file.write

@@ -9,7 +9,7 @@ from .columns import UNITS
 from .geo import Point, bearing
 from .grid import Ints, concat_ranges
 from .parallel import differs_from_previous
-from .snapping import END_TOLERANCE, SEGMENT_END_OFFSETS, Arc, RoadIndex, SnappedPoint
+from .snapping import END_TOLERANCE, SEGMENT_END_OFFSETS, Arc, Edge, RoadIndex, SnappedPoint
 from .sphere import unit_vectors
 
 # How many of the nearest edges are examined, until enough have a road in the direction.
@@ -126,11 +126,15 @@ def is_left(roads: RoadIndex, place: Point, edge: int) -> bool:
 
 def bearing_at(roads: RoadIndex, arc: Arc, fraction: float) -> float:
     """The direction of an arc at a fraction of its edge; 0 for an edge of no length."""
-    edge = roads.edge(arc.edge)
-    at = fraction * edge.metres
+    segment = segment_at(roads.edge(arc.edge), fraction)
+    direction = bearing(*segment) if segment else 0.0
+    return direction if arc.is_along or not segment else (direction + 180) % 360
+
+
+def segment_at(edge: Edge, fraction: float) -> tuple[Point, Point] | None:
+    """The ends of an edge's segment at a fraction of it; None for an edge of no length."""
     steps = [index for index in range(1, len(edge.points)) if edge.cumulative[index] > edge.cumulative[index - 1]]
     if not steps:
-        return 0.0
-    index = next((index for index in steps if edge.cumulative[index] >= at), steps[-1])
-    direction = bearing(edge.points[index - 1], edge.points[index])
-    return direction if arc.is_along else (direction + 180) % 360
+        return None
+    index = next((index for index in steps if edge.cumulative[index] >= fraction * edge.metres), steps[-1])
+    return edge.points[index - 1], edge.points[index]

@@ -8,6 +8,7 @@ from typing import NamedTuple
 import numpy as np
 from numpy.typing import NDArray
 
+from .bearings import segment_at
 from .column_file import Column
 from .columns import UNITS
 from .geo import bearing
@@ -233,12 +234,19 @@ class RouteGeometry:
         begins = np.concatenate((arc_begins[:-1], arc_begins[1:] - 2))
         places, others = points[begins], points[begins + 1]
         found = whole_bearings(places, others)
-        # (where the segment has no length, the next point that is another one tells)
+        shares = {arc: low for arc, low, _ in self._driven_parts()}
+        # (where the segment has no length, the next point that is another one tells, and without any the arc at the share that is driven)
         for index in np.flatnonzero(are_equal(places, others)).tolist():
             arc_index, step = index % len(self.arcs), 1 if index < len(self.arcs) else -1
             line = points[arc_begins[arc_index] : arc_begins[arc_index + 1]][::step] / UNITS
             here, *rest = [(lon, lat) for lon, lat in line.tolist()]
-            found[index] = bearing(*(here, next((other for other in rest if other != here), here))[::step])
+            other = next((other for other in rest if other != here), None)
+            if other is not None:
+                found[index] = bearing(*(here, other)[::step])
+            else:
+                arc = self.roads.arc(int(self.arcs[arc_index]))
+                segment = segment_at(self.roads.edge(arc.edge), self.roads.arc_fraction(arc, shares.get(arc_index, 0.0)))
+                found[index] = bearing(*segment[:: 1 if arc.is_along else -1]) if segment else 0
         return found[: len(self.arcs)], found[len(self.arcs) :]
 
 

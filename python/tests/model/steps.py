@@ -5,8 +5,8 @@ from typing import Any
 
 from comparing import Direction, Holds, Intersection, Line, Near
 
-from .network import Arc, Network, Part, SnappedPoint
-from .sphere import Point, bearing, metres_between
+from .network import Ambiguous, Arc, Network, Part, SnappedPoint
+from .sphere import Point, along, bearing, metres_between
 
 # The least degrees of each modifier but the first. Rounding decides so near to them, and about the direction of so short a line.
 LIMITS, NEAR_LIMIT, SHORT = (20, 45, 120, 170), 2.1, 2.0
@@ -32,6 +32,19 @@ def directions(lines: Sequence[list[Point]], step: int) -> list[float]:
         if other == here or metres_between(here, other) > SHORT:
             found.append(bearing(*(here, other)[::step]))
     return found
+
+
+def way_of(network: Network, part: Part, line: list[Point]) -> list[Point]:
+    """A line with the direction of a part of an arc: its own one, or of a part without a length that of the arc there."""
+    arc, begin, stop, _ = part
+    whole, before = network.arcs[arc].line, along(network.arcs[arc].line)
+    steps, at = [number for number in range(1, len(whole)) if before[number] > before[number - 1]], begin * before[-1]
+    if begin < stop or not steps:
+        return line
+    if 0 < begin < 1 and any(abs(metres - at) < 0.1 for metres in before):
+        raise Ambiguous
+    number = next((number for number in steps if before[number] >= at), steps[-1])
+    return [whole[number - 1], whole[number]]
 
 
 def edges_at(network: Network, node: int, is_exit: bool) -> int:
@@ -89,7 +102,8 @@ def steps(
 ) -> Any:
     """The steps of a leg whose parts have these lines; of what rounding decides about only that there are some."""
     arcs = [network.arcs[part[0]] for part in leg]
-    first, last = directions(lines, 1), directions(lines, -1)
+    ways = [way_of(network, part, line) for part, line in zip(leg, lines)]
+    first, last = directions(ways, 1), directions(ways, -1)
     turns = [(begin - end + 180) % 360 - 180 for end, begin in zip(last, first[1:])]
     unsure = Holds("two steps or more", lambda found: len(found) >= 2)
     if any(map(is_near_limit, turns)) or not len(first) == len(last) == len(leg) or network.forbidden:
@@ -105,22 +119,22 @@ def steps(
         if begin:
             turn = turn_at(network, arcs[begin - 1 : stop], named - begin, first[named] - last[begin - 1])
         line = [point for part in lines[begin:stop] for point in part]
-        ways: tuple[Any, Any] = (Direction(last[begin - 1]) if begin else 0, Direction(first[begin]))
+        sides: tuple[Any, Any] = (Direction(last[begin - 1]) if begin else 0, Direction(first[begin]))
         passed = [Intersection(near(start.place), [(first[begin], True)], None, first[begin])] if not begin else []
         for number in range(begin, stop):
             is_junction = leg[number][1] == 0 and edges_at(network, arcs[number].start, False) >= 3
             if number and (number == begin or is_junction):
                 both = (last[number - 1] + 180) % 360, first[number]
                 passed.append(intersection(network, leg, number, lines[number][0], both))
-        found.append(step(turn, ways, arcs[named], figures(network, leg[begin:stop]), line, form, passed))
+        found.append(step(turn, sides, arcs[named], figures(network, leg[begin:stop]), line, form, passed))
     nothing = figures(network, [])
     if not leg:
         passed = [Intersection(near(start.place), [(0, True)], None, 0)]
         found = [step({"type": "depart"}, (0, 0), NOWHERE, nothing, [start.place] * 2, form, passed)]
-    ways, name = (Direction(last[-1]) if leg else 0, 0), NOWHERE._replace(name=found[-1]["name"])
+    sides, name = (Direction(last[-1]) if leg else 0, 0), NOWHERE._replace(name=found[-1]["name"])
     back = (last[-1] if leg else 0) + 180
     passed = [Intersection(near(end.place), [(back, True)], back, None)]
-    found.append(step({"type": "arrive"}, ways, name, nothing, [end.place] * 2, form, passed))
+    found.append(step({"type": "arrive"}, sides, name, nothing, [end.place] * 2, form, passed))
     return [{**each, "driving_side": "left" if network.is_left else "right"} for each in found]
 
 
