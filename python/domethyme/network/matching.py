@@ -42,6 +42,8 @@ SLACK, SLACK_BY_DEVIATION = 2.0, 0.1
 MAX_STRIDE = 1000
 # Metres by which a path may be longer than the great circle, and points in a row that may be left out.
 MAX_DETOUR, MAX_LEFT_OUT = 2000.0, 3
+# Metres by which two points are nearer to one another than they are shown, to six digits of a degree, at most.
+ROUNDED = 0.2
 # A gap of time: so many seconds, and so many times as many as between most points.
 GAP_SECONDS, GAP_STEPS = 60.0, 10.0
 # What is tidied away: points nearer than so many metres, or seconds, to the last one that is kept.
@@ -200,7 +202,7 @@ class Matcher:
         weights, = least_by_nodes(lambda *nodes: [self._table(*nodes)], *sides, (len(start.points), len(end.points)), *added)
         least, most = self._roads.metres_of_weight
         # (the weight of a part of an arc is rounded)
-        straight = great_circle_metres(start.vectors[:, None], end.vectors[None])
+        straight = great_circle_metres(start.vectors[:, None], end.vectors[None]) - ROUNDED
         low, high = np.maximum(straight, least * (weights - 2)), most * (weights + 2)
         off = np.maximum(np.maximum(low - apart, apart - high), 0)
         off[(weights == FAR) | (low - apart > MAX_DETOUR)] = np.inf
