@@ -141,8 +141,9 @@ class RouteGeometry:
     @functools.cached_property
     def joints(self) -> Ints:
         """The arcs with which a leg goes on at a point within a road."""
-        numbers = [number for number in self._driven.tolist() if self._parts[number].begin != 0.0]
-        return np.setdiff1d(self._part_first[numbers], self.first)
+        firsts, of_legs = self._part_first.tolist(), {*self.first.tolist()}
+        inner = [firsts[number] for number in self._driven.tolist() if self._parts[number].begin != 0.0]
+        return np.array([first for first in inner if first not in of_legs], np.int64)
 
     @functools.cached_property
     def _shown(self) -> tuple[Ints, Ints]:
