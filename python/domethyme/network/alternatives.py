@@ -38,48 +38,61 @@ def alternatives(
     """Up to so many other legs between two points than the best one, those first whose weight is less and whose plateau weighs more."""
     if not (count and best.weight and start.exits and end.entries):
         return []
-    found, limit = [best], int(STRETCH * best.weight)
+    found, taken, limit = list[Leg](), [frozenset(best.arcs.tolist())], int(STRETCH * best.weight)
     there, back = (
         reached(sorted((node, weight) for node, (weight, _) in side.items()), limit, towards)
         for side, towards in ((start.exits, False), (end.entries, True))
     )
     for plateau in plateaus(roads.arrays, there, back, best.weight):
-        if len(found) > count:
-            break
         leg = leg_by(roads, start, end, plateau, between)
-        if leg is not None and all(shared(leg, other) <= MOST_SHARED * best.weight for other in found):
+        if leg is not None and all(shared(leg, arcs) <= MOST_SHARED * best.weight for arcs in taken):
             found.append(leg)
-    return found[1:]
+            if len(found) == count:
+                break
+            taken.append(frozenset(leg.arcs.tolist()))
+    return found
 
 
 def plateaus(network: MappedNetwork, there: Ints, back: Ints, best: int) -> Iterator[Plateau]:
     """The plateaus that weigh enough, of routes that don't weigh too much. The lengths are those from the start, and to the end."""
-    near = np.flatnonzero((there >= 0) & (back >= 0) & (there + back <= STRETCH * best))
-    begins = network.out_begin[near]
-    rows, places = concat_ranges(begins, network.out_begin[near + 1] - begins)
-    arcs = network.out_arcs[places]
-    tails, heads, weights = near[rows], network.arc_to[arcs], network.arc_weight[arcs].astype(np.int64)
-    is_tight = (there[heads] == there[tails] + weights) & (back[heads] >= 0) & (back[tails] == back[heads] + weights)
+    near = np.flatnonzero(((there | back) >= 0) & (there + back <= int(STRETCH * best)))
     # (of several tight arcs that leave a node, or come to one, the first is taken)
-    tails, heads = tails[is_tight][::-1], heads[is_tight][::-1]
-    after, before = np.full(len(there), -1), np.full(len(there), -1)
+    tails, heads = (ends[::-1] for ends in tight_arcs(network, near, there, back))
+    after, before = np.full(len(near), -1), np.full(len(near), -1)
     after[tails], before[heads] = heads, tails
-    tails = near[after[near] >= 0]
+    tails = np.flatnonzero(after >= 0)
     tails = tails[before[after[tails]] == tails]
-    goes_on = np.zeros(len(there), np.bool_)
+    goes_on = np.zeros(len(near), np.bool_)
     goes_on[tails] = True
     firsts = tails[(before[tails] < 0) | (after[before[tails]] != tails)]
     lasts, inner = firsts.copy(), np.arange(len(firsts))
     while len(inner):
         lasts[inner] = after[lasts[inner]]
         inner = inner[goes_on[lasts[inner]]]
-    weight, long = there[firsts] + back[firsts], there[lasts] - there[firsts]
+    long = there[near[lasts]] - there[near[firsts]]
+    is_long = long >= LEAST_PLATEAU * best
+    firsts, lasts, long = firsts[is_long], lasts[is_long], long[is_long]
+    weight = there[near[firsts]] + back[near[firsts]]
     for place in np.lexsort((firsts, 2 * weight - long)).tolist():
-        if long[place] >= LEAST_PLATEAU * best:
-            nodes = [int(firsts[place])]
-            while nodes[-1] != lasts[place]:
-                nodes.append(int(after[nodes[-1]]))
-            yield Plateau(int(weight[place]), nodes)
+        nodes = [int(firsts[place])]
+        while nodes[-1] != lasts[place]:
+            nodes.append(int(after[nodes[-1]]))
+        yield Plateau(int(weight[place]), near[nodes].tolist())
+
+
+def tight_arcs(network: MappedNetwork, near: Ints, there: Ints, back: Ints) -> tuple[Ints, Ints]:
+    """The ends of the tight arcs between some nodes, by their places among these. They have to be all of which the lengths sum to so much."""
+    begins = network.out_begin[near]
+    rows, places = concat_ranges(begins, network.out_begin[near + 1] - begins)
+    arcs = network.out_arcs[places]
+    heads, weights = network.arc_to[arcs], network.arc_weight[arcs]
+    # (of five arcs some two are tight from the start: the others aren't looked at again)
+    some = np.flatnonzero(there[heads] == there[near][rows] + weights)
+    rows, heads, weights = rows[some], heads[some], weights[some]
+    is_tight = (back[heads] >= 0) & (back[near][rows] == back[heads] + weights)
+    place_of = np.empty(len(there), np.int64)
+    place_of[near] = np.arange(len(near))
+    return rows[is_tight], place_of[heads[is_tight]]
 
 
 def leg_by(roads: RoadIndex, start: SnappedPoint, end: SnappedPoint, plateau: Plateau, between: Between) -> Leg | None:
@@ -94,6 +107,6 @@ def leg_by(roads: RoadIndex, start: SnappedPoint, end: SnappedPoint, plateau: Pl
     return leg_via_route(roads, start, end, RouterResult(before.source, behind.target, plateau.weight, nodes))
 
 
-def shared(leg: Leg, other: Leg) -> int:
-    """What the arcs of a leg weigh that are another one's too."""
-    return int(leg.weights[np.isin(leg.arcs, other.arcs)].sum())
+def shared(leg: Leg, arcs: frozenset[int]) -> int:
+    """What the arcs of a leg weigh that are among these."""
+    return sum(weight for arc, weight in zip(leg.arcs.tolist(), leg.weights.tolist()) if arc in arcs)
