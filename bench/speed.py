@@ -4,21 +4,21 @@
     bench/speed.py [--sparse N ..] [--nodes N ..] [--rounds ROUNDS] [--kept FOLDER] [--only WORD ..] [--no-python] [--page] [--anew]
 
 By default in 5 rounds, and kept in out/speed. The networks are sparse ones with the figures of the challenge's (make_sparse.cpp),
-of 264,346 and 1,000,000 nodes (above 300,000 by `depth` alone, and above a million, which scale.py measures, in one round); those
+of 264,346 and 1,000,000 nodes (above a million, which scale.py measures, in one round); those
 of make_network.py with --roads, of 10,000 and 65,536 nodes; one without --roads, of 65,536 nodes, that is hard to prepare and to ask; and the map of
 tools/fetch_extract, in which a node lies at least every 20 metres (left out where neither the folder nor Debian has it). In
 each round each job of each network has its turn once, so that a machine that is slow for a while is slow for all of them:
 
-  prepare    by 1 and 4 workers and each order, `neighbours` by 1 alone; and up to 300,000 nodes a textbook hierarchy in C++
-             (hierarchy.cpp), without routes
-  check      `routecli check` of the hierarchy of one worker and each order
+  prepare    by 1 and 4 workers and `balanced`; and up to 300,000 nodes a textbook hierarchy in C++ (hierarchy.cpp), without
+             routes
+  check      `routecli check` of the hierarchy of one worker
   route      10,000 random pairs, 40,000 near ones, whose ends are at most 20 rows and columns apart, and no pairs, which reads
-             the file alone, by the hierarchy of one worker and `edges`, which is the default, and `depth`; and by route.cpp, an
+             the file alone, by the hierarchy of one worker; and by route.cpp, an
              optimised program that does the same
   search     20 of the pairs without a hierarchy: in C++ (plain_search.cpp), by Boost; up to 65,536 nodes in Python by igraph
              (python_search.py), and up to 10,000 by NetworkX and in PostgreSQL by pgRouting (pgrouting_search.py)
   table      from 1,000,000 nodes down to 200,000, tables by the library (library_rows.cpp) and by an RPHAST in C++ (rows.cpp):
-             the first call, which selects, and a later one; what is reached from a node; tables and pairs by 1 and 4 threads
+             the first call, which selects, and a later one; what is reached from a node
   counted    once, up to 300,000 nodes: instructions of preparing, routes and tables, by cachegrind
   read       the graph's text alone: `answer` with a text of pairs that is refused, and read_graph.cpp
   answer     100 pairs, up to 10,000 nodes
@@ -27,7 +27,7 @@ A job that takes less than a second has three turns in a row, of which the middl
 waits until other programs leave the machine alone, for `--wait` seconds at most; if they don't, a line says so, and the run goes
 on. Each run is a line of runs.csv in the folder, and what was measured isn't measured again. Rerun the same command to resume an
 interrupted run, or with more rounds to add them. Figures of another program, another machine or other networks are refused;
-`--anew` drops them. With `--only` those jobs alone whose names have one of the words, as "route depth". Seconds are of the wall clock and
+`--anew` drops them. With `--only` those jobs alone whose names have one of the words, as "route balanced". Seconds are of the wall clock and
 of the processors; memory is the greatest resident size; `others` is how many processors other programs kept busy meanwhile; the
 loads are those of the last minute, before and after the run.
 
@@ -65,8 +65,8 @@ from kit.program import PROGRAM, ROOT, Runs, compiled, linked, need_compiled, ne
 NODES = [10_000, 65_536]
 SPARSE = [264_346, 1_000_000]
 HARD = 256
-ROUTED = ["edges", "depth"]
-WORKERS = {"edges": [1, 4], "neighbours": [1], "depth": [1, 4]}
+ROUTED = ["balanced"]
+WORKERS = {"balanced": [1, 4]}
 RANDOM, NEAR, STEPS, FEW, CHECKED = 10_000, 40_000, 20, 20, 100
 PAIRS = {"random": RANDOM, "near": NEAR, "few": FEW}
 MOST_ANSWERED, MOST_ORDERS, MOST_WHOLE = 10_000, 300_000, 1_000_000
@@ -75,7 +75,7 @@ LEAST_TABLES = 200_000
 TABLES = {"100 x 100, random": ("random", 100, 100, 8), "100 x 100, near": ("near", 100, 100, 8),
           "1,000 x 1,000, random": ("random", 1000, 1000, 8), "1,000 x 1,000, near": ("near", 1000, 1000, 8),
           "1 to all": ("all", 1, 1, 1), "16 to all": ("all", 16, 1, 4)}
-MEDIANS = ("table", "reach", "threads", "counted")  # jobs whose programs take medians, and those that count
+MEDIANS = ("table", "reach", "counted")  # jobs whose programs take medians, and those that count
 REACHED = {"all": 0, "near": 10_000}  # the limit, or 0 for none
 SEED = 1
 OTHERS = {"igraph": 65_536, "networkx": 10_000, "pgrouting": 10_000}  # up to how many nodes each searches
@@ -156,7 +156,7 @@ class Bench:
     def __init__(self, options, folder):
         self.options, self.folder, self.runs = options, folder, Runs(folder)
         self.programs = {name: need_compiled(folder, name) for name in ["route", "hierarchy", "plain_search", "read_graph", "rows"]}
-        self.programs |= {source.partition(".")[0]: linked(folder, source) for source in ["library_rows.cpp", "library_speed.c"]}
+        self.programs["library_rows"] = linked(folder, "library_rows.cpp")
         self.boost = compiled(folder, "boost_search")
         self.others = [] if options.no_python else [kind for kind in OTHERS if is_there(kind)]
         missing = ([] if self.boost else ["Boost"]) + [kind for kind in OTHERS if kind not in self.others]
@@ -199,7 +199,7 @@ class Bench:
 
     def jobs(self, network):
         """The jobs of a network by their names, each a function of the round. Those that others need come first. A large
-        network has those of `depth`, and the searches that take no more than minutes."""
+        network has those of `balanced`, and the searches that take no more than minutes."""
         jobs = {}
         is_large = network.count > MOST_ORDERS
         routed = ROUTED[-1:] if is_large else ROUTED
@@ -242,20 +242,16 @@ class Bench:
             for program in ["table", "table.cpp"]:
                 for at, call in enumerate(["first", "kept"]):
                     jobs[f"{program} {name} {call}"] = self.ask_table(network, self.asking(network, program, name, 5, 1), name, at)
-        rows = [self.programs["library_rows"], self.prepared(network, "depth")]
+        rows = [self.programs["library_rows"], self.prepared(network, "balanced")]
         for name, limit in REACHED.items():
             for at, call in enumerate(["first", "kept"]):
                 jobs[f"reach {name} {call}"] = self.ask_table(network, [*rows, "reach", 1, limit, 5, 1, 1], f"reach {name}", at)
-        for threads in (1, 4):
-            words = [*rows, *TABLES["1,000 x 1,000, random"][:3], 5, 0, threads]
-            jobs[f"threads table {threads}"] = self.ask_table(network, words, "1,000 x 1,000, random", 0)
-            jobs[f"threads pairs {threads}"] = self.by_threads(network, threads)
         return jobs
 
     def asking(self, network, program, name, rounds, kept):
         """The words that ask for a table in so many rounds, with so many calls by the kept selection in each."""
         *nodes, together = TABLES[name]
-        asked = [self.prepared(network, "depth"), *nodes, rounds, kept]
+        asked = [self.prepared(network, "balanced"), *nodes, rounds, kept]
         return [self.programs["rows"], *asked, together] if program == "table.cpp" else [self.programs["library_rows"], *asked, 1]
 
     def ask_table(self, network, words, name, at):
@@ -271,25 +267,14 @@ class Bench:
 
         return go
 
-    def by_threads(self, network, threads):
-        """The wall time of all random pairs' routes by each of some threads, divided by their number."""
-        def go():
-            lines, found = self.folder / "lines", self.folder / "found"
-            asked = [line.split() for line in network.pairs("random").read_text().splitlines()[1:]]
-            lines.write_text("".join(f"{start} {end}\n" for _, start, end in asked))
-            taken = self.runs.taken([self.programs["library_speed"], self.prepared(network, "depth"), lines, threads], found)
-            return float(found.read_text().split()[2]) * len(asked) / 1e9, taken
-
-        return go
-
     def counted(self, network):
         """Instructions of what has a ratio."""
-        graph, file, none = network.graph, self.prepared(network, "depth"), network.pairs("none")
-        words = {"prepare depth 1": [PROGRAM, "prepare", "--workers", 1, "--order", "depth", graph, network.file("depth", 4)],
+        graph, file, none = network.graph, self.prepared(network, "balanced"), network.pairs("none")
+        words = {"prepare balanced 1": [PROGRAM, "prepare", "--workers", 1, "--order", "balanced", graph, network.file("balanced", 4)],
                  "textbook": [self.programs["hierarchy"], graph, none]}
         for kind in ["none", "random"]:
-            words[f"route depth {kind}"] = [PROGRAM, "route", file, network.pairs(kind)]
-            words[f"route.cpp depth {kind}"] = [self.programs["route"], file, network.pairs(kind)]
+            words[f"route balanced {kind}"] = [PROGRAM, "route", file, network.pairs(kind)]
+            words[f"route.cpp balanced {kind}"] = [self.programs["route"], file, network.pairs(kind)]
         if network.count >= LEAST_TABLES:
             for program in ["table", "table.cpp"]:
                 for name in TABLES:
@@ -392,7 +377,7 @@ class Bench:
             found, wanted = self.folder / "found", network.folder / f"{kind}-few.wanted"
             taken = self.runs.taken([*words[name], network.graph, network.pairs(f"{kind}-few")], found)
             if not wanted.exists():
-                self.runs.taken([PROGRAM, "route", self.prepared(network, "depth"), network.pairs(f"{kind}-few")], wanted)
+                self.runs.taken([PROGRAM, "route", self.prepared(network, "balanced"), network.pairs(f"{kind}-few")], wanted)
             lengths = [[line[:4] for line in costs_in(file)] for file in (found, wanted)]
             if lengths[0] != lengths[1]:
                 sys.exit(f"{network.name}: {name} answers otherwise")

@@ -1,22 +1,25 @@
 #!/usr/bin/python3
-"""Writes the tables and the picture of docs/PERFORMANCE.md and README.md from the runs of speed.py.
+"""Writes the tables of docs/PERFORMANCE.md and README.md from the runs of speed.py, and has their pictures drawn (figures.py).
 
     bench/speed_page.py [--check] [FOLDER]
 
 The runs are docs/speed.csv, and the facts about networks and machine docs/speed.json. With FOLDER, as out/speed, its
 runs.csv and facts.json replace them first. In PERFORMANCE.md each table replaces what is between a line as `<!-- prepare -->` and
-the next empty line, in README.md what is between two such lines; the picture is docs/speed.svg. With --check nothing is
-written: the status is 1 if a page isn't what the runs give.
+the next empty line, in README.md what is between two such lines. With --check nothing is written: the status is 1 if a page isn't
+what the runs give.
 
-Each time is the median of its rounds, and each memory the greatest. A ratio is the median of the ratios of the rounds, with
-the lowest, the highest, and how many there are. The picture needs Debian's python3-matplotlib.
+Each time is the median of its rounds, and each memory the greatest. Times are of the processors, but tables
+measure theirs by the clock. A ratio is the median of the ratios of the rounds, with the lowest, the highest, and how many
+there are.
 """
 import collections
 import csv
 import json
 import pathlib
+import re
 import shutil
 import statistics
+import subprocess
 import sys
 import textwrap
 import typing
@@ -25,15 +28,16 @@ from kit.counted import parser
 
 DOCS = pathlib.Path(__file__).resolve().parent.parent / "docs"
 README = DOCS.parent / "README.md"
-RUNS, FACTS, PICTURE = DOCS / "speed.csv", DOCS / "speed.json", DOCS / "speed.svg"
+RUNS, FACTS = DOCS / "speed.csv", DOCS / "speed.json"
+# Runs of an earlier build on quiet machines, by `depth`: for ratios and tables, of which both sides are of the same rounds.
+EARLIER_RUNS, EARLIER_FACTS, EARLIER_ORDER = DOCS / "speed-quiet.csv", DOCS / "speed-quiet.json", "depth"
 
 NOT_MEASURED = "not measured"
 KINDS = ["random", "near"]
-IN_CPP = {"plain": "Dijkstra", "boost": "Boost"}
-OTHERS = {"igraph": "igraph", "networkx": "NetworkX", "pgrouting": "pgRouting"}
 SMALL = 10_000
 BUSY = 0.5  # processors of other programs
-SHOWN = "sparse-"  # the networks of README and the picture
+SHOWN = "sparse-"  # the networks of README
+BY_CLOCK = ("table", "reach")  # jobs whose programs measure themselves
 
 # The figures of a job's rounds by their numbers.
 Rounds = dict[int, float]
@@ -42,7 +46,8 @@ Rounds = dict[int, float]
 class Measured:
     """What was measured, by network and job."""
 
-    def __init__(self, runs: pathlib.Path, facts: pathlib.Path) -> None:
+    def __init__(self, runs: pathlib.Path, facts: pathlib.Path, order: str = "balanced") -> None:
+        self.order = order
         told = json.loads(facts.read_text())
         self.about, self.networks, self.counts = told["about"], told["networks"], told["pairs"]
         self.runs = collections.defaultdict(list)
@@ -51,11 +56,12 @@ class Measured:
         for row in self.rows:
             self.runs[row["network"], row["job"]].append(row)
 
-    def rounds(self, network: str, job: str, head: str = "seconds") -> Rounds:
+    def rounds(self, network: str, job: str, head: str = "") -> Rounds:
+        head = head or ("seconds" if job.startswith(BY_CLOCK) else "processor")
         return {int(row["round"]): float(row[head]) for row in self.runs.get((network, job), [])}
 
-    def time(self, network: str, job: str, head: str = "seconds") -> str:
-        return written(median(self.rounds(network, job, head)))
+    def time(self, network: str, job: str) -> str:
+        return written(median(self.rounds(network, job)))
 
     def memory(self, network: str, job: str) -> str:
         found = self.rounds(network, job, "megabytes")
@@ -71,27 +77,19 @@ class Measured:
         whole, loading = (self.rounds(network, f"{program} {order} {each}") for each in [kind, "none"])
         return {each: (whole[each] - loading[each]) / self.counts[kind] for each in whole.keys() & loading.keys()}
 
-    def searched(self, network: str, name: str, kind: str) -> Rounds:
-        """What a pair takes by a search without a hierarchy."""
-        return {each: time / self.counts["few"] for each, time in self.rounds(network, f"search {name} {kind}").items()}
-
-    def instructions(self, network: str, ours: str, theirs: str, less: str = "") -> str:
+    def instructions(self, network: str, ours: str, theirs: str, less: str = "") -> float | None:
         """The ratio of the instructions of two jobs, each less those of the same job with `less` for its last word."""
         found = self.networks[network].get("instructions", {})
         counts = []
         for job in [ours, theirs]:
             without = f"{job.rpartition(' ')[0]} {less}"
             if job not in found or (less and without not in found):
-                return NOT_MEASURED
+                return None
             counts.append(found[job] - (found[without] if less else 0))
-        return f"{counts[0] / counts[1]:.2f}"
-
-    def asked(self) -> list[tuple[str, str]]:
-        """The networks with each kind of pairs that they were asked for."""
-        return [(name, kind) for name in self.networks for kind in KINDS if self.pair(name, "depth", kind)]
+        return counts[0] / counts[1]
 
     def shown(self) -> list[str]:
-        """The networks of README and the picture, or all where there are none of that kind."""
+        """The networks of README, or all where there are none of that kind."""
         return [name for name in self.networks if name.startswith(SHOWN)] or list(self.networks)
 
     def large(self) -> list[str]:
@@ -153,79 +151,81 @@ def machine(measured: Measured) -> str:
     )
 
 
-def preparing(measured: Measured) -> str:
-    heads = ["Nodes", "`depth`, 1 worker", "4 workers", "4 / 1", "memory", "links per arc"]
-    heads += ["`edges`, 4 workers", "links per arc"]
+def times(measured: Measured) -> str:
+    """What each command takes, by network."""
+    heads = ["Nodes", "`prepare`, 1 worker", "memory", "4 workers", "memory", "links per arc", "`check`", "memory", "loading", "memory"]
+    heads += ["a random pair", "a near pair"]
     rows = []
     for name in measured.large():
-        one, four = (measured.rounds(name, f"prepare depth {workers}") for workers in (1, 4))
-        cells = [written(median(one)), written(median(four)), ratio(four, one)]
-        cells += [measured.memory(name, "prepare depth 4"), measured.links(name, "depth")]
-        cells += [measured.time(name, "prepare edges 4"), measured.links(name, "edges")]
+        cells = []
+        for job in ["prepare balanced 1", "prepare balanced 4", "check balanced", "route balanced none"]:
+            cells += [measured.time(name, job), measured.memory(name, job)]
+        cells[4:4] = [measured.links(name, "balanced")]
+        cells += [written(median(measured.pair(name, "balanced", kind))) for kind in KINDS]
         rows.append([measured.title(name), *cells])
     return table(heads, rows)
 
 
-def beside(measured: Measured) -> str:
-    heads = ["Nodes", "`prepare`", "memory", "reference", "memory", "`prepare` / reference", "instructions"]
-    heads += ["`check`", "memory"]
-    jobs, rows = ["prepare depth 1", "textbook", "check depth"], []
-    for name in measured.large():
-        ours, theirs, checked = (measured.rounds(name, job, "processor") for job in jobs)
-        times = [written(median(each)) for each in (ours, theirs, checked)]
-        memory = [measured.memory(name, job) for job in jobs]
-        cells = [times[0], memory[0], times[1], memory[1], ratio(ours, theirs)]
-        cells += [measured.instructions(name, *jobs[:2]), times[2], memory[2]]
-        rows.append([measured.title(name), *cells])
-    return table(heads, rows)
+# What is compared with a program in C++ that does the same: a title, and the names of both jobs, by an order.
+COMPARED = {
+    "preparing, one worker": ("prepare ORDER 1", "textbook"),
+    "loading": ("route ORDER none", "route.cpp ORDER none"),
+    "a random pair": ("route ORDER random", "route.cpp ORDER random"),
+    "a near pair": ("route ORDER near", "route.cpp ORDER near"),
+    "a table of 100 x 100, first call": ("table 100 x 100, random first", "table.cpp 100 x 100, random first"),
+    "a table of 1,000 x 1,000, first call": ("table 1,000 x 1,000, random first", "table.cpp 1,000 x 1,000, random first"),
+    "a later call": ("table 1,000 x 1,000, random kept", "table.cpp 1,000 x 1,000, random kept"),
+    "one to all, first call": ("table 1 to all first", "table.cpp 1 to all first"),
+    "a later call of it": ("table 1 to all kept", "table.cpp 1 to all kept"),
+}
 
 
-def loading(measured: Measured) -> str:
-    jobs, rows = ["route depth none", "route.cpp depth none"], []
-    for name in measured.large():
-        ours, theirs = (measured.rounds(name, job) for job in jobs)
-        cells = [written(median(ours)), written(median(theirs)), ratio(ours, theirs), measured.instructions(name, *jobs)]
-        rows.append([measured.title(name), *cells, measured.memory(name, jobs[0])])
-    return table(["Nodes", "`route`", "C++", "ratio", "instructions", "memory"], rows)
+class Compared(typing.NamedTuple):
+    """The ratios of the rounds of both, and that of the instructions, if they were counted."""
+
+    title: str
+    network: str
+    ratios: list[float]
+    instructions: float | None
 
 
-def pairs(measured: Measured) -> str:
-    heads = ["Nodes", "random", "C++", "ratio", "instructions", *IN_CPP.values(), "near", "C++", "ratio", IN_CPP["plain"]]
-    rows = []
-    for name in measured.large():
-        random, near = ([measured.pair(name, "depth", kind, program) for program in ("route", "route.cpp")] for kind in KINDS)
-        searched = [measured.searched(name, each, "random") for each in IN_CPP]
-        times = [written(median(each)) for each in [*random, *searched, *near, measured.searched(name, "plain", "near")]]
-        counted = measured.instructions(name, "route depth random", "route.cpp depth random", "none")
-        rows.append([measured.title(name), *times[:2], ratio(*random), counted, *times[2:6], ratio(*near), times[6]])
-    return table(heads, rows)
+def compared(measured: Measured) -> list[Compared]:
+    found = []
+    for title, pair_of_jobs in COMPARED.items():
+        jobs = [job.replace("ORDER", measured.order) for job in pair_of_jobs]
+        for name in measured.large():
+            is_pair = title.endswith("pair")
+            rounds = [measured.pair(name, measured.order, job.split()[-1], job.split()[0]) if is_pair else measured.rounds(name, job) for job in jobs]
+            ratios = sorted(rounds[0][each] / rounds[1][each] for each in rounds[0].keys() & rounds[1].keys() if rounds[1][each])
+            counted = [re.sub(" first$", " 1", re.sub(" kept$", " 2", job)) for job in jobs]
+            less = "none" if is_pair else str(int(counted[0][-1]) - 1) if job_of_table(jobs[0]) else ""
+            if ratios:
+                found.append(Compared(title, measured.title(name), ratios, measured.instructions(name, *counted, less)))
+    return found
+
+
+def job_of_table(job: str) -> bool:
+    return job.startswith("table")
 
 
 def settled(measured: Measured) -> str:
-    """How many nodes a pair settles, by either order."""
+    """How many nodes a pair settles."""
     rows = []
     for name in measured.large():
-        found = measured.networks[name].get("settled", {})
-        counts = [found.get(f"{order} {kind}") for order in ("depth", "edges") for kind in KINDS]
+        counts = [measured.networks[name].get("settled", {}).get(f"balanced {kind}") for kind in KINDS]
         rows.append([measured.title(name), *(NOT_MEASURED if count is None else f"{count:.0f}" for count in counts)])
-    return table(["Nodes", "`depth`, random", "near", "`edges`, random", "near"], rows)
+    return table(["Nodes", "random", "near"], rows)
 
 
 def tables(measured: Measured) -> str:
-    """A row for each table: the first call and a later one, by the library and by rows.cpp."""
-    heads = ["Nodes, table", "first call", "C++", "ratio", "instructions", "a later one", "C++", "ratio", "instructions"]
+    """A row for each table: the first call and a later one, by the library."""
     rows = []
     for name, facts in measured.networks.items():
         for asked in facts.get("tables", {}):
-            cells = []
-            for call, calls in [("first", 1), ("kept", 2)]:
-                jobs = [f"{program} {asked}" for program in ["table", "table.cpp"]]
-                ours, theirs = (measured.rounds(name, f"{job} {call}") for job in jobs)
-                counted = measured.instructions(name, *(f"{job} {calls}" for job in jobs), str(calls - 1))
-                cells += [written(median(ours)), written(median(theirs)), ratio(ours, theirs), counted]
-            if measured.rounds(name, f"table {asked} first") and "near" not in asked:
-                rows.append([f"{measured.nodes(name):,}, {asked}", *cells])
-    return table(heads, rows)
+            times = [measured.time(name, f"table {asked} {call}") for call in ("first", "kept")]
+            if NOT_MEASURED not in times:
+                rows.append([f"{measured.nodes(name):,}, {asked}", *times])
+    return table(["Nodes, table", "first call", "a later one"], rows)
 
 
 def reached(measured: Measured) -> str:
@@ -237,103 +237,33 @@ def reached(measured: Measured) -> str:
     return table(["Nodes", "of them reached", "first call", "a later one"], rows)
 
 
-def threads(measured: Measured) -> str:
-    rows = []
-    for name in measured.networks:
-        one, four = ([measured.rounds(name, f"threads {each} {count}") for each in ["pairs", "table"]] for count in (1, 4))
-        if all([*one, *four]):
-            cells = [cell for ours, theirs in zip(one, four) for cell in (written(median(ours)), written(median(theirs)), ratio(theirs, ours))]
-            rows.append([f"{measured.nodes(name):,}", *cells])
-    heads = ["Nodes", "10,000 routes, 1 thread", "4 threads", "4 / 1", "a table, 1 thread", "4 threads", "4 / 1"]
-    return table(heads, rows)
-
-
-def slower(measured: Measured) -> str:
-    """The networks that igraph, NetworkX and pgRouting have in common."""
-    rows = []
-    for name, kind in measured.asked():
-        found = [measured.searched(name, each, kind) for each in OTHERS]
-        if all(found):
-            times = [written(median(each)) for each in [measured.pair(name, "depth", kind), *found]]
-            rows.append([f"{measured.title(name)}, {kind}", *times])
-    return table(["Nodes, pairs", "`depth`", *OTHERS.values()], rows)
-
-
 def figures(measured: Measured) -> str:
-    """The three figures that PERFORMANCE.md begins with, of the largest network that is shown."""
+    """The figures that PERFORMANCE.md begins with, of the largest network that is shown."""
     name = max(measured.shown(), key=measured.nodes)
-    pair, near = (measured.pair(name, "depth", kind) for kind in KINDS)
+    pair, near = (measured.pair(name, measured.order, kind) for kind in KINDS)
     lines = [
-        f"- **{measured.time(name, 'prepare depth 4')}** to prepare {measured.nodes(name):,} nodes and "
-        f"{measured.networks[name]['arcs']:,} arcs with four workers, in {measured.memory(name, 'prepare depth 4')}.",
+        f"- **{measured.time(name, 'prepare balanced 1')}** of a processor to prepare {measured.nodes(name):,} nodes and "
+        f"{measured.networks[name]['arcs']:,} arcs, in {measured.memory(name, 'prepare balanced 1')}.",
         f"- **{written(median(pair))}** for a random pair, {written(median(near))} for a near one: length and path.",
-        f"- Boost's search, without a hierarchy, takes **{ratio(measured.searched(name, 'boost', 'random'), pair)}** times as long.",
     ]
     return "\n".join(lines)
 
 
-TABLES = {"figures": figures, "machine": machine, "prepare": preparing, "beside": beside, "loading": loading,
-          "pairs": pairs, "settled": settled, "slower": slower, "tables": tables, "reached": reached, "threads": threads}
+TABLES = {"figures": figures, "machine": machine, "times": times, "settled": settled, "tables": tables, "reached": reached}
+OF_EARLIER = {"tables", "reached"}
 
 
 def summary(measured: Measured) -> str:
     """What README.md shows."""
-    heads = ["Nodes", "`prepare`, 4 workers", "loading", "a near pair", "a random pair", "the same in C++", "ratio"]
     rows = []
-    for name in measured.shown():
-        near = measured.pair(name, "depth", "near")
-        ours, theirs = (measured.pair(name, "depth", "random", program) for program in ["route", "route.cpp"])
-        cells = [measured.time(name, "prepare depth 4") + ", " + measured.memory(name, "prepare depth 4")]
-        cells += [measured.time(name, "route depth none"), *(written(median(each)) for each in (near, ours, theirs))]
-        boost = written(median(measured.searched(name, "boost", "random")))
-        rows.append([f"{measured.nodes(name):,}", *cells, ratio(ours, theirs), boost])
+    for name in measured.large():
+        cells = [measured.time(name, "prepare balanced 1"), measured.memory(name, "prepare balanced 1"), measured.time(name, "route balanced none")]
+        rows.append([measured.title(name), *cells, *(written(median(measured.pair(name, "balanced", kind))) for kind in KINDS)])
     date = min(row["when"] for row in measured.rows)[:10]
-    told = f"Measured on {date} by `--order depth` on synthetic networks, on a machine of {measured.about['machine']}. A "
-    told += "ratio is the median over the rounds (minimum to maximum). Boost's search was measured on another, faster machine."
-    picture = "![Times of preparing and of a pair against the number of nodes](docs/speed.svg)"
-    return f"{filled(told)}\n\n{table([*heads, 'Boost, no hierarchy'], rows)}\n\n{picture}\n"
-
-
-def draw(measured: Measured, file: pathlib.Path) -> None:
-    """Times against nodes, both by their logarithms: those of preparing, and those of a random pair."""
-    # (the tables need no such package)
-    import matplotlib
-
-    matplotlib.use("svg")
-    import matplotlib.pyplot
-    import matplotlib.ticker
-
-    look = {"svg.fonttype": "none", "svg.hashsalt": "speed", "font.family": "sans-serif", "font.size": 9}
-    matplotlib.rcParams.update(look)
-    figure, (left, right) = matplotlib.pyplot.subplots(1, 2, figsize=(9.5, 4))
-    names = measured.shown()
-
-    def line(axes: typing.Any, label: str, times: dict[str, Rounds], style: str) -> None:
-        found = [(measured.nodes(name), median(rounds)) for name, rounds in times.items() if rounds]
-        if found:
-            axes.plot(*zip(*found), style, label=label, markersize=4)
-
-    for label, job, style in [("1 worker, depth", "prepare depth 1", "o-"), ("4 workers, depth", "prepare depth 4", "^-"),
-                              ("4 workers, edges", "prepare edges 4", "v:"), ("reference in C++", "textbook", "k--")]:
-        line(left, label, {name: measured.rounds(name, job) for name in names}, style)
-    for label, program, style in [("routecli route", "route", "o-"), ("the same in C++", "route.cpp", "k--")]:
-        line(right, label, {name: measured.pair(name, "depth", "random", program) for name in names}, style)
-    for (search, label), style in zip(IN_CPP.items(), ["s-", "^-"]):
-        line(right, label, {name: measured.searched(name, search, "random") for name in names}, style)
-    counts = sorted({measured.nodes(name) for name in names})
-    for axes, title, steps in [(left, "prepare", [1, 2, 5]), (right, "a random pair", [1])]:
-        axes.set(xscale="log", yscale="log", title=title, xlabel="nodes")
-        axes.set_xticks(counts, [f"{count:,}" for count in counts])
-        low, high = axes.get_ylim()
-        axes.set_ylim(low, high * (high / low) ** 0.4)  # room for the legend above all lines
-        axes.yaxis.set_major_locator(matplotlib.ticker.LogLocator(subs=steps, numticks=20))
-        axes.yaxis.set_major_formatter(matplotlib.ticker.EngFormatter(unit="s"))
-        for axis in (axes.xaxis, axes.yaxis):
-            axis.set_minor_locator(matplotlib.ticker.NullLocator())
-        axes.grid(True, which="major", alpha=0.3)
-        axes.legend(fontsize=8, ncols=2, loc="upper left")
-    figure.tight_layout()
-    figure.savefig(file, metadata={"Date": None, "Creator": None})
+    told = f"Processor time, measured on {date} by `--order balanced` on a busy machine of {measured.about['machine']}."
+    heads = ["Nodes", "`prepare`, 1 worker", "memory", "loading", "a random pair", "a near pair"]
+    picture = "![Time and settled nodes of a pair against its Dijkstra rank](docs/ranks.svg)"
+    return f"{filled(told)}\n\n{table(heads, rows)}\n\n{picture}\n"
 
 
 def put(page: str, first: str, last: str, text: str) -> str:
@@ -342,11 +272,15 @@ def put(page: str, first: str, last: str, text: str) -> str:
     return page[:begin] + text + page[page.index(last, begin) :]
 
 
+def earlier() -> Measured:
+    return Measured(EARLIER_RUNS, EARLIER_FACTS, EARLIER_ORDER)
+
+
 def pages(measured: Measured) -> dict[pathlib.Path, str]:
     """Both pages as the runs give them."""
     speed = (DOCS / "PERFORMANCE.md").read_text()
     for mark, made in TABLES.items():
-        speed = put(speed, f"<!-- {mark} -->\n", "\n\n", made(measured))
+        speed = put(speed, f"<!-- {mark} -->\n", "\n\n", made(earlier() if mark in OF_EARLIER else measured))
     readme = put(README.read_text(), "<!-- speed: begin -->\n", "<!-- speed: end -->", summary(measured))
     return {DOCS / "PERFORMANCE.md": speed, README: readme}
 
@@ -368,7 +302,7 @@ def main() -> None:
         for path in differing:
             print(f"{path.relative_to(DOCS.parent)}:1: the tables aren't those of docs/speed.csv (bench/speed_page.py)")
         sys.exit(1 if differing else 0)
-    draw(measured, PICTURE)
+    subprocess.run([sys.executable, pathlib.Path(__file__).with_name("figures.py")], check=True)
     for path, text in differing.items():
         path.write_text(text)
 
