@@ -47,8 +47,9 @@ enum {
     DOMETHYME_TOO_LONG = 6,      /* the route would repeat a node: the file isn't right for any graph */
     DOMETHYME_SEED_COST = 7,     /* a start or an end has a length above 2^57, or more than 2^25 arcs */
     DOMETHYME_BAD_LIMIT = 8,     /* a limit is above 2^62 and isn't DOMETHYME_NO_LENGTH; since 1.1 */
-    DOMETHYME_NUMBER_COUNT = 9,  /* there isn't one number for each link without a middle; since 1.1 */
+    DOMETHYME_NUMBER_COUNT = 9,  /* there isn't one number for each link without a middle, or for each start; since 1.1 */
     DOMETHYME_NUMBER_GREAT = 10, /* the numbers of the arcs of a link sum to more than 2^36; since 1.1 */
+    DOMETHYME_BAD_SET = 11,      /* the array is no set of numbers of this hierarchy; since 1.1 */
 
     /* Faults of a hierarchy file, as docs/FORMATS.md has them. */
     DOMETHYME_READ = 34,          /* a reader failed, which bytes in memory don't */
@@ -108,7 +109,7 @@ typedef struct domethyme_between_info {
 /* The length of a shortest path, and what the numbers of its arcs sum to; DOMETHYME_NO_LENGTH twice where there is no path. */
 typedef struct domethyme_sum_info {
     uint64_t length;
-    uint64_t sum; /* at most 2^62 */
+    uint64_t sum; /* at most 2^62, and what is added at a start */
 } domethyme_sum_info;
 
 /* Reads a hierarchy file that is in memory. The handle is open afterwards if the result is DOMETHYME_OK, and closed otherwise;
@@ -117,8 +118,7 @@ typedef struct domethyme_sum_info {
 uint32_t domethyme_open(domethyme *handle, const uint8_t *bytes, size_t count);
 
 /* The same with each link of the hierarchy turned round: all calls then answer as of the graph whose arcs are turned. So
- * domethyme_reach gives the least length from each node to an end in the graph itself, where its starts are the ends. Numbers of
- * domethyme_table_sums go by the links as they are turned, in the order of their new first nodes and then of their new second ones.
+ * domethyme_reach gives the least length from each node to an end in the graph itself, where its starts are the ends.
  * It takes the time of a sort of the links more than domethyme_open, and has both hierarchies in memory until it is done. Since
  * 1.1. */
 uint32_t domethyme_open_turned(domethyme *handle, const uint8_t *bytes, size_t count);
@@ -167,22 +167,38 @@ uint32_t domethyme_lengths(domethyme *handle, const domethyme_pair *pairs, size_
 uint32_t domethyme_table(domethyme *handle, const uint32_t *sources, size_t source_count,
                          const uint32_t *targets, size_t target_count, uint64_t *lengths, size_t room);
 
-/* The least length from each source to each target, row by row as domethyme_table has them, each with the sum of numbers of the
- * caller's along some path of that length: metres, money, or whatever counts for an arc. Lengths rest on no number. Of several
- * shortest paths the sum is that of any one, which need not be the one of domethyme_route.
- *
- * There is one number for each link of the file without a middle, in the order of the file. Such a link is the lightest arc from
- * its one node to its other; loops have none.
+/* The number of links of the hierarchy. Since 1.1. DOMETHYME_NO_HANDLE. */
+uint32_t domethyme_links(domethyme *handle, size_t *links);
+
+/* The ends of each link without a middle, in the order in which domethyme_numbers takes their numbers: by their first nodes,
+ * and then by their second ones, which is the order of the file, and for a turned hierarchy that of its turned links. Such a link
+ * is the lightest arc from its one node to its other; loops have none. `count` is how many they are, also if `room` is too small
+ * for them and the result is DOMETHYME_NO_ROOM. DOMETHYME_NO_HANDLE and DOMETHYME_OUT_OF_MEMORY write nothing. Since 1.1. */
+uint32_t domethyme_arcs(domethyme *handle, domethyme_pair *arcs, size_t room, size_t *count);
+
+/* Makes a set of numbers: metres, money, or whatever counts for an arc. There is one number for each link without a middle, in
+ * the order of domethyme_arcs. The set is the first 1 + L words of an array of the caller's, where L is the number of links
+ * (domethyme_links): 8 bytes for each, with what the numbers of the arcs that it represents sum to. It belongs to the hierarchy
+ * and to no handle. The caller keeps it as it is and frees it with its array; until then any calls with handles of the hierarchy
+ * may read it, also at the same time, and also those of another process or of the same file opened again. There may be any
+ * number of sets.
  *
  * The first of these that holds is the result, and nothing is written: DOMETHYME_NO_HANDLE, DOMETHYME_NO_ROOM,
- * DOMETHYME_NODE_RANGE, DOMETHYME_NUMBER_COUNT, DOMETHYME_NUMBER_GREAT. After DOMETHYME_OUT_OF_MEMORY what was written of the
- * array isn't known.
+ * DOMETHYME_NUMBER_COUNT, DOMETHYME_NUMBER_GREAT; or DOMETHYME_OUT_OF_MEMORY. It takes the time of a sort of the links, and up to
+ * 64 bytes a link until it is done. Since 1.1. */
+uint32_t domethyme_numbers(domethyme *handle, const uint32_t *numbers, size_t count, uint64_t *set, size_t room);
+
+/* The least length from each source to each target, row by row as domethyme_table has them, each with what the numbers of a set
+ * sum to along some path of that length. Lengths rest on no number. Of several shortest paths the sum is that of any one, which
+ * need not be the one of domethyme_route.
  *
- * It selects nodes and keeps that as domethyme_table does, and takes less than three times as long. For other numbers than those
- * of the last call, also those of another handle, it first sums up those of each link and lays out the links, in the time of a
- * sort of them. The handle keeps that for the next call with the same numbers: 24 bytes a link, 32 a node, and 4 a number. Since
- * 1.1. */
-uint32_t domethyme_table_sums(domethyme *handle, const uint32_t *numbers, size_t number_count,
+ * The first of these that holds is the result, and nothing is written: DOMETHYME_NO_HANDLE, DOMETHYME_NO_ROOM,
+ * DOMETHYME_NODE_RANGE, and DOMETHYME_BAD_SET for an array that isn't a set of numbers of the handle's hierarchy, as is one of
+ * another hierarchy. After DOMETHYME_OUT_OF_MEMORY what was written of the array isn't known.
+ *
+ * It selects nodes and keeps that as domethyme_table does, and takes less than three times as long. The first of these calls
+ * with a handle takes 32 bytes a node, which the handle keeps. Since 1.1. */
+uint32_t domethyme_table_sums(domethyme *handle, const uint64_t *set, size_t set_count,
                               const uint32_t *sources, size_t source_count, const uint32_t *targets, size_t target_count,
                               domethyme_sum_info *cells, size_t room);
 
@@ -199,6 +215,19 @@ uint32_t domethyme_table_sums(domethyme *handle, const uint32_t *numbers, size_t
  * goes over all of the selection, whatever the limit. Since 1.1. */
 uint32_t domethyme_reach(domethyme *handle, const domethyme_seed *starts, size_t start_count, uint64_t limit,
                          uint64_t *lengths, size_t room);
+
+/* The same lengths, each with what the numbers of a set sum to along some path of that length from a start that leads there in
+ * it, and the number of that start, of `added`, which has one for each start: as metres of the part of an arc that is left from
+ * where the start is. Of several such paths and starts it is any one. Where the length is DOMETHYME_NO_LENGTH the sum is too.
+ *
+ * The first of these that holds is the result: DOMETHYME_NO_HANDLE, DOMETHYME_NO_ROOM, DOMETHYME_NUMBER_COUNT unless there is a
+ * number for each start, DOMETHYME_BAD_SET, DOMETHYME_BAD_LIMIT, then DOMETHYME_NODE_RANGE or DOMETHYME_SEED_COST.
+ * DOMETHYME_OUT_OF_MEMORY comes after the first three. All write nothing.
+ *
+ * It goes over the selection once, and once more for each start. Since 1.1. */
+uint32_t domethyme_reach_sums(domethyme *handle, const uint64_t *set, size_t set_count,
+                              const domethyme_seed *starts, size_t start_count, const uint32_t *added, size_t added_count,
+                              uint64_t limit, domethyme_sum_info *cells, size_t room);
 
 /* What a code means, in English, with a zero at its end. Returns how many bytes that takes, at most DOMETHYME_TEXT; where
  * there is no room for them it writes nothing. */

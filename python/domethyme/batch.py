@@ -1,6 +1,5 @@
 """Lengths and routes of many pairs, tables, by as many threads as there are processors, and what is reached. Needs numpy."""
 import concurrent.futures
-import threading
 from collections.abc import Callable, Iterable, Iterator, Sequence
 from typing import TypeVar
 
@@ -51,29 +50,43 @@ def table(
 
 
 class Summer:
-    """What numbers, one for each link without a middle in order, sum to along shortest paths; for one question at a time. It takes some 28
-    bytes a link and 40 a node, most of which never change, so processes that are forked share them; and a second for some four million
-    links.
-    All raise OutOfMemory, and LibraryNotFound for a library that is older and lacks the call."""
+    """What numbers, one for each link without a middle in the order of the file, sum to along shortest paths, or where the hierarchy is
+    turned round along paths to a node. It takes 8 bytes a link, which never change, so threads and processes that are forked share
+    them; and a second for some four million links. All raise OutOfMemory, and LibraryNotFound for a library that is older and lacks
+    the calls."""
 
-    def __init__(self, router: Router, numbers: NDArray[np.uint32]) -> None:
-        self._searcher, self._numbers, self._asking = router.clone(), np.ascontiguousarray(numbers, np.uint32), threading.Lock()
-        none = np.empty(0, np.int64)
-        self.table(none, none)  # (sums up all links)
+    def __init__(self, router: Router, numbers: NDArray[np.uint32], turned: Router | None = None) -> None:
+        with router.searcher() as searcher:
+            if turned is not None:
+                ends = np.empty((len(numbers), 2), np.uint32)
+                searcher.arcs(ends)
+                numbers = numbers[np.lexsort(ends.T)]  # (by the second node, and then by the first)
+        self._router = turned or router
+        with self._router.searcher() as searcher:
+            self._set = np.empty(searcher.links() + 1, np.uint64)
+            searcher.numbers(np.ascontiguousarray(numbers, np.uint32), self._set)
 
     def table(self, sources: NDArray[np.int64], targets: NDArray[np.int64]) -> NDArray[np.int64]:
         """The least length from each source to each target, and the sum along a path of that length, of shape (2, sources, targets);
         NO_PATH where there is none. More than MAX_CELLS are refused before memory is taken."""
         if len(sources) * len(targets) > MAX_CELLS:
             size = f"a table of {len(sources)} x {len(targets)} sums has more than {MAX_CELLS}"
-            raise OutOfMemory(f"{self._searcher.name}: {size}: ask for fewer sources at a time", 6)
+            raise OutOfMemory(f"{self._router.name}: {size}: ask for fewer sources at a time", 6)
         rows, columns = (np.ascontiguousarray(nodes, dtype=np.uint32) for nodes in (sources, targets))
         cells, at_a_time = np.empty((len(rows), len(columns), 2), np.int64), max(1, MAX_SUMMED_CELLS // max(1, len(columns)))
-        with self._asking:
-            for begin in range(0, max(1, len(rows)), at_a_time):
+        with self._router.searcher() as searcher:
+            for begin in range(0, len(rows), at_a_time):
                 part = slice(begin, begin + at_a_time)
-                self._searcher.table_sums(self._numbers, rows[part], columns, cells[part])
+                searcher.table_sums(self._set, rows[part], columns, cells[part])
         return np.moveaxis(cells, 2, 0)
+
+    def reach(self, starts: Sequence[tuple[int, int]], limit: int | None) -> NDArray[np.int64]:
+        """The least length of each node from the nearest of several starts (node, added length), and the sum along a path of that length,
+        of shape (2, nodes); NO_PATH above the limit."""
+        cells, added = np.empty((self._router.nodes, 2), np.int64), np.zeros(len(starts), np.uint32)
+        with self._router.searcher() as searcher:
+            searcher.reach_sums(self._set, seed_array(starts), added, limit, cells)
+        return cells.T
 
 
 def rows_at_a_time(rows: int, columns: int) -> int:

@@ -67,7 +67,11 @@ RETURNS: dict[str, type | None] = {"close": None, "text": COUNT}
 LATER_ARGUMENTS: dict[str, list[type]] = {
     "open_turned": [A_HANDLE, ARRAY, COUNT],
     "reach": [A_HANDLE, ARRAY, COUNT, ctypes.c_uint64, ARRAY, COUNT],
+    "links": [A_HANDLE, ctypes.POINTER(ctypes.c_size_t)],
+    "arcs": [A_HANDLE, ARRAY, COUNT, ctypes.POINTER(ctypes.c_size_t)],
+    "numbers": [A_HANDLE, ARRAY, COUNT, ARRAY, COUNT],
     "table_sums": [A_HANDLE, ARRAY, COUNT, ARRAY, COUNT, ARRAY, COUNT, ARRAY, COUNT],
+    "reach_sums": [A_HANDLE, ARRAY, COUNT, ARRAY, COUNT, ARRAY, COUNT, ctypes.c_uint64, ARRAY, COUNT],
 }
 GET_IT = "install libdomethyme1, build it by packaging/build-library, or set DOMETHYME_LIBRARY"
 

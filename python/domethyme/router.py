@@ -89,17 +89,44 @@ class Searcher:
         arrays = sources.ctypes.data, len(sources), targets.ctypes.data, len(targets), lengths.ctypes.data, lengths.size
         self._check(self._library.domethyme_table(self._at, *arrays))
 
+    def links(self) -> int:
+        """The number of links. Raises LibraryNotFound for a library that is older than calls of sums, as they all do."""
+        count = ctypes.c_size_t()
+        self._check(load_later_call("links")(self._at, byref(count)))
+        return count.value
+
+    def arcs(self, ends: "NDArray[np.uint32]") -> int:
+        """Writes the ends of each link without a middle, in the order in which numbers are given, and returns how many they are."""
+        count = ctypes.c_size_t()
+        self._check(load_later_call("arcs")(self._at, ends.ctypes.data, ends.size // 2, byref(count)))
+        return count.value
+
+    def numbers(self, numbers: "NDArray[np.uint32]", number_set: "NDArray[np.uint64]") -> None:
+        """Writes the set of numbers of links without a middle: one for each link, and a word before them."""
+        arrays = numbers.ctypes.data, len(numbers), number_set.ctypes.data, len(number_set)
+        self._check(load_later_call("numbers")(self._at, *arrays))
+
     def table_sums(
-        self, numbers: "NDArray[np.uint32]", sources: "NDArray[np.uint32]", targets: "NDArray[np.uint32]", cells: "NDArray[np.int64]"
+        self, number_set: "NDArray[np.uint64]", sources: "NDArray[np.uint32]", targets: "NDArray[np.uint32]",
+        cells: "NDArray[np.int64]"
     ) -> None:
-        """The same with what the numbers of links without a middle sum to, to cells of two. Raises LibraryNotFound."""
-        arrays = [word for nodes in (numbers, sources, targets) for word in (nodes.ctypes.data, len(nodes))]
+        """The same with what the numbers of a set sum to, to cells of two."""
+        arrays = [word for each in (number_set, sources, targets) for word in (each.ctypes.data, len(each))]
         self._check(load_later_call("table_sums")(self._at, *arrays, cells.ctypes.data, cells.size // 2))
 
     def reach(self, starts: "ctypes.Array[Seed]", limit: int | None, lengths: "NDArray[np.int64]") -> None:
         """The same of each node from the nearest start, with what is added there, up to a limit. Raises LibraryNotFound."""
         arrays = addressof(starts), len(starts), NO_LENGTH if limit is None else limit, lengths.ctypes.data, len(lengths)
         self._check(load_later_call("reach")(self._at, *arrays))
+
+    def reach_sums(
+        self, number_set: "NDArray[np.uint64]", starts: "ctypes.Array[Seed]", added: "NDArray[np.uint32]", limit: int | None,
+        cells: "NDArray[np.int64]"
+    ) -> None:
+        """The same with what the numbers of a set sum to, from a start whose own number is added, to cells of two."""
+        arrays = [number_set.ctypes.data, len(number_set), addressof(starts), len(starts), added.ctypes.data, len(added)]
+        most = NO_LENGTH if limit is None else limit
+        self._check(load_later_call("reach_sums")(self._at, *arrays, most, cells.ctypes.data, cells.size // 2))
 
     def _with_room(self, call: Any, info: RouteInfo | BetweenInfo, *question: int) -> bool:
         """Whether a call finds a path, of which it writes to the info and to `nodes`, with as much room as it needs."""

@@ -11,6 +11,8 @@ typedef struct results {
     domethyme_route_info route;
     domethyme_between_info between;
     domethyme_sum_info sum;
+    domethyme_pair arc;
+    size_t count;
 } results;
 
 static results before(void)
@@ -30,6 +32,7 @@ static int is_untouched(const results *found)
 static void closed(domethyme *handle)
 {
     uint32_t node = 0;
+    uint64_t set = 0;
     domethyme_pair pair = {0, 1};
     domethyme_seed seed = {0, 0, 0};
     domethyme other = DOMETHYME_CLOSED;
@@ -43,7 +46,12 @@ static void closed(domethyme *handle)
     WANT(domethyme_lengths(handle, &pair, 1, &found.length, 1) == DOMETHYME_NO_HANDLE && is_untouched(&found));
     WANT(domethyme_table(handle, &node, 1, &node, 1, &found.length, 1) == DOMETHYME_NO_HANDLE && is_untouched(&found));
     WANT(domethyme_reach(handle, &seed, 1, UINT64_C(1) << 63, &found.length, 0) == DOMETHYME_NO_HANDLE && is_untouched(&found));
-    WANT(domethyme_table_sums(handle, &node, 1, &node, 1, &node, 1, &found.sum, 1) == DOMETHYME_NO_HANDLE && is_untouched(&found));
+    WANT(domethyme_links(handle, &found.count) == DOMETHYME_NO_HANDLE && is_untouched(&found));
+    WANT(domethyme_arcs(handle, &found.arc, 1, &found.count) == DOMETHYME_NO_HANDLE && is_untouched(&found));
+    WANT(domethyme_numbers(handle, &node, 1, &found.length, 1) == DOMETHYME_NO_HANDLE && is_untouched(&found));
+    WANT(domethyme_table_sums(handle, &set, 1, &node, 1, &node, 1, &found.sum, 1) == DOMETHYME_NO_HANDLE && is_untouched(&found));
+    WANT(domethyme_reach_sums(handle, &set, 1, &seed, 1, &node, 1, 0, &found.sum, 1) == DOMETHYME_NO_HANDLE);
+    WANT(is_untouched(&found));
     WANT(domethyme_beside(handle, &other) == DOMETHYME_NO_HANDLE && other.router == NULL);
     domethyme_close(handle);
 }
@@ -151,6 +159,86 @@ static void reaches(domethyme *handle)
     WANT(domethyme_reach(handle, &start, 1, 10, lengths, 3) == DOMETHYME_OK && lengths[0] == none && lengths[2] == 0);
 }
 
+/* Numbers of the links without a middle, which are the arcs but that from 0 to 2, or with it: 10 times the first node, the second
+ * one and 1 together. */
+static size_t numbers_of(domethyme *handle, uint32_t *numbers)
+{
+    domethyme_pair arcs[5];
+    size_t count = 42;
+    memset(arcs, 42, sizeof arcs);
+    WANT(domethyme_arcs(handle, arcs, 2, &count) == DOMETHYME_NO_ROOM && (count == 3 || count == 4));
+    WANT(arcs[0].from == 0x2a2a2a2a && arcs[1].to == 0x2a2a2a2a);
+    WANT(domethyme_arcs(handle, arcs, 5, &count) == DOMETHYME_OK && arcs[count].from == 0x2a2a2a2a);
+    for (size_t place = 0; place < count; ++place) {
+        WANT(place == 0 || arcs[place].from > arcs[place - 1].from || arcs[place].to > arcs[place - 1].to);
+        numbers[place] = 10 * arcs[place].from + arcs[place].to + 1;
+    }
+    return count;
+}
+
+/* Sets of numbers, tables with sums, and sums from several starts. The second handle has the hierarchy turned: another one. */
+static void sums(domethyme *handle, domethyme *turned)
+{
+    const uint64_t none = DOMETHYME_NO_LENGTH;
+    uint32_t numbers[4] = {0};
+    uint64_t set[8], kept;
+    size_t links = 42, count = numbers_of(handle, numbers);
+    WANT(domethyme_links(handle, &links) == DOMETHYME_OK && links >= count && links <= 6);
+    memset(set, 42, sizeof set);
+    kept = set[7];
+    WANT(domethyme_numbers(handle, numbers, count, set, links) == DOMETHYME_NO_ROOM && set[0] == kept);
+    WANT(domethyme_numbers(handle, numbers, count - 1, set, 8) == DOMETHYME_NUMBER_COUNT && set[0] == kept);
+    WANT(domethyme_numbers(handle, numbers, count, set, 8) == DOMETHYME_OK && set[links + 1] == kept);
+
+    /* 0 to 2 is by 1: 300 and 400, 2 and 13 */
+    uint32_t sources[] = {0, 2}, targets[] = {2, 0}, away[] = {0, 3};
+    domethyme_sum_info cells[5], before;
+    memset(cells, 42, sizeof cells);
+    before = cells[4];
+    size_t many = links + 1;
+    WANT(domethyme_table_sums(handle, set, many - 1, away, 2, targets, 2, cells, 3) == DOMETHYME_NO_ROOM);
+    WANT(domethyme_table_sums(handle, set, many - 1, away, 2, targets, 2, cells, 4) == DOMETHYME_NODE_RANGE);
+    WANT(domethyme_table_sums(handle, set, many - 1, sources, 2, away, 2, cells, 4) == DOMETHYME_NODE_RANGE);
+    WANT(domethyme_table_sums(handle, set, many - 1, sources, 2, targets, 2, cells, 4) == DOMETHYME_BAD_SET);
+    WANT(domethyme_table_sums(handle, set, many + 1, sources, 2, targets, 2, cells, 4) == DOMETHYME_BAD_SET);
+    WANT(domethyme_table_sums(turned, set, many, sources, 2, targets, 2, cells, 4) == DOMETHYME_BAD_SET);
+    set[0] ^= 1;
+    WANT(domethyme_table_sums(handle, set, many, sources, 2, targets, 2, cells, 4) == DOMETHYME_BAD_SET);
+    set[0] ^= 1;
+    kept = set[links];
+    set[links] = (UINT64_C(1) << 36) + 1;
+    WANT(domethyme_table_sums(handle, set, many, sources, 2, targets, 2, cells, 4) == DOMETHYME_BAD_SET);
+    set[links] = kept;
+    WANT(memcmp(&cells[0], &before, sizeof before) == 0 && memcmp(&cells[3], &before, sizeof before) == 0);
+    WANT(domethyme_table_sums(handle, set, many, sources, 2, targets, 2, cells, 5) == DOMETHYME_OK);
+    WANT(cells[0].length == 700 && cells[0].sum == 15 && cells[1].length == 0 && cells[1].sum == 0);
+    WANT(cells[2].length == 0 && cells[2].sum == 0 && cells[3].length == none && cells[3].sum == none);
+    WANT(memcmp(&cells[4], &before, sizeof before) == 0);
+    WANT(domethyme_table_sums(handle, set, many, sources, 0, targets, 0, cells, 0) == DOMETHYME_OK);
+
+    /* from 0 with 100 and 5, and from 1 with 350 and 6 */
+    domethyme_seed starts[] = {{100, 0, 0}, {350, 1, 0}}, far_off[] = {{0, 0, 0}, {0, 3, 0}};
+    const uint32_t added[] = {5, 6}, most[] = {5, UINT32_MAX};
+    memset(cells, 42, sizeof cells);
+    WANT(domethyme_reach_sums(handle, set, 1, far_off, 2, added, 1, none - 1, cells, 2) == DOMETHYME_BAD_LIMIT);
+    WANT(domethyme_reach_sums(handle, set, 1, far_off, 2, added, 1, none, cells, 2) == DOMETHYME_NO_ROOM);
+    WANT(domethyme_reach_sums(handle, set, 1, far_off, 2, added, 1, none, cells, 3) == DOMETHYME_NUMBER_COUNT);
+    WANT(domethyme_reach_sums(turned, set, many, far_off, 2, added, 2, none, cells, 3) == DOMETHYME_BAD_SET);
+    WANT(domethyme_reach_sums(handle, set, many, far_off, 2, added, 2, none, cells, 3) == DOMETHYME_NODE_RANGE);
+    WANT(memcmp(&cells[0], &before, sizeof before) == 0 && memcmp(&cells[2], &before, sizeof before) == 0);
+    WANT(domethyme_reach_sums(handle, set, many, starts, 2, added, 2, none, cells, 5) == DOMETHYME_OK);
+    WANT(cells[0].length == 100 && cells[0].sum == 5 && cells[1].length == 350 && cells[1].sum == 6);
+    WANT(cells[2].length == 750 && cells[2].sum == 19 && memcmp(&cells[3], &before, sizeof before) == 0);
+    WANT(domethyme_reach_sums(handle, set, many, starts, 2, most, 2, 350, cells, 3) == DOMETHYME_OK);
+    WANT(cells[1].length == 350 && cells[1].sum == UINT32_MAX && cells[2].length == none && cells[2].sum == none);
+    /* both starts lead to 1 in 400: one of two sums */
+    starts[1].length = 400;
+    WANT(domethyme_reach_sums(handle, set, many, starts, 2, added, 2, none, cells, 3) == DOMETHYME_OK);
+    WANT(cells[1].length == 400 && (cells[1].sum == 7 || cells[1].sum == 6));
+    WANT(domethyme_reach_sums(handle, set, many, starts, 0, added, 0, none, cells, 3) == DOMETHYME_OK);
+    WANT(cells[0].length == none && cells[0].sum == none);
+}
+
 /* A code and its text. */
 typedef struct meaning {
     uint32_t code;
@@ -169,6 +257,7 @@ static const meaning MEANINGS[] = {
     {DOMETHYME_BAD_LIMIT, "a limit is above 2^62 and isn't the number that means none"},
     {DOMETHYME_NUMBER_COUNT, "there isn't one number for each link without a middle"},
     {DOMETHYME_NUMBER_GREAT, "the numbers of the arcs of a link sum to more than 2^36"},
+    {DOMETHYME_BAD_SET, "the array is no set of numbers of this hierarchy"},
     {DOMETHYME_READ, "the file couldn't be read"},
     {DOMETHYME_BAD_MAGIC, "the bytes are no hierarchy file"},
     {DOMETHYME_TRUNCATED, "the bytes end too early"},
@@ -251,6 +340,11 @@ int main(int count, char **words)
     closed(&other);
     closed(&handle);
     turned(&hierarchy);
+    WANT(domethyme_open(&handle, hierarchy.bytes, hierarchy.count) == DOMETHYME_OK);
+    WANT(domethyme_open_turned(&other, hierarchy.bytes, hierarchy.count) == DOMETHYME_OK);
+    sums(&handle, &other);
+    domethyme_close(&handle);
+    domethyme_close(&other);
     texts();
     free(hierarchy.bytes);
     puts("ok");

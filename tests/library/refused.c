@@ -87,11 +87,22 @@ static void run(const uint8_t *bytes, size_t count)
     while (is_out(domethyme_reach(&handle, &start, 1, 704, reached, 3)))
         WANT(reached[0] == 42 && reached[1] == 42 && reached[2] == 42);
     WANT(reached[0] == 5 && reached[1] == 305 && reached[2] == DOMETHYME_NO_LENGTH);
-    /* sums of 7 for each arc, of which the hierarchy has 3 or 4 */
-    const uint32_t sevens[] = {7, 7, 7, 7};
-    domethyme_sum_info cells[4];
-    size_t arcs = domethyme_table_sums(&handle, sevens, 3, ends, 0, ends, 0, cells, 0) == DOMETHYME_NUMBER_COUNT ? 4 : 3;
-    while (is_out(domethyme_table_sums(&handle, sevens, arcs, ends, 2, ends, 2, cells, 4)))
+    /* sums of 7 for each arc */
+    const uint32_t sevens[] = {7, 7, 7, 7}, added[] = {1};
+    domethyme_pair arcs[4];
+    size_t arc_count = 0, links = 0;
+    uint64_t set[8] = {42};
+    domethyme_sum_info cells[4] = {{42, 42}, {42, 42}, {42, 42}, {42, 42}};
+    WANT(domethyme_links(&handle, &links) == DOMETHYME_OK && links < 8);
+    while (is_out(domethyme_arcs(&handle, arcs, 4, &arc_count)))
+        WANT(arc_count == 0);
+    while (is_out(domethyme_numbers(&handle, sevens, arc_count, set, 8)))
+        WANT(set[0] == 42);
+    while (is_out(domethyme_reach_sums(&handle, set, links + 1, &start, 1, added, 1, 704, cells, 4)))
+        WANT(cells[0].length == 42 && cells[1].sum == 42 && cells[2].sum == 42);
+    WANT(cells[0].length == 5 && cells[0].sum == 1 && cells[1].length == 305 && cells[1].sum == 8);
+    WANT(cells[2].length == DOMETHYME_NO_LENGTH && cells[2].sum == DOMETHYME_NO_LENGTH && cells[3].sum == 42);
+    while (is_out(domethyme_table_sums(&handle, set, links + 1, ends, 2, ends, 2, cells, 4)))
         ;
     WANT(cells[1].length == 700 && cells[1].sum == 14 && cells[2].sum == DOMETHYME_NO_LENGTH);
     while (is_out(domethyme_open_turned(&other, bytes, count)))

@@ -36,7 +36,27 @@ static found answer(domethyme *handle, domethyme_pair pair)
     return now;
 }
 
-/* A row to one of two lists of targets, whose selections the handles share, beside lengths one by one. */
+/* A set of sevens, which all threads read at the same time. */
+static uint64_t *set;
+static size_t set_count;
+
+static void make_set(domethyme *handle)
+{
+    size_t links = 0, arcs = 0;
+    domethyme_pair none;
+    WANT(domethyme_links(handle, &links) == DOMETHYME_OK);
+    WANT(domethyme_arcs(handle, &none, 0, &arcs) == DOMETHYME_NO_ROOM);
+    uint32_t *sevens = (uint32_t *)malloc(arcs * sizeof *sevens);
+    set_count = links + 1;
+    set = (uint64_t *)malloc(set_count * sizeof *set);
+    WANT(sevens != NULL && set != NULL);
+    for (size_t place = 0; place < arcs; ++place)
+        sevens[place] = 7;
+    WANT(domethyme_numbers(handle, sevens, arcs, set, set_count) == DOMETHYME_OK);
+    free(sevens);
+}
+
+/* A row to one of two lists of targets, whose selections the handles share, beside lengths one by one, and with sums. */
 static void compare(domethyme *handle, size_t place)
 {
     uint32_t targets[80] = {0};
@@ -49,6 +69,12 @@ static void compare(domethyme *handle, size_t place)
         uint64_t length = DOMETHYME_NO_LENGTH;
         uint32_t code = domethyme_length(handle, pairs[place].from, targets[column], &length);
         WANT((code == DOMETHYME_OK || code == DOMETHYME_NO_PATH) && length == row[column]);
+    }
+    domethyme_sum_info cells[80];
+    WANT(domethyme_table_sums(handle, set, set_count, &pairs[place].from, 1, targets, many, cells, many) == DOMETHYME_OK);
+    for (size_t column = 0; column < many; ++column) {
+        WANT(cells[column].length == row[column]);
+        WANT(row[column] == DOMETHYME_NO_LENGTH ? cells[column].sum == DOMETHYME_NO_LENGTH : cells[column].sum % 7 == 0);
     }
 }
 
@@ -85,6 +111,7 @@ int main(int count, char **words)
     WANT(asked > 0 && wanted != NULL && shares != NULL && started != NULL);
     for (size_t place = 0; place < asked; ++place)
         wanted[place] = answer(&first, pairs[place]);
+    make_set(&first);
     last = time(NULL) + strtol(words[4], NULL, 10);
     for (size_t thread = 0; thread < threads; ++thread) {
         shares[thread].start = thread * asked / threads;
@@ -98,6 +125,7 @@ int main(int count, char **words)
         WANT(shares[thread].answers > 0);
         all += shares[thread].answers;
     }
+    free(set);
     free(pairs);
     free(wanted);
     free(shares);

@@ -1,14 +1,15 @@
 -- A table with sums, so many rows at a time.
-use Rattle.std.proofs.Common.{ℕ, ◌≡◌, ◌+◌, ◌-◌, ◌*◌, ◌/◌, ◌%◌, ◌<◌, ◌≤◌, ◌∙◌, List, [], ◌∷◌, drop, length, get_or, set, slice_index, take, Option, Some, None, All, ap, refl, sym, subst, inl, inr, arith}
+use Rattle.std.proofs.Common.{ℕ, ◌≡◌, ◌+◌, ◌-◌, ◌*◌, ◌/◌, ◌%◌, ◌<◌, ◌≤◌, ◌∙◌, List, [], ◌∷◌, ◌++◌, drop, length, get_or, set as put_at, slice_index, take, Option, Some, None, All, ap, refl, sym, subst, inl, inr, arith}
 use Rattle.std.proofs.lemmas.Bool.{cases_eq, cases_lt}
 use Rattle.std.proofs.lemmas.List.{get_or-drop, get_or-set_same, get_or-set_other, get_or-take, length-drop, length-set, length-take-le}
+use Rattle.std.proofs.Math.Seq.{take-append_seam}
 use Rattle.std.proofs.Math.Nat.{add-mul, div-add-mod, div-lt_iff_lt-mul, mod-lt, mul_comm}
 use Rattle.ch_cost.specs.declared.cost.Cost.{Cost}
 use Rattle.ch_cost.specs.Cost.{length_of}
 use Rattle.ch_cost.specs.Cost.Laws.{length_of-at_most}
 use Rattle.ch_graph.specs.Hierarchy.{Hierarchy, IsValue, IsWellMade}
 use Rattle.ch_route.specs.Laws.{LengthsAreLeast, LengthsAreLeastByWeight}
-use Rattle.ch_sums.specs.Numbers.{AreNumbersOf, SummedWaysAreAlong}
+use Rattle.ch_sums.specs.Numbers.{SummedWaysAreAlong}
 use Rattle.ch_table.specs.Lengths.{AreRows, IsLengthFrom, length_or_none}
 use Rattle.ch_table.specs.Sums.{IsSumFrom, IsSumOrNone as IsSumOr}
 use Rattle.ch_query.specs.Ways.{free}
@@ -28,11 +29,11 @@ module _ {lengths sums : List ℕ} {from : ℕ} where
     after = λ k d high. refl;
   }
 
-  pub put-more : (n : ℕ) (old now : List SumInfo) (cell : SumInfo) → cell ≡ record { length = slice_index lengths n; sum = slice_index sums n } → from + n < length now → ArePut lengths sums n from old now → ArePut lengths sums (n + 1) from old (set now (from + n) cell)
+  pub put-more : (n : ℕ) (old now : List SumInfo) (cell : SumInfo) → cell ≡ record { length = slice_index lengths n; sum = slice_index sums n } → from + n < length now → ArePut lengths sums n from old now → ArePut lengths sums (n + 1) from old (put_at now (from + n) cell)
   put-more n old now cell is within was = record {
     room = length-set now (from + n) cell ∙ was.room;
     each = λ k d low. elim (cases_eq k n) [
-      | inl here ↦ subst (λ j. get_or (set now (from + n) cell) (from + j) d ≡ record { length = slice_index lengths j; sum = slice_index sums j }) (sym here) (get_or-set_same now (from + n) cell d within ∙ is)
+      | inl here ↦ subst (λ j. get_or (put_at now (from + n) cell) (from + j) d ≡ record { length = slice_index lengths j; sum = slice_index sums j }) (sym here) (get_or-set_same now (from + n) cell d within ∙ is)
       | inr other ↦
           let apart : from + k ≡ from + n → ⊥ = λ same. other (omega (arith, same)) in
           get_or-set_other now (from + n) (from + k) cell d apart ∙ was.each k d (omega (arith, low, other))
@@ -54,31 +55,43 @@ module _ (h : Hierarchy) (s t : ℕ) where
   same-length (Some c) (Some d) one two = omega (arith, length_of-at_most (one.1 d two.0), length_of-at_most (two.1 c one.0))
 
 -- What is found of a pair
-module _ (along : SummedWaysAreAlong) (least : LengthsAreLeast) (by_weight : LengthsAreLeastByWeight) (h : Hierarchy) (made : IsWellMade h) (given numbers : List ℕ) (are : AreNumbersOf h given numbers) where
-  pair-cell : (s t : ℕ) → s < length h.ranks → t < length h.ranks → (n m : ℕ) → IsLengthFrom h s t n → IsSumFrom h numbers s t m → IsSumOrNone h given s t (record { length = n; sum = m })
+module _ (along : SummedWaysAreAlong) (least : LengthsAreLeast) (by_weight : LengthsAreLeastByWeight) (h : Hierarchy) (made : IsWellMade h) (set : List ℕ) where
+  abbrev numbers : List ℕ
+  numbers = drop 1 set
+
+  pub pair-cell : (s t : ℕ) → s < length h.ranks → t < length h.ranks → (n m : ℕ) → IsLengthFrom h s t n → IsSumFrom h numbers s t m → IsSumOrNone h set s t (record { length = n; sum = m })
   pair-cell s t s_in t_in n m length sum = by_cost sum.cost sum.is sum.sum
     where
       same : (v : Option Cost) → IsValue h s t v → n ≡ length_or_none v
       same v value = length.written ∙ same-length h s t length.cost v length.is value
 
-      by_cost : (v : Option Cost) → IsValue h s t v → IsSumOr h numbers (free s ∷ []) t m v → IsSumOrNone h given s t (record { length = n; sum = m })
+      by_cost : (v : Option Cost) → IsValue h s t v → IsSumOr h numbers (free s ∷ []) t m v → IsSumOrNone h set s t (record { length = n; sum = m })
       by_cost None value is =
-          sum-or-none h given s t None numbers least by_weight s_in t_in (record { value = None; least = value; long = refl })
-          (λ g number right sums. (along g h number numbers s t right made sums s_in t_in).1 value) are _
+          sum-or-none h set s t None least by_weight s_in t_in (record { value = None; least = value; long = refl })
+          (λ given g number is right told. (along g h number numbers s t right made (is.numbers.sums number told) s_in t_in).1 value) _
           (ap (λ x. record { length = x; sum = m }) (same None value) ∙ ap (λ x. record { length = NO_LENGTH; sum = x }) is)
       by_cost (Some c) value way =
-          sum-or-none h given s t (Some (record { length = length_of c; sum = m })) numbers least by_weight s_in t_in (record { value = Some c; least = value; long = refl })
-          (λ g number right sums. (along g h number numbers s t right made sums s_in t_in).0 c m value way) are _
+          sum-or-none h set s t (Some (record { length = length_of c; sum = m })) least by_weight s_in t_in (record { value = Some c; least = value; long = refl })
+          (λ given g number is right told. (along g h number numbers s t right made (is.numbers.sums number told) s_in t_in).0 c m value way) _
           (ap (λ x. record { length = x; sum = m }) (same (Some c) value))
+
+  -- a row from one node
+  pub one-cells : (node : ℕ) (targets : List ℕ) → node < length h.ranks → All (λ t. t < length h.ranks) targets → (lengths row sums others : List ℕ) → AreRows (IsLengthFrom h) (node ∷ []) targets 0 1 lengths row → AreRows (IsSumFrom h numbers) (node ∷ []) targets 0 1 sums others
+      → (p : ℕ) → p < length targets → IsSumOrNone h set node (slice_index targets p) (record { length = slice_index row p; sum = slice_index others p })
+  one-cells node targets s_in t_in lengths row sums others rows sum_rows p low =
+      let at : 0 + (0 * length targets + p) ≡ p = omega arith in
+      pair-cell node (slice_index targets p) s_in (t_in p 0 low) (slice_index row p) (slice_index others p)
+      (subst (λ x. IsLengthFrom h node (slice_index targets p) (slice_index row x)) at (rows.each 0 p (omega arith) low))
+      (subst (λ x. IsSumFrom h numbers node (slice_index targets p) (slice_index others x)) at (sum_rows.each 0 p (omega arith) low))
 
   -- more rows, those of the next sources
   module _ (sources targets block : List ℕ) (sources_in : All (λ s. s < length h.ranks) sources) (targets_in : All (λ t. t < length h.ranks) targets) (done count : ℕ) (within : done + count ≤ length sources) (same : (i : ℕ) → i < count → slice_index block i ≡ slice_index sources (done + i)) where
     pub cells-band : (lengths new_lengths sums new_sums : List ℕ) (old mid new : List SumInfo) → AreRows (IsLengthFrom h) block targets 0 count lengths new_lengths → AreRows (IsSumFrom h numbers) block targets 0 count sums new_sums
-        → ArePut new_lengths new_sums (count * length targets) (done * length targets) mid new → AreCells (done * length targets) (IsCellOf h given sources targets) old mid → AreCells ((done + count) * length targets) (IsCellOf h given sources targets) old new
+        → ArePut new_lengths new_sums (count * length targets) (done * length targets) mid new → AreCells (done * length targets) (IsCellOf h set sources targets) old mid → AreCells ((done + count) * length targets) (IsCellOf h set sources targets) old new
     cells-band lengths new_lengths sums new_sums old mid new rows sum_rows put was = record {
       room = put.room ∙ was.room;
       each = λ k d low. elim (cases_lt k (done * length targets)) [
-        | inl before ↦ subst (IsCellOf h given sources targets k) (sym (put.before k d before)) (was.each k d before)
+        | inl before ↦ subst (IsCellOf h set sources targets k) (sym (put.before k d before)) (was.each k d before)
         | inr from ↦ here k d low from
       ];
       rest = λ k d high. put.after k d (omega (arith, parts, high)) ∙ was.rest k d (omega (arith, parts, high));
@@ -96,7 +109,7 @@ module _ (along : SummedWaysAreAlong) (least : LengthsAreLeast) (by_weight : Len
               absurd (omega (arith, low, empty))
         ]
 
-        here : (k : ℕ) (d : SumInfo) → k < (done + count) * length targets → done * length targets ≤ k → IsCellOf h given sources targets k (get_or new k d)
+        here : (k : ℕ) (d : SumInfo) → k < (done + count) * length targets → done * length targets ≤ k → IsCellOf h set sources targets k (get_or new k d)
         here k d low from =
             let wide : 0 < length targets = some k low in
             let row_in : k / length targets < done + count = (div-lt_iff_lt-mul {k = length targets} {x = k} {y = done + count} wide).1 low in
@@ -125,8 +138,14 @@ module _ (along : SummedWaysAreAlong) (least : LengthsAreLeast) (by_weight : Len
             subst (λ s. IsSumFrom h numbers s (slice_index targets j) (slice_index new_sums (i * length targets + j))) source
             (subst (λ x. IsSumFrom h numbers (slice_index block i) (slice_index targets j) (slice_index new_sums x)) zero (sum_rows.each i j i_in j_in)) in
             let cell = pair-cell (slice_index sources (k / length targets)) (slice_index targets j) s_in t_in (slice_index new_lengths (i * length targets + j)) (slice_index new_sums (i * length targets + j)) long sum in
-            subst (λ x. IsSumOrNone h given (slice_index sources (k / length targets)) (slice_index targets (k % length targets)) (get_or new x d)) at
-            (subst (IsSumOrNone h given (slice_index sources (k / length targets)) (slice_index targets j)) (sym read) cell)
+            subst (λ x. IsSumOrNone h set (slice_index sources (k / length targets)) (slice_index targets (k % length targets)) (get_or new x d)) at
+            (subst (IsSumOrNone h set (slice_index sources (k / length targets)) (slice_index targets j)) (sym read) cell)
+
+-- what a slice of a vector has at the end is what the vector has
+pub written-count : (n : ℕ) (new rest : List ℕ) → length new ≡ n → length (take n (new ++ rest)) ≡ n
+written-count n new rest is =
+    let same : take n (new ++ rest) ≡ new = subst (λ m. take m (new ++ rest) ≡ new) is (take-append_seam new rest) in
+    ap (λ (xs : List ℕ). length xs) same ∙ is
 
 -- The sources from one on, so many
 module _ (sources : List ℕ) (done count : ℕ) (within : done + count ≤ length sources) where

@@ -7,9 +7,10 @@ use Rattle.ch_graph.specs.Hierarchy.{Hierarchy}
 use Rattle.ch_laws.specs.ByWeight.{IsRightByWeight}
 use Rattle.ch_route.specs.Laws.{LengthsAreLeast, LengthsAreLeastByWeight}
 use Rattle.ch_route.specs.Routes.{IsLengthBy}
-use Rattle.ch_sums.specs.Numbers.{AreNumbersOf, AreSums, IsSummed}
+use Rattle.ch_sums.specs.Numbers.{AreGiven, IsSummed}
 use Rattle.ch_sums.specs.Numbers.{IsLengthBy as IsSumLength}
 use Rattle.ch_sums.specs.declared.along.Summed.{Summed}
+use Rattle.domethyme_c.specs.Sets.{IsSetOf}
 use Rattle.domethyme_c.specs.Sums.{AreCells, IsSumOrNone, cell_of}
 use Rattle.domethyme_c.specs.declared.sums.SumInfo.{SumInfo}
 
@@ -31,9 +32,9 @@ cells-more Is n old now cell within is was = record {
 }
 
 -- what is found of a pair
-pub sum-or-none : (h : Hierarchy) (given : List ℕ) (s t : ℕ) (summed : Option Summed) (numbers : List ℕ) → LengthsAreLeast → LengthsAreLeastByWeight → s < length h.ranks → t < length h.ranks → IsSumLength h s t (option_map (λ (f : Summed). f.length) summed)
-    → ((g : Graph) (number : ℕ → ℕ → ℕ) → IsRightByWeight g h → AreSums h number numbers → IsSummed g number s t summed) → AreNumbersOf h given numbers → (cell : SumInfo) → cell ≡ cell_of summed → IsSumOrNone h given s t cell
-sum-or-none h given s t summed numbers least least_by_weight s_in t_in by along are cell written = record {
+pub sum-or-none : (h : Hierarchy) (set : List ℕ) (s t : ℕ) (summed : Option Summed) → LengthsAreLeast → LengthsAreLeastByWeight → s < length h.ranks → t < length h.ranks → IsSumLength h s t (option_map (λ (f : Summed). f.length) summed)
+    → ((given : List ℕ) (g : Graph) (number : ℕ → ℕ → ℕ) → IsSetOf h given set → IsRightByWeight g h → AreGiven h given number → IsSummed g number s t summed) → (cell : SumInfo) → cell ≡ cell_of summed → IsSumOrNone h set s t cell
+sum-or-none h set s t summed least least_by_weight s_in t_in by along cell written = record {
   summed = summed;
   length =
       let found : IsLengthBy h s t (option_map (λ (f : Summed). f.length) summed) = record { value = by.value; least = by.least; long = by.long } in
@@ -42,6 +43,6 @@ sum-or-none h given s t summed numbers least least_by_weight s_in t_in by along 
         exact = λ g right. least g h s t _ right (omega (arith, s_in, right.nodes)) (omega (arith, t_in, right.nodes)) found;
         by_weight = λ g right. least_by_weight g h s t _ right (omega (arith, s_in, right.nodes)) (omega (arith, t_in, right.nodes)) found;
       };
-  along = λ g number right is. along g number right (are.sums number is);
+  along = along;
   written = written;
 }

@@ -4,3 +4,5 @@ pub mod Tables
 mod Cells
 pub mod Towards
 pub mod Bands
+pub mod Listed
+pub mod Starts

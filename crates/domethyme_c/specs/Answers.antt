@@ -101,10 +101,10 @@ IsTableAnswer h sources targets =
 
 -- Routes
 
--- the nodes are written at the array's beginning, or have no room
-pub data IsWritten (nodes : List ℕ) (code : ℕ) (old new : List ℕ) : Type 0 where
-  all : code ≡ OK → length nodes ≤ length old → new ≡ nodes ++ drop (length nodes) old → IsWritten nodes code old new
-  no_room : code ≡ NO_ROOM → length old < length nodes → new ≡ old → IsWritten nodes code old new
+-- the values are written at the array's beginning, or have no room
+pub data IsWritten {X : Type 0} (values : List X) (code : ℕ) (old new : List X) : Type 0 where
+  all : code ≡ OK → length values ≤ length old → new ≡ values ++ drop (length values) old → IsWritten values code old new
+  no_room : code ≡ NO_ROOM → length old < length values → new ≡ old → IsWritten values code old new
 
 -- The route by the hierarchy, or none where it has none: where it is right for a graph, a least walk with the fewest arcs,
 -- and where it is right by weight a least walk.

@@ -2,6 +2,8 @@ pub mod Codes
 pub mod Answers
 pub mod Handles
 pub mod Engines
+pub mod Sets
 pub mod Sums
 pub mod Summing
+pub mod Starting
 pub mod Towards

@@ -1,20 +1,15 @@
 -- What an engine keeps to make sums.
 use Rattle.std.specs.Prelude.{ℕ, ◌≡◌, ◌+◌, ◌<◌, ◌≤◌, List, length, slice_index, slice_index_or}
 use Rattle.ch_graph.specs.Hierarchy.{Hierarchy}
-use Rattle.ch_sums.specs.Numbers.{AreNumbersOf}
+use Rattle.domethyme_c.specs.Sets.{digest_of}
 use Rattle.domethyme_c.specs.declared.summing.Summing.{Summing}
 use Rattle.domethyme_c.specs.declared.sums.SumInfo.{SumInfo}
 
--- it is of the hierarchy, and has the numbers of those that were given
+-- it is of the hierarchy, and has its digest and room for a number for each node
 pub record IsSumming (h : Hierarchy) (s : Summing) : Type 0 where
   pub of : s.search ≡ h
-  pub numbers : AreNumbersOf h s.given.items s.numbers
+  pub digest : s.digest ≡ digest_of h
   pub room : length s.kept.items ≡ length h.ranks
-
--- and these were given
-pub record IsSummingOf (h : Hierarchy) (given : List ℕ) (s : Summing) : Type 0 where
-  pub is : IsSumming h s
-  pub same : s.given.items ≡ given
 
 -- lengths and sums, so many, are written as cells from a place on, and the others stay
 pub record ArePut (lengths sums : List ℕ) (count from : ℕ) (old new : List SumInfo) : Type 0 where

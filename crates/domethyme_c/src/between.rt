@@ -5,7 +5,7 @@ ghost use Rattle.domethyme_c.specs.Answers.{Answers, IsBetweenAnswer, IsFoundBet
 use crate::code::{NO_HANDLE, NO_PATH, OUT_OF_MEMORY, TOO_LONG};
 use crate::engine::Engine;
 use crate::handle::Handle;
-use crate::route::write_nodes;
+use crate::route::write_all;
 use crate::seeds::{SeedInfo, seeds_of};
 use ch_route::{Seed, UnpackError};
 use std::alloc::Global;
@@ -83,7 +83,7 @@ fn answer_between(
                 end: route.end,
                 nodes: route.nodes.len(),
             };
-            write_nodes(route.nodes.as_slice(), nodes)
+            write_all(route.nodes.as_slice(), nodes)
         }
         Ok(None) => NO_PATH,
         Err(UnpackError::TooLong) => TOO_LONG,

@@ -27,6 +27,9 @@ pub const NUMBER_COUNT: u32 = 9;
 /// The numbers of the arcs that a link represents sum to more than 2^36.
 pub const NUMBER_GREAT: u32 = 10;
 
+/// An array is no set of numbers of the handle's hierarchy.
+pub const BAD_SET: u32 = 11;
+
 /// Stands for a length where there is no path.
 pub const NO_LENGTH: u64 = 0xffff_ffff_ffff_ffff;
 

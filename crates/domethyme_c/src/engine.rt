@@ -5,8 +5,9 @@ ghost use Rattle.hierfile.specs.Fault.{first_fault};
 ghost use Rattle.hierfile.specs.Spelling.{bytes_of};
 ghost use Rattle.domethyme_c.specs.Answers.{AreNodes, IsBetween, IsLength, IsRoute, IsWrong};
 ghost use Rattle.domethyme_c.specs.Engines.{IsNoSelection};
-ghost use Rattle.domethyme_c.specs.Summing.{IsSumming, IsSummingOf};
-ghost use Rattle.domethyme_c.specs.Sums.{IsNumbersRefusal};
+ghost use Rattle.domethyme_c.specs.Sets.{digest_of};
+ghost use Rattle.domethyme_c.specs.Summing.{IsSumming};
+ghost use Rattle.ch_sums.specs.Numbers.{AreNumbersOf, IsNumbersFault};
 ghost use Rattle.ch_query.specs.Seeds.{AreSeeds};
 ghost use Rattle.ch_route.specs.Between.{HasTooLongBetween, IsRowLengthFrom, IsRowLengthWithin};
 ghost use Rattle.ch_route.specs.Routes.{HasTooLong, IsRowLength};
@@ -15,12 +16,13 @@ ghost use Rattle.ch_table.specs.Selection.{IsSelection};
 ghost use Rattle.std.specs.Arc.{arc_value};
 ghost use Rattle.ch_unpack.specs.declared.error.UnpackError.TheVariants.{TooLong};
 
-use crate::code::{NODE_RANGE, OUT_OF_MEMORY, numbers_code};
+use crate::code::{NODE_RANGE, OUT_OF_MEMORY};
+use crate::digest::digest_of;
 use crate::sharing::Sharing;
 use crate::summing::Summing;
-use ch_graph::Hierarchy;
+use ch_graph::{Hierarchy, Link};
 use ch_route::{Route, RouteBetween, RouterOf, Seed, Selection, UnpackError};
-use ch_sums::Numbers;
+use ch_sums::{Numbers, NumbersError};
 use hierfile::HierError;
 use std::alloc::{AllocError, Global};
 use std::marker::Model;
@@ -28,7 +30,7 @@ use std::sync::Arc;
 
 /// What an open handle has: a router of a hierarchy, which other handles may share, the version of its file, the selection
 /// of the last table, for another table to the same targets, a share in the last one that any of these handles made, and
-/// what makes sums of the last numbers.
+/// what makes sums, once a call has made it.
 #[derive(Drop)]
 pub(crate) struct Engine {
     hierarchy: Arc<Hierarchy>,
@@ -268,22 +270,18 @@ impl Engine {
         self.router.lengths_from(starts, most, selection, row, 0)
     }
 
-    /// Takes out what makes sums of these numbers, one for each link without a middle, or returns the code that says why
-    /// there is none. What is kept of the last numbers is taken if they are the same.
-    pub(crate) fn take_summing(&mut self, alloc: Global, given: &[u32]) -> Result<Summing, u32>
-        ensures summing { IfOk result (IsSummingOf self.old given.now) }
-        ensures refused { IfErr result (IsNumbersRefusal self.old given.now) }
+    /// Takes out what makes sums, which is made if none is kept.
+    pub(crate) fn take_summing(&mut self, alloc: Global) -> Result<Summing, AllocError>
+        ensures summing { IfOk result (IsSumming self.old) }
         ensures kept { self.new ≡ self.old }
     {
         if let Some(summing) = self.summing.take() {
-            if summing.given.as_slice() == given {
-                return Ok(summing);
-            }
+            return Ok(summing);
         }
-        self.new_summing(alloc, given)
+        Summing::new(alloc, &self.hierarchy)
     }
 
-    /// Keeps what makes sums of some numbers, for the next call with the same.
+    /// Keeps what makes sums, for the next call.
     pub(crate) fn keep_summing(&mut self, summing: Summing)
         requires { IsSumming self.old summing }
         ensures { self.new ≡ self.old }
@@ -291,19 +289,26 @@ impl Engine {
         self.summing = Some(summing);
     }
 
-    // Makes what makes sums of some numbers.
-    fn new_summing(&self, alloc: Global, given: &[u32]) -> Result<Summing, u32>
-        ensures summing { IfOk result (IsSummingOf self.now given.now) }
-        ensures refused { IfErr result (IsNumbersRefusal self.now given.now) }
+    /// The links.
+    pub(crate) fn links(&self) -> &[Link]
+        ensures { result.now ≡ self.now.links }
     {
-        let numbers = match Numbers::new(alloc, &self.hierarchy, given) {
-            Ok(numbers) => numbers,
-            Err(error) => return Err(numbers_code(error)),
-        };
-        match Summing::new(alloc, &self.hierarchy, given, numbers) {
-            Ok(summing) => Ok(summing),
-            Err(_) => Err(OUT_OF_MEMORY),
-        }
+        self.hierarchy.links()
+    }
+
+    /// The digest of the hierarchy.
+    pub(crate) fn digest(&self) -> u64
+        ensures { result ≡ digest_of self.now }
+    {
+        digest_of(&self.hierarchy)
+    }
+
+    /// The numbers of all links, of those that are given for the links without a middle.
+    pub(crate) fn numbers(&self, alloc: Global, given: &[u32]) -> Result<Numbers, NumbersError>
+        ensures numbers { IfOk result (λ numbers. AreNumbersOf self.now given.now numbers) }
+        ensures refused { IfErr result (IsNumbersFault self.now given.now) }
+    {
+        Numbers::new(alloc, &self.hierarchy, given)
     }
 
     /// Another engine of the same hierarchy, which shares the kept selection and those that either makes later.

@@ -7,13 +7,16 @@
 
 mod between;
 mod code;
+mod digest;
 mod engine;
 mod handle;
 mod held;
 mod laws;
 mod lengths;
+mod numbers;
 mod opening;
 mod reach;
+mod reach_sums;
 mod route;
 mod seeds;
 mod sharing;
@@ -24,8 +27,8 @@ mod turning;
 
 pub use between::BetweenInfo;
 pub use code::{
-    BAD_LIMIT, NO_HANDLE, NO_LENGTH, NO_PATH, NO_ROOM, NODE_RANGE, NUMBER_COUNT, NUMBER_GREAT, OK,
-    OUT_OF_MEMORY, SEED_COST, TOO_LONG,
+    BAD_LIMIT, BAD_SET, NO_HANDLE, NO_LENGTH, NO_PATH, NO_ROOM, NODE_RANGE, NUMBER_COUNT,
+    NUMBER_GREAT, OK, OUT_OF_MEMORY, SEED_COST, TOO_LONG,
 };
 pub use handle::Handle;
 pub use laws::opened_files_answer_exactly;

@@ -34,7 +34,7 @@ pub extern "C" fn domethyme_reach(
     code
 }
 
-fn answer_reach(
+pub(crate) fn answer_reach(
     alloc: Global,
     engine: &mut Engine,
     starts: &[SeedInfo],
@@ -61,7 +61,7 @@ fn answer_reach(
 }
 
 // How long a path may be at most, or `None` for a number that is no limit.
-fn most_of(limit: u64) -> Option<u64>
+pub(crate) fn most_of(limit: u64) -> Option<u64>
     ensures none { IfNone result (IsLimit limit → ⊥) }
     ensures some { IfSome result (IsMostOf limit) }
 {
@@ -98,7 +98,7 @@ fn fill_reach(
 }
 
 // All nodes, in order.
-fn all_nodes(alloc: Global, count: u32) -> Result<Vec<u32>, AllocError>
+pub(crate) fn all_nodes(alloc: Global, count: u32) -> Result<Vec<u32>, AllocError>
     ensures { IfOk result (λ nodes. nodes.items ≡ range_with_len 0 count) }
 {
     (0..count).collect(alloc)

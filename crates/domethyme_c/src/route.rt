@@ -54,7 +54,7 @@ fn answer_route(
                 length: route.cost.length(),
                 nodes: route.nodes.len(),
             };
-            write_nodes(route.nodes.as_slice(), nodes)
+            write_all(route.nodes.as_slice(), nodes)
         }
         Ok(None) => NO_PATH,
         Err(UnpackError::TooLong) => TOO_LONG,
@@ -62,14 +62,14 @@ fn answer_route(
     }
 }
 
-/// Writes the nodes of a route at the beginning of an array, where they have room.
-pub(crate) fn write_nodes(route: &[u32], nodes: &mut [u32]) -> u32
-    ensures { IsWritten route.now result nodes.old nodes.new }
+/// Writes values at the beginning of an array, where they have room.
+pub(crate) fn write_all<T: Copy>(values: &[T], room: &mut [T]) -> u32
+    ensures { IsWritten values.now result room.old room.new }
 {
-    let count = route.len();
-    if nodes.len() < count {
+    let count = values.len();
+    if room.len() < count {
         return NO_ROOM;
     }
-    nodes[..count].copy_from_slice(route);
+    room[..count].copy_from_slice(values);
     OK
 }

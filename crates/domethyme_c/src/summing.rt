@@ -1,54 +1,64 @@
-ghost use Rattle.std.specs.Prelude.{◌≡◌, ◌+◌, ◌*◌, ◌<◌, ◌≤◌, ℕ, All, IfOk, OnOk, length};
+ghost use Rattle.std.specs.Prelude.{◌≡◌, ◌↔◌, ◌+◌, ◌*◌, ◌<◌, ◌≤◌, ℕ, All, IfOk, IsTrue, OnOk, Some, drop, length, replicate, slice_get};
 ghost use Rattle.std.specs.Arc.{arc_value};
-ghost use Rattle.ch_sums.specs.Numbers.{AreNumbersOf};
+ghost use Rattle.ch_query.specs.Seeds.{AreSeeds};
 ghost use Rattle.ch_table.specs.Selection.{IsSelection};
 ghost use Rattle.ch_table.specs.Sums.{AreStepNumbers};
-ghost use Rattle.domethyme_c.specs.Summing.{ArePut, IsSumming, IsSummingOf};
+ghost use Rattle.domethyme_c.specs.Sets.{IsSet};
+ghost use Rattle.domethyme_c.specs.Starting.{AreSumsOfStarts, AreTaken, IsTaken};
+ghost use Rattle.domethyme_c.specs.Summing.{ArePut, IsSumming};
 ghost use Rattle.domethyme_c.specs.Sums.{AreCells, IsCellOf};
 
+use crate::code::NO_LENGTH;
+use crate::digest::digest_of;
 use crate::sums::SumInfo;
 use ch_graph::Hierarchy;
 use ch_query::SearchOf;
-use ch_route::{Selection, routes_are_least};
-use ch_sums::{Numbers, summed_ways_are_along};
+use ch_route::{Seed, Selection, routes_are_least};
+use ch_sums::summed_ways_are_along;
 use std::alloc::{AllocError, Global};
 use std::sync::Arc;
 
 // How many rows of a table are found before they are written.
 const BAND: usize = 64;
 
-/// What makes sums: a search of a hierarchy, the numbers that were given for its links without a middle, and those of all
-/// links.
+// The greatest number that a link may have.
+const GREATEST: u64 = 1 << 36;
+
+/// What makes sums of the numbers of a set: a search of a hierarchy, and the digest of it.
 #[derive(Drop)]
 pub(crate) struct Summing {
     pub(crate) search: SearchOf<Arc<Hierarchy>>,
-    pub(crate) given: Vec<u32>,
-    pub(crate) numbers: Numbers,
+    pub(crate) digest: u64,
     // Room for a number for each node.
     pub(crate) kept: Vec<u64>,
 }
 
 impl Summing {
-    /// A search of a hierarchy, with the numbers of its links that were made of those given.
-    pub(crate) fn new(
-        alloc: Global,
-        hierarchy: &Arc<Hierarchy>,
-        given: &[u32],
-        numbers: Numbers,
-    ) -> Result<Summing, AllocError>
-        requires { AreNumbersOf (arc_value hierarchy.now) given.now numbers }
-        ensures { IfOk result (IsSummingOf (arc_value hierarchy.now) given.now) }
+    /// A search of a hierarchy.
+    pub(crate) fn new(alloc: Global, hierarchy: &Arc<Hierarchy>) -> Result<Summing, AllocError>
+        ensures { IfOk result (IsSumming (arc_value hierarchy.now)) }
     {
         let search = SearchOf::new(alloc, Arc::try_clone(hierarchy)?)?;
         let kept = vec![in alloc; 0u64; hierarchy.nodes() as usize]?;
-        let mut copied = Vec::new(alloc);
-        copied.extend_from_slice(given)?;
         Ok(Summing {
             search,
-            given: copied,
-            numbers,
+            digest: digest_of(hierarchy),
             kept,
         })
+    }
+
+    /// Whether an array is a set of numbers of the hierarchy.
+    pub(crate) fn is_set(&self, set: &[u64]) -> bool
+        requires { IsSumming self.now.search self.now }
+        ensures { IsTrue result ↔ IsSet self.now.search set.now }
+    {
+        if set.len() != self.search.hierarchy().links().len() + 1 {
+            return false;
+        }
+        if set[0] != self.digest {
+            return false;
+        }
+        numbers_of(set).iter().all(|number| *number <= GREATEST)
     }
 
     /// Writes the least length of a path from each source to each target of a selection, and the sum of the numbers along
@@ -57,28 +67,38 @@ impl Summing {
         &mut self,
         alloc: Global,
         selection: &Selection,
+        set: &[u64],
         sources: &[u32],
         cells: &mut [SumInfo],
     ) -> Result<(), AllocError>
         requires summing { IsSumming self.old.search self.old }
         requires selection { IsSelection self.old.search selection.now }
+        requires set { IsSet self.old.search set.now }
         requires sources { All (λ v. v < length self.old.search.ranks) sources.now }
         requires room { length sources.now * length selection.now.targets ≤ length cells.old }
         ensures summing { IsSumming self.old.search self.new }
-        ensures given { self.new.given ≡ self.old.given }
-        ensures cells { OnOk result (AreCells (length sources.now * length selection.now.targets) (IsCellOf self.old.search self.old.given.items sources.now selection.now.targets) cells.old cells.new) }
+        ensures cells { OnOk result (AreCells (length sources.now * length selection.now.targets) (IsCellOf self.old.search set.now sources.now selection.now.targets) cells.old cells.new) }
     {
-        let steps = selection.step_numbers(alloc, &self.search, self.numbers.as_slice())?;
+        let steps = selection.step_numbers(alloc, &self.search, numbers_of(set))?;
         let room = sources.len().min(BAND) * selection.targets().len();
         let mut lengths = vec![in alloc; 0u64; room]?;
         let mut sums = vec![in alloc; 0u64; room]?;
-        self.fill_bands(selection, &steps, sources, &mut lengths, &mut sums, cells)
+        self.fill_bands(
+            selection,
+            set,
+            &steps,
+            sources,
+            &mut lengths,
+            &mut sums,
+            cells,
+        )
     }
 
     // So many rows at a time, by lengths and sums that have room for these.
     fn fill_bands(
         &mut self,
         selection: &Selection,
+        set: &[u64],
         steps: &[u64],
         sources: &[u32],
         lengths: &mut [u64],
@@ -87,18 +107,19 @@ impl Summing {
     ) -> Result<(), AllocError>
         requires summing { IsSumming self.old.search self.old }
         requires selection { IsSelection self.old.search selection.now }
-        requires steps { AreStepNumbers self.old.search self.old.numbers selection.now steps.now }
+        requires set { IsSet self.old.search set.now }
+        requires steps { AreStepNumbers self.old.search (drop 1 set.now) selection.now steps.now }
         requires sources { All (λ v. v < length self.old.search.ranks) sources.now }
         requires room { length sources.now * length selection.now.targets ≤ length cells.old }
         requires length_room { (n : ℕ) → n ≤ length sources.now → n ≤ BAND → n * length selection.now.targets ≤ length lengths.old }
         requires sum_room { (n : ℕ) → n ≤ length sources.now → n ≤ BAND → n * length selection.now.targets ≤ length sums.old }
         ensures summing { IsSumming self.old.search self.new }
-        ensures given { self.new.given ≡ self.old.given }
-        ensures cells { OnOk result (AreCells (length sources.now * length selection.now.targets) (IsCellOf self.old.search self.old.given.items sources.now selection.now.targets) cells.old cells.new) }
+        ensures cells { OnOk result (AreCells (length sources.now * length selection.now.targets) (IsCellOf self.old.search set.now sources.now selection.now.targets) cells.old cells.new) }
     {
         routes_are_least();
         summed_ways_are_along();
         let _well_made = self.search.hierarchy().nodes();
+        let numbers = numbers_of(set);
         let width = selection.targets().len();
         let mut done = 0;
         'bands: while done < sources.len() {
@@ -106,7 +127,7 @@ impl Summing {
             let block = &sources[done..done + count];
             selection.sums(
                 &mut self.search,
-                self.numbers.as_slice(),
+                numbers,
                 steps,
                 self.kept.as_mut_slice(),
                 block,
@@ -118,10 +139,115 @@ impl Summing {
         }
         Ok(())
     }
+
+    /// Puts beside the length of each target of a selection the sum of the numbers along some path from a start that leads
+    /// to it in that length, with the number of the start. `sums` has none yet; where no start does, it stays so.
+    pub(crate) fn sum_from(
+        &mut self,
+        alloc: Global,
+        selection: &Selection,
+        set: &[u64],
+        starts: &[Seed],
+        added: &[u32],
+        lengths: &[u64],
+        sums: &mut [u64],
+    ) -> Result<(), AllocError>
+        requires summing { IsSumming self.old.search self.old }
+        requires selection { IsSelection self.old.search selection.now }
+        requires set { IsSet self.old.search set.now }
+        requires starts { AreSeeds self.old.search starts.now }
+        requires added { length added.now ≡ length starts.now }
+        requires lengths { length lengths.now ≡ length selection.now.targets }
+        requires sums { sums.old ≡ replicate (length lengths.now) NO_LENGTH }
+        ensures summing { IsSumming self.old.search self.new }
+        ensures sums { OnOk result (AreSumsOfStarts self.old.search set.now starts.now added.now (length starts.now) selection.now.targets lengths.now sums.new) }
+    {
+        routes_are_least();
+        summed_ways_are_along();
+        let _well_made = self.search.hierarchy().nodes();
+        let numbers = numbers_of(set);
+        let steps = selection.step_numbers(alloc, &self.search, numbers)?;
+        let mut row_room = vec![in alloc; 0u64; lengths.len()]?;
+        let mut sum_room = vec![in alloc; 0u64; lengths.len()]?;
+        let row = row_room.as_mut_slice();
+        let others = sum_room.as_mut_slice();
+        'starts: for at in 0..starts.len() {
+            let start = start_at(starts, at);
+            let source = [start.node];
+            selection.sums(
+                &mut self.search,
+                numbers,
+                &steps,
+                self.kept.as_mut_slice(),
+                &source,
+                row,
+                others,
+            )?;
+            take_sums(lengths, row, others, start.cost.length(), added[at], sums);
+        }
+        Ok(())
+    }
+}
+
+// A start by its place.
+fn start_at(starts: &[Seed], at: usize) -> Seed
+    requires { at < length starts.now }
+    ensures { slice_get starts.now at ≡ Some result }
+{
+    starts[at]
+}
+
+// The numbers of a set, behind its digest.
+fn numbers_of(set: &[u64]) -> &[u64]
+    requires { 0 < length set.now }
+    ensures { result.now ≡ drop 1 set.now }
+{
+    &set[1..]
+}
+
+// Takes the sums of those nodes to which a start of this length leads in their own lengths.
+fn take_sums(lengths: &[u64], row: &[u64], others: &[u64], start: u64, added: u32, sums: &mut [u64])
+    requires row { length row.now ≡ length lengths.now }
+    requires others { length others.now ≡ length lengths.now }
+    requires sums { length sums.old ≡ length lengths.now }
+    ensures { AreTaken lengths.now row.now others.now start added (length lengths.now) sums.old sums.new }
+{
+    'places: for place in 0..lengths.len() {
+        sums[place] = sum_taken(
+            lengths[place],
+            start,
+            row[place],
+            others[place],
+            added,
+            sums[place],
+        );
+    }
+}
+
+// The sum of one node.
+fn sum_taken(length: u64, start: u64, way: u64, sum: u64, added: u32, old: u64) -> u64
+    ensures { IsTaken length start way sum added old result }
+{
+    if length == NO_LENGTH {
+        return old;
+    }
+    if length < start {
+        return old;
+    }
+    if length - start != way {
+        return old;
+    }
+    sum.wrapping_add(u64::from(added))
 }
 
 // Writes lengths and sums, so many, as cells from a place on.
-fn put_cells(lengths: &[u64], sums: &[u64], count: usize, cells: &mut [SumInfo], from: usize)
+pub(crate) fn put_cells(
+    lengths: &[u64],
+    sums: &[u64],
+    count: usize,
+    cells: &mut [SumInfo],
+    from: usize,
+)
     requires lengths { count ≤ length lengths.now }
     requires sums { count ≤ length sums.now }
     requires room { from + count ≤ length cells.old }

@@ -1,10 +1,11 @@
 ghost use Rattle.std.specs.Prelude.{◌≡◌, ◌*◌, ◌<◌, ◌≤◌, All, length};
 ghost use Rattle.ch_table.specs.Selection.{IsSelection};
 ghost use Rattle.domethyme_c.specs.Answers.{Answers};
+ghost use Rattle.domethyme_c.specs.Sets.{IsSet};
 ghost use Rattle.domethyme_c.specs.Summing.{IsSumming};
 ghost use Rattle.domethyme_c.specs.Sums.{IsSumsAnswer};
 
-use crate::code::{NO_HANDLE, NO_ROOM, NODE_RANGE, OK, OUT_OF_MEMORY};
+use crate::code::{BAD_SET, NO_HANDLE, NO_ROOM, NODE_RANGE, OK, OUT_OF_MEMORY};
 use crate::engine::Engine;
 use crate::handle::Handle;
 use crate::summing::Summing;
@@ -19,23 +20,24 @@ pub struct SumInfo {
     pub sum: u64,
 }
 
-/// The least length from each source to each target, row by row, and the sum of the numbers along some path of that length.
+/// The least length from each source to each target, row by row, and the sum of the numbers of a set along some path of that
+/// length.
 #[unsafe(no_mangle)]
 pub extern "C" fn domethyme_table_sums(
     alloc: Global,
     handle: &mut Handle,
-    numbers: &[u32],
+    set: &[u64],
     sources: &[u32],
     targets: &[u32],
     cells: &mut [SumInfo],
 ) -> u32
     ensures kept { handle.new.held.hierarchy ≡ handle.old.held.hierarchy }
-    ensures answer { Answers handle.old.held.hierarchy result (cells.new ≡ cells.old) (λ h. IsSumsAnswer h numbers.now sources.now targets.now result cells.old cells.new) }
+    ensures answer { Answers handle.old.held.hierarchy result (cells.new ≡ cells.old) (λ h. IsSumsAnswer h set.now sources.now targets.now result cells.old cells.new) }
 {
     let Some(mut engine) = handle.take(alloc) else {
         return NO_HANDLE;
     };
-    let code = answer_sums(alloc, &mut engine, numbers, sources, targets, cells);
+    let code = answer_sums(alloc, &mut engine, set, sources, targets, cells);
     handle.put(alloc, engine);
     code
 }
@@ -43,13 +45,13 @@ pub extern "C" fn domethyme_table_sums(
 fn answer_sums(
     alloc: Global,
     engine: &mut Engine,
-    numbers: &[u32],
+    set: &[u64],
     sources: &[u32],
     targets: &[u32],
     cells: &mut [SumInfo],
 ) -> u32
     ensures kept { engine.new ≡ engine.old }
-    ensures answer { IsSumsAnswer engine.old numbers.now sources.now targets.now result cells.old cells.new }
+    ensures answer { IsSumsAnswer engine.old set.now sources.now targets.now result cells.old cells.new }
 {
     let Some(count) = sources.len().checked_mul(targets.len()) else {
         return NO_ROOM;
@@ -63,13 +65,16 @@ fn answer_sums(
     if !engine.has_all(targets) {
         return NODE_RANGE;
     }
-    let mut summing = match engine.take_summing(alloc, numbers) {
-        Ok(summing) => summing,
-        Err(code) => return code,
+    let Ok(mut summing) = engine.take_summing(alloc) else {
+        return OUT_OF_MEMORY;
     };
-    let code = match engine.selection(alloc, targets) {
-        Ok(selection) => fill_sums(alloc, &mut summing, &selection, sources, cells),
-        Err(code) => code,
+    let code = if summing.is_set(set) {
+        match engine.selection(alloc, targets) {
+            Ok(selection) => fill_sums(alloc, &mut summing, &selection, set, sources, cells),
+            Err(code) => code,
+        }
+    } else {
+        BAD_SET
     };
     engine.keep_summing(summing);
     code
@@ -80,17 +85,19 @@ fn fill_sums(
     alloc: Global,
     summing: &mut Summing,
     selection: &Selection,
+    set: &[u64],
     sources: &[u32],
     cells: &mut [SumInfo],
 ) -> u32
     requires summing { IsSumming summing.old.search summing.old }
     requires selection { IsSelection summing.old.search selection.now }
+    requires set { IsSet summing.old.search set.now }
     requires sources { All (λ v. v < length summing.old.search.ranks) sources.now }
     requires room { length sources.now * length selection.now.targets ≤ length cells.old }
     ensures summing { IsSumming summing.old.search summing.new }
-    ensures answer { IsSumsAnswer summing.old.search summing.old.given.items sources.now selection.now.targets result cells.old cells.new }
+    ensures answer { IsSumsAnswer summing.old.search set.now sources.now selection.now.targets result cells.old cells.new }
 {
-    match summing.fill(alloc, selection, sources, cells) {
+    match summing.fill(alloc, selection, set, sources, cells) {
         Ok(()) => OK,
         Err(_) => OUT_OF_MEMORY,
     }

@@ -31,6 +31,7 @@ fn meaning_of(code: u32) -> &'static [u8]
         8 => b"a limit is above 2^62 and isn't the number that means none",
         9 => b"there isn't one number for each link without a middle",
         10 => b"the numbers of the arcs of a link sum to more than 2^36",
+        11 => b"the array is no set of numbers of this hierarchy",
         34 => b"the file couldn't be read",
         35 => b"the bytes are no hierarchy file",
         36 => b"the bytes end too early",

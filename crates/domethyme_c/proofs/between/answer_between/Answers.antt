@@ -9,4 +9,4 @@ returns-in-Ok-Some-clause-answer c =
     let view = c.route.view_is in
     found c.in-Ok-Some.route (subst (IsBetween c.args.engine.now c.args.starts.now c.args.ends.now) c.in-Ok-Some.field-0-is c.in-Ok-Some.ensures.found)
     ((λ i. record { length = c.length.ensures i; start = c.route.inside.start; end = c.route.inside.end; nodes = (c.len.ensures ∙ c.route.inside.nodes.ok.0) i }) ∙ ap between_info_of view)
-    (subst (λ (ns : List ℕ). IsWritten ns c.write_nodes.result c.args.nodes.now c.write_nodes.new.nodes) (c.as_slice.ensures.value ∙ ap (λ (r : RouteBetween). r.nodes) view) c.write_nodes.ensures)
+    (subst (λ (ns : List ℕ). IsWritten ns c.write_all.result c.args.nodes.now c.write_all.new.room) (c.as_slice.ensures.value ∙ ap (λ (r : RouteBetween). r.nodes) view) c.write_all.ensures)

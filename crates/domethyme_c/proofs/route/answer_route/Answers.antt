@@ -9,4 +9,4 @@ returns-in-Ok-Some-clause-answer c =
     let view = c.route-in-Ok-Some.view_is in
     found c.in-Ok-Some.route (subst (IsRoute c.args.engine.now c.args.pair.0 c.args.pair.1) c.in-Ok-Some.field-0-is c.in-Ok-Some.ensures.found)
     ((λ i. record { length = c.length.ensures i; nodes = (c.len.ensures ∙ c.route-in-Ok-Some.inside.nodes.ok.0) i }) ∙ ap info_of view)
-    (subst (λ (ns : List ℕ). IsWritten ns c.write_nodes.result c.args.nodes.now c.write_nodes.new.nodes) (c.as_slice.ensures.value ∙ ap (λ (r : Route). r.nodes) view) c.write_nodes.ensures)
+    (subst (λ (ns : List ℕ). IsWritten ns c.write_all.result c.args.nodes.now c.write_all.new.room) (c.as_slice.ensures.value ∙ ap (λ (r : Route). r.nodes) view) c.write_all.ensures)
