@@ -137,9 +137,15 @@ def thousandths(sums: Numbers) -> "NDArray[np.float64]":
     return np.where(sums < 0, sums, sums / 1000)
 
 
-def by_keys(lengths: Numbers, keys: Keys) -> Any:
-    """The length of each node as a Series by the nodes' keys."""
-    return series(lengths, load("pandas").Index(keys.of(np.arange(len(lengths))), tupleize_cols=False))
+def metres_of(millimetres: Numbers) -> "NDArray[np.float64]":
+    """Sums of millimetres as metres, NaN where they are NO_PATH."""
+    return np.where(millimetres < 0, np.nan, millimetres / 1000)
+
+
+def by_keys(values: NDArray[Any], keys: Keys) -> Any:
+    """The length of each node as a Series by the nodes' keys, or its metres as floats."""
+    index = load("pandas").Index(keys.of(np.arange(len(values))), tupleize_cols=False)
+    return series(values, index) if values.dtype.kind == "i" else load("pandas").Series(values, index)
 
 
 def axis(values: Any) -> Any:

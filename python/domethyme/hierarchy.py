@@ -89,7 +89,7 @@ class Hierarchy:
             raise ValueError(f"Hierarchy takes the path of a file, and no {type(path).__name__}")
         self.path, self._name, self._checksum = path, os.fspath(path), checksum
         self._full_path = os.path.abspath(self._name)
-        self._summer: Summer | None = None
+        self._summers: dict[bool, Summer] = {}
         self._turned: Router | None = None
         with open_hierarchy_file(self._name) as file:
             self.nodes, self.links = read_header(file.fileno(), self._name)
@@ -131,7 +131,7 @@ class Hierarchy:
     def close(self) -> None:
         """Frees the memory. Questions then raise ValueError, as those of a closed file do."""
         self._router.close()
-        self._summer = None
+        self._summers = {}
         if self._turned is not None:
             self._turned.close()
 
@@ -216,7 +216,7 @@ class Hierarchy:
         the targets take, and keeps that: further rows to the same targets, in this call or in later ones, take less time. A table
         has 8 bytes a cell, and 2^29 cells at most: ask for some of the sources at a time beyond that. Sums need the
         network, and one thread finds them, in two to four times the time of lengths. The first ones take a second for four million links, and
-        then some 28 bytes a link and 40 a node are kept.
+        then 8 bytes a link and some 32 a node are kept.
 
         Raises NoSuchNode, ValueError, and OutOfMemory for too many cells, before memory is taken. With sums also WrongHierarchy,
         if the file was replaced before the first ones, and LibraryNotFound for a library that is older and lacks the call.
@@ -266,7 +266,15 @@ class Hierarchy:
 
     # What is reached
 
-    def reach(self, starts: Ends, limit: int | None = None, towards: bool = False, *, minutes: float | None = None) -> Any:
+    @overload
+    def reach(self, starts: Ends, limit: int | None = None, towards: bool = False, *, minutes: float | None = None) -> Any: ...
+    @overload
+    def reach(
+        self, starts: Ends, limit: int | None = None, towards: bool = False, *, minutes: float | None = None, sums: Sequence[str]
+    ) -> dict[str, Any]: ...
+    def reach(
+        self, starts: Ends, limit: int | None = None, towards: bool = False, *, minutes: float | None = None, sums: Sequence[str] = ()
+    ) -> Any:
         """The length of a shortest path to each node from the nearest of several starts, which are given as for `between`:
         an array of int64 of shape (nodes,), -1 for a node without a path or above the limit. With keys it is a Series of
         Int64 with the nodes' keys as its index, missing for these.
@@ -274,12 +282,15 @@ class Hierarchy:
         limit   the greatest length that is asked for, in the unit of the weights, from 0 to 2^62; None for all
         minutes the same in minutes, if weights are milliseconds: of a network, or else nobody compares them
         towards True: the length of a shortest path from each node to the nearest of them, as of a depot that they drive to
+        sums    ["metres"]: the result is a dictionary. `length` has the lengths, and `metres` floats, of the metres along some shortest
+                path to each node, to the millimetre, NaN where there is no length. Needs the network
 
-        The library goes once over all nodes, whatever the limit: 0.02 s for a million, and 0.1 s the first time. Memory: 8
+        The library goes once over all nodes, whatever the limit: 0.02 s for a million, and 0.1 s the first time. With sums it goes
+        over them once more for each start, and `matrix` says what the first ones take. Memory: 8
         bytes for each node, and the library's. The first question `towards` reads the file again and turns each link round, which
         takes some three times as long as to open it, and then the memory of a hierarchy more. Raises NoSuchNode, ValueError,
         OutOfMemory, LibraryNotFound for a library that is older and lacks the call, and WrongHierarchy if the file was replaced before
-        the first question `towards`.
+        the first question `towards` or the first sums.
         """
         need("numpy")
         from . import arrays, batch
@@ -290,8 +301,15 @@ class Hierarchy:
             raise ValueError(f"limit has to be an integer from 0 to 2^62, or None, and is {limit!r}")
         if isinstance(starts, (int, float)) and not isinstance(starts, bool):
             raise ValueError(f"starts are nodes in a list, as [{starts!r}]")
-        lengths = batch.reach(self._towards() if towards else self._router, self._ends("starts", starts), limit)
-        return lengths if self.keys is None else arrays.by_keys(lengths, self.keys)
+        ends = self._ends("starts", starts)
+        if not is_with_metres(sums):
+            lengths = batch.reach(self._towards() if towards else self._router, ends, limit)
+            return lengths if self.keys is None else arrays.by_keys(lengths, self.keys)
+        lengths, found = self._metres_summer(towards).reach(ends, limit)
+        metres = arrays.metres_of(found)
+        if self.keys is None:
+            return {"length": lengths, "metres": metres}
+        return {"length": arrays.by_keys(lengths, self.keys), "metres": arrays.by_keys(metres, self.keys)}
 
     def within(
         self, place: Rows, minutes: Sequence[float] = (), *, metres: Sequence[float] = (), shape: "Shape" = "polygons",
@@ -529,16 +547,17 @@ class Hierarchy:
 
         return isochrones.limits("duration" if self.network is None else self.network.roads.unit, [minutes])[0]
 
-    def _metres_summer(self) -> "Summer":
-        """What sums up the whole millimetres of the network's lightest arc for each link without a middle. Raises ValueError where there
-        is no network, and WrongHierarchy where the file was replaced."""
+    def _metres_summer(self, towards: bool = False) -> "Summer":
+        """What sums up the whole millimetres of the network's lightest arc for each link without a middle, along paths from nodes or to
+        them. Raises ValueError where there is no network, and WrongHierarchy where the file was replaced."""
         from .batch import Summer
 
         network = self._need_network()
-        if self._summer is None:
+        if towards not in self._summers:
+            turned = self._towards() if towards else None
             with self._open_again("its links can't be summed up") as file:
-                self._summer = Summer(self._router, network.millimetres(file.fileno(), self._name))
-        return self._summer
+                self._summers[towards] = Summer(self._router, network.millimetres(file.fileno(), self._name), turned)
+        return self._summers[towards]
 
     def _towards(self) -> Router:
         """The router of the hierarchy with each link turned round, which is opened once. Raises WrongHierarchy where the file was

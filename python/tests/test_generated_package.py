@@ -185,6 +185,21 @@ def check_reach(asked: Asked, starts: dict[int, int], limit: int | None, towards
     values = found.tolist() if isinstance(found, np.ndarray) else found.fillna(-1).tolist()
     assert values == expected
     assert isinstance(found, np.ndarray) or found.index.tolist() == asked.keys
+    summed = asked.hierarchy.reach({asked.keys[node]: added for node, added in starts.items()}, limit, towards, sums=["metres"])
+    assert [*summed] == ["length", "metres"] and [*map(type, summed.values())] == [type(found)] * 2
+    assert domethyme.unscaled(summed["length"]).tolist() == domethyme.unscaled(found).tolist()
+    for node, metres in enumerate(np.asarray(summed["metres"], float)):
+        ways = millimetres_reached(asked.net.turned if towards else asked.net, wanted, starts, node) if expected[node] >= 0 else set[int]()
+        assert round(1000 * metres) in ways if ways else math.isnan(metres)
+
+
+def millimetres_reached(net: Network, lengths: dict[int, int], starts: dict[int, int], node: int, steps: int = 12) -> set[int]:
+    """Those along each shortest path to a node from a start, of at most so many arcs."""
+    found = {0} if starts.get(node) == lengths[node] else set[int]()
+    for arc in net.arcs if steps else []:
+        if arc.end == node and lengths.get(arc.start, math.inf) == lengths[node] - arc.weight:
+            found |= {round(1000 * arc.metres) + more for more in millimetres_reached(net, lengths, starts, arc.start, steps - 1)}
+    return found
 
 
 @drawn(110)
