@@ -4,6 +4,8 @@ from tool_case import VILLAGE, ToolCase, read_rows
 from domethyme import NO_PATH, find_program
 from domethyme.dimacs import read_answers
 from domethyme.maps.turn_restrictions import Member, Restriction, restrictions_of
+from domethyme.network.columns import ENDS
+from domethyme.network.from_tables import read_nodes
 
 CAR = ["access", "vehicle", "motor_vehicle", "motorcar"]
 
@@ -88,7 +90,8 @@ class CrossingTests(CrossingCase):
         self.lengths((2, 3, {"restriction": "no_left_turn"}))
         rows = (self.folder / "map.nodes.csv").read_text().splitlines()
         self.write("map.nodes.csv", "\n".join(row.rpartition(",")[0] for row in rows) + "\n")
-        self.assertEqual({node.ends for node in read_rows(self.folder / "map.nodes.csv")}, {""})
+        nodes = read_nodes(self.folder / "map.nodes.csv").arrays
+        self.assertEqual({ENDS[each] for each in nodes.columns["node_ends"]}, {""})
 
 
 class RelationTests(ToolCase):
