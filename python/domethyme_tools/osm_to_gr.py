@@ -32,8 +32,8 @@ can all reach one another is kept, unless --keep-islands is given. --at-least 0.
 of its nodes by that, as one that is cut or has lost roads.
 
 These are the rules of a car; those of a lorry, a bicycle and pedestrians, and what else a profile may say, are in
-profiles/README.md of the package domethyme.maps. Not looked at: turn restrictions by a way or for some times, opening hours and other conditions, `destination`
-and other limits of who may pass, tolls, ferries.
+profiles/README.md of the package domethyme.maps. Ferries (`route=ferry`) join islands, by their `duration`. Not looked at: turn
+restrictions by a way or for some times, opening hours and other conditions, `destination` and other limits of who may pass.
 
 On standard error: what was left out, and the size of the network. Status 0: done. 1: bad input, reported in one line,
 and nothing is written. 2: the arguments were refused.
