@@ -408,7 +408,7 @@ class Routes(NetworkCase):
         """The length from a node to another, by their ids in the map: the least where an id has two nodes."""
         label, least = self.labels(), {}
         for answer in answers:
-            pair = label[answer.source], label[answer.target]
+            pair = label[answer.source + 1], label[answer.target + 1]
             least[pair] = min(answer.length, least.get(pair, answer.length))
         return least
 
