@@ -36,4 +36,4 @@ class CompareConverters(ToolCase):
         self.assert_refused("compare_converters", VILLAGE, "village", says="the lengths from node")
 
     def test_no_network(self):
-        self.assert_refused("compare_converters", VILLAGE, "village", says="village.nodes.csv: No such file")
+        self.assert_refused("compare_converters", VILLAGE, "village", says="village.gr: No such file")
