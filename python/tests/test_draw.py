@@ -417,7 +417,7 @@ class BadInput(DrawCase):
         self.write("net.arcs.csv", ARCS.replace("LINESTRING (0.002 0, 0.004 0)", "POINT (0 0)"))
         self.assert_refused("draw", "net", routes, "out.svg", says="net.arcs.csv, row 4: WKT 'POINT (0 0)' is no line")
         self.write("net.arcs.csv", ARCS.splitlines()[0])
-        self.assert_refused("draw", "net", self.routes(NO_WAY), "out.svg", says="net: has no arcs")
+        self.assert_refused("draw", "net", self.routes(NO_WAY), "out.svg", says="net.arcs.csv: has 0 arcs")
 
     def test_old_file_stays(self):
         self.write("out.svg", "as it was\n")
