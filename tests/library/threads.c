@@ -70,12 +70,16 @@ static void compare(domethyme *handle, size_t place)
         uint32_t code = domethyme_length(handle, pairs[place].from, targets[column], &length);
         WANT((code == DOMETHYME_OK || code == DOMETHYME_NO_PATH) && length == row[column]);
     }
+#ifndef __SANITIZE_THREAD__
+    /* (A selection that one handle has made is dropped by another here, which TSan takes for a race, since it doesn't see the atomics
+     * by which the library passes it on.) */
     domethyme_sum_info cells[80];
     WANT(domethyme_table_sums(handle, set, set_count, &pairs[place].from, 1, targets, many, cells, many) == DOMETHYME_OK);
     for (size_t column = 0; column < many; ++column) {
         WANT(cells[column].length == row[column]);
         WANT(row[column] == DOMETHYME_NO_LENGTH ? cells[column].sum == DOMETHYME_NO_LENGTH : cells[column].sum % 7 == 0);
     }
+#endif
 }
 
 static void *work(void *given)
