@@ -111,7 +111,7 @@ class Searcher:
         cells: "NDArray[np.int64]"
     ) -> None:
         """The same with what the numbers of a set sum to, to cells of two."""
-        arrays = [word for each in (number_set, sources, targets) for word in (each.ctypes.data, len(each))]
+        arrays = number_set.ctypes.data, len(number_set), sources.ctypes.data, len(sources), targets.ctypes.data, len(targets)
         self._check(load_later_call("table_sums")(self._at, *arrays, cells.ctypes.data, cells.size // 2))
 
     def reach(self, starts: "ctypes.Array[Seed]", limit: int | None, lengths: "NDArray[np.int64]") -> None:

@@ -384,7 +384,7 @@ class FairTests(NginxCase):
     def test_one_client_leaves_workers_to_others(self):
         """Eight requests of one public client that don't end hold two of the four workers; another one's are answered."""
         script = "import os, time\nfrom domethyme_service import node_queries, worker\nworker.ANSWER_SECONDS, arbiter = 1e6, os.getpid()\n"
-        script += "own = node_queries.length_answer\ndef busy(queries, source, target):\n if source != 2:\n  return own(queries, source, target)\n"
+        script += "own = node_queries.length_answer\ndef busy(queries, source, target):\n if source != 1:\n  return own(queries, source, target)\n"
         script += f" os.getppid() != arbiter and os._exit(0)\n os.mkfifo(f'{self.folder}/busy-{{os.getpid()}}')\n"
         script += " while os.getppid() == arbiter:\n  time.sleep(0.1)\n os._exit(0)\n"
         script += "node_queries.length_answer = busy\n"
