@@ -224,7 +224,7 @@ uint32_t domethyme_reach(domethyme *handle, const domethyme_seed *starts, size_t
  * number for each start, DOMETHYME_BAD_SET, DOMETHYME_BAD_LIMIT, then DOMETHYME_NODE_RANGE or DOMETHYME_SEED_COST.
  * DOMETHYME_OUT_OF_MEMORY comes after the first three. All write nothing.
  *
- * It goes over the selection once, and once more for each start. Since 1.1. */
+ * It looks up the number of each link of the selection, and goes over it once, and once more for each start. Since 1.1. */
 uint32_t domethyme_reach_sums(domethyme *handle, const uint64_t *set, size_t set_count,
                               const domethyme_seed *starts, size_t start_count, const uint32_t *added, size_t added_count,
                               uint64_t limit, domethyme_sum_info *cells, size_t room);
