@@ -11,7 +11,7 @@ use Rattle.ch_laws.specs.Contraction.{IsAlive, IsOver}
 use Rattle.ch_laws.specs.Members.{contains_cases}
 use Rattle.ch_overlay.specs.Overlay.{Overlay, IsOverlay, row_at, state_of}
 use Rattle.ch_overlay.specs.Ranges.{distinct_below-few}
-use Rattle.ch_contract.proofs.Sweeping.{waits-from_none, gone-from_some, alive-from_none}
+use Rattle.ch_contract.proofs.SweptNodes.{waits-from_none, gone-from_some, alive-from_none}
 
 -- an element is found
 contains-any : (xs : List ℕ) (q : ℕ) → Contains xs q → list_any (eqb q) xs ≡ true

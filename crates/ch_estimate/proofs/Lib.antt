@@ -1,3 +1,3 @@
-mod Among
-mod Told
-mod Counting
+mod NotesInOrder
+mod EntriesTold
+mod LeaseCounts

@@ -4,7 +4,7 @@ use Rattle.ch_cost.specs.declared.cost.Cost.{Cost}
 use Rattle.ch_laws.specs.Contraction.{State, Before, IsAlive, HasArc, Remains, IsNeighbour}
 use Rattle.ch_laws.specs.Rows.{Entry, IsPlain, Row, IsRow, Lists, ShowsRemaining}
 use Rattle.ch_laws.specs.Theorems.{RowOfAlive}
-use Rattle.ch_laws.proofs.Order.{before-out, before_not_alive}
+use Rattle.ch_laws.proofs.ContractionOrder.{before-out, before_not_alive}
 use Rattle.ch_laws.specs.Members.{contains_place, place_of}
 
 -- a node has a rank where it is in the order

@@ -7,7 +7,7 @@ use Rattle.ch_laws.specs.Contraction.{State, IsAlive, Through, Avoids, HasWitnes
 use Rattle.ch_laws.specs.Rows.{Entry, Row, arc_of, IsRow, Lists}
 use Rattle.ch_laws.specs.Verdicts.{AreRead, SeenArc, HasWay, ListsThrough, IsForShortcut, AreVerdicts}
 use Rattle.ch_laws.specs.Theorems.{VerdictsAreLawful}
-use Rattle.ch_laws.proofs.Sound.{IsSound, reached-sound, sound-plain}
+use Rattle.ch_laws.proofs.SoundStates.{IsSound, reached-sound, sound-plain}
 use Rattle.ch_laws.proofs.AliveRows.{row_tells_alive, shows-remaining}
 
 module _ {g : Graph} {s : State} (sound : IsSound g s) where

@@ -11,8 +11,8 @@ use Rattle.ch_graph.specs.Limits.{bound_of}
 use Rattle.ch_graph.specs.Walk.Laws.{Cheaper, one_arc, join, along_walks, cheaper-after, cheaper-before}
 use Rattle.ch_laws.specs.declared.shortcut.Shortcut.{Shortcut}
 use Rattle.ch_laws.specs.Contraction.{State, Before, HasArc, Remains, Through, Avoids, HasWitness, Puts}
-use Rattle.ch_laws.proofs.Steps.{one_cost, has_arc-same, pair_cases, alive-next}
-use Rattle.ch_laws.proofs.Sound.{IsSound, arc-walk, arc-above, arc-apart, remaining-walk, avoiding-walk, kept_into, contracted-before, puts-sound}
+use Rattle.ch_laws.proofs.OneContraction.{one_cost, has_arc-same, pair_cases, alive-next}
+use Rattle.ch_laws.proofs.SoundStates.{IsSound, arc-walk, arc-above, arc-apart, remaining-walk, avoiding-walk, kept_into, contracted-before, puts-sound}
 
 -- an arc to a node that comes later in the order, and one to a node that came earlier
 pub record Climbs (s : State) (x y : ℕ) (c : Cost) : Type 0 where

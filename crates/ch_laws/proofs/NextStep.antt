@@ -13,11 +13,11 @@ use Rattle.ch_graph.specs.Limits.{bound_of}
 use Rattle.ch_graph.specs.Walk.Laws.{one_arc}
 use Rattle.ch_laws.specs.Contraction.{State, StateArc, IsAlive, HasArc, Remains, Through, HasWitness, Shortcut, IsFor, NoShortcut, IsAllowed, IsPlan, IsWitnessed, contracted, IsNeighbour, Contraction, Step}
 use Rattle.ch_laws.specs.Theorems.{GoesOn}
-use Rattle.ch_laws.proofs.Pairs.{IsCovered, covered_more, covered_cases}
+use Rattle.ch_laws.proofs.PairOrder.{IsCovered, covered_more, covered_cases}
 use Rattle.ch_laws.specs.Members.{contains_first, contains_later, contains_cases}
-use Rattle.ch_laws.proofs.Steps.{one_cost}
-use Rattle.ch_laws.proofs.Sound.{IsSound, arc-apart, reached-sound}
-use Rattle.ch_laws.proofs.Lawful.{plan_is_lawful}
+use Rattle.ch_laws.proofs.OneContraction.{one_cost}
+use Rattle.ch_laws.proofs.SoundStates.{IsSound, arc-apart, reached-sound}
+use Rattle.ch_laws.proofs.LawfulRuns.{plan_is_lawful}
 
 -- Decisions
 

@@ -12,9 +12,9 @@ use Rattle.ch_graph.specs.Walk.Laws.{Cheaper, one_arc, join, along_arcs, cheaper
 use Rattle.ch_graph.specs.Limits.Laws.{arc-sound}
 use Rattle.ch_laws.specs.declared.shortcut.Shortcut.{Shortcut}
 use Rattle.ch_laws.specs.Contraction.{State, StateArc, IsAlive, Remains, IsStartArc, IsStart, Puts, Contraction, Run, Run.rest, Run.next, IsOver}
-use Rattle.ch_laws.proofs.Order.{before_not_alive}
-use Rattle.ch_laws.proofs.Steps.{has_arc-same, kept_from, kept_to}
-use Rattle.ch_laws.proofs.Sound.{IsSound, arc-apart, kept_out_of, before-next, contracted-before, puts-sound}
+use Rattle.ch_laws.proofs.ContractionOrder.{before_not_alive}
+use Rattle.ch_laws.proofs.OneContraction.{has_arc-same, kept_from, kept_to}
+use Rattle.ch_laws.proofs.SoundStates.{IsSound, arc-apart, kept_out_of, before-next, contracted-before, puts-sound}
 use Rattle.ch_laws.proofs.Detour.{Climbs, Drops, Detour, Detour.dearer, Detour.beside, Detour.stands, Detour.leaves, climbing-walk, dropping-walk, detour}
 
 -- A walk that rises through contracted nodes, goes on in the remaining graph, and falls through contracted nodes.

@@ -8,9 +8,9 @@ use Rattle.ch_cost.specs.Cost.Laws.{at_most_sum_left, below_trans_at_most}
 use Rattle.ch_laws.specs.Contraction.{State, StateArc, Before, IsAlive, HasArc, Shortcut, IsFor, NoShortcut, IsPlan, IsNeighbour, contracted, or_else}
 use Rattle.ch_laws.specs.Rows.{Entry, Row, arc_of, IsPlain, IsPlainArc, IsRow, IsOfShortcut, IsChanged, AreRows, AreUpdated, row_at}
 use Rattle.ch_laws.specs.Theorems.{RowsGoOn}
-use Rattle.ch_laws.proofs.Order.{before-contains, before-push, before-last, before-back, place-kept, place-last}
-use Rattle.ch_laws.proofs.Steps.{one_arc_there, find_shortcut}
-use Rattle.ch_laws.proofs.Lawful.{no_shortcut_arc, its_shortcut_arc}
+use Rattle.ch_laws.proofs.ContractionOrder.{before-contains, before-push, before-last, before-back, place-kept, place-last}
+use Rattle.ch_laws.proofs.OneContraction.{one_arc_there, find_shortcut}
+use Rattle.ch_laws.proofs.LawfulRuns.{no_shortcut_arc, its_shortcut_arc}
 use Rattle.ch_laws.proofs.NextStep.{cases_neighbour}
 
 -- two equivalences, one after the other

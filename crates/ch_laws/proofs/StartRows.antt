@@ -10,8 +10,8 @@ use Rattle.ch_graph.specs.Limits.Laws.{arc-sound}
 use Rattle.ch_laws.specs.Contraction.{StateArc, Before, IsStartArc, IsStart, or_else}
 use Rattle.ch_laws.specs.Rows.{Entry, Row, arc_of, arc_to, shown, no_arcs, row_at, arc_by_rows, state_by, IsRow, IsStartRow}
 use Rattle.ch_laws.specs.Theorems.{RowsStart}
-use Rattle.ch_laws.proofs.Start.{least_arc}
-use Rattle.ch_laws.proofs.Sound.{start-sound, sound-plain}
+use Rattle.ch_laws.proofs.FirstState.{least_arc}
+use Rattle.ch_laws.proofs.SoundStates.{start-sound, sound-plain}
 use Rattle.ch_laws.proofs.RowsShown.{HasEntry, find_entry, arc_to-none}
 
 -- nothing comes before anything in the empty order

@@ -13,12 +13,12 @@ use Rattle.ch_graph.specs.Hierarchy.{Hierarchy, ComesBefore}
 use Rattle.ch_laws.specs.Contraction.{State, StateArc, IsAlive, Contraction, Step, Run.rest, IsReached, IsOver, IsMade}
 use Rattle.ch_laws.specs.Theorems.{HasRun}
 use Rattle.ch_laws.specs.Members.{place_of}
-use Rattle.ch_laws.proofs.Pairs.{IsCovered, covered_more, covered_cases}
-use Rattle.ch_laws.proofs.Sound.{IsSound, reached-sound}
-use Rattle.ch_laws.proofs.Made.{few_below}
-use Rattle.ch_laws.proofs.Lawful.{reaches_on}
+use Rattle.ch_laws.proofs.PairOrder.{IsCovered, covered_more, covered_cases}
+use Rattle.ch_laws.proofs.SoundStates.{IsSound, reached-sound}
+use Rattle.ch_laws.proofs.MadeHierarchy.{few_below}
+use Rattle.ch_laws.proofs.LawfulRuns.{reaches_on}
 use Rattle.ch_laws.proofs.NextStep.{cases_contains, next-step}
-use Rattle.ch_laws.proofs.Start.{has_start}
+use Rattle.ch_laws.proofs.FirstState.{has_start}
 
 -- To the end
 

@@ -12,7 +12,7 @@ use Rattle.ch_query.specs.declared.meeting.Meeting.{Meeting}
 use Rattle.ch_query.specs.Labels.{AreShort, Meets, IsShortLimit}
 use Rattle.ch_query.specs.Marks.{costs_of, settled_in, settled_costs, IsBelow, HasLimit, IsNoMore, IsStopped, label_cost}
 use Rattle.ch_query.specs.Meeting.{IsShortSum, IsBestMeeting, IsMet, IsBestSoFar, IsLooked, cost_of}
-use Rattle.ch_query.proofs.Marking.{has_label, cost_is, from_cost, settled_is, limit-given}
+use Rattle.ch_query.proofs.MarkOrder.{has_label, cost_is, from_cost, settled_is, limit-given}
 
 same_given : {o : Option Cost} {c d : Cost} → o ≡ Some c → o ≡ Some d → c ≡ d
 same_given is other = cc

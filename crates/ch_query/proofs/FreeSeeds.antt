@@ -12,7 +12,7 @@ use Rattle.ch_query.specs.Ways.{free}
 use Rattle.ch_query.specs.Seeds.Laws.{seed-node, seeds-none, seeds-cons}
 use Rattle.ch_query.specs.Seeds.{AreSeeds, HasWalkBetween, IsValueBetween, IsWalkBetween, cost_between}
 use Rattle.ch_query.proofs.SeedPlaces.{among-from_get}
-use Rattle.ch_query.proofs.Turning.{bound_in_limit}
+use Rattle.ch_query.proofs.OneTurn.{bound_in_limit}
 
 abbrev pub only : ℕ → List Seed
 only v = free v ∷ []

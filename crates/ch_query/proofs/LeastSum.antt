@@ -24,9 +24,9 @@ use Rattle.ch_query.specs.Seeds.{AreSeeds, IsSeedAt, HasWalkBetween, cost_betwee
 use Rattle.ch_query.proofs.SeedPlaces.{seed-in}
 use Rattle.ch_query.specs.Marks.{label_cost, costs_of, IsStopped}
 use Rattle.ch_query.specs.Searching.{LinkArc, IsClimbing, StopIsRight}
-use Rattle.ch_query.proofs.Sides.{link-among, foot_in, head_in}
-use Rattle.ch_query.proofs.Ranks.{rank_below, rank_taken, same_node}
-use Rattle.ch_query.proofs.Marking.{from_cost, cost_is, has_label}
+use Rattle.ch_query.proofs.LinkEnds.{link-among, foot_in, head_in}
+use Rattle.ch_query.proofs.NodeOfRank.{rank_below, rank_taken, same_node}
+use Rattle.ch_query.proofs.MarkOrder.{from_cost, cost_is, has_label}
 
 -- Rises and falls as walks of a side over ranks
 

@@ -12,10 +12,10 @@ use Rattle.ch_query.specs.Searching.{LinkArc}
 use Rattle.ch_query.specs.Seeds.{AreSeeds, IsSeedAt, HasWalkBetween, cost_between}
 use Rattle.ch_query.specs.Ways.{IsWay, free, WaysAreWalks, FreeValueIsValue, LongestIsExact}
 use Rattle.ch_query.proofs.SeedPlaces.{seed-in}
-use Rattle.ch_query.proofs.Ranks.{rank_below, rank_taken}
+use Rattle.ch_query.proofs.NodeOfRank.{rank_below, rank_taken}
 use Rattle.ch_query.proofs.LeastSum.{rise-walk, fall-walk, end_in, walk-rise, walk-fall, seed_parts}
 use Rattle.ch_query.proofs.FreeSeeds.{same_seed, value-one}
-use Rattle.ch_query.proofs.Pairs.{least_pair}
+use Rattle.ch_query.proofs.LeastOfPairs.{least_pair}
 
 -- what a start, a climb and a fall cost together, with an end at no cost
 free_end : (a u d : Cost) → (a ⊕ u) ⊕ d ≡ (a ⊕ (u ⊕ d)) ⊕ zero_cost

@@ -1,6 +1,6 @@
 pub mod Fronts
-pub mod Steps
-pub mod Sound
+pub mod WordSteps
+pub mod BoundOfRows
 pub mod Seats
-pub mod Pens
-pub mod Showings
+pub mod PenKeeps
+pub mod RisingVersions

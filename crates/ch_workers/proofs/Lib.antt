@@ -1,2 +1,2 @@
-pub mod Marks
-mod Reading
+pub mod ReceiptMarks
+mod ListPlaces

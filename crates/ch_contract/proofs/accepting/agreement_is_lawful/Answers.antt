@@ -1,4 +1,4 @@
-use Rattle.ch_contract.proofs.Lawful.{agrees-lawful}
+use Rattle.ch_contract.proofs.AgreeingProposals.{agrees-lawful}
 use Rattle.ch_contract.proofs.accepting.agreement_is_lawful.Goals as goal
 
 pub returns : goal.returns

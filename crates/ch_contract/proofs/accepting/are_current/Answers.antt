@@ -1,4 +1,4 @@
-use Rattle.ch_contract.proofs.Current.{current_by}
+use Rattle.ch_contract.proofs.CurrentRows.{current_by}
 use Rattle.ch_contract.proofs.accepting.are_current.Goals as goal
 
 pub returns : goal.returns

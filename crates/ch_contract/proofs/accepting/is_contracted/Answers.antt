@@ -1,6 +1,6 @@
 use Rattle.std.proofs.Common.{◌<◌, ◌↔◌, IsTrue, Contains, length, arith, subst, ◌∙◌}
 use Rattle.ch_overlay.specs.Overlay.{Overlay}
-use Rattle.ch_contract.proofs.Current.{contracted_by_rank}
+use Rattle.ch_contract.proofs.CurrentRows.{contracted_by_rank}
 use Rattle.ch_contract.proofs.accepting.is_contracted.Goals as goal
 
 pub returns : goal.returns

@@ -11,8 +11,8 @@ use Rattle.ch_overlay.specs.Overlay.{IsEntry}
 use Rattle.ch_witness.specs.Kept.{kept_of, finds_unless}
 use Rattle.ch_contract.specs.Listed.{LeadsOn}
 use Rattle.ch_contract.specs.Drafts.{ArePairs}
-use Rattle.ch_contract.proofs.Finds.{finds_short, on_ok_too}
-use Rattle.ch_contract.proofs.Joining.{drafted_search, idle_alone, idle_read, no_target, pair_through}
+use Rattle.ch_contract.proofs.ThroughResults.{finds_short, on_ok_too}
+use Rattle.ch_contract.proofs.PairsBySearch.{drafted_search, idle_alone, idle_read, no_target, pair_through}
 use Rattle.ch_contract.proofs.draft.draft_pairs.Goals as goal
 
 not-true : (b : Bool) → b ≡ false → b ≡ true → ⊥

@@ -3,7 +3,7 @@ use Rattle.std.proofs.lemmas.List.{take_all}
 use Rattle.ch_laws.specs.declared.entry.Entry.{Entry}
 use Rattle.ch_laws.specs.declared.shortcut.Shortcut.{Shortcut}
 use Rattle.ch_contract.specs.Drafts.{ArePairs, IsPairAdded}
-use Rattle.ch_contract.proofs.Pairing.{next_pairs, pairs_none}
+use Rattle.ch_contract.proofs.PairVerdicts.{next_pairs, pairs_none}
 use Rattle.ch_contract.proofs.draft.find_light_pairs.Goals as goal
 
 pub outs-init : goal.outs-init

@@ -1,6 +1,6 @@
 use Rattle.std.proofs.Common.{map, ap, ◌∙◌}
 use Rattle.ch_laws.specs.declared.shortcut.Shortcut.{Shortcut}
-use Rattle.ch_contract.proofs.Finds.{on_ok}
+use Rattle.ch_contract.proofs.ThroughResults.{on_ok}
 use Rattle.ch_contract.proofs.draft.find_pairs.Goals as goal
 
 pub find_light_pairs-requires : goal.find_light_pairs-requires

@@ -6,8 +6,8 @@ use Rattle.ch_overlay.specs.Pairs.{at_most-from_within}
 use Rattle.ch_witness.specs.Kept.{kept_of, finds_unless}
 use Rattle.ch_witness.specs.Tree.{seen_of}
 use Rattle.ch_witness.specs.Ways.{AreWays}
-use Rattle.ch_contract.proofs.Finds.{finds_short}
-use Rattle.ch_contract.proofs.Joining.{direct_for, judged_for}
+use Rattle.ch_contract.proofs.ThroughResults.{finds_short}
+use Rattle.ch_contract.proofs.PairsBySearch.{direct_for, judged_for}
 use Rattle.ch_contract.proofs.draft.judge_by_search.Goals as goal
 
 pub search-requires-clause-start : goal.search-requires-clause-start

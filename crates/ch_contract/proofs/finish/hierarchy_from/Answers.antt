@@ -2,7 +2,7 @@ use Rattle.std.proofs.Common.{Ok, ap, sym, subst, ◌∙◌}
 use Rattle.ch_graph.specs.Limits.{bound_of}
 use Rattle.ch_graph.specs.Hierarchy.{Hierarchy}
 use Rattle.ch_contract.specs.Finish.{IsMaking}
-use Rattle.ch_contract.proofs.Finishing.{finished}
+use Rattle.ch_contract.proofs.FinishedHierarchy.{finished}
 use Rattle.ch_contract.proofs.finish.hierarchy_from.Goals as goal
 
 pub new-requires : goal.new-requires

@@ -1,5 +1,5 @@
 use Rattle.std.proofs.Common.{◌≡◌, length, arith, ap, sym, ◌++◌, ◌∷◌, [], ◌∙◌, ◌+◌}
-use Rattle.ch_contract.proofs.Numbering.{new_versions}
+use Rattle.ch_contract.proofs.NewVersions.{new_versions}
 use Rattle.std.specs.List.{range_with_len}
 use Rattle.ch_overlay.specs.Ranges.{range_with_len-more}
 use Rattle.ch_contract.proofs.ledger.versions_from.Goals as goal

@@ -4,7 +4,7 @@ use Rattle.std.proofs.lemmas.List.Sorted.{answers_always}
 use Rattle.ch_graph.specs.declared.link.Link.{Link}
 use Rattle.ch_laws.specs.Rows.{Row}
 use Rattle.ch_contract.specs.Finish.{row_links, links_below}
-use Rattle.ch_contract.proofs.Sorting.{sorted-pairs, links_below-more}
+use Rattle.ch_contract.proofs.SortedLinks.{sorted-pairs, links_below-more}
 use Rattle.ch_contract.proofs.parts.links_of.Goals as goal
 
 pub loop-node-preserved : goal.loop-node-preserved

@@ -1,6 +1,6 @@
 use Rattle.std.proofs.Common.{◌<◌, length, is_none, arith, ap, sym, ◌∙◌}
 use Rattle.ch_laws.specs.Rows.{Row}
-use Rattle.ch_contract.proofs.Sweeping.{waits-from_none}
+use Rattle.ch_contract.proofs.SweptNodes.{waits-from_none}
 use Rattle.ch_contract.proofs.parts.ranks_of.Goals as goal
 
 pub unreachable-requires : goal.unreachable-requires

@@ -6,7 +6,7 @@ use Rattle.ch_laws.specs.Members.{contains_place}
 use Rattle.ch_laws.specs.Rows.{Row}
 use Rattle.ch_witness.specs.Kept.{kept_of, finds_unless}
 use Rattle.ch_contract.specs.Drafts.{IsDraftedFrom}
-use Rattle.ch_contract.proofs.Gathering.{drafted_none, next_drafted, names_moved}
+use Rattle.ch_contract.proofs.DraftOfNeighbours.{drafted_none, next_drafted, names_moved}
 use Rattle.ch_contract.proofs.proposing.draft_all.Goals as goal
 
 pub inns-init : goal.inns-init

@@ -11,7 +11,7 @@ use Rattle.ch_contract.specs.Drafts.{IsDrafted}
 use Rattle.ch_contract.specs.Proposal.{Proposal, IsProposedBy, IsReadUnranked, TellsContracted}
 use Rattle.ch_contract.specs.declared.error.ProposeError.{ProposeError}
 use Rattle.ch_contract.specs.declared.error.ProposeError.TheVariants.{OutOfMemory, Unseen, Contracted}
-use Rattle.ch_contract.proofs.Gathering.{proposed}
+use Rattle.ch_contract.proofs.DraftOfNeighbours.{proposed}
 use Rattle.ch_witness.specs.Kept.{all_listed_are}
 use Rattle.ch_contract.proofs.proposing.propose_in.Goals as goal
 

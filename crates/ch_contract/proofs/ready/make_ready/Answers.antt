@@ -4,8 +4,8 @@ use Rattle.ch_laws.specs.Rows.{Row}
 use Rattle.ch_overlay.specs.declared.source.Seen.{Seen}
 use Rattle.ch_overlay.specs.Prepared.{AreNamed}
 use Rattle.ch_contract.specs.Ready.{RowsRise}
-use Rattle.ch_contract.proofs.Answered.{named_alone}
-use Rattle.ch_contract.proofs.Options.{some-same}
+use Rattle.ch_contract.proofs.ReadRows.{named_alone}
+use Rattle.ch_contract.proofs.SomeValues.{some-same}
 use Rattle.ch_contract.proofs.ready.make_ready.Goals as goal
 
 pub prepare_by-requires-clause-rise : goal.prepare_by-requires-clause-rise

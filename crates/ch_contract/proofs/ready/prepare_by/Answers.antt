@@ -8,7 +8,7 @@ use Rattle.ch_overlay.specs.Prepared.{AreNamed, IsPrepared}
 use Rattle.ch_overlay.specs.Source.{row_in, row_of}
 use Rattle.ch_contract.specs.Proposal.{ShortcutBefore}
 use Rattle.ch_contract.specs.Ready.{RowsRise}
-use Rattle.ch_contract.proofs.Answered.{is_ready, rows_rise, seen_rise, sorted_once}
+use Rattle.ch_contract.proofs.ReadRows.{is_ready, rows_rise, seen_rise, sorted_once}
 use Rattle.ch_contract.proofs.ready.prepare_by.Goals as goal
 
 -- the rows that were read, in either list

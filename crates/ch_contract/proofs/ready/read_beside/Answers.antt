@@ -5,7 +5,7 @@ use Rattle.ch_laws.specs.Rows.{Rises}
 use Rattle.ch_overlay.specs.declared.source.Seen.{Seen}
 use Rattle.ch_overlay.specs.Source.{row_in, row_of}
 use Rattle.ch_contract.specs.Ready.{AreAnswered, RowsRise}
-use Rattle.ch_contract.proofs.Answered.{answered_by, answered_front, answered_in, answered_more}
+use Rattle.ch_contract.proofs.ReadRows.{answered_by, answered_front, answered_in, answered_more}
 use Rattle.ch_contract.proofs.ready.read_beside.Goals as goal
 
 pub nodes-preserved-then-is_some : goal.nodes-preserved-then-is_some

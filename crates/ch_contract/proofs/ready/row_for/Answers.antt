@@ -1,6 +1,6 @@
 use Rattle.std.proofs.Common.{ap, sym, ◌∙◌, Some}
 use Rattle.ch_laws.specs.Rows.{Row}
-use Rattle.ch_contract.proofs.Answered.{none_more, some_here}
+use Rattle.ch_contract.proofs.ReadRows.{none_more, some_here}
 use Rattle.ch_contract.proofs.ready.row_for.Goals as goal
 
 pub returns-then-answer-node-clause-some : goal.returns-then-answer-node-clause-some

@@ -1,6 +1,6 @@
 use Rattle.std.proofs.Common.{◌≡◌, Option, Some, None, IfSome, IfNone, sym, subst}
 use Rattle.ch_laws.specs.Rows.{Row}
-use Rattle.ch_contract.proofs.Answered.{found_before, found_behind}
+use Rattle.ch_contract.proofs.ReadRows.{found_before, found_behind}
 use Rattle.ch_contract.proofs.ready.row_for_either.Goals as goal
 
 pub returns-in-Some-clause-some : goal.returns-in-Some-clause-some

@@ -2,7 +2,7 @@ use Rattle.std.proofs.Common.{sym, subst, ap, ◌∙◌}
 use Rattle.ch_cost.specs.declared.cost.Cost.{Cost}
 use Rattle.ch_overlay.specs.Source.{IsBound}
 use Rattle.ch_laws.specs.Rows.{row_at}
-use Rattle.ch_contract.proofs.InBook.{row_from_book}
+use Rattle.ch_contract.proofs.LedgerInBook.{row_from_book}
 use Rattle.ch_contract.proofs.ShownRows.{names_nodes, ledger_bound}
 use Rattle.ch_contract.proofs.shown.shown.Goals as goal
 

@@ -1,6 +1,6 @@
 use Rattle.std.proofs.Common.{◌<◌, ℕ, slice_index_or, sym, subst, arith}
 use Rattle.ch_estimate.specs.Notes.{Note, note_in}
-use Rattle.ch_estimate.proofs.Among.{one_more, still}
+use Rattle.ch_estimate.proofs.NotesInOrder.{one_more, still}
 use Rattle.ch_estimate.proofs.notes.lose_all.Goals as goal
 
 pub lose-requires-clause-few : goal.lose-requires-clause-few

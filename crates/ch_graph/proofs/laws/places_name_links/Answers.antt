@@ -1,4 +1,4 @@
-use Rattle.ch_graph.proofs.Places.{same_links}
+use Rattle.ch_graph.proofs.LinksByPlaces.{same_links}
 use Rattle.ch_graph.proofs.laws.places_name_links.Goals as goal
 
 pub returns : goal.returns

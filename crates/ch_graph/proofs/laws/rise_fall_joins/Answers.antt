@@ -1,4 +1,4 @@
-use Rattle.ch_graph.proofs.Places.{rise_fall-joined}
+use Rattle.ch_graph.proofs.LinksByPlaces.{rise_fall-joined}
 use Rattle.ch_graph.proofs.laws.rise_fall_joins.Goals as goal
 
 pub returns : goal.returns

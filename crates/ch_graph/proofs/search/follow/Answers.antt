@@ -9,8 +9,8 @@ use Rattle.ch_graph.specs.Outgoing.{road_at, IsLastFrom}
 use Rattle.ch_cost.specs.declared.cost.Cost.{Cost}
 use Rattle.ch_graph.specs.Searching.{LeadsTo}
 use Rattle.ch_graph.specs.Search.{own_cost, IsOffered}
-use Rattle.ch_graph.proofs.Linking.{places_to, last_from-below}
-use Rattle.ch_graph.proofs.Following.{opened-start, opened-more, leads-road, offer-opened, offer-at_most, followed-more}
+use Rattle.ch_graph.proofs.LastArcs.{places_to, last_from-below}
+use Rattle.ch_graph.proofs.FollowedArcs.{opened-start, opened-more, leads-road, offer-opened, offer-at_most, followed-more}
 use Rattle.ch_graph.proofs.search.follow.Goals as goal
 
 pub arcs-init : goal.arcs-init

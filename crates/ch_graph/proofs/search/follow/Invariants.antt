@@ -3,7 +3,7 @@ use Rattle.ch_cost.specs.Cost.{◌⊕◌, of_weight}
 use Rattle.ch_graph.specs.Marks.{mark, IsAtMost}
 use Rattle.ch_graph.specs.Outgoing.{road_at, IsLastFrom}
 use Rattle.ch_graph.specs.Search.{own_cost, IsOpenedFrom}
-use Rattle.ch_graph.proofs.Linking.{places_to}
+use Rattle.ch_graph.proofs.LastArcs.{places_to}
 use Rattle.ch_graph.proofs.search.follow.Given as goal
 
 -- the arcs from a place on are followed, and next is the last of the node before that place

@@ -2,7 +2,7 @@ use Rattle.std.proofs.Common.{ℕ, ◌≡◌, ◌+◌, List, [], ◌∷◌, drop
 use Rattle.std.proofs.lemmas.List.{drop_more, drop_all}
 use Rattle.ch_cost.specs.declared.cost.Cost.{Cost}
 use Rattle.ch_cost.specs.Cost.Laws.{ZERO-is, equal-from_same, same-from_equal}
-use Rattle.ch_graph.proofs.Through.{GoesOn, goes_on-from, goes_on-to, goes_on-end, goes_on-stop, goes_on-step, goes_on-onward, goes_on-blocked}
+use Rattle.ch_graph.proofs.LeastArcChains.{GoesOn, goes_on-from, goes_on-to, goes_on-end, goes_on-stop, goes_on-step, goes_on-onward, goes_on-blocked}
 use Rattle.ch_graph.proofs.step.least_arcs_cost.Goals as goal
 
 pub loop-node-init : goal.loop-node-init

@@ -1,6 +1,6 @@
 use Rattle.std.proofs.Common.{◌∷◌, drop}
 use Rattle.ch_cost.specs.Cost.{zero_cost}
-use Rattle.ch_graph.proofs.Through.{GoesOn}
+use Rattle.ch_graph.proofs.LeastArcChains.{GoesOn}
 use Rattle.ch_graph.proofs.step.least_arcs_cost.Given as goal
 
 -- the whole is right exactly where what is left is right after what was spent

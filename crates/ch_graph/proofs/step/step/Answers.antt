@@ -3,7 +3,7 @@ use Rattle.std.specs.Option.{IfNone, SomeIff}
 use Rattle.ch_cost.specs.declared.cost.Cost.{Cost}
 use Rattle.ch_cost.specs.Cost.{◌⊕◌, IsWithin}
 use Rattle.ch_graph.specs.LeastArcs.{IsLeastArc}
-use Rattle.ch_graph.proofs.Through.{least_arc-unique}
+use Rattle.ch_graph.proofs.LeastArcChains.{least_arc-unique}
 use Rattle.ch_graph.proofs.step.step.Goals as goal
 
 pub returns-in_err-arc-clause-none : goal.returns-in_err-arc-clause-none

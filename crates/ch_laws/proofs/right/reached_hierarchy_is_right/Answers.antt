@@ -1,4 +1,4 @@
-use Rattle.ch_laws.proofs.Values.{always_right}
+use Rattle.ch_laws.proofs.ReachedIsRight.{always_right}
 use Rattle.ch_laws.proofs.right.reached_hierarchy_is_right.Goals as goal
 
 pub returns : goal.returns

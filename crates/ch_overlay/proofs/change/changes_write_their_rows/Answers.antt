@@ -1,4 +1,4 @@
-use Rattle.ch_overlay.proofs.Applied.{changes_write}
+use Rattle.ch_overlay.proofs.ChangedOverlay.{changes_write}
 use Rattle.ch_overlay.proofs.change.changes_write_their_rows.Goals as goal
 
 pub returns : goal.returns

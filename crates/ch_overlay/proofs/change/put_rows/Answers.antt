@@ -1,5 +1,5 @@
 use Rattle.std.proofs.Common.{sym, ◌∙◌, ap, set}
-use Rattle.ch_overlay.proofs.Puts.{puts-push}
+use Rattle.ch_overlay.proofs.SeveralWrites.{puts-push}
 use Rattle.ch_overlay.proofs.change.put_rows.Goals as goal
 
 pub loop-node-preserved : goal.loop-node-preserved

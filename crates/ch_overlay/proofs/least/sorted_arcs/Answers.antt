@@ -2,7 +2,7 @@ use Rattle.std.proofs.Common.{rules, arith}
 use Rattle.std.proofs.lemmas.List.Sorted.{answers_always}
 use Rattle.ch_graph.specs.declared.road.Road.{Road}
 use Rattle.ch_overlay.specs.Opening.{ComesNoLater}
-use Rattle.ch_overlay.proofs.Sorting.{pairs-from_adjacent, no_later, no_later_trans}
+use Rattle.ch_overlay.proofs.SortedByKeys.{pairs-from_adjacent, no_later, no_later_trans}
 use Rattle.ch_overlay.proofs.least.sorted_arcs.Goals as goal
 
 pub returns-clause-sorted : goal.returns-clause-sorted

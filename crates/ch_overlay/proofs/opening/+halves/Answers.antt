@@ -4,7 +4,7 @@ use Rattle.std.proofs.lemmas.List.{map-append}
 use Rattle.std.proofs.lemmas.Result.{IfOk-at_ok}
 use Rattle.ch_laws.specs.Rows.{Row}
 use Rattle.ch_overlay.specs.Opening.{AreOpening}
-use Rattle.ch_overlay.proofs.Opened.{opens_both}
+use Rattle.ch_overlay.proofs.OpeningRows.{opens_both}
 use Rattle.ch_overlay.proofs.opening.+halves.Goals as goal
 
 pub returns : goal.returns

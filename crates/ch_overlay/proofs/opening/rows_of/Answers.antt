@@ -4,7 +4,7 @@ use Rattle.ch_graph.specs.declared.road.Road.{Road}
 use Rattle.ch_laws.specs.Rows.{Row}
 use Rattle.ch_overlay.specs.Overlay.{row_at}
 use Rattle.ch_overlay.specs.Opening.{AreOpening, with_in, with_out}
-use Rattle.ch_overlay.proofs.Opened.{opens_empty, opens_more}
+use Rattle.ch_overlay.proofs.OpeningRows.{opens_empty, opens_more}
 use Rattle.ch_overlay.proofs.opening.rows_of.Goals as goal
 
 pub loop-arc-init : goal.loop-arc-init

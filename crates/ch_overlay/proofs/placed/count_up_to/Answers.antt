@@ -2,7 +2,7 @@ use Rattle.std.proofs.Common.{rules, arith, nat_le}
 use Rattle.std.proofs.lemmas.Bool.Decides.{nat_tests}
 use Rattle.std.proofs.lemmas.List.Sorted.{IsPartitionPoint-from_clause, IsPartitionedBy-leb}
 use Rattle.ch_overlay.specs.declared.placed.Placed.{Placed}
-use Rattle.ch_overlay.proofs.Placing.{nodes_rise}
+use Rattle.ch_overlay.proofs.EntriesByNode.{nodes_rise}
 use Rattle.ch_overlay.proofs.placed.count_up_to.Goals as goal
 
 pub returns-clause-parted : goal.returns-clause-parted

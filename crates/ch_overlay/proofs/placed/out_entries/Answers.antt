@@ -2,7 +2,7 @@ use Rattle.std.proofs.Common.{List, map, ap, sym, subst}
 use Rattle.std.specs.List.Sorted.{IsPermutation}
 use Rattle.ch_overlay.specs.declared.placed.Placed.{Placed}
 use Rattle.ch_overlay.specs.Placing.{IsInOrder, out_place}
-use Rattle.ch_overlay.proofs.Placing.{in_order, places_differ}
+use Rattle.ch_overlay.proofs.EntriesByNode.{in_order, places_differ}
 use Rattle.ch_overlay.proofs.placed.out_entries.Goals as goal
 
 pub returns-clause-all : goal.returns-clause-all

@@ -1,7 +1,7 @@
 use Rattle.std.proofs.Common.{rules, ◌≡◌, ◌≤◌, arith}
 use Rattle.std.proofs.lemmas.List.Sorted.{answers_always}
 use Rattle.ch_overlay.specs.declared.placed.Placed.{Placed}
-use Rattle.ch_overlay.proofs.Sorting.{pairs-from_adjacent, pair_not_less}
+use Rattle.ch_overlay.proofs.SortedByKeys.{pairs-from_adjacent, pair_not_less}
 use Rattle.ch_overlay.proofs.placed.sorted.Goals as goal
 
 pub returns-clause-sorted : goal.returns-clause-sorted

@@ -1,6 +1,6 @@
 use Rattle.std.proofs.Common.{sym, subst}
 use Rattle.ch_laws.specs.Rows.{Row, IsChanged}
-use Rattle.ch_overlay.proofs.Changed.{changed_is}
+use Rattle.ch_overlay.proofs.ChangedNeighbours.{changed_is}
 use Rattle.ch_overlay.proofs.prepared.changed.Goals as goal
 
 pub returns : goal.returns

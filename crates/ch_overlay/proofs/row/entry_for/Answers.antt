@@ -1,7 +1,7 @@
 use Rattle.std.proofs.Common.{rules, ap, sym, ◌∙◌}
 use Rattle.std.proofs.lemmas.List.Sorted.{answers_always}
 use Rattle.ch_laws.specs.declared.entry.Entry.{Entry}
-use Rattle.ch_overlay.proofs.Search.{found_there, none_there}
+use Rattle.ch_overlay.proofs.EntrySearch.{found_there, none_there}
 use Rattle.ch_overlay.proofs.row.entry_for.Goals as goal
 
 -- the closure gives an entry's node

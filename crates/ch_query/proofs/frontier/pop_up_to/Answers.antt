@@ -1,6 +1,6 @@
 use Rattle.std.proofs.lemmas.Bool.{iff_false}
 use Rattle.std.specs.BinaryHeap.{heap_items}
-use Rattle.ch_query.proofs.Entries.{none_up_to}
+use Rattle.ch_query.proofs.QueueEntries.{none_up_to}
 use Rattle.ch_query.proofs.frontier.pop_up_to.Goals as goal
 
 pub returns-then-not-is_up_to-clause-none : goal.returns-then-not-is_up_to-clause-none

@@ -1,7 +1,7 @@
 use Rattle.std.proofs.Common.{◌↔◌, IsTrue, Option, subst, sym}
 use Rattle.ch_cost.specs.declared.cost.Cost.{Cost}
 use Rattle.ch_query.specs.Labels.{CountsBelow}
-use Rattle.ch_query.proofs.Following.{counts-below, counts-short}
+use Rattle.ch_query.proofs.FollowedLinks.{counts-below, counts-short}
 use Rattle.ch_query.proofs.limit.counts.Goals as goal
 
 pub returns-in-Some : goal.returns-in-Some

@@ -1,5 +1,5 @@
 use Rattle.std.proofs.Common.{◌+◌, ◌<◌, length, refl, sym, arith}
-use Rattle.ch_query.proofs.Counts.{count-first, count-at_most}
+use Rattle.ch_query.proofs.ClimbCounts.{count-first, count-at_most}
 use Rattle.ch_query.proofs.upward.sum_up.Goals as goal
 
 pub ranks-init : goal.ranks-init

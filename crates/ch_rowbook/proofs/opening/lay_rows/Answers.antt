@@ -8,12 +8,12 @@ use Rattle.ch_laws.specs.Rows.{Row, no_arcs, row_at}
 use Rattle.ch_overlay.specs.declared.record.Record.{Record}
 use Rattle.ch_rowbook.specs.Books.{AreOf, IsOf, rows_of, versions_of}
 use Rattle.ch_rowbook.specs.Showing.{IsRecordOf, next_behind, of_node}
-use Rattle.ch_rowbook.proofs.Showings.{laid_more, next_laid}
+use Rattle.ch_rowbook.proofs.RisingVersions.{laid_more, next_laid}
 use Rattle.std.specs.declared.sync.Arc.{Arc}
 use Rattle.std.proofs.Common.{Global}
 use Rattle.ch_overlay.specs.declared.row.Row as shared
 use Rattle.ch_overlay.specs.Records.{recorded_row}
-use Rattle.ch_rowbook.proofs.Pens.{sound_at, tokens_more}
+use Rattle.ch_rowbook.proofs.PenKeeps.{sound_at, tokens_more}
 use Rattle.ch_rowbook.proofs.opening.lay_rows.Goals as goal
 use Rattle.ch_rowbook.proofs.opening.lay_rows.Given as given
 

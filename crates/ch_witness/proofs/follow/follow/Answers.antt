@@ -1,7 +1,7 @@
 use Rattle.std.proofs.Common.{◌<◌, length, arith, sym, subst}
 use Rattle.ch_cost.specs.Cost.{IsInLimit}
 use Rattle.ch_laws.specs.declared.entry.Entry.{Entry}
-use Rattle.ch_witness.proofs.Following.{followed_more}
+use Rattle.ch_witness.proofs.FollowedArcs.{followed_more}
 use Rattle.ch_witness.proofs.follow.follow.Goals as goal
 
 pub follow_arc-requires-clause-entry : goal.follow_arc-requires-clause-entry

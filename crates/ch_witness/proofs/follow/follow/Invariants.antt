@@ -1,4 +1,4 @@
-use Rattle.ch_witness.proofs.Following.{AreFollowedSoFar}
+use Rattle.ch_witness.proofs.FollowedArcs.{AreFollowedSoFar}
 use Rattle.ch_witness.specs.Tree.{labels_of}
 use Rattle.ch_witness.proofs.follow.follow.Given as goal
 

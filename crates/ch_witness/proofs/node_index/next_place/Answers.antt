@@ -1,5 +1,5 @@
 use Rattle.std.proofs.Common.{arith}
-use Rattle.ch_witness.proofs.Placed.{few_placed}
+use Rattle.ch_witness.proofs.FreePlaces.{few_placed}
 use Rattle.ch_witness.proofs.node_index.next_place.Goals as goal
 
 pub overflow_cast-result : goal.overflow_cast-result

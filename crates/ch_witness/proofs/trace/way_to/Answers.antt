@@ -5,7 +5,7 @@ use Rattle.ch_graph.specs.Walk.{Along}
 use Rattle.ch_laws.specs.Verdicts.{SeenArc}
 use Rattle.ch_overlay.specs.Source.{row_of}
 use Rattle.ch_witness.specs.Tree.{node_of, seen_of}
-use Rattle.ch_witness.proofs.Tracing.{IsTraced, places_to, traced_start, traced_place, traced_earlier, traced_more, traced_whole}
+use Rattle.ch_witness.proofs.TracedWay.{IsTraced, places_to, traced_start, traced_place, traced_earlier, traced_more, traced_whole}
 use Rattle.ch_witness.proofs.trace.way_to.Goals as goal
 
 pub steps-init : goal.steps-init

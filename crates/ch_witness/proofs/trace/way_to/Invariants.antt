@@ -1,4 +1,4 @@
-use Rattle.ch_witness.proofs.Tracing.{IsTraced, places_to}
+use Rattle.ch_witness.proofs.TracedWay.{IsTraced, places_to}
 use Rattle.ch_witness.proofs.trace.way_to.Given as goal
 
 abbrev pub invariant-steps : goal.invariant-steps

@@ -3,7 +3,7 @@ use Rattle.std.proofs.lemmas.List.{get_or-map, length-map, take_all}
 use Rattle.std.proofs.lemmas.List.Elements.{All-more}
 use Rattle.ch_contract.specs.declared.contraction.Receipt.{Receipt}
 use Rattle.ch_workers.specs.Account.{all_of, Rises, AreApart, AreMarked}
-use Rattle.ch_workers.proofs.Marks.{false_is_true, all_more, apart_lists, account_from_marks, marks_from_account, written}
+use Rattle.ch_workers.proofs.ReceiptMarks.{false_is_true, all_more, apart_lists, account_from_marks, marks_from_account, written}
 use Rattle.ch_workers.proofs.account.is_account.Goals as goal
 
 -- the receipts of the vectors

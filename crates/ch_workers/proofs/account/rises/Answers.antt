@@ -1,5 +1,5 @@
 use Rattle.std.proofs.Common.{refl, arith}
-use Rattle.ch_workers.proofs.Marks.{rises_by_steps}
+use Rattle.ch_workers.proofs.ReceiptMarks.{rises_by_steps}
 use Rattle.ch_workers.proofs.account.rises.Goals as goal
 
 pub returns : goal.returns

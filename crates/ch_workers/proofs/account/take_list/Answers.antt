@@ -1,7 +1,7 @@
 use Rattle.std.proofs.Common.{◌+◌, ◌++◌, ◌<◌, take, drop, length, refl, sym, subst, arith}
 use Rattle.std.proofs.lemmas.List.{take_all}
 use Rattle.ch_workers.specs.Account.{AreApart, AreMarked}
-use Rattle.ch_workers.proofs.Marks.{apart_front, front_and_rest, one_more}
+use Rattle.ch_workers.proofs.ReceiptMarks.{apart_front, front_and_rest, one_more}
 use Rattle.ch_workers.proofs.account.take_list.Goals as goal
 
 pub returns-then-not-take_receipt-clause-refused : goal.returns-then-not-take_receipt-clause-refused

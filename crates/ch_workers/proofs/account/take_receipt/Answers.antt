@@ -1,7 +1,7 @@
 use Rattle.std.proofs.Common.{◌<◌, length, sym, ap, ◌∙◌, arith}
 use Rattle.std.proofs.lemmas.List.Elements.{Contains-push}
 use Rattle.ch_laws.specs.Contraction.{Contraction}
-use Rattle.ch_workers.proofs.Marks.{within_log, node_of, from_place, marked_push, marked_twice}
+use Rattle.ch_workers.proofs.ReceiptMarks.{within_log, node_of, from_place, marked_push, marked_twice}
 use Rattle.ch_workers.proofs.account.take_receipt.Goals as goal
 
 pub returns-then-place-log-clause-refused : goal.returns-then-place-log-clause-refused

@@ -2,7 +2,7 @@ use Rattle.std.proofs.Common.{◌≡◌, [], ◌∙◌, ap, map, sym, rules, ari
 use Rattle.std.proofs.lemmas.Iterator.Consumers.{YieldsList-end}
 use Rattle.std.proofs.lemmas.Iterator.Adapters.{YieldsList-from_vec}
 use Rattle.std.proofs.lemmas.Grind.{common_steps}
-use Rattle.ch_workers.proofs.Reading.{map_same, all_of_maps}
+use Rattle.ch_workers.proofs.ListPlaces.{map_same, all_of_maps}
 use Rattle.ch_workers.proofs.boxed.box_lists.Goals as goal
 
 pub returns-clause-untold : goal.returns-clause-untold

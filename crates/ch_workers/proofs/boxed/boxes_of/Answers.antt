@@ -2,7 +2,7 @@ use Rattle.std.proofs.Common.{◌∙◌, sym, rules, arith}
 use Rattle.std.proofs.lemmas.Iterator.Consumers.{YieldsList-end}
 use Rattle.std.proofs.lemmas.Iterator.Adapters.{YieldsList-from_vec}
 use Rattle.std.proofs.lemmas.Grind.{common_steps}
-use Rattle.ch_workers.proofs.Reading.{map_same}
+use Rattle.ch_workers.proofs.ListPlaces.{map_same}
 use Rattle.ch_workers.proofs.boxed.boxes_of.Goals as goal
 
 pub returns : goal.returns

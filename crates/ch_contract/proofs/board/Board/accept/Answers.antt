@@ -1,7 +1,7 @@
 use Rattle.std.proofs.Common.{subst, rules}
 use Rattle.ch_contract.specs.Ledger.{Ledger}
 use Rattle.ch_contract.specs.Commit.{IsRefusal, NoneIsOld}
-use Rattle.ch_contract.proofs.Current.{stale_told, current-not_stale}
+use Rattle.ch_contract.proofs.CurrentRows.{stale_told, current-not_stale}
 use Rattle.ch_contract.proofs.board.Board.accept.Goals as goal
 
 pub returns-in-Some-clause-stale : goal.returns-in-Some-clause-stale

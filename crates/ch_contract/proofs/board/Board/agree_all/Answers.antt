@@ -5,7 +5,7 @@ use Rattle.ch_overlay.specs.declared.source.Seen.{Seen}
 use Rattle.ch_rowbook.specs.Books.{IsOfBook}
 use Rattle.ch_contract.specs.Ledger.{Ledger}
 use Rattle.ch_contract.specs.Commit.{IsOld, IsRowOf}
-use Rattle.ch_contract.proofs.InBook.{row_from_book, version_from_book}
+use Rattle.ch_contract.proofs.LedgerInBook.{row_from_book, version_from_book}
 use Rattle.ch_contract.proofs.board.Board.agree_all.Goals as goal
 
 -- what holds of all rows holds of the one that is looked at

@@ -2,7 +2,7 @@ use Rattle.std.proofs.Common.{rules, arith}
 use Rattle.std.proofs.lemmas.Grind.{common_steps}
 use Rattle.ch_contract.specs.declared.contraction.Receipt.{Receipt}
 use Rattle.ch_contract.specs.declared.error.CommitError.TheVariants as commits
-use Rattle.ch_contract.proofs.Current.{done-apart, same_refusal}
+use Rattle.ch_contract.proofs.CurrentRows.{done-apart, same_refusal}
 use Rattle.ch_contract.proofs.board.Board.commit_ready.Goals as goal
 
 pub returns-in-Ok-clause-stale : goal.returns-in-Ok-clause-stale

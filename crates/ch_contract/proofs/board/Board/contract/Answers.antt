@@ -11,7 +11,7 @@ use Rattle.ch_overlay.specs.Records.{IsSoundRow, recorded_row}
 use Rattle.ch_rowbook.specs.Showing.{IsShowable}
 use Rattle.ch_contract.specs.Ledger.{versions_now}
 use Rattle.ch_contract.specs.Planned.{AreNewVersions}
-use Rattle.ch_contract.proofs.InBook.{from_map, laid_count, laid_versions, rising_pairs, showable_above, still_in_book}
+use Rattle.ch_contract.proofs.LedgerInBook.{from_map, laid_count, laid_versions, rising_pairs, showable_above, still_in_book}
 use Rattle.ch_contract.proofs.board.Board.contract.Goals as goal
 
 -- each new row is of a node and can be relied on

@@ -2,7 +2,7 @@ use Rattle.std.proofs.Common.{Option, IfSome, List, All, sym, subst}
 use Rattle.ch_overlay.specs.declared.source.Seen.{Seen}
 use Rattle.ch_contract.specs.Commit.{IsRowOf}
 use Rattle.ch_contract.specs.Ready.{Ready, IsReadyFor}
-use Rattle.ch_contract.proofs.Answered.{fits}
+use Rattle.ch_contract.proofs.ReadRows.{fits}
 use Rattle.ch_contract.proofs.board.Board.fitting.Goals as goal
 
 pub returns : goal.returns

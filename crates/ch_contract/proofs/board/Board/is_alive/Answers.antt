@@ -2,7 +2,7 @@ use Rattle.std.proofs.Common.{◌≡◌, Bool, true, false, not, Option, Some, N
 use Rattle.std.proofs.lemmas.Bool.{false≢true}
 use Rattle.ch_laws.specs.Rows.{Row}
 use Rattle.ch_overlay.specs.Overlay.{Overlay, row_at}
-use Rattle.ch_contract.proofs.Sweeping.{alive-from_none, none-from_alive}
+use Rattle.ch_contract.proofs.SweptNodes.{alive-from_none, none-from_alive}
 use Rattle.ch_contract.proofs.board.Board.is_alive.Goals as goal
 
 -- what the test of an option returns

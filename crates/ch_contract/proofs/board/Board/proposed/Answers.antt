@@ -3,7 +3,7 @@ use Rattle.ch_contract.specs.declared.error.ProposeError.{ProposeError}
 use Rattle.ch_contract.specs.Ledger.{Ledger}
 use Rattle.ch_contract.specs.Commit.{IsShown}
 use Rattle.ch_contract.specs.Proposal.{Proposal}
-use Rattle.ch_contract.proofs.Current.{alive-unranked}
+use Rattle.ch_contract.proofs.CurrentRows.{alive-unranked}
 use Rattle.ch_contract.proofs.board.Board.proposed.Goals as goal
 
 abbrev of_propose : ProposeError → Result Proposal ProposeError

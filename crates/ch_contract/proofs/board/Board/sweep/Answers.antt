@@ -4,7 +4,7 @@ use Rattle.ch_overlay.specs.Overlay.{Overlay, IsOverlay}
 use Rattle.ch_contract.specs.declared.contraction.Receipt.{Receipt}
 use Rattle.ch_contract.specs.Ledger.{Ledger}
 use Rattle.ch_contract.specs.Sweep.{IsPartlySwept}
-use Rattle.ch_contract.proofs.Sweeping.{IsSweptTo, swept-start, unswept, swept-more, swept-all, swept-partly}
+use Rattle.ch_contract.proofs.SweptNodes.{IsSweptTo, swept-start, unswept, swept-more, swept-all, swept-partly}
 use Rattle.ch_contract.proofs.board.Board.sweep.Goals as goal
 
 pub returns-in_err-receipts-clause-refused : goal.returns-in_err-receipts-clause-refused

@@ -1,6 +1,6 @@
 use Rattle.std.proofs.Common.{◌≡◌, length}
 use Rattle.ch_overlay.specs.Overlay.{IsOverlay}
-use Rattle.ch_contract.proofs.Sweeping.{IsSweptTo}
+use Rattle.ch_contract.proofs.SweptNodes.{IsSweptTo}
 use Rattle.ch_contract.proofs.board.Board.sweep.Given as goal
 
 abbrev pub invariant-nodes : goal.invariant-nodes

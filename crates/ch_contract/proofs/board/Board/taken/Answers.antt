@@ -1,5 +1,5 @@
 use Rattle.std.proofs.Common.{ap}
-use Rattle.ch_contract.proofs.Current.{told_by, current-not_stale}
+use Rattle.ch_contract.proofs.CurrentRows.{told_by, current-not_stale}
 use Rattle.ch_contract.proofs.board.Board.taken.Goals as goal
 
 pub unreachable-requires-in-Err-Stale : goal.unreachable-requires-in-Err-Stale

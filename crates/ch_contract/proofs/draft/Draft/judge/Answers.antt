@@ -1,7 +1,7 @@
 use Rattle.std.proofs.Common.{ℕ, ◌≡◌, length, arith, subst}
 use Rattle.ch_laws.specs.declared.shortcut.Shortcut.{Shortcut}
 use Rattle.ch_contract.specs.Drafts.{AreJudged, IsPairJudged}
-use Rattle.ch_contract.proofs.Pairing.{judged_none, next_judged}
+use Rattle.ch_contract.proofs.PairVerdicts.{judged_none, next_judged}
 use Rattle.ch_contract.proofs.draft.Draft.judge.Goals as goal
 
 pub pairs-init : goal.pairs-init

@@ -5,8 +5,8 @@ use Rattle.ch_overlay.specs.Overlay.{state_of}
 use Rattle.ch_overlay.specs.Order.{order_has_room}
 use Rattle.ch_contract.specs.Ledger.{Ledger, IsLedger, IsContracted, receipt_of}
 use Rattle.ch_contract.specs.Planned.{Planned, IsPlanned, AreNewVersions}
-use Rattle.ch_contract.proofs.Contracting.{ledger_with, ledger_entered, contracted_entered}
-use Rattle.ch_contract.proofs.Logs.{log_length}
+use Rattle.ch_contract.proofs.PlannedStep.{ledger_with, ledger_entered, contracted_entered}
+use Rattle.ch_contract.proofs.LogEntries.{log_length}
 use Rattle.ch_contract.proofs.ledger.Ledger.enter.Goals as goal
 
 -- what was planned, by the fields of the ledger and of the plan

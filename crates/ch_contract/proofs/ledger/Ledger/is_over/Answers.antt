@@ -6,7 +6,7 @@ use Rattle.ch_overlay.specs.Overlay.{Overlay, IsOverlay, state_of}
 use Rattle.ch_contract.specs.Ledger.{Ledger, IsLedger}
 use Rattle.ch_contract.specs.Finish.{HasNodesLeft}
 use Rattle.ch_contract.proofs.NodesLeft.{over-from_count, left-from_count}
-use Rattle.ch_contract.proofs.Finishing.{over-leaves_none}
+use Rattle.ch_contract.proofs.FinishedHierarchy.{over-leaves_none}
 use Rattle.ch_contract.proofs.ledger.Ledger.is_over.Goals as goal
 
 module _ (l : Ledger) (is : IsLedger l) (o : Overlay) (same : o ≡ l.overlay) (n : ℕ) (count : n + length o.order ≡ length o.rows) where

@@ -1,6 +1,6 @@
 use Rattle.std.proofs.Common.{subst}
 use Rattle.ch_contract.specs.Ledger.{Ledger, IsLog}
-use Rattle.ch_contract.proofs.Logs.{log_of_ledger}
+use Rattle.ch_contract.proofs.LogEntries.{log_of_ledger}
 use Rattle.ch_contract.proofs.ledger.Ledger.log.Goals as goal
 
 pub returns-clause-log : goal.returns-clause-log

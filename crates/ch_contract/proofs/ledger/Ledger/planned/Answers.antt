@@ -3,7 +3,7 @@ use Rattle.std.specs.Arc.{arc_value}
 use Rattle.std.proofs.lemmas.Grind.{common_steps}
 use Rattle.ch_contract.specs.Ledger.{Ledger, AreLawful}
 use Rattle.ch_contract.specs.Planned.{Planned, IsPlanned}
-use Rattle.ch_contract.proofs.Contracting.{nodes_behind_first}
+use Rattle.ch_contract.proofs.PlannedStep.{nodes_behind_first}
 use Rattle.ch_contract.proofs.ledger.Ledger.planned.Goals as goal
 
 pub returns : goal.returns

@@ -2,7 +2,7 @@ use Rattle.std.proofs.Common.{◌≤◌, length, ap, subst, sym, ◌∙◌}
 use Rattle.std.specs.Vec.{vec_capacity}
 use Rattle.ch_overlay.specs.Overlay.{Overlay}
 use Rattle.ch_contract.specs.Ledger.{Ledger, IsLedger}
-use Rattle.ch_contract.proofs.InBook.{renumbered}
+use Rattle.ch_contract.proofs.LedgerInBook.{renumbered}
 use Rattle.ch_contract.proofs.ledger.Ledger.renumber.Goals as goal
 
 pub invariant_of-self : goal.invariant_of-self

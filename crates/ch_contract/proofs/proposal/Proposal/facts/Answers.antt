@@ -1,7 +1,7 @@
 use Rattle.std.proofs.Common.{◌<◌, ◌^◌, ◌≡◌, length, ap, arith}
 use Rattle.ch_laws.specs.Rows.{Row}
 use Rattle.ch_contract.specs.Proposal.{Proposal}
-use Rattle.ch_contract.proofs.Counting.{few_entries, few_shortcuts}
+use Rattle.ch_contract.proofs.RowSizes.{few_entries, few_shortcuts}
 use Rattle.ch_contract.proofs.proposal.Proposal.facts.Goals as goal
 
 pub overflow_cast-result : goal.overflow_cast-result

@@ -6,7 +6,7 @@ use Rattle.ch_laws.specs.declared.shortcut.Shortcut.{Shortcut}
 use Rattle.ch_laws.specs.Contraction.{NoShortcut}
 use Rattle.ch_laws.specs.Rows.{Row, Lists}
 use Rattle.ch_contract.specs.Proposal.{HasShortcut, Proposal}
-use Rattle.ch_contract.proofs.Judging.{no_arc_in, no_arc_out, witness_pair, shortcut_pair, sum_within}
+use Rattle.ch_contract.proofs.VerdictOfPair.{no_arc_in, no_arc_out, witness_pair, shortcut_pair, sum_within}
 use Rattle.ch_contract.proofs.proposal.Proposal.verdict.Goals as goal
 
 not-true : (b : Bool) → b ≡ false → b ≡ true → ⊥

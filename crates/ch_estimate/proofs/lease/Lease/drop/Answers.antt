@@ -1,5 +1,5 @@
 use Rattle.std.proofs.Common.{rules}
-use Rattle.ch_estimate.proofs.Counting.{giving_as}
+use Rattle.ch_estimate.proofs.LeaseCounts.{giving_as}
 use Rattle.ch_estimate.proofs.lease.Lease.drop.Goals as goal
 
 pub fetch_sub-requires : goal.fetch_sub-requires

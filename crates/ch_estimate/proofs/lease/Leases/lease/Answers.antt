@@ -1,5 +1,5 @@
 use Rattle.std.proofs.Common.{rules, ℕ, ◌+◌}
-use Rattle.ch_estimate.proofs.Counting.{adding_as, counted, handing_as, view_of}
+use Rattle.ch_estimate.proofs.LeaseCounts.{adding_as, counted, handing_as, view_of}
 use Rattle.ch_estimate.proofs.lease.Leases.lease.Goals as goal
 
 pub fetch_add-self-inside-requires : goal.fetch_add-self-inside-requires

@@ -1,6 +1,6 @@
 use Rattle.std.proofs.Common.{rules, ◌≡◌, ◌∙◌, ap}
 use Rattle.ch_estimate.specs.Leases.{Group}
-use Rattle.ch_estimate.proofs.Counting.{meeting_as, met, never_as, view_of}
+use Rattle.ch_estimate.proofs.LeaseCounts.{meeting_as, met, never_as, view_of}
 use Rattle.ch_estimate.proofs.lease.Leases.none_is_left.Goals as goal
 
 pub join_seat-requires : goal.join_seat-requires

@@ -1,6 +1,6 @@
 use Rattle.std.proofs.Common.{rules, ℕ, ◌<◌, ◌^◌, arith}
 use Rattle.ch_estimate.specs.Leases.{Tells}
-use Rattle.ch_estimate.proofs.Counting.{finding_as}
+use Rattle.ch_estimate.proofs.LeaseCounts.{finding_as}
 use Rattle.ch_estimate.proofs.lease.Leases.wait.Goals as goal
 
 -- the number of the leases is less than 2^64

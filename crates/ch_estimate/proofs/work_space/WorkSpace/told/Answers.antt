@@ -1,7 +1,7 @@
 use Rattle.std.proofs.Common.{◌≡◌, ℕ, ◌<◌, List, length, AllPairs, ap, sym, subst, ◌∙◌, arith}
 use Rattle.ch_laws.specs.Contraction.{Contraction}
 use Rattle.ch_estimate.specs.Notes.{Note, note_in, note_of}
-use Rattle.ch_estimate.proofs.Told.{note_low, taken_in, written}
+use Rattle.ch_estimate.proofs.EntriesTold.{note_low, taken_in, written}
 use Rattle.ch_estimate.proofs.work_space.WorkSpace.told.Goals as goal
 
 pub lose_all-requires-clause-deep : goal.lose_all-requires-clause-deep

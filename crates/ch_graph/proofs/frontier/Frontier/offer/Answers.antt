@@ -6,7 +6,7 @@ use Rattle.ch_graph.specs.declared.mark.Mark.{Mark}
 use Rattle.ch_graph.specs.declared.mark.Mark.TheVariants.{Unseen}
 use Rattle.ch_graph.specs.Marks.{mark, Improves}
 use Rattle.ch_graph.specs.Search.{own_cost, IsOffered}
-use Rattle.ch_graph.proofs.Entries.{queue-open}
+use Rattle.ch_graph.proofs.QueueEntries.{queue-open}
 use Rattle.ch_graph.proofs.frontier.Frontier.offer.Goals as goal
 
 pub invariant_of-self-then-is_improved_by : goal.invariant_of-self-then-is_improved_by

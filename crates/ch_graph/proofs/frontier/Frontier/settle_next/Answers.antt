@@ -7,7 +7,7 @@ use Rattle.ch_graph.specs.declared.mark.Mark.{Mark}
 use Rattle.ch_graph.specs.declared.mark.Mark.TheVariants.{Unseen}
 use Rattle.ch_graph.specs.Marks.{mark}
 use Rattle.ch_graph.specs.Search.{IsLeastOpen}
-use Rattle.ch_graph.proofs.Entries.{queue-in, queue-pass, queue-settle, queue-least}
+use Rattle.ch_graph.proofs.QueueEntries.{queue-in, queue-pass, queue-settle, queue-least}
 use Rattle.ch_graph.proofs.frontier.Frontier.settle_next.Goals as goal
 
 pub invariant_of-self : goal.invariant_of-self

@@ -4,7 +4,7 @@ use Rattle.std.proofs.lemmas.Grind.{common_steps}
 use Rattle.ch_graph.specs.declared.road.Road.{Road}
 use Rattle.ch_graph.specs.Limits.{IsRoad}
 use Rattle.ch_graph.specs.Outgoing.{road_at, IsLastFrom, IsLinked}
-use Rattle.ch_graph.proofs.Linking.{lasts-more, befores-more}
+use Rattle.ch_graph.proofs.LastArcs.{lasts-more, befores-more}
 use Rattle.ch_graph.proofs.outgoing.Outgoing.new.Goals as goal
 
 pub loop-at-preserved : goal.loop-at-preserved

@@ -8,10 +8,10 @@ use Rattle.ch_cost.specs.declared.cost.Cost.{Cost}
 use Rattle.ch_laws.specs.Rows.{Row}
 use Rattle.ch_overlay.specs.Overlay.{Overlay, IsOverlay, no_arcs, state_of}
 use Rattle.ch_overlay.specs.Change.{AreRenewed, Change, changed_nodes, puts}
-use Rattle.ch_overlay.proofs.Applied.{state-applied, overlay-applied, changes_write}
-use Rattle.ch_overlay.proofs.Puts.{length-puts, map-puts, all-mapped}
+use Rattle.ch_overlay.proofs.ChangedOverlay.{state-applied, overlay-applied, changes_write}
+use Rattle.ch_overlay.proofs.SeveralWrites.{length-puts, map-puts, all-mapped}
 use Rattle.ch_laws.specs.Members.{map-map}
-use Rattle.ch_overlay.proofs.Renewed.{renewed}
+use Rattle.ch_overlay.proofs.NewVersions.{renewed}
 use Rattle.ch_overlay.specs.Order.{order_has_room}
 use Rattle.ch_overlay.proofs.overlay.Overlay.apply.Goals as goal
 

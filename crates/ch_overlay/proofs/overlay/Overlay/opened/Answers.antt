@@ -9,7 +9,7 @@ use Rattle.ch_laws.specs.Contraction.{IsStart}
 use Rattle.ch_laws.specs.Rows.{Row}
 use Rattle.ch_overlay.specs.Overlay.{IsOverlay, row_at, state_of}
 use Rattle.ch_overlay.specs.Opening.{AreOpening, opening_row}
-use Rattle.ch_overlay.proofs.Started.{starts, opens}
+use Rattle.ch_overlay.proofs.StartOverlay.{starts, opens}
 use Rattle.ch_overlay.proofs.overlay.Overlay.opened.Goals as goal
 
 -- the rows from node 0 on

@@ -5,7 +5,7 @@ use Rattle.ch_laws.specs.Rows.{Row, Rises}
 use Rattle.ch_overlay.specs.declared.row.Row as declared
 use Rattle.ch_overlay.specs.Overlay.{Overlay, IsOverlay, row_at}
 use Rattle.ch_overlay.specs.Prepared.{AreNamed, IsPrepared}
-use Rattle.ch_overlay.proofs.Neighbours.{row_rises, named_in, near_rise, near_fit}
+use Rattle.ch_overlay.proofs.NamedNeighbours.{row_rises, named_in, near_rise, near_fit}
 use Rattle.ch_overlay.proofs.overlay.Overlay.plan.Goals as goal
 
 pub named-requires-clause-out_rises : goal.named-requires-clause-out_rises

@@ -4,7 +4,7 @@ use Rattle.ch_laws.specs.Rows.{Row}
 use Rattle.ch_overlay.specs.Overlay.{Overlay, IsOverlay}
 use Rattle.ch_overlay.specs.Prepared.{Prepared}
 use Rattle.ch_overlay.specs.Change.{IsChange}
-use Rattle.ch_overlay.proofs.Neighbours.{change_is}
+use Rattle.ch_overlay.proofs.NamedNeighbours.{change_is}
 use Rattle.ch_overlay.proofs.overlay.Overlay.plan_by.Goals as goal
 
 pub returns-clause-rows : goal.returns-clause-rows

@@ -3,7 +3,7 @@ use Rattle.std.proofs.lemmas.List.{drop-map, take-map}
 use Rattle.ch_laws.specs.declared.entry.Entry.{Entry}
 use Rattle.ch_overlay.specs.declared.placed.Placed.{Placed}
 use Rattle.ch_overlay.specs.Placing.{IsInOrder}
-use Rattle.ch_overlay.proofs.Placing.{first_before_end, group_rises, group_all}
+use Rattle.ch_overlay.proofs.EntriesByNode.{first_before_end, group_rises, group_all}
 use Rattle.ch_overlay.proofs.placed.PlacedEntries.at.Goals as goal
 
 in_order : {xs ys : List Placed} → xs ≡ ys → IsInOrder ys → IsInOrder xs

@@ -3,7 +3,7 @@ use Rattle.std.proofs.Common.{rules, ◌+◌, ◌≤◌, ℕ, length, ◌≡◌,
 use Rattle.ch_laws.specs.declared.entry.Entry.{Entry}
 use Rattle.ch_overlay.specs.Merging.{merged}
 use Rattle.ch_overlay.specs.Prepared.{AreNamed}
-use Rattle.ch_overlay.proofs.Neighbours.{others_named}
+use Rattle.ch_overlay.proofs.NamedNeighbours.{others_named}
 use Rattle.ch_overlay.specs.declared.merge.Merge.{Merge}
 use Rattle.std.proofs.lemmas.Iterator.{YieldsList-from_map}
 use Rattle.std.proofs.lemmas.Iterator.Adapters.{items_from_extend}

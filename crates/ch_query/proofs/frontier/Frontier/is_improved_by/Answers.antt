@@ -1,5 +1,5 @@
 use Rattle.ch_graph.specs.Marks.{mark}
-use Rattle.ch_query.proofs.Marking.{better_than}
+use Rattle.ch_query.proofs.MarkOrder.{better_than}
 use Rattle.ch_query.proofs.frontier.Frontier.is_improved_by.Goals as goal
 
 pub returns-in-Some : goal.returns-in-Some

@@ -1,4 +1,4 @@
-use Rattle.ch_query.proofs.Entries.{queue-unseen}
+use Rattle.ch_query.proofs.QueueEntries.{queue-unseen}
 use Rattle.ch_query.proofs.frontier.Frontier.new.Goals as goal
 
 pub invariant_of-result : goal.invariant_of-result

@@ -9,7 +9,7 @@ use Rattle.ch_graph.specs.Queue.{Entry, entry, entry_cmp}
 use Rattle.ch_query.specs.declared.label.Label.{Label}
 use Rattle.ch_query.specs.Front.{IsQueueOf}
 use Rattle.ch_query.specs.Marks.{label_cost}
-use Rattle.ch_query.proofs.Entries.{queue-opened}
+use Rattle.ch_query.proofs.QueueEntries.{queue-opened}
 use Rattle.ch_query.proofs.frontier.Frontier.open.Goals as goal
 
 pub invariant_of-self-2 : goal.invariant_of-self-2

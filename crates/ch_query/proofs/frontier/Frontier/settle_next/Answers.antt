@@ -4,7 +4,7 @@ use Rattle.ch_graph.specs.declared.mark.Mark.{Mark}
 use Rattle.ch_query.specs.declared.label.Label.{Label}
 use Rattle.ch_query.specs.Front.{IsQueueOf}
 use Rattle.ch_query.specs.Marks.{IsLeastOpen, IsStopped}
-use Rattle.ch_query.proofs.Entries.{queue-in, queue-passed, queue-settled, queue-least, queue-stopped}
+use Rattle.ch_query.proofs.QueueEntries.{queue-in, queue-passed, queue-settled, queue-least, queue-stopped}
 use Rattle.ch_query.proofs.frontier.Frontier.settle_next.Goals as goal
 
 pub settle-requires : goal.settle-requires

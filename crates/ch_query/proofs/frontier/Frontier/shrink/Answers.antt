@@ -1,5 +1,5 @@
 use Rattle.std.proofs.Common.{length}
-use Rattle.ch_query.proofs.Entries.{queue-unseen}
+use Rattle.ch_query.proofs.QueueEntries.{queue-unseen}
 use Rattle.ch_query.proofs.frontier.Frontier.shrink.Goals as goal
 
 pub invariant_of-self : goal.invariant_of-self

@@ -1,6 +1,6 @@
 use Rattle.std.proofs.lemmas.Option.{slice_get-get_or}
-use Rattle.ch_query.proofs.Ranks.{rank_below}
-use Rattle.ch_query.proofs.Beginning.{begun-none, begun-more}
+use Rattle.ch_query.proofs.NodeOfRank.{rank_below}
+use Rattle.ch_query.proofs.BeginAndStop.{begun-none, begun-more}
 use Rattle.ch_query.proofs.half.Half.begin.Goals as goal
 
 pub seeds-init : goal.seeds-init

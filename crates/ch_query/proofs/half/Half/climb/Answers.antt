@@ -3,8 +3,8 @@ use Rattle.ch_graph.specs.Marks.Laws.{count-most}
 use Rattle.ch_query.specs.declared.climb.Climbed.{Climbed}
 use Rattle.ch_query.specs.declared.frontier.Reached.{Reached}
 use Rattle.ch_query.specs.Climbing.{IsClimbedOn, IsEnd, AreListed}
-use Rattle.ch_query.proofs.Beginning.{searching-begun, climbing-begun}
-use Rattle.ch_query.proofs.Climbs.{listed-none, listed-more, climbs-listed}
+use Rattle.ch_query.proofs.BeginAndStop.{searching-begun, climbing-begun}
+use Rattle.ch_query.proofs.ListedClimbs.{listed-none, listed-more, climbs-listed}
 use Rattle.ch_query.proofs.half.Half.climb.Goals as goal
 
 pub turns-init : goal.turns-init

@@ -4,7 +4,7 @@ use Rattle.ch_graph.specs.declared.mark.Mark.TheVariants.{Settled}
 use Rattle.ch_query.specs.declared.label.Label.{Label}
 use Rattle.ch_query.specs.Searching.{IsOpenedOver}
 use Rattle.ch_query.proofs.BestMeetings.{no_more-refl}
-use Rattle.ch_query.proofs.Turning.{turn-fits, turn-short, searching-turn, climbing-turn, turn-climbed_on}
+use Rattle.ch_query.proofs.OneTurn.{turn-fits, turn-short, searching-turn, climbing-turn, turn-climbed_on}
 use Rattle.ch_query.proofs.half.Half.climb_on.Goals as goal
 
 pub pass_over-requires-clause-fits : goal.pass_over-requires-clause-fits

@@ -12,10 +12,10 @@ use Rattle.ch_query.specs.Labels.{CountsBelow}
 use Rattle.ch_query.specs.Climb.{head_rank, cost_at}
 use Rattle.ch_query.specs.Marks.{IsSettledAtMost, label_cost}
 use Rattle.ch_query.specs.Searching.{IsOpenedOver, IsFollowed, ClimbsTo}
-use Rattle.ch_query.proofs.Sides.{foot_in, head_in}
-use Rattle.ch_query.proofs.Ranks.{rank_below}
-use Rattle.ch_query.proofs.Turning.{link_summable, rank_few}
-use Rattle.ch_query.proofs.Following.{opened-one, followed-put, followed-kept, leads-step, settled-step}
+use Rattle.ch_query.proofs.LinkEnds.{foot_in, head_in}
+use Rattle.ch_query.proofs.NodeOfRank.{rank_below}
+use Rattle.ch_query.proofs.OneTurn.{link_summable, rank_few}
+use Rattle.ch_query.proofs.FollowedLinks.{opened-one, followed-put, followed-kept, leads-step, settled-step}
 use Rattle.ch_query.proofs.half.Half.follow.Goals as goal
 
 pub step_cost-requires : goal.step_cost-requires

@@ -1,5 +1,5 @@
 use Rattle.std.proofs.Common.{ℕ, ◌≡◌, slice_index, sym, subst, arith}
-use Rattle.ch_query.proofs.Following.{IsPassing, passing-none, passing-more, passed_over, latest-more, step-made, foot-made}
+use Rattle.ch_query.proofs.FollowedLinks.{IsPassing, passing-none, passing-more, passed_over, latest-more, step-made, foot-made}
 use Rattle.ch_query.proofs.half.Half.pass_over.Goals as goal
 
 pub loop-place-init : goal.loop-place-init

@@ -1,5 +1,5 @@
 use Rattle.std.proofs.Common.{◌≡◌, ◌+◌, ◌≤◌, slice_index}
-use Rattle.ch_query.proofs.Following.{IsPassing}
+use Rattle.ch_query.proofs.FollowedLinks.{IsPassing}
 use Rattle.ch_query.proofs.half.Half.pass_over.Given as goal
 
 abbrev pub invariant-loop-place : goal.invariant-loop-place

@@ -3,7 +3,7 @@ use Rattle.std.proofs.lemmas.List.{get_or_default, length-set}
 use Rattle.ch_graph.specs.Marks.Laws.{label-in, label_settled}
 use Rattle.ch_graph.specs.Marks.{mark}
 use Rattle.ch_query.specs.declared.climb.Climbed.{Climbed}
-use Rattle.ch_query.proofs.Summing.{feet-summed, summed-all, summed-more, summed-none}
+use Rattle.ch_query.proofs.ClimbSums.{feet-summed, summed-all, summed-more, summed-none}
 use Rattle.ch_query.proofs.half.Half.sum_climbs.Goals as goal
 
 abbrev none : Climbed

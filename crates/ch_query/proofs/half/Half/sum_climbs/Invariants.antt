@@ -1,5 +1,5 @@
 use Rattle.std.proofs.Common.{◌≡◌, length}
-use Rattle.ch_query.proofs.Summing.{AreSummedTo}
+use Rattle.ch_query.proofs.ClimbSums.{AreSummedTo}
 use Rattle.ch_query.proofs.half.Half.sum_climbs.Given as goal
 
 abbrev pub invariant-climbs : goal.invariant-climbs

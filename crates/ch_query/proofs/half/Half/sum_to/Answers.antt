@@ -4,10 +4,10 @@ use Rattle.ch_query.specs.declared.side.Side.{Side}
 use Rattle.ch_query.specs.declared.side.Side.TheVariants.{Rise}
 use Rattle.ch_query.specs.Climb.{LeadsUp}
 use Rattle.ch_query.specs.Searching.{IsSearching}
-use Rattle.ch_query.proofs.Descents.{came_from}
-use Rattle.ch_query.proofs.Ranks.{rank_below}
-use Rattle.ch_query.proofs.Sides.{foot_in}
-use Rattle.ch_query.proofs.Summing.{foot-sum, sum-none, sum-over}
+use Rattle.ch_query.proofs.ClimbLinks.{came_from}
+use Rattle.ch_query.proofs.NodeOfRank.{rank_below}
+use Rattle.ch_query.proofs.LinkEnds.{foot_in}
+use Rattle.ch_query.proofs.ClimbSums.{foot-sum, sum-none, sum-over}
 use Rattle.ch_query.proofs.half.Half.sum_to.Goals as goal
 
 pub link_between-link-requires-clause-link : goal.link_between-link-requires-clause-link

@@ -10,8 +10,8 @@ use Rattle.ch_query.specs.Marks.{costs_of, IsLatest}
 use Rattle.ch_query.specs.Searching.{IsOpenedOver, IsClimbing, ArePassed}
 use Rattle.ch_query.specs.Meeting.{IsLooked, cost_of}
 use Rattle.ch_query.proofs.BestMeetings.{looked-short, no_more-refl}
-use Rattle.ch_query.proofs.Turning.{fits-cost, labels_fit, turn-latest, turn-fits, turn-short, searching-turn}
-use Rattle.ch_query.proofs.Turning.{climbing-turn, best-turn}
+use Rattle.ch_query.proofs.OneTurn.{fits-cost, labels_fit, turn-latest, turn-fits, turn-short, searching-turn}
+use Rattle.ch_query.proofs.OneTurn.{climbing-turn, best-turn}
 use Rattle.ch_query.proofs.half.Half.turn.Goals as goal
 
 pub look_at-found-requires-clause-fits : goal.look_at-found-requires-clause-fits

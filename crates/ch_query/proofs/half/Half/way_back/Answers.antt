@@ -2,7 +2,7 @@ use Rattle.std.proofs.Common.{◌≢◌, ◌++◌, ◌∷◌, [], List, sym, sub
 use Rattle.ch_graph.specs.declared.hierarchy.LinkId.{LinkId}
 use Rattle.ch_query.specs.Climb.{LeadsUp}
 use Rattle.ch_query.proofs.SeedPlaces.{among-from_get, seed-in}
-use Rattle.ch_query.proofs.Descents.{IsDescending, came_from, descending-none, descending-more, seed_there, descended}
+use Rattle.ch_query.proofs.ClimbLinks.{IsDescending, came_from, descending-none, descending-more, seed_there, descended}
 use Rattle.ch_query.proofs.half.Half.way_back.Goals as goal
 
 pub links-init : goal.links-init

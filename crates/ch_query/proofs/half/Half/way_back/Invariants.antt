@@ -1,4 +1,4 @@
-use Rattle.ch_query.proofs.Descents.{IsDescending}
+use Rattle.ch_query.proofs.ClimbLinks.{IsDescending}
 use Rattle.ch_query.proofs.half.Half.way_back.Given as goal
 
 abbrev pub invariant-links : goal.invariant-links

@@ -3,7 +3,7 @@ use Rattle.std.proofs.lemmas.List.{length-set}
 use Rattle.ch_graph.specs.declared.mark.Mark.{Mark}
 use Rattle.ch_graph.specs.declared.mark.Mark.TheVariants.{Unseen}
 use Rattle.ch_query.specs.declared.label.Label.{Label}
-use Rattle.ch_query.proofs.Seeing.{as_many, unseen, placed-popped, popped-within}
+use Rattle.ch_query.proofs.SeenNodes.{as_many, unseen, placed-popped, popped-within}
 use Rattle.ch_query.proofs.mark_list.MarkList.clear.Goals as goal
 
 pub index_mut-requires : goal.index_mut-requires

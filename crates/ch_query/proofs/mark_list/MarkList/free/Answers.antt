@@ -1,7 +1,7 @@
 use Rattle.std.proofs.Common.{◌≡◌, ◌∙◌, List, length, ap, subst, sym}
 use Rattle.ch_query.specs.declared.mark_list.Touched.{Touched}
 use Rattle.ch_query.specs.Touched.{marks_in, ArePlaces}
-use Rattle.ch_query.proofs.Seeing.{none_listed}
+use Rattle.ch_query.proofs.SeenNodes.{none_listed}
 use Rattle.ch_query.proofs.mark_list.MarkList.free.Goals as goal
 
 pub invariant_of-self : goal.invariant_of-self

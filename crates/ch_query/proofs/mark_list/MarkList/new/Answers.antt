@@ -4,7 +4,7 @@ use Rattle.ch_graph.specs.declared.mark.Mark.{Mark}
 use Rattle.ch_graph.specs.declared.mark.Mark.TheVariants.{Unseen}
 use Rattle.ch_query.specs.declared.label.Label.{Label}
 use Rattle.ch_query.specs.declared.mark_list.Touched.{Touched}
-use Rattle.ch_query.proofs.Seeing.{unseen, none_placed}
+use Rattle.ch_query.proofs.SeenNodes.{unseen, none_placed}
 use Rattle.ch_query.proofs.mark_list.MarkList.new.Goals as goal
 
 pub invariant_of-result : goal.invariant_of-result

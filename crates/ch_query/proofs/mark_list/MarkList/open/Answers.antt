@@ -6,7 +6,7 @@ use Rattle.ch_graph.specs.declared.mark.Mark.TheVariants.{Open}
 use Rattle.ch_query.specs.declared.label.Label.{Label}
 use Rattle.ch_query.specs.declared.mark_list.Touched.{Touched}
 use Rattle.ch_query.specs.Touched.{marks_in, ArePlaces}
-use Rattle.ch_query.proofs.Seeing.{as_many, written-within, placed-written, marks-written, placed-pushed, marks-pushed, few_seen}
+use Rattle.ch_query.proofs.SeenNodes.{as_many, written-within, placed-written, marks-written, placed-pushed, marks-pushed, few_seen}
 use Rattle.ch_query.proofs.mark_list.MarkList.open.Goals as goal
 
 pub overflow_cast-len : goal.overflow_cast-len

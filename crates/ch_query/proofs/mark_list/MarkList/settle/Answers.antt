@@ -5,7 +5,7 @@ use Rattle.ch_graph.specs.declared.mark.Mark.TheVariants.{Open, Settled}
 use Rattle.ch_query.specs.declared.label.Label.{Label}
 use Rattle.ch_query.specs.declared.mark_list.Touched.{Touched}
 use Rattle.ch_query.specs.Touched.{mark_in, mark_at}
-use Rattle.ch_query.proofs.Seeing.{as_many, place_of_open, placed-written, marks-written}
+use Rattle.ch_query.proofs.SeenNodes.{as_many, place_of_open, placed-written, marks-written}
 use Rattle.ch_query.proofs.mark_list.MarkList.settle.Goals as goal
 
 pub invariant_of-self : goal.invariant_of-self

@@ -4,10 +4,10 @@ use Rattle.ch_graph.specs.Marks.Laws.{count-most}
 use Rattle.ch_query.specs.declared.side.Side.TheVariants.{Rise, Fall}
 use Rattle.ch_query.specs.Marks.{costs_of, IsStopped}
 use Rattle.ch_query.specs.Meeting.{IsBestMeeting, cost_of}
-use Rattle.ch_query.proofs.Answering.{answered, meeting_of}
+use Rattle.ch_query.proofs.StoppedSides.{answered, meeting_of}
 use Rattle.ch_query.proofs.BestMeetings.{best-flip, best-stopped}
-use Rattle.ch_query.proofs.Turning.{labels_fit, climbing-less}
-use Rattle.ch_query.proofs.Beginning.{searching-begun, climbing-begun, best-begun, turned-count, not-turned, both-stopped, neither, either-one, one_if}
+use Rattle.ch_query.proofs.OneTurn.{labels_fit, climbing-less}
+use Rattle.ch_query.proofs.BeginAndStop.{searching-begun, climbing-begun, best-begun, turned-count, not-turned, both-stopped, neither, either-one, one_if}
 use Rattle.ch_query.proofs.query.Query.run.Goals as goal
 
 pub turns-init : goal.turns-init

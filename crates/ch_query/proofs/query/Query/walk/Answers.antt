@@ -3,9 +3,9 @@ use Rattle.ch_graph.specs.declared.hierarchy.LinkId.{LinkId}
 use Rattle.ch_graph.specs.Marks.{mark, label_in}
 use Rattle.ch_graph.specs.Marks.Laws.{label-in}
 use Rattle.ch_query.specs.Seeds.{IsWalkBetween}
-use Rattle.ch_query.proofs.Ranks.{rank_taken}
-use Rattle.ch_query.proofs.Marking.{from_cost}
-use Rattle.ch_query.proofs.Answering.{walk_between}
+use Rattle.ch_query.proofs.NodeOfRank.{rank_taken}
+use Rattle.ch_query.proofs.MarkOrder.{from_cost}
+use Rattle.ch_query.proofs.StoppedSides.{walk_between}
 use Rattle.ch_query.proofs.query.Query.walk.Goals as goal
 
 joined : (c : goal.After-drop-fallen-2) → c.extend_from_slice.new.self.items ≡ reverse c.in_ok-links.field-0.links.items ++ c.in_ok-fallen.fallen.links.items

@@ -2,8 +2,8 @@ use Rattle.std.proofs.Common.{Option}
 use Rattle.std.proofs.lemmas.Result.{IfOk-weaker}
 use Rattle.ch_query.specs.declared.search.FoundBetween.{FoundBetween}
 use Rattle.ch_query.specs.Seeds.{IsValueBetween}
-use Rattle.ch_query.proofs.Pairs.{longest_summable, cost_found, IsExact, exact_here, least_here}
-use Rattle.ch_query.proofs.Results.{if_ok-both}
+use Rattle.ch_query.proofs.LeastOfPairs.{longest_summable, cost_found, IsExact, exact_here, least_here}
+use Rattle.ch_query.proofs.BothOk.{if_ok-both}
 use Rattle.ch_query.proofs.search.SearchOf.between.Goals as goal
 
 pub least_walk-requires-clause-bound : goal.least_walk-requires-clause-bound

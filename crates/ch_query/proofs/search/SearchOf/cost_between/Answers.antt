@@ -1,6 +1,6 @@
 use Rattle.std.proofs.lemmas.Result.{IfOk-weaker}
 use Rattle.ch_query.specs.Seeds.{IsValueBetween}
-use Rattle.ch_query.proofs.Pairs.{longest_summable, IsExact, exact_here}
+use Rattle.ch_query.proofs.LeastOfPairs.{longest_summable, IsExact, exact_here}
 use Rattle.ch_query.proofs.search.SearchOf.cost_between.Goals as goal
 
 pub least_cost-requires-clause-bound : goal.least_cost-requires-clause-bound

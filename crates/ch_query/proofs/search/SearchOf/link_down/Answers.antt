@@ -2,7 +2,7 @@ use Rattle.std.proofs.Common.{◌∙◌, subst, sym}
 use Rattle.ch_graph.specs.Hierarchy.{Hierarchy}
 use Rattle.ch_query.specs.declared.side.Side.TheVariants.{Fall as falling}
 use Rattle.ch_query.specs.Climb.{LeadsUp}
-use Rattle.ch_query.proofs.Descents.{one_link}
+use Rattle.ch_query.proofs.ClimbLinks.{one_link}
 use Rattle.ch_query.proofs.search.SearchOf.link_down.Goals as goal
 
 pub returns : goal.returns

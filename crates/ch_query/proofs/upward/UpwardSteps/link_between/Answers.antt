@@ -3,7 +3,7 @@ use Rattle.ch_query.specs.declared.upward.UpwardStep.{UpwardStep}
 use Rattle.ch_query.specs.Climb.{head_rank, LeadsUp}
 use Rattle.ch_query.specs.Upward.{step_along}
 use Rattle.ch_query.specs.Searching.{IsStepAt}
-use Rattle.ch_query.proofs.Between.{IsAhead, ahead-first, ahead-step, ahead-next, ahead-here}
+use Rattle.ch_query.proofs.StepToRank.{IsAhead, ahead-first, ahead-step, ahead-next, ahead-here}
 use Rattle.ch_query.proofs.upward.UpwardSteps.link_between.Goals as goal
 
 pub steps-init : goal.steps-init

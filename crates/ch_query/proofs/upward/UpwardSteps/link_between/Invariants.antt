@@ -1,5 +1,5 @@
 use Rattle.std.proofs.Common.{◌+◌, ◌-◌, slice_index}
-use Rattle.ch_query.proofs.Between.{IsAhead}
+use Rattle.ch_query.proofs.StepToRank.{IsAhead}
 use Rattle.ch_query.proofs.upward.UpwardSteps.link_between.Given as goal
 
 abbrev pub invariant-steps : goal.invariant-steps

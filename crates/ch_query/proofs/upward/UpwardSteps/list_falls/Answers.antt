@@ -3,8 +3,8 @@ use Rattle.ch_query.specs.declared.fall.Fall.{Fall}
 use Rattle.ch_query.specs.declared.side.Side.TheVariants.{Fall as falling}
 use Rattle.ch_query.specs.Searching.{IsStepAt}
 use Rattle.ch_query.specs.Ways.{fall_along}
-use Rattle.ch_query.proofs.Falls.{IsListing, listing-more, falls-here, falls-listed, fall-is}
-use Rattle.ch_query.proofs.Following.{step-made}
+use Rattle.ch_query.proofs.ListedFalls.{IsListing, listing-more, falls-here, falls-listed, fall-is}
+use Rattle.ch_query.proofs.FollowedLinks.{step-made}
 use Rattle.ch_query.proofs.upward.UpwardSteps.list_falls.Goals as goal
 
 pub step_cost-requires : goal.step_cost-requires

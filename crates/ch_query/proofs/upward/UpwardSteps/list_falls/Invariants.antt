@@ -1,5 +1,5 @@
 use Rattle.std.proofs.Common.{◌≡◌, ◌+◌, ◌≤◌, slice_index}
-use Rattle.ch_query.proofs.Falls.{IsListing}
+use Rattle.ch_query.proofs.ListedFalls.{IsListing}
 use Rattle.ch_query.proofs.upward.UpwardSteps.list_falls.Given as goal
 
 abbrev pub invariant-places : goal.invariant-places

@@ -4,7 +4,7 @@ use Rattle.ch_graph.specs.Hierarchy.{rank_of}
 use Rattle.ch_query.specs.declared.upward.UpwardStep.{UpwardStep}
 use Rattle.ch_query.specs.Climb.{foot_of, foot_rank}
 use Rattle.ch_query.specs.Counting.{IsFilled}
-use Rattle.ch_query.proofs.Laying.{foot_room, one_before, place-left, here_in, here_few, filled-more, as_many}
+use Rattle.ch_query.proofs.LaidLinks.{foot_room, one_before, place-left, here_in, here_few, filled-more, as_many}
 use Rattle.ch_query.proofs.upward.UpwardSteps.put.Goals as goal
 
 pub get-place-requires : goal.get-place-requires

@@ -1,7 +1,7 @@
 use Rattle.std.proofs.Common.{ℕ, ◌≡◌, List, replicate, sym, subst}
 use Rattle.ch_query.specs.declared.upward.UpwardStep.{UpwardStep}
 use Rattle.ch_query.specs.Counting.{IsFilled}
-use Rattle.ch_query.proofs.Laying.{filled-none}
+use Rattle.ch_query.proofs.LaidLinks.{filled-none}
 use Rattle.ch_query.proofs.upward.UpwardSteps.with_room.Goals as goal
 
 pub returns-clause-filled : goal.returns-clause-filled

@@ -4,7 +4,7 @@ use Rattle.std.proofs.lemmas.List.{length-map}
 use Rattle.boxcar.specs.Table.{Where}
 use Rattle.ch_overlay.specs.declared.record.Record.{Record}
 use Rattle.ch_rowbook.specs.Books.{PenView}
-use Rattle.ch_rowbook.proofs.Pens.{all_below}
+use Rattle.ch_rowbook.proofs.PenKeeps.{all_below}
 use Rattle.ch_rowbook.proofs.pen.Pen.known.Goals as goal
 
 pub returns-clause-count : goal.returns-clause-count

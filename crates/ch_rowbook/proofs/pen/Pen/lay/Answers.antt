@@ -1,7 +1,7 @@
 use Rattle.std.specs.Prelude.{◌<◌, slice_index}
 use Rattle.std.proofs.Common.{subst, arith, rules}
 use Rattle.ch_rowbook.specs.Books.{PenView, versions_of}
-use Rattle.ch_rowbook.proofs.Pens.{current_below}
+use Rattle.ch_rowbook.proofs.PenKeeps.{current_below}
 use Rattle.ch_rowbook.proofs.pen.Pen.lay.Goals as goal
 
 -- the place isn't below the next version, which is above all

@@ -14,7 +14,7 @@ use Rattle.ch_overlay.specs.declared.record.Record.{Record}
 use Rattle.ch_rowbook.specs.Books.{PenView, versions_of}
 use Rattle.ch_overlay.specs.Records.{recorded_row}
 use Rattle.ch_rowbook.specs.Showing.{HasNoVersion, IsNextOf, IsRecordOf, IsRising, laid_row, next_behind, of_node}
-use Rattle.ch_rowbook.proofs.Showings.{laid_more, next_laid, rising_more}
+use Rattle.ch_rowbook.proofs.RisingVersions.{laid_more, next_laid, rising_more}
 use Rattle.ch_rowbook.proofs.pen.Pen.lay_all.Goals as goal
 
 -- the record is the last one's, at the greatest version

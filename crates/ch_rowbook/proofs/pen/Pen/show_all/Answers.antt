@@ -6,7 +6,7 @@ use Rattle.ch_laws.specs.Rows.{Row}
 use Rattle.ch_overlay.specs.Change.{puts}
 use Rattle.ch_overlay.specs.Records.{recorded_row}
 use Rattle.ch_rowbook.specs.Showing.{IsShowable, of_node}
-use Rattle.ch_rowbook.proofs.Showings.{dropped, show_above, show_laid, show_rest}
+use Rattle.ch_rowbook.proofs.RisingVersions.{dropped, show_above, show_laid, show_rest}
 use Rattle.ch_rowbook.proofs.pen.Pen.show_all.Goals as goal
 
 -- what is left begins with the record at hand

@@ -4,7 +4,7 @@ use Rattle.boxcar.specs.Table.{Where}
 use Rattle.ch_overlay.specs.declared.record.Record.{Record}
 use Rattle.ch_rowbook.specs.Books.{PenKeeps, PenView, rows_of, versions_of}
 use Rattle.ch_overlay.specs.Records.{recorded_row}
-use Rattle.ch_rowbook.proofs.Pens.{map_set, pen_shows}
+use Rattle.ch_rowbook.proofs.PenKeeps.{map_set, pen_shows}
 use Rattle.ch_rowbook.proofs.pen.Pen.show_one.Goals as goal
 
 -- the word and the token are of the record that was laid

@@ -2,7 +2,7 @@ use Rattle.std.proofs.Common.{subst, sym, rules}
 use Rattle.std.specs.Arc.{arc_value}
 use Rattle.ch_cost.specs.declared.cost.Cost.{Cost}
 use Rattle.ch_overlay.specs.Records.{IsSoundRow}
-use Rattle.ch_rowbook.proofs.Sound.{marked_is}
+use Rattle.ch_rowbook.proofs.BoundOfRows.{marked_is}
 use Rattle.ch_rowbook.proofs.shelf.Shelf.append.Goals as goal
 
 -- the list's mark is the bound of the book

@@ -5,7 +5,7 @@ use Rattle.atomic_table.specs.Table.{Allows, Joins, Me, step}
 use Rattle.ch_rowbook.specs.declared.words.KnownWords.{KnownWords}
 use Rattle.ch_rowbook.specs.Words.{IsCompare, Keeps, hearing, reader_with, width}
 use Rattle.ch_rowbook.proofs.Seats.{has_words}
-use Rattle.ch_rowbook.proofs.Steps.{compares, hears}
+use Rattle.ch_rowbook.proofs.WordSteps.{compares, hears}
 use Rattle.ch_rowbook.proofs.shelf.Shelf.join_reader.Goals as goal
 
 pub join_seat-requires : goal.join_seat-requires

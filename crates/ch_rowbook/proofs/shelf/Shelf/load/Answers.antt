@@ -6,7 +6,7 @@ use Rattle.atomic_table.specs.Table.{Allows, Me, step}
 use Rattle.ch_rowbook.specs.declared.words.KnownWords.{KnownWords}
 use Rattle.ch_rowbook.specs.Words.{IsLoad, Keeps, width}
 use Rattle.ch_rowbook.proofs.Seats.{has_word, reader_moves}
-use Rattle.ch_rowbook.proofs.Steps.{loads}
+use Rattle.ch_rowbook.proofs.WordSteps.{loads}
 use Rattle.ch_rowbook.proofs.shelf.Shelf.load.Goals as goal
 
 pub load-requires : goal.load-requires

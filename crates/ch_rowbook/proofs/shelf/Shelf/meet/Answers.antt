@@ -5,7 +5,7 @@ use Rattle.ch_rowbook.specs.declared.words.KnownWords.{KnownWords}
 use Rattle.ch_rowbook.specs.Words.{Keeps, greater, reader_with, width}
 use Rattle.ch_rowbook.proofs.Fronts.{greater_length}
 use Rattle.ch_rowbook.proofs.Seats.{has_words, reader_moves}
-use Rattle.ch_rowbook.proofs.Steps.{joins}
+use Rattle.ch_rowbook.proofs.WordSteps.{joins}
 use Rattle.ch_rowbook.proofs.shelf.Shelf.meet.Goals as goal
 
 pub join_seat-requires : goal.join_seat-requires

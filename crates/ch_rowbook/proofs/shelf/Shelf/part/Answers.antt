@@ -4,7 +4,7 @@ use Rattle.atomic_table.specs.Table.{Me}
 use Rattle.ch_rowbook.specs.declared.words.KnownWords.{KnownWords}
 use Rattle.ch_rowbook.specs.Words.{width}
 use Rattle.ch_rowbook.proofs.Seats.{has_words, part_moves, reader_moves}
-use Rattle.ch_rowbook.proofs.Steps.{splits}
+use Rattle.ch_rowbook.proofs.WordSteps.{splits}
 use Rattle.ch_rowbook.proofs.shelf.Shelf.part.Goals as goal
 
 pub split_seat-requires : goal.split_seat-requires

@@ -2,7 +2,7 @@ use Rattle.std.proofs.Common.{subst, sym}
 use Rattle.ch_cost.specs.declared.cost.Cost.{Cost}
 use Rattle.ch_laws.specs.Rows.{Row}
 use Rattle.ch_overlay.specs.Records.{IsSoundRow, recorded_row}
-use Rattle.ch_rowbook.proofs.Sound.{marked_is}
+use Rattle.ch_rowbook.proofs.BoundOfRows.{marked_is}
 use Rattle.ch_rowbook.proofs.shelf.Shelf.seen.Goals as goal
 
 -- each record of the list has a row that can be relied on

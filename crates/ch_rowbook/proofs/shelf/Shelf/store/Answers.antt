@@ -6,7 +6,7 @@ use Rattle.atomic_table.specs.Table.{Allows, Me, step}
 use Rattle.ch_rowbook.specs.declared.words.KnownWords.{KnownWords}
 use Rattle.ch_rowbook.specs.Words.{IsStore, Keeps, width}
 use Rattle.ch_rowbook.proofs.Seats.{has_word, pen_moves}
-use Rattle.ch_rowbook.proofs.Steps.{stores}
+use Rattle.ch_rowbook.proofs.WordSteps.{stores}
 use Rattle.ch_rowbook.proofs.shelf.Shelf.store.Goals as goal
 
 pub store-requires : goal.store-requires

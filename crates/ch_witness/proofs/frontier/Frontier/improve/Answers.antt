@@ -2,8 +2,8 @@ use Rattle.std.proofs.Common.{Bool, ◌≡◌, true, false, Some, sym, subst, ap
 use Rattle.ch_witness.specs.declared.label.Label.{Label}
 use Rattle.ch_witness.specs.Frontier.{Improves}
 use Rattle.ch_witness.specs.Tree.{labels_of}
-use Rattle.ch_witness.proofs.Offering.{offer_none, offer_better}
-use Rattle.ch_witness.proofs.Valued.{value_elsewhere, value_found, value_written}
+use Rattle.ch_witness.proofs.OfferedLabels.{offer_none, offer_better}
+use Rattle.ch_witness.proofs.ValuesOfNodes.{value_elsewhere, value_found, value_written}
 use Rattle.ch_witness.proofs.frontier.Frontier.improve.Goals as goal
 
 pub returns-then-not-is_improved_by : goal.returns-then-not-is_improved_by

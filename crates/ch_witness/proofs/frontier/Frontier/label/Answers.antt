@@ -1,6 +1,6 @@
 use Rattle.std.proofs.Common.{Some, sym, ap, ◌∙◌}
 use Rattle.ch_witness.specs.declared.label.Label.{Label}
-use Rattle.ch_witness.proofs.Valued.{value_absent, value_found}
+use Rattle.ch_witness.proofs.ValuesOfNodes.{value_absent, value_found}
 use Rattle.ch_witness.proofs.frontier.Frontier.label.Goals as goal
 
 pub returns-in_err-place : goal.returns-in_err-place

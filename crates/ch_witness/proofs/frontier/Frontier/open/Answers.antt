@@ -3,8 +3,8 @@ use Rattle.std.proofs.lemmas.Grind.{common_steps}
 use Rattle.ch_witness.specs.declared.label.Label.{Label}
 use Rattle.ch_witness.specs.Frontier.{Improves}
 use Rattle.ch_witness.specs.Tree.{labels_of}
-use Rattle.ch_witness.proofs.Offering.{offer_better}
-use Rattle.ch_witness.proofs.Valued.{value_absent, values_put}
+use Rattle.ch_witness.proofs.OfferedLabels.{offer_better}
+use Rattle.ch_witness.proofs.ValuesOfNodes.{value_absent, values_put}
 use Rattle.ch_witness.proofs.frontier.Frontier.open.Goals as goal
 
 pub returns : goal.returns

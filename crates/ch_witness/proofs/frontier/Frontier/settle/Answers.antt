@@ -1,8 +1,8 @@
 use Rattle.std.proofs.Common.{Bool, ◌≡◌, true, Some, sym, ap, ◌∙◌}
 use Rattle.ch_witness.specs.declared.label.Label.{Label}
 use Rattle.ch_witness.specs.Tree.{labels_of}
-use Rattle.ch_witness.proofs.Options.{some-same}
-use Rattle.ch_witness.proofs.Valued.{value_elsewhere, value_found, value_written}
+use Rattle.ch_witness.proofs.SomeValues.{some-same}
+use Rattle.ch_witness.proofs.ValuesOfNodes.{value_elsewhere, value_found, value_written}
 use Rattle.ch_witness.proofs.frontier.Frontier.settle.Goals as goal
 
 pub returns-clause-settled : goal.returns-clause-settled

@@ -1,8 +1,8 @@
 use Rattle.std.proofs.Common.{List, ℕ, [], ◌∷◌, ◌++◌, refl, ap, ◌∙◌, arith}
 use Rattle.ch_cost.specs.Cost.Laws.{ZERO-is}
 use Rattle.ch_witness.specs.declared.label.Label.{Label}
-use Rattle.ch_witness.proofs.Offering.{begun}
-use Rattle.ch_witness.proofs.Valued.{values_put}
+use Rattle.ch_witness.proofs.OfferedLabels.{begun}
+use Rattle.ch_witness.proofs.ValuesOfNodes.{values_put}
 use Rattle.ch_witness.proofs.frontier.Frontier.start.Goals as goal
 
 pub returns : goal.returns

@@ -1,8 +1,8 @@
 use Rattle.std.proofs.Common.{ℕ, Option, Some, None, ◌≡◌, ◌≢◌, ◌<◌, IfSome, IfNone, length, slice_index, ap, sym, subst, ◌∙◌}
 use Rattle.ch_witness.specs.Kept.{joined, kept_of}
 use Rattle.ch_witness.specs.Places.{IsFirstAt}
-use Rattle.ch_witness.proofs.Keeping.{none_there, some_there, stands}
-use Rattle.ch_witness.proofs.Valued.{value_absent}
+use Rattle.ch_witness.proofs.KeptAnswers.{none_there, some_there, stands}
+use Rattle.ch_witness.proofs.ValuesOfNodes.{value_absent}
 use Rattle.ch_witness.proofs.rows.Rows.known.Goals as goal
 
 pub returns-in_err-place-clause-none : goal.returns-in_err-place-clause-none

@@ -2,7 +2,7 @@ use Rattle.std.proofs.Common.{List, Option, Some, [], ◌∷◌, ◌++◌, ap, �
 use Rattle.std.proofs.lemmas.Grind.{common_steps}
 use Rattle.ch_overlay.specs.declared.source.Seen.{Seen}
 use Rattle.ch_witness.specs.Kept.{joined}
-use Rattle.ch_witness.proofs.Valued.{values_put}
+use Rattle.ch_witness.proofs.ValuesOfNodes.{values_put}
 use Rattle.ch_witness.proofs.rows.Rows.push.Goals as goal
 
 pub returns-clause-here : goal.returns-clause-here

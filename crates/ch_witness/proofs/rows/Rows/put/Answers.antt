@@ -1,7 +1,7 @@
 use Rattle.std.proofs.Common.{ℕ, ◌≡◌, List, Option, Some, IfSome, sym, subst, ap, ◌∙◌, arith}
 use Rattle.ch_witness.specs.Kept.{joined}
 use Rattle.ch_witness.specs.Places.{IsFirstAt}
-use Rattle.ch_witness.proofs.Valued.{read_written, value_elsewhere, value_written}
+use Rattle.ch_witness.proofs.ValuesOfNodes.{read_written, value_elsewhere, value_written}
 use Rattle.ch_witness.proofs.rows.Rows.put.Goals as goal
 
 -- the node is at the place that was found

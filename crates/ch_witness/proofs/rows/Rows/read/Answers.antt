@@ -4,7 +4,7 @@ use Rattle.ch_overlay.specs.declared.source.Seen.{Seen}
 use Rattle.ch_overlay.specs.Source.{IsBound, IsSeenRow}
 use Rattle.ch_cost.specs.declared.cost.Cost.{Cost}
 use Rattle.ch_witness.specs.Kept.{kept_of}
-use Rattle.ch_witness.proofs.Keeping.{kept_moved, kept_put}
+use Rattle.ch_witness.proofs.KeptAnswers.{kept_moved, kept_put}
 use Rattle.ch_witness.proofs.rows.Rows.read.Goals as goal
 
 pub returns-in-Some-clause-read : goal.returns-in-Some-clause-read

@@ -1,6 +1,6 @@
 use Rattle.std.proofs.Common.{sym, ap, ◌∙◌}
 use Rattle.ch_witness.specs.Kept.{joined}
-use Rattle.ch_witness.proofs.Valued.{value_absent, value_elsewhere, value_found, value_written}
+use Rattle.ch_witness.proofs.ValuesOfNodes.{value_absent, value_elsewhere, value_found, value_written}
 use Rattle.ch_witness.proofs.rows.Rows.take.Goals as goal
 
 pub returns-in_err-place-clause-taken : goal.returns-in_err-place-clause-taken

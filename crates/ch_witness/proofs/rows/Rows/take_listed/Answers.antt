@@ -2,7 +2,7 @@ use Rattle.std.proofs.Common.{ℕ, List, [], get_or, subst, sym, refl}
 use Rattle.std.proofs.lemmas.List.{take_all, take_more}
 use Rattle.ch_overlay.specs.declared.source.Seen.{Seen}
 use Rattle.ch_witness.specs.Kept.{kept_of, AreListed}
-use Rattle.ch_witness.proofs.Listing.{Listing, listing-start, listing-more}
+use Rattle.ch_witness.proofs.ListedAnswers.{Listing, listing-start, listing-more}
 use Rattle.ch_witness.proofs.rows.Rows.take_listed.Goals as goal
 
 pub nodes-init : goal.nodes-init

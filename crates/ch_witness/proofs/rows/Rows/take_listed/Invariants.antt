@@ -1,6 +1,6 @@
 use Rattle.std.proofs.Common.{take}
 use Rattle.ch_witness.specs.Kept.{kept_of}
-use Rattle.ch_witness.proofs.Listing.{Listing}
+use Rattle.ch_witness.proofs.ListedAnswers.{Listing}
 use Rattle.ch_witness.proofs.rows.Rows.take_listed.Given as goal
 
 abbrev pub invariant-nodes : goal.invariant-nodes

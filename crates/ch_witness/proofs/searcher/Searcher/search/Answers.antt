@@ -1,6 +1,6 @@
 use Rattle.ch_witness.specs.Kept.{kept_of, IsKept}
 use Rattle.ch_witness.specs.Tree.{labels_of}
-use Rattle.ch_witness.proofs.Giving.{all_seen, rows, ways_given, start_given}
+use Rattle.ch_witness.proofs.WaysOfTree.{all_seen, rows, ways_given, start_given}
 use Rattle.ch_witness.proofs.searcher.Searcher.search.Goals as goal
 
 pub returns-clause-ways : goal.returns-clause-ways

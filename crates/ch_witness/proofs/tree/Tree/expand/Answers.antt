@@ -10,9 +10,9 @@ use Rattle.ch_witness.specs.declared.step.TreeNode.{TreeNode}
 use Rattle.ch_witness.specs.Frontier.{AreFollowed}
 use Rattle.ch_witness.specs.Kept.{kept_of, read_there, IsAnswer, IsKept}
 use Rattle.ch_witness.specs.Tree.{labels_of, IsTree, IsLater}
-use Rattle.ch_witness.proofs.Keeping.{none_there}
-use Rattle.ch_witness.proofs.Growing.{tree_grown, step_later, names_kept}
-use Rattle.ch_witness.proofs.Limits.{reached_fits, entries_fit, entries_light}
+use Rattle.ch_witness.proofs.KeptAnswers.{none_there}
+use Rattle.ch_witness.proofs.GrowingTree.{tree_grown, step_later, names_kept}
+use Rattle.ch_witness.proofs.SummableCosts.{reached_fits, entries_fit, entries_light}
 use Rattle.ch_witness.proofs.tree.Tree.expand.Given as given
 use Rattle.ch_witness.proofs.tree.Tree.expand.Goals as goal
 

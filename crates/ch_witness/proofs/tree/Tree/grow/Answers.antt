@@ -4,8 +4,8 @@ use Rattle.ch_cost.specs.declared.cost.Cost.{Cost}
 use Rattle.ch_cost.specs.Cost.{◌≼◌}
 use Rattle.ch_witness.specs.Kept.{kept_of, finds_unless, IsKept}
 use Rattle.ch_witness.specs.Tree.{labels_of}
-use Rattle.ch_witness.proofs.Keeping.{kept_still, more_refl, more_trans}
-use Rattle.ch_witness.proofs.Growing.{tree_settled, tree_same, settled_new, all_settled, later_start, later_more, later_settled, later_same, seen_gone}
+use Rattle.ch_witness.proofs.KeptAnswers.{kept_still, more_refl, more_trans}
+use Rattle.ch_witness.proofs.GrowingTree.{tree_settled, tree_same, settled_new, all_settled, later_start, later_more, later_settled, later_same, seen_gone}
 use Rattle.ch_witness.proofs.tree.Tree.grow.Goals as goal
 
 pub turns-init : goal.turns-init

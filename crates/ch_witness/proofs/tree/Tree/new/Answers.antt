@@ -4,10 +4,10 @@ use Rattle.ch_cost.specs.Cost.{◌≼◌}
 use Rattle.ch_cost.specs.Cost.Laws.{ZERO-is}
 use Rattle.ch_witness.specs.declared.step.TreeNode.{TreeNode}
 use Rattle.ch_witness.specs.Kept.{kept_of, IsKept}
-use Rattle.ch_witness.proofs.Keeping.{kept_still, more_trans}
+use Rattle.ch_witness.proofs.KeptAnswers.{kept_still, more_trans}
 use Rattle.ch_witness.specs.Tree.{labels_of, IsTree, IsGoneOn, IsLater}
-use Rattle.ch_witness.proofs.Offering.{begun}
-use Rattle.ch_witness.proofs.Growing.{all_start, tree_start, start_seen, seen_gone, seen_none}
+use Rattle.ch_witness.proofs.OfferedLabels.{begun}
+use Rattle.ch_witness.proofs.GrowingTree.{all_start, tree_start, start_seen, seen_gone, seen_none}
 use Rattle.ch_witness.proofs.tree.Tree.new.Goals as goal
 
 pub returns-then-are_all-clause-tree : goal.returns-then-are_all-clause-tree

@@ -1,7 +1,7 @@
 use Rattle.std.proofs.Common.{◌<◌, ◌≡◌, AllPairs, Some, arith, sym, subst, ap, ◌∙◌}
 use Rattle.std.specs.List.{slice_get}
 use Rattle.ch_laws.specs.Contraction.{Contraction}
-use Rattle.ch_workers.proofs.Reading.{at_get}
+use Rattle.ch_workers.proofs.ListPlaces.{at_get}
 use Rattle.ch_workers.proofs.build_state.BuildState.copy_entry.Goals as goal
 use Rattle.ch_workers.proofs.build_state.BuildState.copy_entry.Goals.{then-rank-log+in_ok-copy_to, else-rank-log}
 
