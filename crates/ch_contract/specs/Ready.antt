@@ -13,8 +13,8 @@ pub record Ready : Type 0 where
   pub prepared : Prepared
   pub beside : List Seen
 
--- They were made for the contraction that is proposed, by the row of its node and those of all nodes that this one names: the
--- rows that the proposal rests on, or else those that were read beside them.
+-- They were made for the contraction that is proposed, by the row of its node and those of all nodes that this one
+-- names: the rows that the proposal rests on, or else those that were read beside them.
 pub record IsReadyFor (p : Proposal) (r : Ready) : Type 0 where
   pub row : Row
   pub read : row_of p.rests_on p.node ≡ Some row

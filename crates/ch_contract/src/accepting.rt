@@ -87,7 +87,7 @@ pub(crate) fn are_current(ledger: &Ledger, rows: &[Seen]) -> bool
     first_old(ledger, rows).is_none()
 }
 
-/// The version that the ledger has now, where it is another than the one that was seen.
+/// The version that the ledger has now, where it is another than the one that was seen. A node out of range has none.
 fn newer(ledger: &Ledger, seen: &Seen) -> Option<u64>
     ensures { SomeIff result (IsOld ledger.now seen.now) (version_now ledger.now seen.now.node) }
 {

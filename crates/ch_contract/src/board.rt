@@ -58,7 +58,7 @@ impl<S: Site> Model for Board<S> {
 
 impl<S: Site> Board<S> {
     /// Returns a board of this graph, with no node contracted, whose rows are in the book that the blank is opened
-    /// as; and a reader of that book.
+    /// as; and a reader of that book. The blank has the graph's number of nodes and its bound.
     ///
     /// Takes memory for the rows, an entry for each end of an arc, for a record a row, and for the log of all
     /// contractions. Waits while another thread makes room for records. On a refusal the blank is dropped.
@@ -164,9 +164,10 @@ impl<S: Site> Board<S> {
     ///
     /// The proposal was made by the board itself or by a reader of its book. Refused, in this order, where the node is
     /// contracted already, where a row that the proposal rests on has another version now, where memory runs out, and where
-    /// the book gives one of the new rows a place that isn't above the earlier ones (`Slot`): all memory, for the new rows,
-    /// for lists and for the records, is taken before the first row has its place. The board is then as it was. No row is
-    /// compared: an answer of the book whose version is current has the current row.
+    /// the book gives one of the new rows a place that isn't above the earlier ones (`Slot`), since places in the book are
+    /// the versions: all memory, for the new rows, for lists and for the records, is taken before the first row has
+    /// its place. The board is then as it was. No row is compared: an answer of the book whose version is current has the
+    /// current row.
     ///
     /// The new rows are all laid, first the node's and then those of its neighbours by rising number, before the first is
     /// shown. They are shown in that order too, by this code and by no clause: they are of different nodes, so nothing
@@ -240,7 +241,8 @@ impl<S: Site> Board<S> {
         }
     }
 
-    /// Contracts the node of a proposal that isn't refused by version numbers.
+    /// Commits a proposal, by the new rows that were made for it before if there are some. The public calls are this one,
+    /// and a reader that gets the versions.
     fn accept<R: Wait>(
         &mut self,
         rt: &R,
@@ -270,7 +272,7 @@ impl<S: Site> Board<S> {
         }
     }
 
-    /// Rows of the book whose versions are current are the board's. It does nothing when it runs but look at their
+    /// A law: rows of the book whose versions are current are the board's. It does nothing when it runs but look at their
     /// records.
     fn agree(&self, proposal: &Proposal)
         requires of_book { All (IsOfBook S.book) proposal.now.rests_on }
@@ -283,7 +285,7 @@ impl<S: Site> Board<S> {
         self.agree_all(proposal.rests_on());
     }
 
-    /// Rows of the book whose versions are current are the board's.
+    /// The same law of a list of rows.
     fn agree_all(&self, rows: &[Seen])
         requires of_book { All (IsOfBook S.book) rows.now }
         requires current { NoneIsOld self.now rows.now }
@@ -361,24 +363,6 @@ impl<S: Site> Board<S> {
         Ok(receipts)
     }
 
-    /// Returns the hierarchy that the contractions lead to: the rank of a node is the number of nodes that were
-    /// contracted before it, and the links are the arcs that the rows have, by their ends. It is right for the graph.
-    ///
-    /// Refused while a node isn't contracted, which is tested first, or where memory runs out; the board is returned as
-    /// it was. Takes memory for the ranks, the links, their index and the places of their halves, and the time of a sort of
-    /// the links.
-    pub fn into_hierarchy(self) -> Result<Hierarchy, (Board<S>, FinishError)>
-        ensures made { IfOk result (λ h. IsMade self.graph (state_of self.overlay) h) }
-        ensures right { IfOk result (λ h. IsRight S.graph h) }
-        ensures left { IsErrOf result (self, FinishError.NodesLeft) ↔ HasNodesLeft self }
-        ensures back { IfErr result (λ refused. refused.0 ≡ self) }
-    {
-        match hierarchy_of(&self.ledger) {
-            Ok(hierarchy) => Ok(hierarchy),
-            Err(error) => Err((self, error)),
-        }
-    }
-
     /// Contracts the node unless it is contracted already, and puts its receipt behind the others.
     fn visit<R: Wait>(
         &mut self,
@@ -454,6 +438,24 @@ impl<S: Site> Board<S> {
             Err(CommitError::Slot) => Err(SweepError::Slot),
             Err(CommitError::Contracted) => unreachable!(),
             Err(CommitError::Stale { .. }) => unreachable!(),
+        }
+    }
+
+    /// Returns the hierarchy that the contractions lead to: the rank of a node is the number of nodes that were
+    /// contracted before it, and the links are the arcs that the rows have, by their ends. It is right for the graph.
+    ///
+    /// Refused while a node isn't contracted, which is tested first, or where memory runs out; the board is returned as
+    /// it was. Takes memory for the ranks, the links, their index and the places of their halves, and the time of a sort of
+    /// the links.
+    pub fn into_hierarchy(self) -> Result<Hierarchy, (Board<S>, FinishError)>
+        ensures made { IfOk result (λ h. IsMade self.graph (state_of self.overlay) h) }
+        ensures right { IfOk result (λ h. IsRight S.graph h) }
+        ensures left { IsErrOf result (self, FinishError.NodesLeft) ↔ HasNodesLeft self }
+        ensures back { IfErr result (λ refused. refused.0 ≡ self) }
+    {
+        match hierarchy_of(&self.ledger) {
+            Ok(hierarchy) => Ok(hierarchy),
+            Err(error) => Err((self, error)),
         }
     }
 }

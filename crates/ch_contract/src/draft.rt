@@ -103,7 +103,7 @@ impl Draft {
 /// Works out the pairs from one neighbour, which has this arc to the node, to the others that the node's row lists.
 ///
 /// Where there is another, the neighbour's row is read and listed; where a pair isn't heavy, a search is made, in the
-/// memory of what an earlier one traced.
+/// memory of the ways and steps that an earlier one found (`traced`).
 pub fn draft_pairs<S: RowSource>(
     alloc: Global,
     source: &mut S,
@@ -138,8 +138,8 @@ pub fn draft_pairs<S: RowSource>(
     judge_by_search(alloc, source, desk, task, from, draft, traced)
 }
 
-/// Judges the pairs on the desk, which lead from this neighbour, by a search for ways around the node. What it traced is
-/// left in place of what an earlier one did, whose memory it takes.
+/// Judges the pairs on the desk, which lead from this neighbour, by one search for ways around the node, of at most what
+/// the dearest pair costs. What it found is left in `traced`, in place of what an earlier one did, whose memory it takes.
 fn judge_by_search<S: RowSource>(
     alloc: Global,
     source: &mut S,
@@ -239,7 +239,8 @@ fn add_pair(
     Ok(())
 }
 
-/// What a search may know of the ends of these pairs, whose middle it avoids. It takes the place of what the list had.
+/// What lets a search end earlier, for the end of each of these pairs: a way of at most the pair's cost is enough, and its
+/// last arc costs at least so much. The pairs' middle is avoided. It takes the place of what the list had.
 fn find_aims(
     pairs: &[Shortcut],
     avoid: u32,

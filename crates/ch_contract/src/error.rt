@@ -11,14 +11,14 @@ use std::alloc::{AllocError, AllocFailed};
 use std::error::Error;
 use std::fmt;
 
-/// Why a node wasn't proposed.
+/// Why a node wasn't proposed. The source may have moved, as reading moves it.
 #[derive(Clone, Copy, Debug, PartialEq, Eq)]
 pub enum ProposeError {
     /// Out of memory.
     OutOfMemory = 1,
     /// The source has no row of a node that was asked for.
     Unseen,
-    /// The node is contracted already, by its row.
+    /// The node is contracted already: the row that was read has a rank.
     Contracted,
 }
 
@@ -46,7 +46,7 @@ pub enum CommitError {
     Slot,
 }
 
-/// Why a sweep ended early.
+/// Why a sweep ended early. The contractions that it made are in the log.
 #[derive(Clone, Copy, Debug, PartialEq, Eq)]
 pub enum SweepError {
     /// Out of memory.
@@ -55,7 +55,7 @@ pub enum SweepError {
     Slot,
 }
 
-/// Why a board wasn't made into a hierarchy.
+/// Why a ledger or a board wasn't made into a hierarchy. It is returned as it was.
 #[derive(Clone, Copy, Debug, PartialEq, Eq)]
 pub enum FinishError {
     /// Out of memory.

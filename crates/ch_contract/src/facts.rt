@@ -1,4 +1,4 @@
-/// Counts of a proposal, by which an order of contraction is chosen.
+/// Counts of a proposal, by which estimators (`ch_estimate`) choose the order of contraction.
 #[derive(Clone, Copy, Debug, PartialEq, Eq)]
 pub struct Facts {
     /// The node that would be contracted, numbered from 0.

@@ -23,8 +23,8 @@ pub struct Finished {
     pub rows: Overlay,
 }
 
-/// Returns the hierarchy that the contractions of a ledger lead to, with an index and the places of the halves of
-/// links.
+/// Returns the hierarchy that the contractions of a ledger lead to, with an index and, for each shortcut, the places of the
+/// two links that it stands for, its halves.
 ///
 /// Refused while a node isn't contracted, which is tested first, or where memory runs out. Takes memory for the ranks,
 /// for the links, and for where links and their halves are.

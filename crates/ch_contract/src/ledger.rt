@@ -28,7 +28,7 @@ use std::thread::Threads;
 ///
 /// Whatever happens to a ledger, its rows are those that its log leads to from its graph by lawful contractions: each
 /// pair of neighbours of a contracted node got a shortcut, was heavy, or had another walk as cheap. The versions of its
-/// rows come from whoever keeps it.
+/// rows come from its caller: a [`Board`](crate::Board) takes those of its book, others [`versions_from`].
 #[derive(Drop)]
 pub struct Ledger {
     alloc: Global,
@@ -126,7 +126,7 @@ impl Ledger {
         &self.overlay
     }
 
-    /// Returns what was done so far, first to last: the entry of rank k is at k.
+    /// Returns what was done so far, first to last: the contraction of the node of rank k is at k.
     pub fn log(&self) -> &[Contraction]
         ensures entries { result.now ≡ self.now.log }
         ensures log { IsLog self.now.log }
@@ -135,7 +135,7 @@ impl Ledger {
         self.log.as_slice()
     }
 
-    /// Whether each node is contracted.
+    /// Whether each node is contracted. Takes no memory, and a time that doesn't depend on their number.
     pub fn is_over(&self) -> bool
         ensures over { IsTrue result ↔ IsOver (state_of self.now.overlay) }
         ensures left { IsFalse result ↔ HasNodesLeft self.now }

@@ -9,6 +9,15 @@
 //! - [`Board`], a ledger whose rows are in a book of `ch_rowbook`, whose readers propose without a lock. A board contracts
 //!   a node by a proposal, [`Board::commit`], as long as the versions of the rows that the proposal rests on are current.
 //!
+//! Of the layers below: a node's row is what it has of its arcs ([`ch_overlay::Row`]), and gets a new version, a greater
+//! number, whenever it changes. A source ([`ch_overlay::RowSource`]) answers rows with their versions, and has the bound of
+//! the graph, which no least walk is longer than: a board is one, and so is each reader of its book. A book is opened from
+//! a [`ch_rowbook::Blank`]. Its one pen lays a new row where no reader comes to it, and then shows it.
+//!
+//! To read on: `proposing` and `draft` work a proposal out, and `proposal` is what they make; `ready` makes its rows;
+//! `accepting` compares versions; `board` commits, by the `ledger` that it has, whose log has a `contraction` for each
+//! commit; `finish` and `parts` make the hierarchy. `site` is about types alone.
+//!
 //! The promise of the layer is the contract of [`Ledger::finish`]: the hierarchy that it returns is right for the graph, so
 //! its values are the graph's distances. It rests on what every [`Ledger`] keeps, that its rows come from the graph's by
 //! the lawful contractions of its log.

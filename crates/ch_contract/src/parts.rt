@@ -42,7 +42,8 @@ pub fn parts_of(alloc: Global, overlay: &Overlay) -> Result<RanksAndLinks, Alloc
     Ok(RanksAndLinks { ranks, links })
 }
 
-/// The links of all rows, by their ends.
+/// The links of all rows, by their ends. A row stays as it was when its node was contracted, and those of later nodes lost
+/// their entries for it then. So each link is in one row, that of its end of lower rank.
 fn links_of(alloc: Global, overlay: &Overlay) -> Result<Vec<Link>, AllocError>
     ensures { IfOk result (λ links. AreLinks overlay.now links.items) }
 {
@@ -73,6 +74,7 @@ fn push_row(links: &mut Vec<Link>, node: u32, row: &Row) -> Result<(), AllocErro
     push_in(links, node, row.inn())
 }
 
+/// Puts a link behind others for each arc out of a node, to a node of higher rank.
 fn push_out(links: &mut Vec<Link>, node: u32, entries: &[Entry]) -> Result<(), AllocError>
     ensures { IfOk result (λ _. links.new.items ≡ links.old.items ++ map (link_out node) entries.now) }
 {
@@ -87,6 +89,7 @@ fn push_out(links: &mut Vec<Link>, node: u32, entries: &[Entry]) -> Result<(), A
     Ok(())
 }
 
+/// Puts a link behind others for each arc into a node, from a node of higher rank.
 fn push_in(links: &mut Vec<Link>, node: u32, entries: &[Entry]) -> Result<(), AllocError>
     ensures { IfOk result (λ _. links.new.items ≡ links.old.items ++ map (link_in node) entries.now) }
 {

@@ -14,7 +14,7 @@ use std::marker::Model;
 /// A contraction of a node that was worked out by rows, and the rows that it rests on.
 ///
 /// It is made by [`propose`](crate::propose) alone. It stays right as long as these rows are the rows of their nodes,
-/// whatever happens to the others.
+/// whatever happens to the others: each [`Seen`] has its row's version, so a commit compares numbers and no rows.
 #[derive(Drop)]
 pub struct Proposal {
     pub(crate) bound: Cost,
@@ -34,7 +34,7 @@ impl Model for Proposal {
 }
 
 impl Proposal {
-    /// Returns the bound of the source that it was made by.
+    /// Returns the bound of the source that it was made by, which is that of the graph.
     pub fn bound(&self) -> Cost
         ensures { result ≡ self.now.bound }
     {
@@ -89,7 +89,7 @@ impl Proposal {
         Some(Verdict::Witness)
     }
 
-    /// Its counts.
+    /// Returns its counts. Takes no memory.
     pub fn facts(&self) -> Facts
         ensures counts { AreFactsOf self.now result }
         ensures few { AreFacts result }

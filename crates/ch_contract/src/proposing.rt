@@ -24,7 +24,8 @@ use std::sync::Arc;
 /// the arcs cost more than the bound together, or a search finds another way that costs at most as much. A search
 /// settles at most `settle` nodes (1 to 65,536). `OutOfMemory` where memory runs out, `Unseen` where the source
 /// has no row of a node that is asked for, `Contracted` exactly where the node's row, which is read first, has a rank, and
-/// before a row of another node is asked for; the source has then moved as reading moves it, and nothing else.
+/// before a row of another node is asked for; the source has then moved as reading moves it (a reader may know of newer
+/// versions), and nothing else.
 /// Memory and time grow with the nodes that are settled and their neighbours, with 8 bytes for each number up to the
 /// greatest of them, which [`propose_with`] takes once.
 pub fn propose<S: RowSource>(
@@ -100,8 +101,9 @@ fn propose_in<S: RowSource>(
     })
 }
 
-/// Works out the pairs of every neighbour with an arc to the node, whose row is given. Their searches find in one memory,
-/// which is let go at the end: a step has the snapshot of a row, and so no part in what a worker keeps.
+/// Works out the pairs of every neighbour with an arc to the node, whose row is given. What their searches find is in one
+/// memory, which is freed at the end. It isn't on the desk, since its steps have snapshots of rows
+/// ([`ch_witness::TreeNode`]), and a worker keeps its desk and can't keep these.
 fn draft_all<S: RowSource>(
     alloc: Global,
     source: &mut S,

@@ -20,7 +20,9 @@ impl Model for Scratch {
 /// What a [`Scratch`] holds.
 #[derive(Drop)]
 pub(crate) struct Desk {
+    /// Makes the searches, and keeps each row that the proposal at hand has read, also for the searches behind.
     pub(crate) searcher: Searcher,
+    /// The pairs that are judged now.
     pub(crate) pairs: NeighbourPairs,
     /// Memory for the nodes whose rows a proposal rests on.
     pub(crate) listed: Vec<u32>,
@@ -37,7 +39,7 @@ pub(crate) struct NeighbourPairs {
     pub(crate) light: Vec<Shortcut>,
     /// The nodes to which they lead.
     pub(crate) ends: Vec<u32>,
-    /// What the search may know of each of these.
+    /// For each of these what lets the search end earlier.
     pub(crate) aims: Vec<Aim>,
 }
 

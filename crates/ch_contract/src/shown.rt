@@ -12,8 +12,8 @@ use ch_laws::bounds_fit;
 use ch_overlay::{SeeError, Seen};
 use ch_rowbook::Pen;
 
-/// Returns the row of a node as it is now, and the token of its record. `Unseen` where the node is out of range,
-/// `OutOfMemory` where the row has as many owners as there can be.
+/// Returns the row of a node as the pen shows it now, with its version, and the token that proves which record of the book
+/// has it. `Unseen` where the node is out of range, `OutOfMemory` where the row has as many owners as there can be.
 pub fn shown<S: Site>(ledger: &Ledger, pen: &Pen<S>, node: u32) -> Result<Seen, SeeError>
     requires { IsInBook S.graph S.book ledger.now pen.now }
     ensures node { IfOk result (λ seen. seen.node ≡ node) }
