@@ -22,7 +22,8 @@ pub data IsSummedWay (h : Hierarchy) (numbers : List ℕ) (starts : List Seed) :
   over : {q n m : ℕ} (k : ℕ) → k < length h.links → rank_of h (link_at h k).from ≡ q → IsSummedWay h numbers starts q n m
       → IsSummedWay h numbers starts (rank_of h (link_at h k).to) (n + length_of (cost_at h k)) (m + slice_index numbers k)
 
--- The number that is kept for a rank is what those of links to it sum to. Each link leads up, so they are no more than ranks.
+-- The number that is kept for a rank is what those of links to it sum to. Each link leads up, so they are no more than
+-- ranks.
 pub record IsSumAt (h : Hierarchy) (numbers : List ℕ) (starts : List Seed) (sums : List ℕ) (r n : ℕ) : Type 0 where
   pub way : IsSummedWay h numbers starts r n (slice_index sums r)
   pub small : slice_index sums r ≤ r * 2 ^ 36

@@ -11,7 +11,7 @@ use std::alloc::AllocError;
 /// A link that falls in rank to a node.
 #[derive(Clone, Copy)]
 pub struct Fall {
-    /// The rank of the node that it leaves, which is above the other.
+    /// The rank of the node that it leaves, which is above the other: its head for the side that climbs it.
     pub tail: u32,
     /// The length of the link.
     pub length: u64,

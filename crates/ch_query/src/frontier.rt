@@ -19,7 +19,8 @@ use std::marker::Model;
 /// How many entries a queue or a list of seen nodes has room for at most when it is kept for the next query.
 const KEPT: usize = 1 << 16;
 
-/// The marks of one side of a query, one for each rank, and which open node is the next to be settled.
+/// The marks of one side of a query, one for each rank, and which open node is the next to be settled. A node without a
+/// label is unseen, one with a label that may still get less is open, and one whose label stays is settled.
 ///
 /// The marks are made once, and take 4 bytes a node, and 32 more for each that a query sees. The queue is ordered by the
 /// lengths of the labels, and for equal lengths by the ranks. That is enough: a side climbs, so of two nodes with labels of

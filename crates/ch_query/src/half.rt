@@ -33,7 +33,8 @@ pub struct Half<'a> {
 }
 
 impl Half<'_> {
-    /// Begins anew: forgets what was seen, and gives each seed that is short a label.
+    /// Begins anew: forgets what was seen, and gives the node of each seed that is no longer than the bound a label, that
+    /// of the least seed where a node has several.
     pub fn begin(&self, marks: &mut Frontier) -> Result<(), AllocError>
         requires half { IsHalf self.now }
         requires nodes { length marks.old ≡ length self.now.hierarchy.now.ranks }
@@ -47,7 +48,8 @@ impl Half<'_> {
         Ok(())
     }
 
-    /// Opens the node of a seed with what the seed costs, if that is short and less than what is known of the node.
+    /// Opens the node of a seed with what the seed costs, if that is no longer than the bound and less than what is known
+    /// of the node.
     fn open_seed(&self, seed: Seed, marks: &mut Frontier) -> Result<(), AllocError>
         requires half { IsHalf self.now }
         requires seed { IsSeed self.now.hierarchy.now seed }

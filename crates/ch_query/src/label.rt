@@ -5,6 +5,6 @@ use ch_cost::Cost;
 pub struct Label {
     /// The least cost of a climb to the node that was found.
     pub cost: Cost,
-    /// The rank of the node that the climb came from last. At the side's start its own.
+    /// The rank of the node that the climb came from last, the foot of its last link. At the side's start its own.
     pub foot: u32,
 }

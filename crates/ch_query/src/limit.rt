@@ -5,7 +5,8 @@ ghost use Rattle.ch_query.specs.Marks.{IsBelow, IsUpTo};
 
 use ch_cost::Cost;
 
-/// Whether a cost is below a limit, if there is one.
+/// Whether a cost is below a limit, if there is one. A query's bound is given and stays; its limit is what the best meeting
+/// so far costs, and there is none before the first.
 pub fn is_below(cost: Cost, limit: Option<Cost>) -> bool
     ensures { IsTrue result ↔ IsBelow cost limit }
 {
@@ -25,7 +26,7 @@ pub fn is_up_to(length: u64, limit: Option<Cost>) -> bool
     }
 }
 
-/// Whether a cost is no longer than the bound of a query: no longer one is kept.
+/// Whether a cost is short: no longer than the bound of a query. No other is kept.
 pub fn is_short(cost: Cost, bound: Cost) -> bool
     ensures { IsTrue result ↔ IsNoLonger cost bound }
 {

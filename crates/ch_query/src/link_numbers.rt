@@ -5,7 +5,8 @@ use std::marker::Model;
 
 /// Numbers up to that of the links of a hierarchy, in a list whose length stays: places, or counts of links.
 ///
-/// Each takes 4 bytes where there are fewer than 2^32 links, and else 8.
+/// Each takes 4 bytes where there are fewer than 2^32 links, and else 8. What a caller has summed along links
+/// ([`Search::climb_summed`](crate::Search::climb_summed)) are other numbers, in a list of its own.
 #[derive(Drop)]
 pub struct LinkNumbers {
     kept: KeptNumbers,

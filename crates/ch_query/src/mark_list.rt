@@ -7,14 +7,14 @@ use crate::label::Label;
 use std::alloc::{AllocError, Global};
 use std::marker::Model;
 
-/// A node that was seen.
+/// A node that was seen, which has a label.
 #[derive(Clone, Copy)]
 pub struct Touched {
     /// What is known of it.
     pub label: Label,
     /// Its rank.
     pub rank: u32,
-    /// Whether the label stays.
+    /// Whether the label stays; else the node is open.
     pub settled: bool,
 }
 

@@ -46,7 +46,7 @@ pub fn look_at(
     best
 }
 
-/// What a cost and that of a label of the other side make together, if that is no longer than the bound.
+/// What a cost and that of a label of the other side make together, if that is short: no longer than the bound.
 fn short_sum(cost: Cost, other: Option<Cost>, bound: Cost) -> Option<Cost>
     requires fits { IsSummable cost }
     requires other_fits { IfSome other (λ d. IsSummable d) }

@@ -29,7 +29,8 @@ pub struct Query<'a> {
     pub starts: &'a [Seed],
     /// Where it may end.
     pub ends: &'a [Seed],
-    /// How long start, walk and end may be together.
+    /// How long start, walk and end may be together: the hierarchy's bound for one start and one end that cost nothing, and
+    /// else 2^62.
     pub bound: Cost,
 }
 

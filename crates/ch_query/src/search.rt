@@ -208,8 +208,8 @@ impl<H: HierarchyRef> SearchOf<H> {
         ensures walk { IfOk result (λ found. IfSome found (λ f. IsLeastWalkBetween self.old starts.now ends.now f.start f.end f.links.items f.cost)) }
         ensures kept { self.new ≡ self.old }
     {
-        let limit = Cost::of_walk(SUM_LIMIT, 0);
-        self.least_walk(starts, ends, limit)
+        let bound = Cost::of_walk(SUM_LIMIT, 0);
+        self.least_walk(starts, ends, bound)
     }
 
     /// Returns what start, walk and end of [`Search::between`] cost together, without the walk: `None` where there is
@@ -225,8 +225,8 @@ impl<H: HierarchyRef> SearchOf<H> {
         ensures value { IfOk result (IsValueBetween self.old starts.now ends.now longest) }
         ensures kept { self.new ≡ self.old }
     {
-        let most = Cost::of_walk(SUM_LIMIT, 0);
-        self.least_cost(starts, ends, most)
+        let bound = Cost::of_walk(SUM_LIMIT, 0);
+        self.least_cost(starts, ends, bound)
     }
 
     /// Lists the least climb to each node that links which rise lead to from one of the starts, with what the start
@@ -259,8 +259,9 @@ impl<H: HierarchyRef> SearchOf<H> {
         climbed
     }
 
-    /// The same, and writes for the rank of each node that is listed what the numbers of the links of a climb to it sum to,
-    /// which is as long as is listed. There is a number for each link, of at most 2^36, and room for each node.
+    /// Lists the same climbs, and writes for each node that is listed, at its rank in `sums`, what the numbers of the links
+    /// of one climb to it sum to. That climb is as long as is listed. `numbers` has a number of at most 2^36 for each link,
+    /// by the link's place, and `sums` has a place for each rank.
     pub fn climb_summed(
         &mut self,
         starts: &[Seed],

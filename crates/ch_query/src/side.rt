@@ -3,7 +3,8 @@ ghost use Rattle.ch_query.specs.Climb.{foot_of, head_of};
 
 use ch_graph::Link;
 
-/// A side of a query. Both climb in rank: one from the source, and one from the target against the links.
+/// A side of a query. Both climb in rank, from the foot of a link to its head: one from the source, and one from the target
+/// against the links.
 #[derive(Clone, Copy)]
 pub enum Side {
     /// From the source, along links that rise.

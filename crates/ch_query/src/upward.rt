@@ -18,7 +18,7 @@ use std::alloc::{AllocError, Global};
 pub struct UpwardStep {
     /// The rank of the node that it comes to.
     pub head: u32,
-    /// What the link costs, if that fits.
+    /// What the link costs, if that fits into the 8 bytes of a [`ShortCost`].
     pub cost: ShortCost,
 }
 
