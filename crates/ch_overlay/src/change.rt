@@ -41,7 +41,7 @@ pub fn changes_write_their_rows()
     ensures { ChangesWriteTheirRows }
 {}
 
-/// The new versions of the changed rows.
+/// Puts the new versions of the changed rows, in their order, in place of those of their nodes.
 pub fn put_versions(all: &mut [u64], changed: &[(u32, Arc<Row>)], versions: &[u64])
     requires count { length versions.now ≡ length changed.now }
     requires in_range { All (λ a. a.0 < length all.old) changed.now }
@@ -52,7 +52,7 @@ pub fn put_versions(all: &mut [u64], changed: &[(u32, Arc<Row>)], versions: &[u6
     }
 }
 
-/// The changed rows.
+/// Puts the changed rows in place of those of their nodes.
 pub fn put_rows(all: &mut [Arc<Row>], changed: Vec<(u32, Arc<Row>)>)
     requires { All (λ a. a.0 < length all.old) changed.items }
     ensures { all.new ≡ puts all.old changed.items }

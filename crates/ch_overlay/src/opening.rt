@@ -14,7 +14,7 @@ use std::thread;
 use std::thread::Threads;
 
 /// The rows of `count` nodes from `from` on with these arcs, by the nodes' numbers, to be shared. Up to this many threads
-/// make a part of them each.
+/// make a part of them each, for which each goes over all arcs twice.
 #[cycle(halves)]
 pub fn shared_rows<R: Threads + Sync>(
     rt: &R,
@@ -67,7 +67,7 @@ pub fn rows_of(
     Ok(rows)
 }
 
-/// So many rows without an entry, with room for those that these arcs have for `count` nodes from `from` on.
+/// `count` rows without an entry, with room for those that these arcs have for `count` nodes from `from` on.
 fn rows_without_arcs(
     alloc: Global,
     arcs: &[Road],
@@ -89,8 +89,7 @@ fn rows_without_arcs(
     Ok(rows)
 }
 
-/// Counts one more for a node, if it is one of those that are counted, from `from` on. Only the memory that is taken goes
-/// by it.
+/// Counts one more for a node, if it is one of those that are counted, from `from` on. Used for capacity only.
 fn count_one(counts: &mut [u32], from: u32, node: u32)
     ensures { length counts.new ≡ length counts.old }
 {

@@ -52,7 +52,7 @@ impl Overlay {
     /// Returns the rows of a graph in which no node is contracted: for each ordered pair of different nodes that has
     /// an arc, the least one. Node x has the version x.
     ///
-    /// Takes memory for the rows and, while it works, for a copy of the arcs, which it sorts.
+    /// Takes memory for the rows and, while it works, for a copy of the arcs, and the time of a sort of these.
     pub fn start(alloc: Global, graph: &Graph) -> Result<Overlay, AllocError>
         ensures { IfOk result (IsStartOverlay graph.now) }
     {
@@ -61,7 +61,8 @@ impl Overlay {
         Overlay::opened(alloc, graph, least.as_slice(), shared(alloc, rows)?)
     }
 
-    /// The same rows as [`Overlay::start`] makes, by up to this many threads.
+    /// The same rows as [`Overlay::start`] makes, by up to this many threads, for which it waits. One thread sorts the
+    /// arcs.
     pub fn start_by<R: Threads + Sync>(
         rt: &R,
         alloc: Global,

@@ -80,6 +80,7 @@ pub fn in_entries(
     Ok(placed)
 }
 
+/// The entries of shortcuts in the rows of the nodes that they leave, in the order of the shortcuts.
 fn entries_out(
     alloc: Global,
     middle: Middle,
@@ -98,6 +99,7 @@ fn entries_out(
     shortcuts.iter().map(entry_of).collect(alloc)
 }
 
+/// The entries of shortcuts in the rows of the nodes that they come to, in the order of the shortcuts.
 fn entries_in(
     alloc: Global,
     middle: Middle,
@@ -143,6 +145,7 @@ fn count_up_to(entries: &[Placed], node: u32) -> usize
     entries.partition_point(|placed| placed.at <= node)
 }
 
+/// The entries alone, without the nodes of their rows.
 fn entries_of(alloc: Global, placed: &[Placed]) -> Result<Vec<Entry>, AllocError>
     ensures { IfOk result (λ entries. entries.items ≡ map (λ p. p.entry) placed.now) }
 {

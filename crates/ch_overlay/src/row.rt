@@ -64,6 +64,7 @@ impl OpenRow {
         })
     }
 
+    /// Adds an arc out of the node. Refused where memory runs out.
     pub(crate) fn add_out(&mut self, entry: Entry) -> Result<(), AllocError>
         ensures { IfOk result (λ _. self.new ≡ record self.old { out = self.old.out ++ entry ∷ [] }) }
     {
@@ -71,6 +72,7 @@ impl OpenRow {
         Ok(())
     }
 
+    /// Adds an arc into the node. Refused where memory runs out.
     pub(crate) fn add_in(&mut self, entry: Entry) -> Result<(), AllocError>
         ensures { IfOk result (λ _. self.new ≡ record self.old { inn = self.old.inn ++ entry ∷ [] }) }
     {

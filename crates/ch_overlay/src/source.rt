@@ -15,7 +15,7 @@ use std::sync::Arc;
 pub struct Seen {
     /// The node, numbered from 0.
     pub node: u32,
-    /// The version of the node's row.
+    /// The version of the node's row: equal versions of a node mean equal rows.
     pub version: u64,
     /// The row of that version.
     pub row: Arc<Row>,

@@ -98,6 +98,7 @@ impl<B: Book> Pen<B> {
         self.show_one(&laid);
     }
 
+    /// Shows a record as [`Pen::show`] does, and leaves it to the caller.
     pub(crate) fn show_one(&mut self, laid: &Laid<B>)
         requires above { slice_index self.old.versions laid.now.node < laid.now.token.index }
         requires laid { laid.now.token.index < self.old.next }

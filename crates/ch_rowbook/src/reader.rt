@@ -81,7 +81,7 @@ impl<B: Book> Reader<B> {
         self.shelf.load(&mut self.seat, node)
     }
 
-    /// Another reader with the same front.
+    /// Returns another reader with the same front. Takes no memory; refused where the book can't have one more owner.
     pub fn split(&mut self) -> Result<Reader<B>, AllocError>
         ensures same { self.new ≡ self.old }
         ensures new { IfOk result (λ r. r ≡ self.old) }

@@ -151,9 +151,10 @@ impl Frontier {
     }
 }
 
-/// How many bits the number of a node has in a key, and how many its arcs have.
+/// How many bits the number of a node has in a key.
 const NODE_BITS: u32 = 25;
 
+/// How many bits the number of arcs has there.
 const ARCS_BITS: u32 = 42;
 
 /// The number by which an offer is taken: by its cost, and of equal costs by the node. Its length is at most the bound's,
