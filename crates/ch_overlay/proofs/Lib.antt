@@ -7,7 +7,7 @@ pub mod OpeningRows
 pub mod SortedByKeys
 pub mod KeptArcs
 pub mod StartOverlay
-pub mod SoundRows
+pub mod RowsOfOverlaySound
 pub mod MergedEntries
 pub mod EntriesByNode
 pub mod ChangedNeighbours

@@ -1,4 +1,4 @@
-use Rattle.ch_overlay.proofs.SoundRows.{sound_changes}
+use Rattle.ch_overlay.proofs.RowsOfOverlaySound.{sound_changes}
 use Rattle.ch_overlay.proofs.overlay.changes_are_sound.Goals as goal
 
 pub returns : goal.returns

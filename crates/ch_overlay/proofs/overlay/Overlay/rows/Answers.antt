@@ -1,6 +1,6 @@
 use Rattle.std.proofs.Common.{subst}
 use Rattle.ch_overlay.specs.Overlay.{Overlay, IsOverlay}
-use Rattle.ch_overlay.proofs.SoundRows.{sound_rows}
+use Rattle.ch_overlay.proofs.RowsOfOverlaySound.{sound_rows}
 use Rattle.ch_overlay.proofs.overlay.Overlay.rows.Goals as goal
 
 pub returns-clause-sound : goal.returns-clause-sound
