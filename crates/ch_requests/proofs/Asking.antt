@@ -1,6 +1,6 @@
 -- The letter and the fields of a request, and the bytes of its line that are kept.
-use Rattle.std.proofs.Common.{ℕ, ◌≡◌, ◌≢◌, List, [], ◌∷◌, refl, ap, sym, ◌∙◌, ◌++◌, Option, Result, append_assoc, ◌+◌, ◌-◌, ◌/◌, ◌<◌, ◌≤◌, Bool, true, false, ◌&&◌, length, drop, Ok, Err, arith, zero, suc, ◌^◌, if◌then◌else◌, eqb, ltb, ◌↔◌, true≢false, min, cond, take, map, inl, inr}
-use Rattle.std.proofs.lemmas.Bool.{ne_eqb, ltb-false, cases_lt, lt-ltb, le-ltb}
+use Rattle.std.proofs.Common.{ℕ, ◌≡◌, List, [], ◌∷◌, refl, ap, sym, ◌∙◌, ◌++◌, Option, Result, append_assoc, ◌+◌, ◌-◌, ◌/◌, ◌<◌, ◌≤◌, Bool, true, false, ◌&&◌, length, drop, Ok, Err, arith, zero, suc, ◌^◌, if◌then◌else◌, eqb, ltb, ◌↔◌, true≢false, min, cond, take, map, inl, inr}
+use Rattle.std.proofs.lemmas.Bool.{ltb-false, cases_lt, lt-ltb, le-ltb}
 use Rattle.std.specs.Prelude.{codes, decimal, ⊤, IsOk, OnOk}
 use Rattle.std.specs.declared.io.Error.{Error}
 use Rattle.std.proofs.lemmas.Bool.Decides.{nat_tests}
@@ -9,8 +9,6 @@ use Rattle.std.specs.Result.{IfOk}
 use Rattle.std.proofs.lemmas.List.Elements.{All-from_recursion}
 use Rattle.std.specs.Str.Lines.{strip_carriage_return}
 use Rattle.std.proofs.lemmas.List.{length-take, take_all, take_min}
-use Rattle.grfile.specs.Letters.{letter_c, letter_q}
-use Rattle.grfile.specs.declared.error.GrErrorKind.TheVariants.{UnknownLine}
 use Rattle.grfile.specs.declared.error.GrError.{GrError}
 use Rattle.grfile.specs.Outcome.{◌>>=◌}
 use Rattle.grfile.specs.Grammar.{number_in}
@@ -23,8 +21,11 @@ use Rattle.counted_io.specs.Sinks.{Gathered, Puts}
 use Rattle.counted_io.specs.Sinks.Laws.{puts_as, puts_then}
 use Rattle.text_lines.specs.Fields.{fields_of}
 use Rattle.text_lines.specs.Lines.{cut_after}
-use Rattle.ch_requests.specs.declared.request.Request.TheVariants.{Comment, Fault, Route, Length, LineTooLong}
-use Rattle.ch_requests.specs.Requests.{asked_by, letter_b, letter_d, letter_of, request_by, IsInRange, of_ends, of_pair, request_of, AreSides, are_ends, behind_colon, colon_at, ends_from, ends_of, is_of_places, place_then, places_of, IsPlace, place_in_range, place_of}
+use Rattle.ch_requests.specs.declared.request.Form.{Form}
+use Rattle.ch_requests.specs.declared.request.Form.TheVariants as forms
+use Rattle.ch_requests.specs.declared.request.PairQuestion.{PairQuestion}
+use Rattle.ch_requests.specs.declared.request.Request.TheVariants.{Comment, LineTooLong}
+use Rattle.ch_requests.specs.Requests.{asked_by, form_of, letter_of, request_by, IsInRange, of_ends, of_pair, request_of, AreSides, are_ends, behind_colon, colon_at, ends_from, ends_of, is_of_places, place_then, places_of, IsPlace, place_in_range, place_of}
 use Rattle.ch_requests.specs.declared.places.SeedText.{SeedText}
 use Rattle.ch_requests.specs.declared.places.Sides.{Sides}
 use Rattle.ch_requests.specs.declared.places.Ends.{Ends}
@@ -38,12 +39,9 @@ pub asks_none : (nodes : ℕ) {fields : List (List ℕ)} → fields ≡ [] → r
 unfolding request_by
 asks_none nodes none = rw none refl
 
-pub asks : (nodes : ℕ) {letter known : ℕ} {fields more : List (List ℕ)} {first : List ℕ} → fields ≡ first ∷ more → letter ≡ letter_of first → letter ≡ known → request_by nodes fields ≡ asked_by nodes known more
+pub asks : (nodes : ℕ) {letter : ℕ} {form known : Form} {fields more : List (List ℕ)} {first : List ℕ} → fields ≡ first ∷ more → letter ≡ letter_of first → form ≡ form_of letter → form ≡ known → request_by nodes fields ≡ asked_by nodes known more
 unfolding request_by
-asks nodes {more} are is same = ap (request_by nodes) are ∙ ap (λ (l : ℕ). asked_by nodes l more) (sym is ∙ same)
-
-pub asks_nothing : (nodes letter : ℕ) (fields : List (List ℕ)) → letter ≢ letter_c → letter ≢ letter_q → letter ≢ letter_d → letter ≢ letter_b → asked_by nodes letter fields ≡ Fault UnknownLine
-asks_nothing nodes letter fields no_c no_q no_d no_b = rw (ne_eqb letter letter_c no_c, ne_eqb letter letter_q no_q, ne_eqb letter letter_d no_d, ne_eqb letter letter_b no_b) refl
+asks nodes {more} are is form_is same = ap (request_by nodes) are ∙ ap (λ (l : ℕ). asked_by nodes (form_of l) more) (sym is) ∙ ap (λ (f : Form). asked_by nodes f more) (sym form_is ∙ same)
 
 -- A number behind other text, a space before it.
 
@@ -165,30 +163,24 @@ ends_ok nodes fields = test_ends nodes (are_ends fields) _ _
     (ends_both nodes (places_of nodes (colon_at fields / 2) fields) (places_of nodes (length (behind_colon fields) / 2) (behind_colon fields))
     (places_ok nodes (colon_at fields / 2) fields) (places_ok nodes (length (behind_colon fields) / 2) (behind_colon fields))) tt
 
-of_route : (nodes : ℕ) (r : Result (ℕ × ℕ) GrError) → IfOk r (IsPair nodes) → IsInRange nodes (of_pair Route r)
-of_route nodes (Ok pair) h = h
-of_route nodes (Err e) h = tt
-
-of_length : (nodes : ℕ) (r : Result (ℕ × ℕ) GrError) → IfOk r (IsPair nodes) → IsInRange nodes (of_pair Length r)
-of_length nodes (Ok pair) h = h
-of_length nodes (Err e) h = tt
+pair_asked : (nodes : ℕ) (question : PairQuestion) (r : Result (ℕ × ℕ) GrError) → IfOk r (IsPair nodes) → IsInRange nodes (of_pair question r)
+pair_asked nodes question (Ok pair) h = h
+pair_asked nodes question (Err e) h = tt
 
 test_request : (nodes : ℕ) (b : Bool) (r s : Request) → IsInRange nodes r → IsInRange nodes s → IsInRange nodes (if b then r else s)
 test_request nodes true r s h k = h
 test_request nodes false r s h k = k
 
-asked_ok : (nodes letter : ℕ) (fields : List (List ℕ)) → IsInRange nodes (asked_by nodes letter fields)
-asked_ok nodes letter fields =
-    let pair = pair_ok (record { nodes = nodes; entries = 0 }) 0 fields in
-    test_request nodes (eqb letter letter_c) Comment _ tt
-    (test_request nodes (eqb letter letter_q) (of_pair Route (pair_of nodes 0 fields)) _ (of_route nodes (pair_of nodes 0 fields) pair)
-    (test_request nodes (eqb letter letter_d) (of_pair Length (pair_of nodes 0 fields)) _ (of_length nodes (pair_of nodes 0 fields) pair)
-    (test_request nodes (eqb letter letter_b) (of_ends (ends_of nodes fields)) (Fault UnknownLine) (ends_ok nodes fields) tt)))
+asked_ok : (nodes : ℕ) (form : Form) (fields : List (List ℕ)) → IsInRange nodes (asked_by nodes form fields)
+asked_ok nodes forms.Comment fields = tt
+asked_ok nodes (forms.Pair question) fields = pair_asked nodes question (pair_of nodes 0 fields) (pair_ok (record { nodes = nodes; entries = 0 }) 0 fields)
+asked_ok nodes forms.Places fields = ends_ok nodes fields
+asked_ok nodes forms.Unknown fields = tt
 
 fields_ok : (nodes : ℕ) (fields : List (List ℕ)) → IsInRange nodes (request_by nodes fields)
 unfolding request_by
 fields_ok nodes [] = tt
-fields_ok nodes (first ∷ fields) = asked_ok nodes (letter_of first) fields
+fields_ok nodes (first ∷ fields) = asked_ok nodes (form_of (letter_of first)) fields
 
 pub requests_ok : (nodes : ℕ) (line : List ℕ) → IsInRange nodes (request_of nodes line)
 unfolding request_of

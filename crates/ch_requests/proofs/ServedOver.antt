@@ -30,6 +30,7 @@ use Rattle.outcomes.specs.Written.{known_then, IfBothKnown, Writes}
 use Rattle.ch_requests.specs.Requests.{IsPlace, seed_of, seeds_of, IsInRange, RequestsAreInRange, request_of, requests_of}
 use Rattle.ch_requests.specs.declared.places.SeedText.{SeedText}
 use Rattle.ch_requests.specs.Reply.{IsBetweenLine, OrOutOfMemory, AnswerRules, AreReplies, Gets, IsReply, by_hierarchy, over, nothing, one_more, ready}
+use Rattle.ch_requests.specs.declared.request.PairQuestion.TheVariants as questions
 use Rattle.ch_requests.specs.declared.request.Request.{Request}
 use Rattle.ch_requests.specs.declared.request.Request.TheVariants as asks
 use Rattle.ch_requests.specs.Serving.{ServicesAre, AreServed, Serves, ServesOver}
@@ -74,9 +75,9 @@ module _ {IsRoute : Graph → ℕ → ℕ → Option Route → Type 0} {g : Grap
   between_over starts ends reply begins stops (inr (inr long)) = absurd (as_graph.short_between starts ends begins stops long.0)
 
   gets_over : (request : Request) (reply : List ℕ) → IsInRange g.nodes request → Gets (by_hierarchy h) request reply → Gets (over IsRoute g) request reply
-  gets_over (asks.Route pair) reply within (inl a) = inl (record { route = a.route; leads = as_graph.routes pair.0 pair.1 a.route within.0 within.1 a.leads; tells = a.tells })
-  gets_over (asks.Route pair) reply within (inr long) = absurd (as_graph.short pair.0 pair.1 within.0 within.1 long.0)
-  gets_over (asks.Length pair) reply within told = record { length = told.length; least = as_graph.lengths pair.0 pair.1 told.length within.0 within.1 told.least; tells = told.tells }
+  gets_over (asks.Pair questions.Route pair) reply within (inl a) = inl (record { route = a.route; leads = as_graph.routes pair.0 pair.1 a.route within.0 within.1 a.leads; tells = a.tells })
+  gets_over (asks.Pair questions.Route pair) reply within (inr long) = absurd (as_graph.short pair.0 pair.1 within.0 within.1 long.0)
+  gets_over (asks.Pair questions.Length pair) reply within told = record { length = told.length; least = as_graph.lengths pair.0 pair.1 told.length within.0 within.1 told.least; tells = told.tells }
   gets_over (asks.Between ends) reply within told = between_over (seeds_of ends.starts.items) (seeds_of ends.ends.items) reply (places_in ends.starts.items within.0) (places_in ends.ends.items within.1) told
   gets_over request reply within gets = gets
 

@@ -8,6 +8,7 @@ use Rattle.ch_route.specs.Between.{RouteBetween, HasTooLongBetween, IsRouteBetwe
 use Rattle.ch_route.specs.Routes.{Route, IsRouteBy, IsLengthBy, HasTooLong}
 use Rattle.ch_answer.specs.Line.{IsAnswer, line_of, named, route_fields}
 use Rattle.grfile.specs.Names.{kind_name}
+use Rattle.ch_requests.specs.declared.request.PairQuestion.TheVariants as questions
 use Rattle.ch_requests.specs.declared.request.Request.{Request}
 use Rattle.ch_requests.specs.declared.request.Request.TheVariants as asks
 use Rattle.ch_requests.specs.Requests.{seeds_of}
@@ -67,8 +68,8 @@ IsBetweenLine told starts ends line = IsWayLine told starts ends line ⊎ ((told
 -- the reply says what was asked for, or why it can't
 abbrev pub Gets : AnswerRules → Request → List ℕ → Type 0
 Gets told asks.Comment reply = reply ≡ codes "c\n"
-Gets told (asks.Route pair) reply = IsAnswer told.IsRoute pair reply ⊎ (told.IsTooLong pair.0 pair.1 × (reply ≡ refused (codes "TooLong")))
-Gets told (asks.Length pair) reply = IsLengthLine told.IsLength pair reply
+Gets told (asks.Pair questions.Route pair) reply = IsAnswer told.IsRoute pair reply ⊎ (told.IsTooLong pair.0 pair.1 × (reply ≡ refused (codes "TooLong")))
+Gets told (asks.Pair questions.Length pair) reply = IsLengthLine told.IsLength pair reply
 Gets told (asks.Between ends) reply = IsBetweenLine told (seeds_of ends.starts.items) (seeds_of ends.ends.items) reply
 Gets told (asks.Fault kind) reply = reply ≡ refused (kind_name kind)
 Gets told asks.LineTooLong reply = reply ≡ refused (codes "LineTooLong")
@@ -76,8 +77,7 @@ Gets told asks.LineTooLong reply = reply ≡ refused (codes "LineTooLong")
 -- the request asks for a search of the hierarchy, for which memory may run out
 abbrev pub IsSearch : Request → Type 0
 IsSearch asks.Comment = ⊥
-IsSearch (asks.Route pair) = ⊤
-IsSearch (asks.Length pair) = ⊤
+IsSearch (asks.Pair question pair) = ⊤
 IsSearch (asks.Between ends) = ⊤
 IsSearch (asks.Fault kind) = ⊥
 IsSearch asks.LineTooLong = ⊥

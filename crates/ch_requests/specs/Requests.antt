@@ -17,8 +17,12 @@ use Rattle.grfile.specs.Reading.{IsPair}
 use Rattle.ch_requests.specs.declared.places.Ends.{Ends}
 use Rattle.ch_requests.specs.declared.places.SeedText.{SeedText}
 use Rattle.ch_requests.specs.declared.places.Sides.{Sides}
+use Rattle.ch_requests.specs.declared.request.Form.{Form}
+use Rattle.ch_requests.specs.declared.request.Form.TheVariants as forms
+use Rattle.ch_requests.specs.declared.request.PairQuestion.{PairQuestion}
+use Rattle.ch_requests.specs.declared.request.PairQuestion.TheVariants as questions
 use Rattle.ch_requests.specs.declared.request.Request.{Request}
-use Rattle.ch_requests.specs.declared.request.Request.TheVariants.{Comment, Route, Length, Between, Fault, LineTooLong}
+use Rattle.ch_requests.specs.declared.request.Request.TheVariants.{Comment, Pair, Between, Fault, LineTooLong}
 
 -- Where a way may start and where it may end, as the fields of a line name it.
 
@@ -99,9 +103,9 @@ letter_d = 100
 abbrev pub most_bytes : ℕ
 most_bytes = 4096
 
-abbrev pub of_pair : (ℕ × ℕ → Request) → Result (ℕ × ℕ) GrError → Request
-of_pair ask (Ok pair) = ask pair
-of_pair ask (Err e) = Fault e.kind
+abbrev pub of_pair : PairQuestion → Result (ℕ × ℕ) GrError → Request
+of_pair question (Ok pair) = Pair question pair
+of_pair question (Err e) = Fault e.kind
 
 abbrev pub of_ends : Result Ends GrError → Request
 of_ends (Ok ends) = Between ends
@@ -113,19 +117,26 @@ letter_of [] = 0
 letter_of (b ∷ []) = b
 letter_of (b ∷ c ∷ more) = if b == letter_c then letter_c else 0
 
--- what a line with this letter asks for, by the fields behind it
-abbrev pub asked_by : ℕ → ℕ → List (List ℕ) → Request
-asked_by nodes letter fields =
-    if letter == letter_c then Comment
-    else if letter == letter_q then of_pair Route (pair_of nodes 0 fields)
-    else if letter == letter_d then of_pair Length (pair_of nodes 0 fields)
-    else if letter == letter_b then of_ends (ends_of nodes fields)
-    else Fault UnknownLine
+-- the requests, each by its letter
+abbrev pub form_of : ℕ → Form
+form_of letter =
+    if letter == letter_c then forms.Comment
+    else if letter == letter_q then forms.Pair questions.Route
+    else if letter == letter_d then forms.Pair questions.Length
+    else if letter == letter_b then forms.Places
+    else forms.Unknown
+
+-- what a line of this form asks for, by the fields behind its letter
+abbrev pub asked_by : ℕ → Form → List (List ℕ) → Request
+asked_by nodes forms.Comment fields = Comment
+asked_by nodes (forms.Pair question) fields = of_pair question (pair_of nodes 0 fields)
+asked_by nodes forms.Places fields = of_ends (ends_of nodes fields)
+asked_by nodes forms.Unknown fields = Fault UnknownLine
 
 -- what a line with these fields asks for
 unfoldable pub request_by : ℕ → List (List ℕ) → Request
 request_by nodes [] = Comment
-request_by nodes (first ∷ fields) = asked_by nodes (letter_of first) fields
+request_by nodes (first ∷ fields) = asked_by nodes (form_of (letter_of first)) fields
 
 -- what a line asks for
 unfoldable pub request_of : ℕ → List ℕ → Request
@@ -148,8 +159,7 @@ requests_with taken text = map (request_of taken.nodes) (cut_after taken.begun t
 
 -- Requested nodes exist.
 abbrev pub IsInRange : ℕ → Request → Type 0
-IsInRange nodes (Route pair) = IsPair nodes pair
-IsInRange nodes (Length pair) = IsPair nodes pair
+IsInRange nodes (Pair question pair) = IsPair nodes pair
 IsInRange nodes (Between ends) = All (IsPlace nodes) ends.starts.items × All (IsPlace nodes) ends.ends.items
 IsInRange nodes Comment = ⊤
 IsInRange nodes (Fault kind) = ⊤

@@ -18,7 +18,6 @@
 
 mod error;
 mod laws;
-mod line;
 mod places;
 mod reader;
 mod reply;
@@ -33,5 +32,5 @@ pub use error::ServeError;
 pub use laws::{requests_are_in_range, services_are_exact};
 pub use places::{Ends, SeedText};
 pub use reader::{Asked, RequestReader};
-pub use request::Request;
+pub use request::{PairQuestion, Request};
 pub use serving::{serve, serve_by};

@@ -1,8 +1,7 @@
 ghost use Rattle.std.specs.Prelude.{◌≡◌, drop};
 ghost use Rattle.text_lines.specs.Fields.{fields_of};
 ghost use Rattle.grfile.specs.Pairs.{pair_of};
-ghost use Rattle.ch_requests.specs.Requests.{ends_of, letter_of, of_ends, of_pair, request_by, request_of};
-ghost use Rattle.ch_requests.specs.declared.request.Request.TheVariants.{Length, Route};
+ghost use Rattle.ch_requests.specs.Requests.{ends_of, form_of, letter_of, of_ends, of_pair, request_by, request_of};
 
 use crate::places::{Ends, ends_of};
 use grfile::{GrErrorKind, pair_of};
@@ -11,21 +10,41 @@ use text_lines::{Fields, fields_of, without_return};
 /// How many bytes a line of a request has at most, its carriage return among them, its line feed not.
 const MOST_BYTES: usize = 4096;
 
+/// What is asked of the paths from one node to another.
+#[derive(Clone, Copy)]
+pub enum PairQuestion {
+    /// A shortest one.
+    Route,
+    /// The length of a shortest one.
+    Length,
+}
+
 /// What a line asks of a service. Nodes are numbered from 0.
 #[derive(Drop)]
 pub enum Request {
     /// Nothing: the line is a comment, or has no fields.
     Comment,
-    /// The shortest path from the first node to the second.
-    Route((u32, u32)),
-    /// Its length alone.
-    Length((u32, u32)),
+    /// This of the paths from the first node to the second.
+    Pair(PairQuestion, (u32, u32)),
     /// The shortest path from one of several places to one of several others.
     Between(Ends),
     /// The line has this fault.
     Fault(GrErrorKind),
     /// The line has more than 4,096 bytes.
     LineTooLong,
+}
+
+// What a line's letter says of the fields behind it.
+#[derive(Clone, Copy)]
+enum Form {
+    // They mean nothing.
+    Comment,
+    // They are two nodes, of whose paths this is asked.
+    Pair(PairQuestion),
+    // They are places, a colon, and places.
+    Places,
+    // No request has this letter.
+    Unknown,
 }
 
 /// What a line asks for.
@@ -38,7 +57,7 @@ pub(crate) fn request_of(nodes: u32, line: &[u8]) -> Request
     request_by(nodes, without_return(line))
 }
 
-// What a line asks for that is short enough, by its letter.
+// What a line asks for that is short enough.
 fn request_by(nodes: u32, line: &[u8]) -> Request
     ensures { result ≡ request_by nodes (fields_of line.now) }
 {
@@ -46,12 +65,11 @@ fn request_by(nodes: u32, line: &[u8]) -> Request
     let Some(first) = fields.next_field() else {
         return Request::Comment;
     };
-    match letter_of(first) {
-        b'c' => Request::Comment,
-        b'q' => route_of(nodes, fields),
-        b'd' => length_of(nodes, fields),
-        b'b' => between_of(nodes, line),
-        _ => Request::Fault(GrErrorKind::UnknownLine),
+    match form_of(letter_of(first)) {
+        Form::Comment => Request::Comment,
+        Form::Pair(question) => of_pair(nodes, question, fields),
+        Form::Places => between_of(nodes, line),
+        Form::Unknown => Request::Fault(GrErrorKind::UnknownLine),
     }
 }
 
@@ -66,22 +84,25 @@ fn letter_of(first: &[u8]) -> u8
     }
 }
 
-// The route that the fields behind the letter ask for.
-fn route_of(nodes: u32, fields: Fields<'_>) -> Request
-    ensures { result ≡ of_pair Route (pair_of nodes 0 fields.entry) }
+// The requests, each by its letter.
+fn form_of(letter: u8) -> Form
+    ensures { result ≡ form_of letter }
 {
-    match pair_of(nodes, 0, fields) {
-        Ok(pair) => Request::Route(pair),
-        Err(fault) => Request::Fault(fault.kind),
+    match letter {
+        b'c' => Form::Comment,
+        b'q' => Form::Pair(PairQuestion::Route),
+        b'd' => Form::Pair(PairQuestion::Length),
+        b'b' => Form::Places,
+        _ => Form::Unknown,
     }
 }
 
-// The length that the fields behind the letter ask for.
-fn length_of(nodes: u32, fields: Fields<'_>) -> Request
-    ensures { result ≡ of_pair Length (pair_of nodes 0 fields.entry) }
+// What is asked of the pair that the fields behind the letter name.
+fn of_pair(nodes: u32, question: PairQuestion, fields: Fields<'_>) -> Request
+    ensures { result ≡ of_pair question (pair_of nodes 0 fields.entry) }
 {
     match pair_of(nodes, 0, fields) {
-        Ok(pair) => Request::Length(pair),
+        Ok(pair) => Request::Pair(question, pair),
         Err(fault) => Request::Fault(fault.kind),
     }
 }

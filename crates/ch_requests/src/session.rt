@@ -2,8 +2,8 @@ ghost use Rattle.std.specs.Prelude.{◌≡◌, ◌<◌, false, length, OnOk, IfO
 ghost use Rattle.std.specs.Io.KnownBytes.{IsAtEnd};
 
 use crate::error::ServeError;
-use crate::line::put_ready;
 use crate::reader::RequestReader;
+use crate::reply::put_ready;
 use crate::replying::Replier;
 use crate::sending::Output;
 use ch_graph::Hierarchy;

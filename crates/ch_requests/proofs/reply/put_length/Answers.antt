@@ -2,7 +2,7 @@ use Rattle.std.proofs.Common.{ap, refl, sym}
 use Rattle.counted_io.specs.Sinks.Laws.{puts_as, puts_then}
 use Rattle.ch_requests.specs.Reply.{length_line}
 use Rattle.ch_requests.proofs.Asking.{spaced}
-use Rattle.ch_requests.proofs.line.put_length.Goals as goal
+use Rattle.ch_requests.proofs.reply.put_length.Goals as goal
 
 pub returns-in-Some : goal.returns-in-Some
 returns-in-Some g c = puts_as (ap (length_line c.args.pair) (sym c.in-Some.is)) (puts_then (spaced refl (puts_then c.put.ensures c.put_nodes.ensures) c.put_number.ensures) c.put-in-Some.ensures)

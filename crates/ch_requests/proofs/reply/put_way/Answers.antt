@@ -3,7 +3,7 @@ use Rattle.ch_cost.specs.Cost.{length_of}
 use Rattle.ch_route.specs.Between.{RouteBetween}
 use Rattle.counted_io.specs.Sinks.Laws.{puts_as, puts_then}
 use Rattle.ch_answer.specs.Line.{route_fields}
-use Rattle.ch_requests.proofs.line.put_way.Goals as goal
+use Rattle.ch_requests.proofs.reply.put_way.Goals as goal
 
 pub returns : goal.returns
 returns g c =
