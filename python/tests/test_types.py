@@ -20,8 +20,7 @@ STRICT = ("mypy", "--strict", "--cache-dir=/dev/null", "--scripts-are-modules")
 # What pyproject.toml has mypy look at, and the checks by hand that are made of the same packages.
 PACKAGES = ("domethyme", "domethyme_service", "domethyme_tools", "domethyme_launcher.py", "domethyme_part.py")
 CHECKS = [*(MANUAL / name for name in ("compare_converters", "compare_turns")), ROOT / "packaging/container/domethyme-container"]
-# (the slow readers, plain.py, are as plain as can be)
-KIT = [path for path in sorted((ROOT / "tests/kit").glob("*.py")) if path.name != "plain.py"]
+KIT = sorted((ROOT / "tests/kit").glob("*.py"))
 FOLDERS = [PYTHON / "tests", ROOT / "packaging", ROOT / "packaging/container", ROOT / "packaging/web", ROOT / "bench", *sorted((ROOT / "tests").glob("[a-z]*/"))]
 
 

@@ -5,14 +5,18 @@ A cost is a pair (weight, arcs); Python orders pairs by the first number and the
 files of version 1 the arcs are 0.
 """
 import heapq
+from collections.abc import Callable, Iterator
 
 MAGICS = {1: b"RCH1", 2: b"RCH2"}
 LINK_BYTES = {1: 20, 2: 24}
 MAX_NODES = 1 << 25
 MAX_LINES = 1 << 27
 HEAVIEST = (1 << 32) - 1
-MOST_BYTES = 4096
 NONE = (1 << 32) - 1
+
+
+Cost = tuple[int, int]
+Links = list[tuple[int, int, Cost, int]]
 
 
 class Refused(Exception):
@@ -22,23 +26,23 @@ class Refused(Exception):
 class Hierarchy:
     """The version, ranks by node, the link of each pair as (cost, middle), and the greatest weight of a link."""
 
-    def __init__(self, version, ranks, links, bound):
+    def __init__(self, version: int, ranks: list[int], links: Links, bound: int) -> None:
         self.version, self.ranks, self.bound = version, ranks, bound
         self.links = {(start, end): (cost, middle) for start, end, cost, middle in links}
 
 
-def plus(one, other):
+def plus(one: Cost, other: Cost) -> Cost:
     """What two walks cost together."""
     return one[0] + other[0], one[1] + other[1]
 
 
-def number(data, at, count):
+def number(data: bytes, at: int, count: int) -> int:
     if len(data) < at + count:
         raise Refused("Truncated")
     return int.from_bytes(data[at : at + count], "big")
 
 
-def hierarchy_of(data):
+def hierarchy_of(data: bytes) -> Hierarchy:
     """The hierarchy that the bytes spell, or their first fault."""
     version = version_of(data)
     if len(data) < 24:
@@ -54,17 +58,17 @@ def hierarchy_of(data):
     for start, end, cost, middle in links:
         if middle == NONE:
             continue
-        halves = hierarchy.links.get((start, middle)), hierarchy.links.get((middle, end))
-        if None in halves:
+        first, second = hierarchy.links.get((start, middle)), hierarchy.links.get((middle, end))
+        if first is None or second is None:
             raise Refused("HalfMissing")
-        if plus(halves[0][0], halves[1][0]) != cost:
+        if plus(first[0], second[0]) != cost:
             raise Refused("HalfSum")
     if len(data) > 24 + 4 * nodes + LINK_BYTES[version] * count:
         raise Refused("Trailing")
     return hierarchy
 
 
-def version_of(data):
+def version_of(data: bytes) -> int:
     for length in range(1, 5):
         if len(data) < length:
             raise Refused("Truncated")
@@ -73,8 +77,9 @@ def version_of(data):
     return next(version for version, magic in MAGICS.items() if data.startswith(magic))
 
 
-def ranks_of(data, nodes):
-    ranks, seen = [], set()
+def ranks_of(data: bytes, nodes: int) -> list[int]:
+    ranks: list[int] = []
+    seen = set()
     for node in range(nodes):
         rank = number(data, 24 + 4 * node, 4)
         if rank >= nodes:
@@ -86,8 +91,9 @@ def ranks_of(data, nodes):
     return ranks
 
 
-def links_of(data, version, ranks, count, bound):
-    links, size = [], LINK_BYTES[version]
+def links_of(data: bytes, version: int, ranks: list[int], count: int, bound: int) -> Links:
+    links: Links = []
+    size = LINK_BYTES[version]
     for place in range(count):
         at = 24 + 4 * len(ranks) + size * place
         if len(data) < at + size:
@@ -110,7 +116,7 @@ def links_of(data, version, ranks, count, bound):
     return links
 
 
-def does_count(version, weight, arcs, middle, nodes):
+def does_count(version: int, weight: int, arcs: int, middle: int, nodes: int) -> bool:
     """Whether a link counts what its version wants: some weight, or some arcs and one where there is no middle."""
     if version == 1:
         return weight >= 1
@@ -120,11 +126,11 @@ def does_count(version, weight, arcs, middle, nodes):
 class Routes:
     """The shortest up-down paths of a hierarchy, of those that are no longer than `longest`, or than its bound."""
 
-    def __init__(self, hierarchy, longest=None):
+    def __init__(self, hierarchy: Hierarchy, longest: int | None = None) -> None:
         self.hierarchy, self.nodes = hierarchy, len(hierarchy.ranks)
         self.longest = hierarchy.bound if longest is None else longest
 
-    def climb(self, source, is_forward, costs):
+    def climb(self, source: int, is_forward: bool, costs: dict[Cost, Cost]) -> dict[int, Cost]:
         """The least cost of each node that is come to by rising alone, where links cost so much."""
         ranks, best = self.hierarchy.ranks, {source: (0, 0)}
         for node in sorted(range(self.nodes), key=lambda node: ranks[node]):
@@ -137,25 +143,26 @@ class Routes:
                     best[there] = min(found, best.get(there, found))
         return best
 
-    def least(self, source, target, costs):
+    def least(self, source: int, target: int, costs: dict[Cost, Cost]) -> Cost | None:
         """The least cost of a walk that isn't too long, where links cost this much, or none."""
         up, down = self.climb(source, True, costs), self.climb(target, False, costs)
         found = [plus(up[top], down[top]) for top in up if top in down]
         return min((cost for cost in found if cost[0] <= self.longest), default=None)
 
-    def value(self, source, target):
+    def value(self, source: int, target: int) -> Cost | None:
         """The least cost of a walk that isn't too long, or none. It may have as many arcs as it will."""
         return self.least(source, target, {ends: cost for ends, (cost, _) in self.hierarchy.links.items()})
 
-    def arcs(self):
+    def arcs(self) -> dict[tuple[int, int], int]:
         """How many links without a middle each link represents."""
-        ranks, links, arcs = self.hierarchy.ranks, self.hierarchy.links, {}
+        ranks, links = self.hierarchy.ranks, self.hierarchy.links
+        arcs: dict[tuple[int, int], int] = {}
         for start, end in sorted(links, key=lambda ends: min(ranks[ends[0]], ranks[ends[1]])):
             _, middle = links[start, end]
             arcs[start, end] = 1 if middle == NONE else arcs[start, middle] + arcs[middle, end]
         return arcs
 
-    def most_arcs(self, source, target):
+    def most_arcs(self, source: int, target: int) -> int | None:
         """Of all walks of the least cost, the most links without a middle that one represents, or none."""
         arcs, links = self.arcs(), self.hierarchy.links
         if self.hierarchy.version == 1:
@@ -164,18 +171,18 @@ class Routes:
         found = self.least(source, target, {ends: (cost[0], arcs[ends]) for ends, (cost, _) in links.items()})
         return None if found is None else found[1]
 
-    def is_route(self, nodes, length):
+    def is_route(self, nodes: list[int], length: int) -> bool:
         """Whether links without a middle join these nodes, at this length."""
         found = 0
         for start, end in zip(nodes, nodes[1:]):
-            step, middle = self.hierarchy.links.get((start, end), (None, None))
+            step, middle = self.hierarchy.links.get((start, end), ((0, 0), 0))
             if middle != NONE:
                 return False
             found += step[0]
         return found == length
 
 
-def lines_of(text):
+def lines_of(text: bytes) -> Iterator[tuple[int, list[bytes] | None]]:
     """The fields of each line, with the line's number; lines of no field are left out."""
     lines = text.split(b"\n")
     if lines[-1] == b"":
@@ -189,24 +196,27 @@ def lines_of(text):
     yield len(lines), None
 
 
-def numbers_of(fields, line):
+def numbers_of(fields: list[bytes], line: int) -> list[int]:
     for field in fields:
         if any(byte not in b"0123456789" for byte in field):
             raise Refused(f"NotANumber line {line}")
     return [int(field) for field in fields]
 
 
-def read(text, entry, entry_fields, problem, sizes_of, entry_of):
+def read(text: bytes, entry: bytes, entry_fields: int, problem: list[bytes],
+         sizes_of: Callable[[list[int], int], list[int]],
+         entry_of: Callable[[list[int], list[int], int], list[int]]) -> tuple[list[int], list[list[int]]]:
     """What the lines of a text say: the sizes of its problem line, and its entries."""
-    sizes, entries = None, []
+    sizes: list[int] = []
+    entries: list[list[int]] = []
     for line, fields in lines_of(text):
         if fields is None:
             break
         if fields[0] not in (b"p", entry):
             raise Refused(f"UnknownLine line {line}")
-        if fields[0] == entry and sizes is None:
+        if fields[0] == entry and not sizes:
             raise Refused(f"NoProblemLine line {line}")
-        if fields[0] == b"p" and sizes is not None:
+        if fields[0] == b"p" and sizes:
             raise Refused(f"SecondProblemLine line {line}")
         if fields[0] == entry and len(entries) == sizes[-1]:
             raise Refused(f"ArcCount line {line}")
@@ -218,14 +228,14 @@ def read(text, entry, entry_fields, problem, sizes_of, entry_of):
             sizes = sizes_of(numbers_of(fields[len(problem) :], line), line)
         else:
             entries.append(entry_of(numbers_of(fields[1:], line), sizes, line))
-    if sizes is None:
+    if not sizes:
         raise Refused(f"NoProblemLine line {line}")
     if len(entries) < sizes[-1]:
         raise Refused(f"ArcCount line {line}")
     return sizes, entries
 
 
-def graph_sizes(numbers, line):
+def graph_sizes(numbers: list[int], line: int) -> list[int]:
     if numbers[0] > MAX_NODES:
         raise Refused(f"TooManyNodes line {line}")
     if numbers[1] > MAX_LINES:
@@ -233,7 +243,7 @@ def graph_sizes(numbers, line):
     return numbers
 
 
-def arc(numbers, sizes, line):
+def arc(numbers: list[int], sizes: list[int], line: int) -> list[int]:
     if not all(1 <= node <= sizes[0] for node in numbers[:2]):
         raise Refused(f"NodeRange line {line}")
     if numbers[2] > HEAVIEST:
@@ -241,21 +251,21 @@ def arc(numbers, sizes, line):
     return numbers
 
 
-def graph_of(text):
+def graph_of(text: bytes) -> tuple[int, list[list[int]]]:
     """The number of nodes and the arcs that a graph's text says, or its first fault."""
     sizes, arcs = read(text, b"a", 4, [b"p", b"sp"], graph_sizes, arc)
     return sizes[0], arcs
 
 
-def pairs_of(text, nodes):
+def pairs_of(text: bytes, nodes: int) -> list[list[int]]:
     """The pairs that a text says, or its first fault."""
 
-    def pair_sizes(numbers, line):
+    def pair_sizes(numbers: list[int], line: int) -> list[int]:
         if numbers[0] > MAX_LINES:
             raise Refused(f"TooManyArcs line {line}")
         return numbers
 
-    def pair(numbers, sizes, line):
+    def pair(numbers: list[int], sizes: list[int], line: int) -> list[int]:
         if not all(1 <= node <= nodes for node in numbers):
             raise Refused(f"NodeRange line {line}")
         return numbers
@@ -263,56 +273,10 @@ def pairs_of(text, nodes):
     return read(text, b"q", 3, [b"p", b"aux", b"sp", b"p2p"], pair_sizes, pair)[1]
 
 
-def places_of(fields, nodes):
-    """The places of a request, two fields each: nodes and added lengths."""
-    for at in range(0, len(fields), 2):
-        node, weight = numbers_of(fields[at : at + 2], 1)
-        if not 1 <= node <= nodes:
-            raise Refused("NodeRange")
-        if weight > HEAVIEST:
-            raise Refused("WeightTooBig")
-        yield node, weight
-
-
-def request_of(line, nodes):
-    """What a line asks a service for, as its letter and two nodes or two lists of places; or the letter c."""
-    if len(line) > MOST_BYTES:
-        raise Refused("LineTooLong")
-    found = [fields for _, fields in lines_of(line + b"\n") if fields is not None]
-    if not found:
-        return b"c", None, None
-    letter, *fields = found[0]
-    if letter in (b"q", b"d"):
-        if len(fields) != 2:
-            raise Refused("FieldCount")
-        source, target = numbers_of(fields, 1)
-        if not (1 <= source <= nodes and 1 <= target <= nodes):
-            raise Refused("NodeRange")
-        return letter, source, target
-    if letter != b"b":
-        raise Refused("UnknownLine")
-    colon = fields.index(b":") if b":" in fields else len(fields)
-    sides = fields[:colon], fields[colon + 1 :]
-    if any(len(side) not in range(2, 17, 2) for side in sides):
-        raise Refused("FieldCount")
-    return letter, *(list(places_of(side, nodes)) for side in sides)
-
-
-def requests_of(text, nodes):
-    """What each line of a text asks for, or the name of its fault."""
-    lines = text.split(b"\n")
-    if lines[-1] == b"":
-        lines.pop()
-    for line in lines:
-        try:
-            yield request_of(line, nodes)
-        except Refused as refused:
-            yield b"e", str(refused).split()[0].encode(), None
-
-
-def least_from(arcs, source):
+def least_from(arcs: list[list[int]], source: int) -> dict[int, Cost]:
     """The least cost from a node to each that can be come to, by arcs (start, end, weight)."""
-    least, queue = {}, [((0, 0), source)]
+    least: dict[int, Cost] = {}
+    queue = [((0, 0), source)]
     while queue:
         cost, node = heapq.heappop(queue)
         if node in least:
