@@ -1,2 +1,2 @@
 pub mod BestLines
-pub mod Naming
+pub mod NodesOneByOne

@@ -1,1 +1,1 @@
-mod Renewed
+mod RenewedIsRight

@@ -1,3 +1,3 @@
-pub mod Asking
+pub mod LineToRequest
 pub mod ServedOver
 pub mod Sessions

@@ -85,7 +85,7 @@ impl<H: HierarchyRef> RouterOf<H> {
     /// Fails with `TooLong` where the route would repeat a node, which it doesn't by a hierarchy that is right for some
     /// graph, in the sense of its version, and with `OutOfMemory`. Takes the time of [`Search::distance`] and of
     /// [`unpack`], and memory for the nodes of the route beside what the search keeps.
-    #[tactic(auto, using(crate::proofs::Pairs::never_long))]
+    #[tactic(auto, using(crate::proofs::RoutesAreLeast::never_long))]
     pub fn route(&mut self, pair: (u32, u32)) -> Result<Option<Route>, UnpackError>
         requires source_in { pair.0 < length self.old.ranks }
         requires target_in { pair.1 < length self.old.ranks }

@@ -1,4 +1,4 @@
 pub mod BestRoutes
 pub mod JoinedLines
 pub mod ByHierarchies
-pub mod Refusals
+pub mod RefusalsByCause

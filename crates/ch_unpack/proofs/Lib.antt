@@ -1,2 +1,2 @@
-pub mod Refining
-pub mod UnderWay
+pub mod FirstLinkUnfolds
+pub mod LinksToArcs

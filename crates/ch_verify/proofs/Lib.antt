@@ -1,1 +1,1 @@
-mod Checked
+mod VerdictsOnFiles

@@ -1,4 +1,4 @@
-mod Calling
-mod Taking
-mod Sinking
-pub mod Gathering
+mod CallAfterCall
+mod FirstBytesTaken
+mod SinkPassesOn
+pub mod PartAfterPart

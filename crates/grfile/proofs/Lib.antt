@@ -1,9 +1,9 @@
-pub mod Caps
-pub mod Steps
+pub mod CapChangesNothing
+pub mod OneMoreLine
 pub mod SpelledTexts
-pub mod Readings
-pub mod Faults
-pub mod Cuttings
+pub mod LinesToText
+pub mod LineFaults
+pub mod TextInPieces
 pub mod PlainFields
 pub mod PlainTaken
-pub mod Before
+pub mod LaterFaults

@@ -15,7 +15,7 @@ use Rattle.text_lines.specs.Lines.{cut_after, line_feeds, lines_after}
 use Rattle.grfile.specs.Taken.{TakesLine}
 use Rattle.grfile.specs.PlainLines.{IsEntryBefore}
 use Rattle.text_lines.specs.Lines.Laws.{feeds_both}
-use Rattle.grfile.proofs.Steps.{step-entry}
+use Rattle.grfile.proofs.OneMoreLine.{step-entry}
 
 -- a byte of a line that has no line feed
 no_feed : (b : ℕ) (line : List ℕ) → line_feeds (b ∷ line) ≡ 0 → (eqb b 10 ≡ false) × (line_feeds line ≡ 0)

@@ -1,7 +1,7 @@
-pub mod ReadParts
-pub mod Faults
+pub mod PartAfterPart
+pub mod FaultsOfParts
 pub mod LinkFaults
-pub mod WellMade
-pub mod Bodies
-pub mod Spellings
-pub mod NoFault
+pub mod FaultlessIsWellMade
+pub mod BodyFaults
+pub mod OneSpelling
+pub mod SpellingsHaveNoFault

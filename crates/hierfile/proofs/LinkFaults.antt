@@ -14,7 +14,7 @@ use Rattle.hierfile.specs.declared.error.HierError.TheVariants.{OutOfMemory, Tru
 use Rattle.hierfile.specs.Spelling.{link_bytes, link_size, links_in}
 use Rattle.hierfile.specs.Fault.{◌otherwise◌, cut, middle_fault, link_fault, link_fault_at, links_fault}
 use Rattle.hierfile.specs.Bytes.{IsCutOrWhole, NoneBelow, IsWritable}
-use Rattle.hierfile.proofs.Faults.{earlier, first_at, none_below, cut_behind, cut_none, cut_short, finds_no_memory, neither_memory, links_in-front, length-links, one_more, at_most}
+use Rattle.hierfile.proofs.FaultsOfParts.{earlier, first_at, none_below, cut_behind, cut_none, cut_short, finds_no_memory, neither_memory, links_in-front, length-links, one_more, at_most}
 
 slice_get-front : (ls more : List Link) (k : ℕ) → k < length ls → slice_get (ls ++ more) k ≡ slice_get ls k
 slice_get-front [] more k h = absurd (omega arith)

@@ -1,2 +1,2 @@
-mod Loud
-pub mod Sizes
+mod RefusalsAreShown
+pub mod FileSize

@@ -1,2 +1,2 @@
 mod OneForEach
-pub mod Outcomes
+pub mod StatusOfOutcome

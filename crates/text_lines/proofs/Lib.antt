@@ -1,3 +1,3 @@
 pub mod LineCuts
-pub mod Blanks
-pub mod Digits
+pub mod PiecesOfPieces
+pub mod DigitByDigit

@@ -1,4 +1,4 @@
-use Rattle.best_routes.proofs.Paths.{paths_walked, walks_traced}
+use Rattle.best_routes.proofs.PathsAsWalks.{paths_walked, walks_traced}
 use Rattle.best_routes.proofs.laws.paths_are_walks.Goals as goal
 
 pub returns-clause-walks : goal.returns-clause-walks

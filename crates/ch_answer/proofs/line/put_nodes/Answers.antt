@@ -2,7 +2,7 @@ use Rattle.std.proofs.Common.{ℕ, ◌≡◌, ◌-◌, ◌≤◌, List, length, 
 use Rattle.std.proofs.lemmas.List.{length-drop, take_all}
 use Rattle.counted_io.specs.Sinks.Laws.{puts_as, puts_nothing, puts_then}
 use Rattle.ch_answer.specs.Line.{named}
-use Rattle.ch_answer.proofs.Naming.{named-more}
+use Rattle.ch_answer.proofs.NodesOneByOne.{named-more}
 use Rattle.ch_answer.proofs.line.put_nodes.Goals as goal
 
 pub pieces-init : goal.pieces-init

@@ -2,7 +2,7 @@ use Rattle.std.proofs.Common.{ℕ, ◌≡◌, ◌+◌, ◌-◌, ◌^◌, ◌<◌
 use Rattle.std.proofs.lemmas.Fmt.{length-decimal-le}
 use Rattle.std.proofs.lemmas.List.{drop-set, drop_all}
 use Rattle.ch_answer.specs.Line.{named}
-use Rattle.ch_answer.proofs.Naming.{named-before}
+use Rattle.ch_answer.proofs.NodesOneByOne.{named-before}
 use Rattle.ch_answer.proofs.line.write_nodes.Goals as goal
 
 -- a node has at most ten digits

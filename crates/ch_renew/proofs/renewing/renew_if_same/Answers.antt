@@ -1,7 +1,7 @@
 use Rattle.std.proofs.Common.{ap, rules}
 use Rattle.std.proofs.lemmas.Result.{err_from_is_err_and}
 use Rattle.ch_graph.specs.Hierarchy.{version_number}
-use Rattle.ch_renew.proofs.Renewed.{breaks, file_refused, text_refused}
+use Rattle.ch_renew.proofs.RenewedIsRight.{breaks, file_refused, text_refused}
 use Rattle.ch_renew.proofs.renewing.renew_if_same.Goals as goal
 
 pub returns-in-Err-clause-refused : goal.returns-in-Err-clause-refused

@@ -2,7 +2,7 @@ use Rattle.std.proofs.Common.{◌/◌, drop, sym, ap, ◌∙◌}
 use Rattle.std.proofs.lemmas.Result.{err_from_is_err_and}
 use Rattle.text_lines.specs.Fields.{fields_of}
 use Rattle.ch_requests.specs.Requests.{places_of}
-use Rattle.ch_requests.proofs.Asking.{behind_is, ends_fail, ends_told}
+use Rattle.ch_requests.proofs.LineToRequest.{behind_is, ends_fail, ends_told}
 use Rattle.ch_requests.proofs.places.ends_of.Goals as goal
 
 pub returns-in_err-ends : goal.returns-in_err-ends

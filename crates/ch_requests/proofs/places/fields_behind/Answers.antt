@@ -1,6 +1,6 @@
 use Rattle.std.proofs.Common.{drop, suc, ap, sym, arith, ◌≡◌, ◌+◌, ◌∙◌}
 use Rattle.text_lines.specs.Fields.{fields_of}
-use Rattle.ch_requests.proofs.Asking.{drop_end, drop_one}
+use Rattle.ch_requests.proofs.LineToRequest.{drop_end, drop_one}
 use Rattle.ch_requests.proofs.places.fields_behind.Goals as goal
 
 pub returns-in_default : goal.returns-in_default

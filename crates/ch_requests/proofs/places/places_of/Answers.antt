@@ -3,7 +3,7 @@ use Rattle.std.proofs.lemmas.Result.{err_from_is_err_and}
 use Rattle.grfile.specs.Outcome.{◌>>=◌}
 use Rattle.ch_requests.specs.Requests.{places_of}
 use Rattle.ch_requests.specs.declared.places.SeedText.{SeedText}
-use Rattle.ch_requests.proofs.Asking.{placed, placed_not}
+use Rattle.ch_requests.proofs.LineToRequest.{placed, placed_not}
 use Rattle.ch_requests.proofs.places.places_of.Goals as goal
 
 pub places-preserved : goal.places-preserved

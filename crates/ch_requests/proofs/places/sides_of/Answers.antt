@@ -1,7 +1,7 @@
 use Rattle.std.proofs.Common.{drop, ap, sym, ◌∙◌}
 use Rattle.text_lines.specs.Fields.{fields_of}
 use Rattle.ch_requests.specs.Requests.{colon_at, is_of_places}
-use Rattle.ch_requests.proofs.Asking.{behind_is, no_ends, sides_are, too_many}
+use Rattle.ch_requests.proofs.LineToRequest.{behind_is, no_ends, sides_are, too_many}
 use Rattle.ch_requests.proofs.places.sides_of.Goals as goal
 
 pub returns-in_default-count : goal.returns-in_default-count

@@ -1,6 +1,6 @@
 use Rattle.std.proofs.Common.{ap, ◌∙◌}
 use Rattle.ch_requests.specs.Requests.{request_of}
-use Rattle.ch_requests.proofs.Asking.{kept_line}
+use Rattle.ch_requests.proofs.LineToRequest.{kept_line}
 use Rattle.ch_requests.proofs.reader.end_line.Goals as goal
 
 pub returns-clause-asked : goal.returns-clause-asked

@@ -1,5 +1,5 @@
 use Rattle.std.proofs.Common.{arith}
-use Rattle.ch_requests.proofs.Asking.{kept_bytes}
+use Rattle.ch_requests.proofs.LineToRequest.{kept_bytes}
 use Rattle.ch_requests.proofs.reader.keep.Goals as goal
 
 pub returns : goal.returns

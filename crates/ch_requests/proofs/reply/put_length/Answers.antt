@@ -1,7 +1,7 @@
 use Rattle.std.proofs.Common.{ap, refl, sym}
 use Rattle.counted_io.specs.Sinks.Laws.{puts_as, puts_then}
 use Rattle.ch_requests.specs.Reply.{length_line}
-use Rattle.ch_requests.proofs.Asking.{spaced}
+use Rattle.ch_requests.proofs.LineToRequest.{spaced}
 use Rattle.ch_requests.proofs.reply.put_length.Goals as goal
 
 pub returns-in-Some : goal.returns-in-Some

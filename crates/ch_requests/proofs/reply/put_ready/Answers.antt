@@ -1,7 +1,7 @@
 use Rattle.std.proofs.Common.{◌≡◌, length, rules}
 use Rattle.ch_graph.specs.Hierarchy.{version_number}
 use Rattle.counted_io.specs.Sinks.Laws.{puts_then}
-use Rattle.ch_requests.proofs.Asking.{spaced}
+use Rattle.ch_requests.proofs.LineToRequest.{spaced}
 use Rattle.ch_requests.proofs.reply.put_ready.Goals as goal
 
 pub returns : goal.returns

@@ -1,6 +1,6 @@
 use Rattle.std.proofs.Common.{drop, ap, sym, ◌∙◌}
 use Rattle.ch_requests.specs.Requests.{ends_of, of_ends}
-use Rattle.ch_requests.proofs.Asking.{asks, asks_none}
+use Rattle.ch_requests.proofs.LineToRequest.{asks, asks_none}
 use Rattle.ch_requests.proofs.request.request_by.Goals as goal
 
 pub returns-in_default : goal.returns-in_default

@@ -1,7 +1,7 @@
 use Rattle.std.proofs.Common.{ap, sym, arith, ◌∙◌}
 use Rattle.text_lines.specs.Fields.{fields_of}
 use Rattle.ch_requests.specs.Requests.{request_by}
-use Rattle.ch_requests.proofs.Asking.{long_asks, short_asks}
+use Rattle.ch_requests.proofs.LineToRequest.{long_asks, short_asks}
 use Rattle.ch_requests.proofs.request.request_of.Goals as goal
 
 pub returns-then-line-gt-MOST_BYTES : goal.returns-then-line-gt-MOST_BYTES

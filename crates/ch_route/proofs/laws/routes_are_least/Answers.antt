@@ -1,4 +1,4 @@
-use Rattle.ch_route.proofs.Pairs.{routes-fewest, routes-least, lengths-least, lengths-least-by_weight, none-too_long, none-too_long-by_weight, lengths-between, lengths-within, none-too_long-between, none-too_long-between-by_weight, routes-between-by_weight, routes-between-fewest, routes-between-least}
+use Rattle.ch_route.proofs.RoutesAreLeast.{routes-fewest, routes-least, lengths-least, lengths-least-by_weight, none-too_long, none-too_long-by_weight, lengths-between, lengths-within, none-too_long-between, none-too_long-between-by_weight, routes-between-by_weight, routes-between-fewest, routes-between-least}
 use Rattle.ch_route.proofs.laws.routes_are_least.Goals as goal
 
 pub returns-clause-fewest : goal.returns-clause-fewest

@@ -1,4 +1,4 @@
-use Rattle.ch_service.proofs.Refusals.{answers-tell, joined-tell, preparations-tell, routes-tell}
+use Rattle.ch_service.proofs.RefusalsByCause.{answers-tell, joined-tell, preparations-tell, routes-tell}
 use Rattle.ch_service.proofs.laws.causes_tell_refusals.Goals as goal
 
 pub returns : goal.returns

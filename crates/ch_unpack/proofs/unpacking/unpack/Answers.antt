@@ -4,7 +4,7 @@ use Rattle.ch_unpack.specs.declared.error.UnpackError.{UnpackError}
 use Rattle.ch_unpack.specs.declared.error.UnpackError.TheVariants.{TooLong}
 use Rattle.std.proofs.lemmas.List.{length-reverse}
 use Rattle.ch_graph.specs.declared.hierarchy.LinkId.{LinkId}
-use Rattle.ch_unpack.proofs.UnderWay.{IsUnderWay, set_out, next_within, pass_on, turn_off, arrive, too_many_links, no_room}
+use Rattle.ch_unpack.proofs.LinksToArcs.{IsUnderWay, set_out, next_within, pass_on, turn_off, arrive, too_many_links, no_room}
 use Rattle.ch_unpack.proofs.unpacking.unpack.Goals as goal
 
 -- the links ahead with the next one behind them

@@ -1,5 +1,5 @@
 use Rattle.std.proofs.Common.{◌≡◌, None, [], ◌+◌, ◌-◌, ◌*◌, ◌≤◌, ◌++◌, length, option_to_list, vec_len}
-use Rattle.ch_unpack.proofs.UnderWay.{IsUnderWay}
+use Rattle.ch_unpack.proofs.LinksToArcs.{IsUnderWay}
 use Rattle.ch_unpack.proofs.unpacking.unpack.Given as goal
 
 -- The next link counts among those ahead.

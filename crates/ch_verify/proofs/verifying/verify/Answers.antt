@@ -1,6 +1,6 @@
 use Rattle.std.proofs.Common.{rules}
 use Rattle.std.proofs.lemmas.Result.{err_from_is_err_and}
-use Rattle.ch_verify.proofs.Checked.{says, is_old, text_refused, file_refused, breaks}
+use Rattle.ch_verify.proofs.VerdictsOnFiles.{says, is_old, text_refused, file_refused, breaks}
 use Rattle.ch_verify.proofs.verifying.verify.Goals as goal
 
 pub returns-in-Err-clause-refused : goal.returns-in-Err-clause-refused

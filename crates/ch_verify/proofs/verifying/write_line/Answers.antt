@@ -1,6 +1,6 @@
 use Rattle.std.proofs.Common.{rules}
 use Rattle.std.proofs.lemmas.Result.{err_from_is_err_and}
-use Rattle.ch_verify.proofs.Checked.{whole, first_part}
+use Rattle.ch_verify.proofs.VerdictsOnFiles.{whole, first_part}
 use Rattle.ch_verify.proofs.verifying.write_line.Goals as goal
 
 pub returns-clause-ok : goal.returns-clause-ok

@@ -1,4 +1,4 @@
-use Rattle.counted_io.proofs.Sinking.{kept}
+use Rattle.counted_io.proofs.SinkPassesOn.{kept}
 use Rattle.counted_io.proofs.sink.write_on.Goals as goal
 
 pub returns-then-is_none : goal.returns-then-is_none

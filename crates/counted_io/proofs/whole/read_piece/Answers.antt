@@ -2,7 +2,7 @@ use Rattle.std.proofs.Common.{refl}
 use Rattle.std.proofs.lemmas.Result.{err_from_is_err_and}
 use Rattle.counted_io.specs.Limits.{gives_out}
 use Rattle.counted_io.specs.Limits.Laws.{gave_out, read_by, refused_after}
-use Rattle.counted_io.proofs.Gathering.{memory_no_read}
+use Rattle.counted_io.proofs.PartAfterPart.{memory_no_read}
 use Rattle.counted_io.proofs.whole.read_piece.Goals as goal
 
 pub returns-in_err-count-clause-stopped : goal.returns-in_err-count-clause-stopped

@@ -3,7 +3,7 @@ use Rattle.std.proofs.lemmas.Result.{err_from_is_err_and}
 use Rattle.counted_io.specs.Limits.{IsRead}
 use Rattle.counted_io.specs.Limits.Laws.{read_none, read_then, reads_then}
 use Rattle.counted_io.specs.declared.TheConstants.{MOST_CALLS}
-use Rattle.counted_io.proofs.Gathering.{gathers_none, gathers_then}
+use Rattle.counted_io.proofs.PartAfterPart.{gathers_none, gathers_then}
 use Rattle.counted_io.proofs.whole.read_whole.Goals as goal
 
 pub pieces-init : goal.pieces-init

@@ -1,8 +1,8 @@
 use Rattle.std.proofs.Common.{arith, inr}
 use Rattle.std.proofs.KnownBytes.{Appends-nil}
 use Rattle.counted_io.specs.Calls.{Takings}
-use Rattle.counted_io.proofs.Taking.{appends-take_more}
-use Rattle.counted_io.proofs.Calling.{take_more, stop_by}
+use Rattle.counted_io.proofs.FirstBytesTaken.{appends-take_more}
+use Rattle.counted_io.proofs.CallAfterCall.{take_more, stop_by}
 use Rattle.counted_io.proofs.writing.write_bytes.Goals as goal
 
 pub loop-taken-init : goal.loop-taken-init

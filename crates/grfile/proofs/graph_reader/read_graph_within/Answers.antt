@@ -2,7 +2,7 @@ use Rattle.std.proofs.Common.{Ok, ap, sym}
 use Rattle.std.proofs.lemmas.Result.{IfOk-at_ok}
 use Rattle.ch_graph.specs.Graph.{Graph}
 use Rattle.grfile.proofs.SpelledTexts.{graph_spelled}
-use Rattle.grfile.proofs.Before.{graph_text, text_read, text_refused}
+use Rattle.grfile.proofs.LaterFaults.{graph_text, text_read, text_refused}
 use Rattle.grfile.proofs.graph_reader.read_graph_within.Goals as goal
 
 pub returns-in_err-size : goal.returns-in_err-size

@@ -1,4 +1,4 @@
-use Rattle.grfile.proofs.Readings.{graphs_exact}
+use Rattle.grfile.proofs.LinesToText.{graphs_exact}
 use Rattle.grfile.proofs.laws.graphs_are_spelled_exactly.Goals as goal
 
 pub returns : goal.returns

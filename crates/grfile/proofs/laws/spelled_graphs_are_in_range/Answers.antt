@@ -1,4 +1,4 @@
-use Rattle.grfile.proofs.Readings.{graph_sound}
+use Rattle.grfile.proofs.LinesToText.{graph_sound}
 use Rattle.grfile.proofs.laws.spelled_graphs_are_in_range.Goals as goal
 
 pub returns : goal.returns

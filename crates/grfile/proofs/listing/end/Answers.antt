@@ -1,6 +1,6 @@
 use Rattle.std.proofs.Common.{sym, ◌∙◌}
 use Rattle.std.proofs.lemmas.Result.{err_from_is_err_and}
-use Rattle.grfile.proofs.Steps.{ends-none}
+use Rattle.grfile.proofs.OneMoreLine.{ends-none}
 use Rattle.grfile.proofs.listing.end.Goals as goal
 
 pub returns-in_err-listed-clause-told : goal.returns-in_err-listed-clause-told

@@ -2,7 +2,7 @@ use Rattle.std.proofs.Common.{refl, sym, ◌∙◌}
 use Rattle.std.specs.Option.{option_map}
 use Rattle.std.proofs.lemmas.Result.{err_from_is_err_and}
 use Rattle.grfile.specs.Progress.{listing_of}
-use Rattle.grfile.proofs.Steps.{from_text, read_first, read_nothing, step-skipped, step-unknown, step-again, step-before, step-refuses, step-opens, step-lists, taken_along}
+use Rattle.grfile.proofs.OneMoreLine.{from_text, read_first, read_nothing, step-skipped, step-unknown, step-again, step-before, step-refuses, step-opens, step-lists, taken_along}
 use Rattle.grfile.proofs.listing.take_numbered.Goals as goal
 
 pub returns-in_default-clause-takes : goal.returns-in_default-clause-takes

@@ -1,6 +1,6 @@
 use Rattle.std.proofs.Common.{arith}
 use Rattle.grfile.specs.Progress.{listing_of}
-use Rattle.grfile.proofs.Steps.{ends-short, ends-full}
+use Rattle.grfile.proofs.OneMoreLine.{ends-short, ends-full}
 use Rattle.grfile.proofs.listing.whole.Goals as goal
 
 pub returns-then-len-listed-clause-told : goal.returns-then-len-listed-clause-told

@@ -1,6 +1,6 @@
 use Rattle.std.proofs.Common.{refl, sym, ◌∙◌}
 use Rattle.std.proofs.lemmas.Result.{err_from_is_err_and}
-use Rattle.grfile.proofs.Caps.{pair_of-two, pair_of-other}
+use Rattle.grfile.proofs.CapChangesNothing.{pair_of-two, pair_of-other}
 use Rattle.grfile.proofs.pairs.pair_of.Goals as goal
 
 pub returns-in_default : goal.returns-in_default

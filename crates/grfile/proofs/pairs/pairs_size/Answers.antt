@@ -1,6 +1,6 @@
 use Rattle.std.proofs.Common.{refl, sym, ◌∙◌}
 use Rattle.std.proofs.lemmas.Result.{err_from_is_err_and}
-use Rattle.grfile.proofs.Caps.{pairs_size-four, pairs_size-other}
+use Rattle.grfile.proofs.CapChangesNothing.{pairs_size-four, pairs_size-other}
 use Rattle.grfile.proofs.pairs.pairs_size.Goals as goal
 
 pub returns-in_default : goal.returns-in_default

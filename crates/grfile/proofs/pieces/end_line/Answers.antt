@@ -1,6 +1,6 @@
 use Rattle.std.proofs.Common.{rules, arith}
 use Rattle.std.proofs.lemmas.Grind.{common_steps}
-use Rattle.grfile.proofs.Cuttings.{counts_one}
+use Rattle.grfile.proofs.TextInPieces.{counts_one}
 use Rattle.grfile.proofs.pieces.end_line.Goals as goal
 
 pub returns-then-is_empty-clause-lines : goal.returns-then-is_empty-clause-lines

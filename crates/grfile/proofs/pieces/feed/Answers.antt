@@ -2,7 +2,7 @@ use Rattle.std.proofs.Common.{rules}
 use Rattle.std.proofs.lemmas.Result.{IfErr-at_err, IfErr-weaker}
 use Rattle.std.proofs.Common.{◌++◌, List, ℕ}
 use Rattle.grfile.specs.Taken.{IsReadTo, taken_of, told_with}
-use Rattle.grfile.proofs.Before.{read_then, told_fresh}
+use Rattle.grfile.proofs.LaterFaults.{read_then, told_fresh}
 use Rattle.grfile.proofs.pieces.feed.Goals as goal
 
 pub returns-in-Err-clause-refused : goal.returns-in-Err-clause-refused

@@ -4,11 +4,11 @@ use Rattle.std.proofs.lemmas.Result.{err_from_is_err_and}
 use Rattle.std.proofs.lemmas.Grind.{common_steps}
 use Rattle.grfile.specs.declared.error.GrError.{GrError}
 use Rattle.grfile.specs.Taken.{taken_of, told_with}
-use Rattle.grfile.proofs.Cuttings.{at_none, at_some, nothing_taken, stops_between, stops_in_piece, taken_more, taken_same, within_end, within_first, within_more}
+use Rattle.grfile.proofs.TextInPieces.{at_none, at_some, nothing_taken, stops_between, stops_in_piece, taken_more, taken_same, within_end, within_first, within_more}
 use Rattle.counted_io.specs.Limits.{IsRead}
 use Rattle.counted_io.specs.Limits.Laws.{failed_after, read_none, read_then, refused_after}
-use Rattle.grfile.proofs.Before.{ReadTo, read_in_piece, read_so_far, stops_there}
-use Rattle.grfile.proofs.Cuttings.{known_more}
+use Rattle.grfile.proofs.LaterFaults.{ReadTo, read_in_piece, read_so_far, stops_there}
+use Rattle.grfile.proofs.TextInPieces.{known_more}
 use Rattle.grfile.proofs.pieces.feed_all.Goals as goal
 
 pub loop-count-preserved : goal.loop-count-preserved

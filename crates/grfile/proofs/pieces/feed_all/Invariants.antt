@@ -2,7 +2,7 @@ use Rattle.std.proofs.Common.{◌≡◌, None, min}
 use Rattle.counted_io.specs.Limits.{IsRead}
 use Rattle.counted_io.specs.declared.TheConstants.{MOST_CALLS}
 use Rattle.grfile.specs.Taken.{HasTaken, taken_of, told_with}
-use Rattle.grfile.proofs.Cuttings.{IsWithin}
+use Rattle.grfile.proofs.TextInPieces.{IsWithin}
 use Rattle.grfile.proofs.pieces.feed_all.Given as goal
 
 abbrev pub invariant-loop-count : goal.invariant-loop-count

@@ -1,10 +1,10 @@
 use Rattle.std.proofs.lemmas.Result.{err_from_is_err_and}
 use Rattle.grfile.specs.Progress.{listing_of}
 use Rattle.grfile.specs.Taken.{taken_of, told_with}
-use Rattle.grfile.proofs.Cuttings.{first_fault, reads_at_end, told_all, told_some}
+use Rattle.grfile.proofs.TextInPieces.{first_fault, reads_at_end, told_all, told_some}
 use Rattle.std.proofs.lemmas.Result.{IfErr-weaker}
 use Rattle.grfile.specs.Taken.{StopsWith}
-use Rattle.grfile.proofs.Before.{ReadTo, listed, read_at_end, stops_listed}
+use Rattle.grfile.proofs.LaterFaults.{ReadTo, listed, read_at_end, stops_listed}
 use Rattle.grfile.proofs.pieces.read_listing.Goals as goal
 
 pub returns-in_err-feed_all-clause-told : goal.returns-in_err-feed_all-clause-told

@@ -1,11 +1,11 @@
 use Rattle.std.proofs.Common.{◌<◌, ◌^◌, arith, rules}
 use Rattle.std.proofs.lemmas.Result.{err_from_is_err_and}
-use Rattle.grfile.proofs.Cuttings.{counts_after, counts_kept}
+use Rattle.grfile.proofs.TextInPieces.{counts_after, counts_kept}
 use Rattle.std.proofs.Common.{List, ℕ, [], ap, map, refl, sym, ◌∙◌}
 use Rattle.std.specs.Option.{option_map}
 use Rattle.std.specs.Str.Lines.{strip_carriage_return}
 use Rattle.grfile.specs.Progress.{listing_of, told_from}
-use Rattle.grfile.proofs.Before.{read_kept, read_then}
+use Rattle.grfile.proofs.LaterFaults.{read_kept, read_then}
 use Rattle.grfile.proofs.pieces.take.Goals as goal
 
 pub returns-in_err-rest-clause-lines : goal.returns-in_err-rest-clause-lines

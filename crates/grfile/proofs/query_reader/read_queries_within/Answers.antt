@@ -1,7 +1,7 @@
 use Rattle.std.proofs.Common.{refl}
 use Rattle.std.proofs.lemmas.Result.{IfOk-at_ok}
 use Rattle.grfile.proofs.SpelledTexts.{pairs_spelled}
-use Rattle.grfile.proofs.Before.{pairs_text, text_read, text_refused}
+use Rattle.grfile.proofs.LaterFaults.{pairs_text, text_read, text_refused}
 use Rattle.grfile.proofs.query_reader.read_queries_within.Goals as goal
 
 pub returns-in_err-listed-clause-reads : goal.returns-in_err-listed-clause-reads

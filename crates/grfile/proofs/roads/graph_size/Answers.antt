@@ -1,7 +1,7 @@
 use Rattle.std.proofs.Common.{refl, sym, ◌∙◌}
 use Rattle.std.proofs.lemmas.Bool.{not-true, not-false}
 use Rattle.std.proofs.lemmas.Result.{err_from_is_err_and}
-use Rattle.grfile.proofs.Caps.{graph_size-three, graph_size-other}
+use Rattle.grfile.proofs.CapChangesNothing.{graph_size-three, graph_size-other}
 use Rattle.grfile.proofs.roads.graph_size.Goals as goal
 
 pub returns-in_default : goal.returns-in_default

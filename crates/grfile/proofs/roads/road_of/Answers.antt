@@ -1,6 +1,6 @@
 use Rattle.std.proofs.Common.{refl, sym, ◌∙◌}
 use Rattle.std.proofs.lemmas.Result.{err_from_is_err_and}
-use Rattle.grfile.proofs.Caps.{road_of-three, road_of-other}
+use Rattle.grfile.proofs.CapChangesNothing.{road_of-three, road_of-other}
 use Rattle.grfile.proofs.roads.road_of.Goals as goal
 
 pub returns-in_default : goal.returns-in_default

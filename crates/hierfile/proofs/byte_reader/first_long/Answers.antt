@@ -1,5 +1,5 @@
 use Rattle.std.proofs.Common.{arith}
-use Rattle.hierfile.proofs.ReadParts.{eight_bytes}
+use Rattle.hierfile.proofs.PartAfterPart.{eight_bytes}
 use Rattle.hierfile.proofs.byte_reader.first_long.Goals as goal
 
 pub returns : goal.returns

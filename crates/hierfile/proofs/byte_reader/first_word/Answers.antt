@@ -1,5 +1,5 @@
 use Rattle.std.proofs.Common.{arith}
-use Rattle.hierfile.proofs.ReadParts.{four_bytes}
+use Rattle.hierfile.proofs.PartAfterPart.{four_bytes}
 use Rattle.hierfile.proofs.byte_reader.first_word.Goals as goal
 
 pub returns : goal.returns

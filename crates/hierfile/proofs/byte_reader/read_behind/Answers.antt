@@ -1,6 +1,6 @@
 use Rattle.counted_io.specs.Limits.Laws.{gave_out, read_by}
-use Rattle.hierfile.proofs.ReadParts.{put_behind, given}
-use Rattle.hierfile.proofs.Faults.{where_err}
+use Rattle.hierfile.proofs.PartAfterPart.{put_behind, given}
+use Rattle.hierfile.proofs.FaultsOfParts.{where_err}
 use Rattle.hierfile.proofs.byte_reader.read_behind.Goals as goal
 
 pub returns-clause-ok : goal.returns-clause-ok

@@ -1,4 +1,4 @@
-use Rattle.hierfile.proofs.NoFault.{no_fault}
+use Rattle.hierfile.proofs.SpellingsHaveNoFault.{no_fault}
 use Rattle.hierfile.proofs.laws.spellings_have_no_fault.Goals as goal
 
 pub returns : goal.returns

@@ -5,8 +5,8 @@ use Rattle.ch_cost.specs.Cost.{◌⊕◌, same}
 use Rattle.ch_graph.specs.declared.link.Link.{Link}
 use Rattle.hierfile.specs.declared.error.HierError.TheVariants.{HalfSum}
 use Rattle.hierfile.specs.Fault.{fault_if}
-use Rattle.hierfile.proofs.Faults.{missing_is_no_read, sum_is_no_read}
-use Rattle.hierfile.proofs.WellMade.{no_first, no_second, both_found}
+use Rattle.hierfile.proofs.FaultsOfParts.{missing_is_no_read, sum_is_no_read}
+use Rattle.hierfile.proofs.FaultlessIsWellMade.{no_first, no_second, both_found}
 use Rattle.hierfile.proofs.links.parts_of.Goals as goal
 
 -- a test of three costs, each of which is a link's

@@ -1,4 +1,4 @@
-use Rattle.hierfile.proofs.ReadParts.{takes_waiting}
+use Rattle.hierfile.proofs.PartAfterPart.{takes_waiting}
 use Rattle.hierfile.proofs.links.read_link.Goals as goal
 
 pub returns-clause-reads : goal.returns-clause-reads

@@ -6,8 +6,8 @@ use Rattle.ch_graph.specs.declared.link.Link.{Link}
 use Rattle.hierfile.specs.Spelling.{link_bytes, link_size}
 use Rattle.hierfile.specs.Fault.{cut, link_fault, link_fault_at, links_fault}
 use Rattle.hierfile.specs.Bytes.{IsCutOrWhole, NoneBelow, IsWritable}
-use Rattle.hierfile.proofs.Faults.{of_bytes}
-use Rattle.hierfile.proofs.ReadParts.{Takes, fault_found, hands_back, no_memory, refused_behind, runs_out, takes_none, takes_then}
+use Rattle.hierfile.proofs.FaultsOfParts.{of_bytes}
+use Rattle.hierfile.proofs.PartAfterPart.{Takes, fault_found, hands_back, no_memory, refused_behind, runs_out, takes_none, takes_then}
 use Rattle.hierfile.proofs.LinkFaults.{link_no_memory, links_cut, links_so_far, links_stop, none-push}
 use Rattle.hierfile.specs.declared.error.HierError.{HierError}
 use Rattle.hierfile.specs.declared.error.HierError.TheVariants.{OutOfMemory}

@@ -3,7 +3,7 @@ use Rattle.std.specs.List.{flat_map}
 use Rattle.hierfile.specs.Spelling.{link_bytes}
 use Rattle.hierfile.specs.Fault.{link_fault_at}
 use Rattle.hierfile.specs.Bytes.{NoneBelow, IsWritable}
-use Rattle.hierfile.proofs.ReadParts.{Takes}
+use Rattle.hierfile.proofs.PartAfterPart.{Takes}
 use Rattle.hierfile.proofs.links.read_links.Given as goal
 
 abbrev pub invariant-links : goal.invariant-links

@@ -1,6 +1,6 @@
 use Rattle.std.proofs.Common.{ℕ, ◌≡◌, ◌+◌, ◌++◌, List, length, ap, ◌∙◌, arith, length-append}
-use Rattle.hierfile.proofs.ReadParts.{parts_then}
-use Rattle.hierfile.proofs.Faults.{length-word, length-long, length-arcs}
+use Rattle.hierfile.proofs.PartAfterPart.{parts_then}
+use Rattle.hierfile.proofs.FaultsOfParts.{length-word, length-long, length-arcs}
 use Rattle.hierfile.specs.Spelling.{word, long, arcs_bytes, link_bytes}
 use Rattle.ch_cost.specs.Cost.Numbers.{length_of-of_walk, arcs_of-of_walk}
 use Rattle.hierfile.proofs.links.waiting_link.Goals as goal

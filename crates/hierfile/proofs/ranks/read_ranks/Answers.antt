@@ -4,8 +4,8 @@ use Rattle.std.proofs.lemmas.List.{flat_map_more}
 use Rattle.hierfile.specs.Spelling.{word}
 use Rattle.hierfile.specs.Fault.{cut, rank_fault, ranks_fault}
 use Rattle.hierfile.specs.Bytes.{IsCut, NoneBelow}
-use Rattle.hierfile.proofs.Faults.{ranks_cut, ranks_so_far, ranks_stop, none-push, length-word}
-use Rattle.hierfile.proofs.ReadParts.{Takes, fault_behind, fault_found, hands_back, no_memory, runs_out_behind, takes_none, takes_then}
+use Rattle.hierfile.proofs.FaultsOfParts.{ranks_cut, ranks_so_far, ranks_stop, none-push, length-word}
+use Rattle.hierfile.proofs.PartAfterPart.{Takes, fault_behind, fault_found, hands_back, no_memory, runs_out_behind, takes_none, takes_then}
 use Rattle.counted_io.specs.Limits.Laws.{read_then}
 use Rattle.hierfile.specs.declared.error.HierError.TheVariants.{OutOfMemory}
 use Rattle.std.proofs.Common.{List, ℕ, rules}

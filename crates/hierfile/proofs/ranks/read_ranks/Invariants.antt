@@ -4,7 +4,7 @@ use Rattle.hierfile.specs.Spelling.{word}
 use Rattle.hierfile.specs.Fault.{rank_fault}
 use Rattle.hierfile.specs.Bytes.{NoneBelow}
 use Rattle.hierfile.specs.Taken.{AreTaken}
-use Rattle.hierfile.proofs.ReadParts.{Takes}
+use Rattle.hierfile.proofs.PartAfterPart.{Takes}
 use Rattle.hierfile.proofs.ranks.read_ranks.Given as goal
 
 abbrev pub invariant-nodes : goal.invariant-nodes

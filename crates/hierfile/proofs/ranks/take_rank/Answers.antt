@@ -1,6 +1,6 @@
 use Rattle.std.proofs.Common.{List, ℕ, sym, subst, arith}
 use Rattle.hierfile.specs.Taken.{AreTaken}
-use Rattle.hierfile.proofs.ReadParts.{taken_more}
+use Rattle.hierfile.proofs.PartAfterPart.{taken_more}
 use Rattle.hierfile.proofs.ranks.take_rank.Goals as goal
 
 pub returns-clause-taken : goal.returns-clause-taken

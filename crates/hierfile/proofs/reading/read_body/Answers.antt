@@ -9,10 +9,10 @@ use Rattle.ch_graph.specs.LinkHalves.{AreHalvesOf}
 use Rattle.hierfile.specs.Spelling.{bound_in, link_size}
 use Rattle.hierfile.specs.Fault.{link_fault_at, links_fault, ranks_fault, half_fault, first_along, end_fault, body_fault}
 use Rattle.hierfile.specs.Bytes.{HasNoneButHalves, IsCutOrWhole, NoneBelow}
-use Rattle.hierfile.proofs.Faults.{earlier, later, neither}
-use Rattle.hierfile.proofs.ReadParts.{all_taken, fault_found, fault_so_far, hands_back, no_memory, refused_behind, runs_out, takes_none, takes_then}
-use Rattle.hierfile.proofs.Bodies.{body_ranks, body_links, body_after_links, body_so_far, body_tested}
-use Rattle.hierfile.proofs.WellMade.{links_sorted, few_nodes, well_made_of}
+use Rattle.hierfile.proofs.FaultsOfParts.{earlier, later, neither}
+use Rattle.hierfile.proofs.PartAfterPart.{all_taken, fault_found, fault_so_far, hands_back, no_memory, refused_behind, runs_out, takes_none, takes_then}
+use Rattle.hierfile.proofs.BodyFaults.{body_ranks, body_links, body_after_links, body_so_far, body_tested}
+use Rattle.hierfile.proofs.FaultlessIsWellMade.{links_sorted, few_nodes, well_made_of}
 use Rattle.counted_io.specs.Limits.Laws.{read_then}
 use Rattle.hierfile.specs.declared.error.HierError.TheVariants.{OutOfMemory}
 use Rattle.hierfile.proofs.reading.read_body.Goals as goal

@@ -2,7 +2,7 @@ use Rattle.std.proofs.Common.{ℕ, ◌≡◌, List, [], ◌∷◌, None, Some, r
 use Rattle.std.proofs.lemmas.Bool.Decides.{nat_tests}
 use Rattle.hierfile.specs.Fault.{end_fault}
 use Rattle.hierfile.specs.declared.error.HierError.TheVariants.{Trailing}
-use Rattle.hierfile.proofs.ReadParts.{no_byte, Takes, hands_back, read_failed, fault_found}
+use Rattle.hierfile.proofs.PartAfterPart.{no_byte, Takes, hands_back, read_failed, fault_found}
 use Rattle.hierfile.proofs.reading.read_end.Goals as goal
 
 trails : (b : ℕ) (rest : List ℕ) → end_fault (b ∷ rest) ≡ Some Trailing

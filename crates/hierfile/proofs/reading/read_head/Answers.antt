@@ -1,6 +1,6 @@
 use Rattle.std.proofs.Common.{[], ◌≡◌, ◌+◌, ◌++◌, ◌≤◌, ◌∙◌, length, Some, subst, arith, length-append}
-use Rattle.hierfile.proofs.Faults.{of_bytes, length-word, length-long, head_cut, head_fault-sizes, size_no_memory}
-use Rattle.hierfile.proofs.ReadParts.{fault_behind, fault_found, hands_back, takes_none, takes_then}
+use Rattle.hierfile.proofs.FaultsOfParts.{of_bytes, length-word, length-long, head_cut, head_fault-sizes, size_no_memory}
+use Rattle.hierfile.proofs.PartAfterPart.{fault_behind, fault_found, hands_back, takes_none, takes_then}
 use Rattle.hierfile.specs.Spelling.{word, long}
 use Rattle.hierfile.specs.Fault.{cut, head_fault, size_fault}
 use Rattle.hierfile.specs.declared.error.HierError.{HierError}

@@ -6,8 +6,8 @@ use Rattle.ch_graph.specs.declared.version.Version.TheVariants.{One, Two}
 use Rattle.hierfile.specs.Spelling.{magic_of, stem}
 use Rattle.hierfile.specs.declared.error.HierError.TheVariants.{Truncated}
 use Rattle.hierfile.specs.Fault.{magic_fault}
-use Rattle.hierfile.proofs.Faults.{magic_is_no_memory, magic_is_no_read, truncated_is_no_memory, truncated_is_no_read}
-use Rattle.hierfile.proofs.ReadParts.{Takes, fault_behind, hands_back, read_failed_after, takes_none, takes_then}
+use Rattle.hierfile.proofs.FaultsOfParts.{magic_is_no_memory, magic_is_no_read, truncated_is_no_memory, truncated_is_no_read}
+use Rattle.hierfile.proofs.PartAfterPart.{Takes, fault_behind, hands_back, read_failed_after, takes_none, takes_then}
 use Rattle.hierfile.proofs.reading.read_magic.Goals as goal
 
 stem_first : (v : Version) → stem ++ drop 3 (magic_of v) ≡ magic_of v

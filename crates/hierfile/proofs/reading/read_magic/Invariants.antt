@@ -1,6 +1,6 @@
 use Rattle.std.proofs.Common.{◌≡◌, take}
 use Rattle.hierfile.specs.Spelling.{stem}
-use Rattle.hierfile.proofs.ReadParts.{Takes}
+use Rattle.hierfile.proofs.PartAfterPart.{Takes}
 use Rattle.hierfile.proofs.reading.read_magic.Given as goal
 
 abbrev pub invariant-bytes : goal.invariant-bytes

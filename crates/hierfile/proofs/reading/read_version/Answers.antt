@@ -2,7 +2,7 @@ use Rattle.std.proofs.Common.{◌≡◌, ◌++◌, Some, refl}
 use Rattle.hierfile.specs.Spelling.{stem}
 use Rattle.hierfile.specs.Fault.{magic_fault}
 use Rattle.hierfile.specs.declared.error.HierError.TheVariants.{Truncated}
-use Rattle.hierfile.proofs.ReadParts.{no_byte, hands_back, read_failed}
+use Rattle.hierfile.proofs.PartAfterPart.{no_byte, hands_back, read_failed}
 use Rattle.hierfile.proofs.reading.read_version.Goals as goal
 
 pub returns-in_err-byte : goal.returns-in_err-byte

@@ -10,8 +10,8 @@ use Rattle.hierfile.specs.Bytes.{Buffered, ButReadAhead, Fits, HasNoneButHalves,
 use Rattle.hierfile.specs.Reading.{IsRefused, ReadsFile, Refuses}
 use Rattle.hierfile.specs.declared.error.HierError.{HierError}
 use Rattle.hierfile.specs.declared.error.HierError.TheVariants.{OutOfMemory, Read}
-use Rattle.hierfile.proofs.ReadParts.{fault_so_far, no_memory, refused_behind, runs_out, takes_none, takes_then}
-use Rattle.hierfile.proofs.WellMade.{first_but_halves, first_so_far, first_magic, first_head, first_body, nothing_waits, spelled_whole}
+use Rattle.hierfile.proofs.PartAfterPart.{fault_so_far, no_memory, refused_behind, runs_out, takes_none, takes_then}
+use Rattle.hierfile.proofs.FaultlessIsWellMade.{first_but_halves, first_so_far, first_magic, first_head, first_body, nothing_waits, spelled_whole}
 use Rattle.hierfile.proofs.reading.read_within.Goals as goal
 
 -- from the start on, where nothing waits and this many calls may be made

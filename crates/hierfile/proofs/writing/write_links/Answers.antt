@@ -2,7 +2,7 @@ use Rattle.std.proofs.Common.{length, ◌<◌, ap, sym, arith}
 use Rattle.counted_io.specs.Sinks.Laws.{puts_as, puts_failed, puts_nothing, puts_then}
 use Rattle.ch_graph.specs.declared.version.Version.TheVariants.{Two}
 use Rattle.hierfile.specs.Spelling.{link_bytes}
-use Rattle.hierfile.proofs.ReadParts.{spelled-more, spelled-rest}
+use Rattle.hierfile.proofs.PartAfterPart.{spelled-more, spelled-rest}
 use Rattle.hierfile.proofs.writing.write_links.Goals as goal
 
 pub links-init : goal.links-init

@@ -1,7 +1,7 @@
 use Rattle.std.proofs.Common.{◌<◌, length, ap, arith}
 use Rattle.counted_io.specs.Sinks.Laws.{puts_as, puts_nothing, puts_then}
 use Rattle.hierfile.specs.Spelling.{word}
-use Rattle.hierfile.proofs.ReadParts.{spelled-more}
+use Rattle.hierfile.proofs.PartAfterPart.{spelled-more}
 use Rattle.hierfile.proofs.writing.write_ranks.Goals as goal
 
 pub nodes-init : goal.nodes-init

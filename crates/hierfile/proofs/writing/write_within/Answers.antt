@@ -7,7 +7,7 @@ use Rattle.ch_graph.specs.declared.version.Version.TheVariants.{One, Two}
 use Rattle.ch_graph.specs.Hierarchy.{Hierarchy, version_number}
 use Rattle.hierfile.specs.Spelling.{word, head_bytes, link_bytes, bytes_of}
 use Rattle.hierfile.specs.Bytes.{IsWritable}
-use Rattle.hierfile.proofs.Spellings.{links_fit}
+use Rattle.hierfile.proofs.OneSpelling.{links_fit}
 use Rattle.hierfile.proofs.writing.write_within.Goals as goal
 
 is_two : (v : Version) → version_number v ≡ 2 → v ≡ Two

@@ -1,6 +1,6 @@
 use Rattle.std.proofs.Common.{List, ap, length, ◌∙◌}
 use Rattle.ch_graph.specs.declared.link.Link.{Link}
-use Rattle.outcomes.proofs.Sizes.{size}
+use Rattle.outcomes.proofs.FileSize.{size}
 use Rattle.outcomes.proofs.info.size_of.Goals as goal
 
 pub returns : goal.returns

@@ -1,7 +1,7 @@
 use Rattle.std.proofs.Common.{List, ℕ, ◌++◌, ap, ◌∙◌, rules}
 use Rattle.std.proofs.lemmas.Result.{err_from_is_err_and}
 use Rattle.outcomes.specs.Info.{info}
-use Rattle.outcomes.proofs.Sizes.{breaks, refused}
+use Rattle.outcomes.proofs.FileSize.{breaks, refused}
 use Rattle.outcomes.proofs.info.write_info.Goals as goal
 
 pub returns-in_err-hierarchy-clause-refused : goal.returns-in_err-hierarchy-clause-refused

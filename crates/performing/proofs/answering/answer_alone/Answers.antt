@@ -1,5 +1,5 @@
 use Rattle.std.proofs.Common.{rules}
-use Rattle.performing.proofs.Outcomes.{told, wants_memory, unwritten}
+use Rattle.performing.proofs.StatusOfOutcome.{told, wants_memory, unwritten}
 use Rattle.performing.proofs.answering.answer_alone.Goals as goal
 
 pub returns : goal.returns

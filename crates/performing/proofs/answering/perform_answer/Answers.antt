@@ -1,4 +1,4 @@
-use Rattle.performing.proofs.Outcomes.{after, answering_end}
+use Rattle.performing.proofs.StatusOfOutcome.{after, answering_end}
 use Rattle.performing.proofs.answering.perform_answer.Goals as goal
 
 pub returns-clause-told : goal.returns-clause-told

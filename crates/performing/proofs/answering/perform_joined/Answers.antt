@@ -1,4 +1,4 @@
-use Rattle.performing.proofs.Outcomes.{after, joined_told, answering_end}
+use Rattle.performing.proofs.StatusOfOutcome.{after, joined_told, answering_end}
 use Rattle.performing.proofs.answering.perform_joined.Goals as goal
 
 tells : goal.returns-clause-told

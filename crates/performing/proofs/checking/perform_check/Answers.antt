@@ -1,4 +1,4 @@
-use Rattle.performing.proofs.Outcomes.{found, unchecked, checking_end}
+use Rattle.performing.proofs.StatusOfOutcome.{found, unchecked, checking_end}
 use Rattle.performing.proofs.checking.perform_check.Goals as goal
 
 tells : goal.returns-in-Ok-clause-told

@@ -1,5 +1,5 @@
 use Rattle.std.proofs.Common.{rules}
-use Rattle.performing.proofs.Outcomes.{of_joined, of_two}
+use Rattle.performing.proofs.StatusOfOutcome.{of_joined, of_two}
 use Rattle.performing.proofs.doing.outcome_of_job.Goals as goal
 
 pub returns-in-Answer-clause-told : goal.returns-in-Answer-clause-told

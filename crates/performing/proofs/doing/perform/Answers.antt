@@ -1,6 +1,6 @@
 use Rattle.std.proofs.Common.{◌∙◌, sym, subst}
 use Rattle.performing.specs.Status.{IsStatusOf}
-use Rattle.performing.proofs.Outcomes.{job_end}
+use Rattle.performing.proofs.StatusOfOutcome.{job_end}
 use Rattle.performing.proofs.doing.perform.Goals as goal
 
 pub returns-clause-told : goal.returns-clause-told

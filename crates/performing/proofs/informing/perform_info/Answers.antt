@@ -1,4 +1,4 @@
-use Rattle.performing.proofs.Outcomes.{after, told_after, informing_end}
+use Rattle.performing.proofs.StatusOfOutcome.{after, told_after, informing_end}
 use Rattle.performing.proofs.informing.perform_info.Goals as goal
 
 tells : goal.returns-clause-told

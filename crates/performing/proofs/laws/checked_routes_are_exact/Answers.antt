@@ -1,7 +1,7 @@
 use Rattle.std.proofs.Common.{refl, Some}
 use Rattle.outcomes.specs.declared.ending.Ending.TheVariants.{Done}
 use Rattle.performing.specs.Status.{TellsChecked}
-use Rattle.performing.proofs.Outcomes.{joined}
+use Rattle.performing.proofs.StatusOfOutcome.{joined}
 use Rattle.performing.proofs.laws.checked_routes_are_exact.Goals as goal
 
 pub returns : goal.returns

@@ -2,7 +2,7 @@ use Rattle.std.proofs.Common.{[], ◌≡◌, refl, sym, subst, Some}
 use Rattle.outcomes.specs.declared.ending.Ending.TheVariants.{Done}
 use Rattle.ch_service.specs.Answer.{Prepares}
 use Rattle.performing.specs.Status.{HasPrepared, HasRenewed, TellsPrepared}
-use Rattle.performing.proofs.Outcomes.{joined, renewed_is_prepared}
+use Rattle.performing.proofs.StatusOfOutcome.{joined, renewed_is_prepared}
 use Rattle.performing.proofs.laws.prepared_routes_are_exact.Goals as goal
 
 pub returns-clause-put : goal.returns-clause-put

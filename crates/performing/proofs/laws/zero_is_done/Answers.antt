@@ -1,4 +1,4 @@
-use Rattle.performing.proofs.Outcomes.{zero_done}
+use Rattle.performing.proofs.StatusOfOutcome.{zero_done}
 use Rattle.performing.proofs.laws.zero_is_done.Goals as goal
 
 pub returns : goal.returns

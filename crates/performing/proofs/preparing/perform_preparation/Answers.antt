@@ -1,4 +1,4 @@
-use Rattle.performing.proofs.Outcomes.{after, preparing_end}
+use Rattle.performing.proofs.StatusOfOutcome.{after, preparing_end}
 use Rattle.performing.proofs.preparing.perform_preparation.Goals as goal
 
 pub returns-clause-told : goal.returns-clause-told

@@ -1,7 +1,7 @@
 use Rattle.std.proofs.Common.{◌≡◌, rules, vec_len, arith, sym, ◌∙◌}
 use Rattle.ch_workers.specs.Options.{AreGood}
 use Rattle.performing.proofs.OneForEach.{all_for}
-use Rattle.performing.proofs.Outcomes.{told, wants_memory}
+use Rattle.performing.proofs.StatusOfOutcome.{told, wants_memory}
 use Rattle.performing.proofs.preparing.prepare_by.Goals as goal
 
 -- each estimator is one that was made for an order and a lease

@@ -1,4 +1,4 @@
-use Rattle.performing.proofs.Outcomes.{renewing_end}
+use Rattle.performing.proofs.StatusOfOutcome.{renewing_end}
 use Rattle.performing.proofs.renewing.perform_renewal.Goals as goal
 
 pub returns-clause-status : goal.returns-clause-status

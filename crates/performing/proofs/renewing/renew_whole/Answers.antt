@@ -1,6 +1,6 @@
 use Rattle.std.proofs.Common.{◌≡◌, [], rules, inr, inl, refl, option_map}
 use Rattle.outcomes.specs.declared.cause.Cause.TheVariants as causes
-use Rattle.performing.proofs.Outcomes.{renewal_refused, finished_renewed, was_done, has_renewed}
+use Rattle.performing.proofs.StatusOfOutcome.{renewal_refused, finished_renewed, was_done, has_renewed}
 use Rattle.performing.proofs.renewing.renew_whole.Goals as goal
 
 -- where memory runs out

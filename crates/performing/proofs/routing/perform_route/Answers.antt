@@ -1,4 +1,4 @@
-use Rattle.performing.proofs.Outcomes.{after, told, routing_end}
+use Rattle.performing.proofs.StatusOfOutcome.{after, told, routing_end}
 use Rattle.performing.proofs.routing.perform_route.Goals as goal
 
 tells : goal.returns-clause-told

@@ -1,4 +1,4 @@
-use Rattle.performing.proofs.Outcomes.{is_done, is_refused, serving_end}
+use Rattle.performing.proofs.StatusOfOutcome.{is_done, is_refused, serving_end}
 use Rattle.performing.proofs.serving.perform_service.Goals as goal
 
 pub returns-in-Ok-clause-told : goal.returns-in-Ok-clause-told

@@ -1,6 +1,6 @@
 use Rattle.std.proofs.Common.{◌≡◌, [], rules, inr, inl, refl, option_map}
 use Rattle.outcomes.specs.declared.cause.Cause.TheVariants as causes
-use Rattle.performing.proofs.Outcomes.{after, is_refused, finished, was_done, has_prepared}
+use Rattle.performing.proofs.StatusOfOutcome.{after, is_refused, finished, was_done, has_prepared}
 use Rattle.performing.proofs.whole.prepare_whole.Goals as goal
 
 -- where memory runs out

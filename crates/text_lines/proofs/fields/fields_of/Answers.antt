@@ -1,4 +1,4 @@
-use Rattle.text_lines.proofs.Blanks.{fields_cut}
+use Rattle.text_lines.proofs.PiecesOfPieces.{fields_cut}
 use Rattle.text_lines.proofs.fields.fields_of.Goals as goal
 
 pub returns : goal.returns

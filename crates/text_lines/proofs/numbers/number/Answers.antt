@@ -1,7 +1,7 @@
 use Rattle.std.proofs.Common.{◌≡◌, ◌∙◌, ◌<◌, ◌+◌, ◌*◌, ℕ, length, Some, sym, ap, arith, rules}
 use Rattle.std.proofs.lemmas.Bool.{eqb-false}
 use Rattle.text_lines.specs.Numbers.{capped}
-use Rattle.text_lines.proofs.Digits.{capped_after-more, capped_after-stop, capped_after-end, capped_after-start}
+use Rattle.text_lines.proofs.DigitByDigit.{capped_after-more, capped_after-stop, capped_after-end, capped_after-start}
 use Rattle.text_lines.proofs.numbers.number.Goals as goal
 
 pub loop-digit-preserved : goal.loop-digit-preserved

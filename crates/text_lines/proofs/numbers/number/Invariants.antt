@@ -1,5 +1,5 @@
 use Rattle.std.proofs.Common.{◌≡◌, ◌^◌, ◌<◌, drop}
-use Rattle.text_lines.proofs.Digits.{capped_after}
+use Rattle.text_lines.proofs.DigitByDigit.{capped_after}
 use Rattle.text_lines.proofs.numbers.number.Given as goal
 
 abbrev pub invariant-loop-digit : goal.invariant-loop-digit

@@ -1,6 +1,6 @@
 use Rattle.std.proofs.Common.{arith}
 use Rattle.std.proofs.lemmas.List.{take_rest}
-use Rattle.text_lines.proofs.Digits.{letter_front}
+use Rattle.text_lines.proofs.DigitByDigit.{letter_front}
 use Rattle.text_lines.proofs.plain.after_letter.Goals as goal
 
 pub returns : goal.returns

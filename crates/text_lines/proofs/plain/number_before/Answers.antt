@@ -1,6 +1,6 @@
 use Rattle.std.proofs.Common.{◌+◌, arith, sym, ◌∙◌}
 use Rattle.std.proofs.lemmas.List.{take_rest}
-use Rattle.text_lines.proofs.Digits.{digits_before, digits_more}
+use Rattle.text_lines.proofs.DigitByDigit.{digits_before, digits_more}
 use Rattle.text_lines.proofs.plain.number_before.Goals as goal
 
 pub returns-then-not-is_ascii_digit : goal.returns-then-not-is_ascii_digit

@@ -1,4 +1,4 @@
-use Rattle.text_lines.proofs.Digits.{AreDigits}
+use Rattle.text_lines.proofs.DigitByDigit.{AreDigits}
 use Rattle.text_lines.proofs.plain.number_before.Given as goal
 
 abbrev pub invariant-loop-i : goal.invariant-loop-i

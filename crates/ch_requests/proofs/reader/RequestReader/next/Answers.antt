@@ -1,7 +1,7 @@
 use Rattle.std.proofs.Common.{List, ℕ, ◌++◌, map, ap, sym, ◌∙◌}
 use Rattle.ch_requests.specs.Requests.{RequestsTaken, request_of, requests_with}
 use Rattle.text_lines.specs.Lines.{cut_after}
-use Rattle.ch_requests.proofs.Asking.{kept_asks}
+use Rattle.ch_requests.proofs.LineToRequest.{kept_asks}
 use Rattle.ch_requests.proofs.reader.RequestReader.next.Goals as goal
 
 pub returns-in_default-clause-asked : goal.returns-in_default-clause-asked

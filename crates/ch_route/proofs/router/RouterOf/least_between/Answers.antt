@@ -4,7 +4,7 @@ use Rattle.ch_query.specs.declared.search.FoundBetween.{FoundBetween}
 use Rattle.ch_graph.specs.Hierarchy.{Hierarchy}
 use Rattle.ch_unpack.specs.Unpacking.{IsTooLong}
 use Rattle.std.proofs.Common.{subst}
-use Rattle.ch_route.proofs.Pairs.{walk-of, value-of, node_at, found_between, long_between, is_too_long}
+use Rattle.ch_route.proofs.RoutesAreLeast.{walk-of, value-of, node_at, found_between, long_between, is_too_long}
 use Rattle.ch_route.proofs.router.RouterOf.least_between.Goals as goal
 
 pub returns-in_default-clause-found : goal.returns-in_default-clause-found

@@ -1,4 +1,4 @@
-use Rattle.ch_route.proofs.Pairs.{found-none}
+use Rattle.ch_route.proofs.RoutesAreLeast.{found-none}
 use Rattle.ch_route.proofs.router.RouterOf.least_route.Goals as goal
 
 pub returns-in_default-clause-found : goal.returns-in_default-clause-found

@@ -1,5 +1,5 @@
 use Rattle.std.proofs.Common.{refl}
-use Rattle.ch_route.proofs.Pairs.{exact-of, shortest_length, value-of}
+use Rattle.ch_route.proofs.RoutesAreLeast.{exact-of, shortest_length, value-of}
 use Rattle.ch_route.proofs.router.RouterOf.length_between.Goals as goal
 
 pub returns-clause-found : goal.returns-clause-found

@@ -2,7 +2,7 @@ use Rattle.std.proofs.Common.{length, arith}
 use Rattle.std.proofs.lemmas.Result.{IfErr-weaker, IfOk-weaker}
 use Rattle.ch_table.specs.Lengths.{AreFirstRows, AreRows, IsLengthFrom}
 use Rattle.ch_route.specs.Routes.{IsRowLength}
-use Rattle.ch_route.proofs.Pairs.{first-lengths, rows-lengths}
+use Rattle.ch_route.proofs.RoutesAreLeast.{first-lengths, rows-lengths}
 use Rattle.ch_route.proofs.router.RouterOf.lengths.Goals as goal
 
 pub returns-clause-rows : goal.returns-clause-rows

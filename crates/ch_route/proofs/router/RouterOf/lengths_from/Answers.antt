@@ -3,7 +3,7 @@ use Rattle.std.proofs.lemmas.Result.{IfOk-weaker}
 use Rattle.ch_cost.specs.Cost.{of_walk}
 use Rattle.ch_table.specs.Lengths.{IsLengthFromAny, IsRow}
 use Rattle.ch_route.specs.Between.{IsRowLengthFrom, IsRowLengthWithin}
-use Rattle.ch_route.proofs.Pairs.{row-lengths_from, row-lengths_within}
+use Rattle.ch_route.proofs.RoutesAreLeast.{row-lengths_from, row-lengths_within}
 use Rattle.ch_route.proofs.router.RouterOf.lengths_from.Goals as goal
 
 pub returns-clause-row : goal.returns-clause-row

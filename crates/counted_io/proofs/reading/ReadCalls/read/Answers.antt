@@ -1,7 +1,7 @@
 use Rattle.std.proofs.Common.{arith}
 use Rattle.std.proofs.KnownBytes.{Keeps-refl, Keeps-trans}
 use Rattle.counted_io.specs.Calls.{Waits}
-use Rattle.counted_io.proofs.Calling.{not_so, wait_more, ends_by, fails_by, called_to_end, called_to_failure, called_to_wait}
+use Rattle.counted_io.proofs.CallAfterCall.{not_so, wait_more, ends_by, fails_by, called_to_end, called_to_failure, called_to_wait}
 use Rattle.counted_io.proofs.reading.ReadCalls.read.Goals as goal
 
 pub loop-self-init : goal.loop-self-init

@@ -1,6 +1,6 @@
 use Rattle.std.proofs.Common.{refl, sym, append-nil}
 use Rattle.counted_io.specs.Sinks.Laws.{puts_as}
-use Rattle.counted_io.proofs.Sinking.{passed}
+use Rattle.counted_io.proofs.SinkPassesOn.{passed}
 use Rattle.counted_io.proofs.sink.Sink.pass_on.Goals as goal
 
 pub returns-clause-puts : goal.returns-clause-puts

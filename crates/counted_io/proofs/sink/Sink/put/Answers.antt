@@ -1,4 +1,4 @@
-use Rattle.counted_io.proofs.Sinking.{gathered}
+use Rattle.counted_io.proofs.SinkPassesOn.{gathered}
 use Rattle.counted_io.proofs.sink.Sink.put.Goals as goal
 
 pub returns-then-bytes-self : goal.returns-then-bytes-self

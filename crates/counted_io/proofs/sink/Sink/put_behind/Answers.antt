@@ -1,7 +1,7 @@
 use Rattle.std.proofs.Common.{◌≡◌, List, ℕ, [], ◌++◌, take, sym, ap, ◌∙◌}
 use Rattle.counted_io.specs.Sinks.{Gathered}
 use Rattle.counted_io.specs.Sinks.Laws.{puts_as, puts_then}
-use Rattle.counted_io.proofs.Sinking.{gathered, passed}
+use Rattle.counted_io.proofs.SinkPassesOn.{gathered, passed}
 use Rattle.counted_io.proofs.sink.Sink.put_behind.Goals as goal
 
 pub returns-then-bytes-gt-BUFFER : goal.returns-then-bytes-gt-BUFFER

@@ -1,6 +1,6 @@
 use Rattle.std.proofs.Common.{arith}
-use Rattle.counted_io.proofs.Calling.{called_to_take, called_to_stop}
-use Rattle.counted_io.proofs.Taking.{hands_on_part}
+use Rattle.counted_io.proofs.CallAfterCall.{called_to_take, called_to_stop}
+use Rattle.counted_io.proofs.FirstBytesTaken.{hands_on_part}
 use Rattle.counted_io.proofs.writing.WriteCalls.write.Goals as goal
 
 pub returns-then-taken-bytes-clause-err : goal.returns-then-taken-bytes-clause-err

@@ -1,12 +1,12 @@
 use Rattle.std.proofs.Common.{◌≡◌, None, subst}
 use Rattle.std.specs.Result.{IfErr}
 use Rattle.ch_graph.specs.declared.road.Road.{Road}
-use Rattle.grfile.proofs.Before.{first_taken, graph_text}
+use Rattle.grfile.proofs.LaterFaults.{first_taken, graph_text}
 use Rattle.ch_graph.specs.Limits.{IsGraph}
 use Rattle.grfile.specs.Roads.{graph_grammar}
 use Rattle.grfile.specs.Taken.{ComesFirst, Taken, graph_with, taken_of}
-use Rattle.grfile.proofs.Cuttings.{still_holds}
-use Rattle.grfile.proofs.Readings.{as_graph}
+use Rattle.grfile.proofs.TextInPieces.{still_holds}
+use Rattle.grfile.proofs.LinesToText.{as_graph}
 use Rattle.grfile.proofs.graph_reader.GrReader.feed.Goals as goal
 
 pub invariant_of-self : goal.invariant_of-self

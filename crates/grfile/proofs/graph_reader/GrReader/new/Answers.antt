@@ -4,8 +4,8 @@ use Rattle.grfile.specs.declared.error.GrError.{GrError}
 use Rattle.grfile.specs.Grammar.{Listing}
 use Rattle.grfile.specs.Outcome.{◌>>=◌}
 use Rattle.grfile.specs.Roads.{graph_grammar}
-use Rattle.grfile.proofs.Cuttings.{told_first}
-use Rattle.grfile.proofs.Readings.{as_graph, graph_seen, graph_sound}
+use Rattle.grfile.proofs.TextInPieces.{told_first}
+use Rattle.grfile.proofs.LinesToText.{as_graph, graph_seen, graph_sound}
 use Rattle.grfile.proofs.graph_reader.GrReader.new.Goals as goal
 
 pub returns-clause-told : goal.returns-clause-told

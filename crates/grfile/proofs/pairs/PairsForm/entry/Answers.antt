@@ -1,4 +1,4 @@
-use Rattle.grfile.proofs.Faults.{pair_of-at}
+use Rattle.grfile.proofs.LineFaults.{pair_of-at}
 use Rattle.grfile.proofs.pairs.PairsForm.entry.Goals as goal
 
 pub returns-clause-refused : goal.returns-clause-refused

@@ -1,4 +1,4 @@
-use Rattle.grfile.proofs.Faults.{pairs_size-at}
+use Rattle.grfile.proofs.LineFaults.{pairs_size-at}
 use Rattle.grfile.proofs.pairs.PairsForm.size.Goals as goal
 
 pub returns-clause-refused : goal.returns-clause-refused

@@ -1,13 +1,13 @@
 use Rattle.std.proofs.Common.{◌≡◌, None}
 use Rattle.std.specs.Result.{IfErr}
-use Rattle.grfile.proofs.Before.{first_taken, pairs_text}
+use Rattle.grfile.proofs.LaterFaults.{first_taken, pairs_text}
 use Rattle.std.proofs.Common.{◌++◌, List, ℕ, All, subst}
 use Rattle.grfile.specs.Pairs.{pair_grammar}
 use Rattle.grfile.specs.Reading.{IsPair}
 use Rattle.grfile.specs.Taken.{ComesFirst, PairsTaken, pairs_with, taken_of}
 use Rattle.grfile.specs.Outcome.{Takes}
-use Rattle.grfile.proofs.Cuttings.{still_holds, takes_seen}
-use Rattle.grfile.proofs.Readings.{as_pairs}
+use Rattle.grfile.proofs.TextInPieces.{still_holds, takes_seen}
+use Rattle.grfile.proofs.LinesToText.{as_pairs}
 use Rattle.grfile.proofs.query_reader.QueryReader.feed.Goals as goal
 
 pub invariant_of-self : goal.invariant_of-self

@@ -4,7 +4,7 @@ use Rattle.grfile.specs.Grammar.{Listing}
 use Rattle.grfile.specs.Outcome.{◌>>=◌}
 use Rattle.grfile.specs.Reading.{IsPair}
 use Rattle.grfile.specs.Taken.{PairsTaken}
-use Rattle.grfile.proofs.Readings.{as_pairs}
+use Rattle.grfile.proofs.LinesToText.{as_pairs}
 use Rattle.grfile.proofs.query_reader.QueryReader.finish.Goals as goal
 
 pub returns-clause-in_range : goal.returns-clause-in_range

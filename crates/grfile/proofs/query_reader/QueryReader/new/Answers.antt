@@ -3,8 +3,8 @@ use Rattle.grfile.specs.declared.error.GrError.{GrError}
 use Rattle.grfile.specs.Grammar.{Listing}
 use Rattle.grfile.specs.Outcome.{◌>>=◌}
 use Rattle.grfile.specs.Pairs.{pair_grammar}
-use Rattle.grfile.proofs.Cuttings.{told_first}
-use Rattle.grfile.proofs.Readings.{as_pairs, pairs_seen, pairs_sound}
+use Rattle.grfile.proofs.TextInPieces.{told_first}
+use Rattle.grfile.proofs.LinesToText.{as_pairs, pairs_seen, pairs_sound}
 use Rattle.grfile.proofs.query_reader.QueryReader.new.Goals as goal
 
 pub returns-clause-told : goal.returns-clause-told

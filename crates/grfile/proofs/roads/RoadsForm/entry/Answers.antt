@@ -1,4 +1,4 @@
-use Rattle.grfile.proofs.Faults.{road_of-at}
+use Rattle.grfile.proofs.LineFaults.{road_of-at}
 use Rattle.grfile.proofs.roads.RoadsForm.entry.Goals as goal
 
 pub returns-clause-refused : goal.returns-clause-refused

@@ -1,4 +1,4 @@
-use Rattle.grfile.proofs.Faults.{graph_size-at}
+use Rattle.grfile.proofs.LineFaults.{graph_size-at}
 use Rattle.grfile.proofs.roads.RoadsForm.size.Goals as goal
 
 pub returns-clause-refused : goal.returns-clause-refused

@@ -1,6 +1,6 @@
 use Rattle.std.proofs.Common.{arith}
 use Rattle.std.proofs.lemmas.Grind.{common_steps}
-use Rattle.hierfile.proofs.ReadParts.{hands_back}
+use Rattle.hierfile.proofs.PartAfterPart.{hands_back}
 use Rattle.hierfile.proofs.byte_reader.ByteReader.byte.Goals as goal
 
 pub index-byte-requires : goal.index-byte-requires

@@ -3,7 +3,7 @@ use Rattle.std.specs.Io.KnownBytes.{Keeps}
 use Rattle.std.proofs.KnownBytes.{Keeps-refl, Keeps-trans}
 use Rattle.std.proofs.lemmas.Grind.{common_steps}
 use Rattle.std.proofs.lemmas.List.{length-take-le}
-use Rattle.hierfile.proofs.ReadParts.{moved, kept, written_back, stops_short, hands_back}
+use Rattle.hierfile.proofs.PartAfterPart.{moved, kept, written_back, stops_short, hands_back}
 use Rattle.counted_io.specs.Limits.{IsRead}
 use Rattle.counted_io.specs.Limits.Laws.{failed_after, read_none, read_then}
 use Rattle.hierfile.specs.declared.error.HierError.TheVariants.{Read}

@@ -1,4 +1,4 @@
-use Rattle.hierfile.proofs.ReadParts.{takes_waiting}
+use Rattle.hierfile.proofs.PartAfterPart.{takes_waiting}
 use Rattle.hierfile.proofs.byte_reader.ByteReader.long.Goals as goal
 
 pub returns : goal.returns

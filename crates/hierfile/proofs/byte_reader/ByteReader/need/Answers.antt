@@ -1,8 +1,8 @@
 use Rattle.std.proofs.KnownBytes.{Keeps-refl}
 use Rattle.counted_io.specs.Limits.Laws.{read_none}
 use Rattle.hierfile.specs.Fault.{cut}
-use Rattle.hierfile.proofs.Faults.{cut_short}
-use Rattle.hierfile.proofs.ReadParts.{hands_back, read_failed}
+use Rattle.hierfile.proofs.FaultsOfParts.{cut_short}
+use Rattle.hierfile.proofs.PartAfterPart.{hands_back, read_failed}
 use Rattle.hierfile.proofs.byte_reader.ByteReader.need.Goals as goal
 
 pub returns-then-self-count-clause-reads : goal.returns-then-self-count-clause-reads

@@ -2,7 +2,7 @@ use Rattle.std.proofs.Common.{ℕ, List, take, drop, sym, ap, ◌∙◌, arith}
 use Rattle.std.proofs.lemmas.List.{drop-drop}
 use Rattle.std.proofs.lemmas.Grind.{common_steps}
 use Rattle.hierfile.specs.Bytes.{Buffered}
-use Rattle.hierfile.proofs.ReadParts.{between, parted}
+use Rattle.hierfile.proofs.PartAfterPart.{between, parted}
 use Rattle.hierfile.proofs.byte_reader.ByteReader.waiting_long.Goals as goal
 
 pub returns : goal.returns

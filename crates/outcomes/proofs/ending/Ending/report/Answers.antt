@@ -1,6 +1,6 @@
 use Rattle.std.proofs.Common.{subst}
 use Rattle.outcomes.specs.Outcomes.{IsQuiet}
-use Rattle.outcomes.proofs.Loud.{loud}
+use Rattle.outcomes.proofs.RefusalsAreShown.{loud}
 use Rattle.outcomes.proofs.ending.Ending.report.Goals as goal
 
 pub returns-in-Refused-clause-quiet : goal.returns-in-Refused-clause-quiet

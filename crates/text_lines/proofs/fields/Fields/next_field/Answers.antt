@@ -1,7 +1,7 @@
 use Rattle.std.proofs.Common.{◌∙◌, length, ap, arith}
 use Rattle.std.specs.List.{filter}
 use Rattle.text_lines.specs.Fields.{is_field}
-use Rattle.text_lines.proofs.Blanks.{next_word}
+use Rattle.text_lines.proofs.PiecesOfPieces.{next_word}
 use Rattle.text_lines.proofs.fields.Fields.next_field.Goals as goal
 
 pub loop-part-smaller-in-Some-next : goal.loop-part-smaller-in-Some-next

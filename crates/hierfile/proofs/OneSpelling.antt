@@ -9,16 +9,16 @@ use Rattle.ch_graph.specs.declared.version.Version.TheVariants.{One, Two}
 use Rattle.ch_graph.specs.Hierarchy.{Hierarchy, IsWellMade, IsLinkWellMade, Counts, bound_arcs}
 use Rattle.hierfile.specs.Spelling.{magic_of, word, word_in, long_in, version_in, link_bytes, head_bytes, bound_in, words_in, links_in, bytes_of, long, arcs_bytes, arcs_size, link_size, middle_number, middle_in, arcs_in, link_in, stem}
 use Rattle.hierfile.specs.Bytes.{AreTold, IsWritable, NoneBelow}
-use Rattle.hierfile.proofs.Faults.{sizes, nodes-sizes, links-sizes, bound-sizes, drop-sizes, first_none, second_none, below_none, none_cut, at_rank}
-use Rattle.hierfile.proofs.Bodies.{words-all, links-all, drop-words, few_enough}
-use Rattle.hierfile.proofs.WellMade.{drop-magic, version_in-magic, untrue, well_made, at_magic, same_head}
+use Rattle.hierfile.proofs.FaultsOfParts.{sizes, nodes-sizes, links-sizes, bound-sizes, drop-sizes, first_none, second_none, below_none, none_cut, at_rank}
+use Rattle.hierfile.proofs.BodyFaults.{words-all, links-all, drop-words, few_enough}
+use Rattle.hierfile.proofs.FaultlessIsWellMade.{drop-magic, version_in-magic, untrue, well_made, at_magic, same_head}
 use Rattle.std.specs.Int.{w32, w64, from_be_bytes}
 use Rattle.std.proofs.lemmas.Bool.Decides.{nat_tests}
 use Rattle.std.proofs.lemmas.List.{take-append-drop, drop-drop, nil_from_length}
 use Rattle.std.proofs.lemmas.List.Elements.{All-drop}
 use Rattle.std.proofs.lemmas.Nat.{be_bytes_4, be_bytes_8}
 use Rattle.std.proofs.Math.Nat.{mul-suc}
-use Rattle.hierfile.proofs.ReadParts.{first_four, first_eight, four_fit, eight_fit}
+use Rattle.hierfile.proofs.PartAfterPart.{first_four, first_eight, four_fit, eight_fit}
 use Rattle.hierfile.specs.declared.error.HierError.{HierError}
 use Rattle.hierfile.specs.declared.error.HierError.TheVariants.{BadMagic, Trailing}
 use Rattle.hierfile.specs.Fault.{◌otherwise◌, fault_if, cut, is_magic, magic_fault, head_fault, size_fault, rank_fault, ranks_fault, link_fault_at, links_fault, half_fault, first_along, end_fault, body_fault, first_fault}

@@ -18,10 +18,10 @@ use Rattle.hierfile.specs.declared.error.HierError.TheVariants.{LinkEnds, LinkOr
 use Rattle.hierfile.specs.Spelling.{magic_of, word, link_bytes, head_bytes, bound_in, bytes_of}
 use Rattle.hierfile.specs.Fault.{size_fault, rank_test, rank_fault, does_count, has_weight, link_fault, link_fault_at, middle_fault, is_before, is_in_order, half_fault, halves_fault, sum_fault, leads, first_along, body_fault, first_fault}
 use Rattle.hierfile.specs.Bytes.{NoneBelow}
-use Rattle.hierfile.proofs.Faults.{neither, unfound, sizes}
-use Rattle.hierfile.proofs.WellMade.{find-at, slice_get-at, first_fault-sizes}
-use Rattle.hierfile.proofs.Bodies.{body_after_links, few_links, few_enough}
-use Rattle.hierfile.proofs.Spellings.{bound_fits, bound_is, links_fit}
+use Rattle.hierfile.proofs.FaultsOfParts.{neither, unfound, sizes}
+use Rattle.hierfile.proofs.FaultlessIsWellMade.{find-at, slice_get-at, first_fault-sizes}
+use Rattle.hierfile.proofs.BodyFaults.{body_after_links, few_links, few_enough}
+use Rattle.hierfile.proofs.OneSpelling.{bound_fits, bound_is, links_fit}
 
 -- Sizes
 

@@ -18,7 +18,7 @@ use Rattle.ch_cost.specs.Cost.Numbers.{length_of-of_walk, arcs_of-of_walk, lengt
 use Rattle.ch_graph.specs.declared.version.Version.{Version}
 use Rattle.ch_graph.specs.declared.version.Version.TheVariants.{One, Two}
 use Rattle.hierfile.specs.Spelling.{bound_in, magic_of, word, word_in, long_in, version_in, link_bytes, head_bytes, bytes_of}
-use Rattle.hierfile.proofs.Faults.{first_none, second_none, rank_in, earlier, later, neither, none_below, cut_none, unfound, sizes, head_fault-sizes, nodes-sizes, links-sizes, bound-sizes, drop-sizes}
+use Rattle.hierfile.proofs.FaultsOfParts.{first_none, second_none, rank_in, earlier, later, neither, none_below, cut_none, unfound, sizes, head_fault-sizes, nodes-sizes, links-sizes, bound-sizes, drop-sizes}
 use Rattle.std.specs.Io.KnownBytes.{Consumes}
 use Rattle.std.proofs.KnownBytes.{prepend_known-nil}
 

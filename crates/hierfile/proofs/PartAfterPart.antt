@@ -16,7 +16,7 @@ use Rattle.counted_io.specs.Limits.Laws.{read_none, read_then, reads_then, refus
 use Rattle.hierfile.specs.declared.error.HierError.{HierError}
 use Rattle.hierfile.specs.declared.error.HierError.TheVariants.{OutOfMemory, Read, Truncated}
 use Rattle.hierfile.specs.Reading.{FailsBefore, HasRead, IsRefused, Refuses}
-use Rattle.hierfile.proofs.Faults.{behind, found, memory_is_no_read, read_is_no_memory}
+use Rattle.hierfile.proofs.FaultsOfParts.{behind, found, memory_is_no_read, read_is_no_memory}
 use Rattle.std.specs.List.{flat_map, list_any}
 use Rattle.std.proofs.lemmas.List.Concat.{flat_map-append}
 use Rattle.std.proofs.lemmas.List.Elements.{All-push}

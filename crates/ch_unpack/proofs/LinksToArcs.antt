@@ -8,7 +8,7 @@ use Rattle.ch_graph.specs.Hierarchy.{Hierarchy, IsWellMade, UnfoldsAll.done}
 use Rattle.ch_graph.specs.LinkHalves.{ArePartsOf}
 use Rattle.ch_graph.specs.Unfolding.{Joined, LinksUnfold}
 use Rattle.ch_unpack.specs.Unpacking.{Unfolded, IsUnpacked, IsTooLong}
-use Rattle.ch_unpack.proofs.Refining.{heads, among_links, before, within, Passed, pass, split, nothing_left, places_at_most_arcs}
+use Rattle.ch_unpack.proofs.FirstLinkUnfolds.{heads, among_links, before, within, Passed, pass, split, nothing_left, places_at_most_arcs}
 
 -- The links of the route unfold to arcs. Their heads are the nodes so far and those of the rest, to which the links
 -- ahead unfold, the nearest of them last.

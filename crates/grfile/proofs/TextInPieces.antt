@@ -17,7 +17,7 @@ use Rattle.grfile.specs.Grammar.{Grammar, Listing, listing_after}
 use Rattle.grfile.specs.Taken.{CountsLines, HasTaken, IsAtEndOf, IsLineReached, IsReachedAfter, StopsAtReached, Taken, told_with}
 use Rattle.grfile.specs.ToTheEnd.{ReachesEnd, ReadsToEnd}
 use Rattle.text_lines.specs.Lines.Laws.{feeds_both, lines_first}
-use Rattle.grfile.proofs.Readings.{from_text_map}
+use Rattle.grfile.proofs.LinesToText.{from_text_map}
 
 pub counts_one : (r : Result ⊤ GrError) (old new : ℕ) → MatchResult r (λ _. new ≡ next_line old) (λ e. (new ≡ old) × IsOfLine (next_line old) e) → CountsLines r old 1 new
 counts_one (Ok x) old new h = h

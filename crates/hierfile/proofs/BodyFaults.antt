@@ -9,8 +9,8 @@ use Rattle.hierfile.specs.declared.error.HierError.TheVariants.{Trailing}
 use Rattle.hierfile.specs.Spelling.{word, link_bytes, link_size, bound_in, words_in, links_in}
 use Rattle.hierfile.specs.Fault.{◌otherwise◌, fault_if, rank_fault, ranks_fault, link_fault_at, links_fault, half_fault, first_along, end_fault, body_fault}
 use Rattle.hierfile.specs.Bytes.{HasNoneButHalves, IsCutOrWhole, NoneBelow, IsWritable}
-use Rattle.hierfile.proofs.Faults.{earlier, words_in-front, links_in-front, length-words, length-links, ranks_none, all_small}
-use Rattle.hierfile.proofs.WellMade.{IsOfHalves, along_halves, but_halves, either_of_halves}
+use Rattle.hierfile.proofs.FaultsOfParts.{earlier, words_in-front, links_in-front, length-words, length-links, ranks_none, all_small}
+use Rattle.hierfile.proofs.FaultlessIsWellMade.{IsOfHalves, along_halves, but_halves, either_of_halves}
 use Rattle.hierfile.proofs.LinkFaults.{links_none}
 use Rattle.std.proofs.lemmas.Nat.{mul-le}
 use Rattle.ch_graph.specs.Hierarchy.{Hierarchy, IsWellMade, ComesBefore}

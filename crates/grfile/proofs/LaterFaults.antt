@@ -21,9 +21,9 @@ use Rattle.grfile.specs.Pairs.{pair_grammar}
 use Rattle.grfile.specs.Reading.{graph_of, pairs_of}
 use Rattle.grfile.specs.Taken.{ComesFirst, HasTaken, IsAtEndOf, IsReadTo, StopsWith, Taken, told_with}
 use Rattle.grfile.specs.ToTheEnd.{ReachesEnd, ReadsText, StopsBefore}
-use Rattle.grfile.proofs.Cuttings.{told_first, wants_memory}
-use Rattle.grfile.proofs.Faults.{bind_err, test_err, graph_size-at, road_of-at, pairs_size-at, pair_of-at}
-use Rattle.grfile.proofs.Readings.{as_graph, as_pairs, from_text_map, graph_seen, pairs_seen}
+use Rattle.grfile.proofs.TextInPieces.{told_first, wants_memory}
+use Rattle.grfile.proofs.LineFaults.{bind_err, test_err, graph_size-at, road_of-at, pairs_size-at, pair_of-at}
+use Rattle.grfile.proofs.LinesToText.{as_graph, as_pairs, from_text_map, graph_seen, pairs_seen}
 
 -- The first line that a fault may be of, among these after line n: at the end of a text it is of line n.
 abbrev least_line : ℕ → List (List ℕ) → ℕ
