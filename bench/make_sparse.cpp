@@ -256,7 +256,7 @@ uint64_t number(const char *word) {
     char *end;
     uint64_t value = std::strtoull(word, &end, 10);
     if (*word < '0' || *word > '9' || *end) {
-        std::fprintf(stderr, "make_sparse: %s is no number\n", word);
+        std::fprintf(stderr, "make_sparse: %s isn't a number\n", word);
         std::exit(2);
     }
     return value;

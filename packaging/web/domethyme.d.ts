@@ -58,7 +58,7 @@ export class Domethyme {
 }
 
 /**
- * A hierarchy. Arguments that are no whole numbers, or out of the range of the library's integers, are a TypeError or a RangeError;
+ * A hierarchy. Arguments that aren't integers, or out of the range of the library's integers, are a TypeError or a RangeError;
  * what the library refuses is a DomethymeError. After OutOfMemory it works as before.
  */
 export class Router {

@@ -256,21 +256,21 @@ export class Router {
 /** What stands for the length of a pair without a path in typed arrays, and for a limit that is none. */
 export { NO_LENGTH };
 
-// A whole number from 0 to 2^32 - 1. TypeError for what is no number, RangeError for others.
+// An integer from 0 to 2^32 - 1. TypeError for what isn't a number, RangeError for others.
 function whole(value, name) {
   if (typeof value !== "number") throw new TypeError(`${name} has to be a number`);
-  if (!Number.isInteger(value) || value < 0 || value > MOST) throw new RangeError(`${name} has to be a whole number from 0 to ${MOST}`);
+  if (!Number.isInteger(value) || value < 0 || value > MOST) throw new RangeError(`${name} has to be an integer from 0 to ${MOST}`);
   return value;
 }
 
-// A whole number from 0 to 2^64 - 1, as BigInt.
+// An integer from 0 to 2^64 - 1, as BigInt.
 function big(value, name) {
   if (typeof value === "bigint") {
     if (value < 0n || value > NO_LENGTH) throw new RangeError(`${name} has to be from 0 to 2^64 - 1`);
     return value;
   }
   if (typeof value !== "number") throw new TypeError(`${name} has to be a number or a BigInt`);
-  if (!Number.isSafeInteger(value) || value < 0) throw new RangeError(`${name} has to be a whole number from 0 on`);
+  if (!Number.isSafeInteger(value) || value < 0) throw new RangeError(`${name} has to be an integer from 0 on`);
   return BigInt(value);
 }
 

@@ -76,7 +76,7 @@ def __dir__() -> list[str]:
 
 
 def __getattr__(name: str) -> Any:
-    """What needs numpy is loaded when it is first asked for, and a name is found by its old word too."""
+    """What needs numpy is loaded when it is first asked for, and a deprecated alias is found too."""
     if name in RENAMED:
         warn_renamed(f"domethyme.{name}", RENAMED[name])
         return globals()[RENAMED[name]]

@@ -85,10 +85,10 @@ def test_the_calls_of_the_library(network):
     """Codes of domethyme_table: what it doesn't answer it doesn't write."""
     numbers = ctypes.c_uint32 * 9
     lengths = (ctypes.c_uint64 * 81)(*[7] * 81)
-    with network[0]._router.searcher() as seat:
+    with network[0]._router.searcher() as searcher:
         def asked(sources, targets, room):
             sides = numbers(*sources), len(sources), numbers(*targets), len(targets)
-            return seat._library.domethyme_table(seat._at, *sides, lengths, room)
+            return searcher._library.domethyme_table(searcher._at, *sides, lengths, room)
 
         assert asked(range(9), range(9), 80) == NO_ROOM
         assert asked([0, NODES], range(9), 81) == NODE_RANGE

@@ -33,7 +33,7 @@ def parser(told: str) -> argparse.ArgumentParser:
 def positive(word: str) -> int:
     """A number of things to try, for a parser: 0 would try nothing."""
     if not word.isdecimal() or int(word) == 0:
-        raise argparse.ArgumentTypeError(f"{word!r} is no number from 1 on")
+        raise argparse.ArgumentTypeError(f"{word!r} isn't a number from 1 on")
     return int(word)
 
 

@@ -1,4 +1,4 @@
-//! One route, or its length alone: the least walk from one node to another, by a hierarchy.
+//! Routes, their lengths alone, and rows of lengths, by a hierarchy: least walks from one node to another.
 //!
 //! Uses `ch_query` for the least rise-fall walk of the hierarchy, `ch_unpack` for the nodes that its links represent, and
 //! of `ch_laws` why both together are a least walk of the graph. Its main type is [`Router`]. The promise of the layer is

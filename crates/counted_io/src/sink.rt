@@ -36,7 +36,7 @@ impl Model for Sink {
 }
 
 impl Sink {
-    /// Returns a sink into which nothing was put yet, whose writer may be called so often, but no more than 2^40 times.
+    /// Returns a sink into which nothing was put yet, whose writer is called at most `calls` times, and at most 2^40.
     pub fn new(calls: u64) -> Sink
         ensures { result ≡ nothing_put (min calls MOST_CALLS) }
     {

@@ -40,7 +40,7 @@ impl Model for ByteReader {
 }
 
 impl ByteReader {
-    /// Nothing waits, and the reader may be called so often.
+    /// Nothing waits. The reader is called at most `calls` times, and at most 2^40.
     pub fn new(alloc: Global, calls: u64) -> Result<ByteReader, AllocError>
         ensures { IfOk result (λ input. input ≡ record { waiting = []; left = min calls MOST_CALLS }) }
     {

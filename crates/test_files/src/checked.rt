@@ -402,13 +402,13 @@ fn are_refused(alloc: Global, cases: &[Refused]) -> Result<bool, AllocError> {
 }
 
 #[test]
-fn tells_why_it_is_not_made(rt: HostRuntime) -> Result<(), Fail> {
+fn reports_why_none_is_made(rt: HostRuntime) -> Result<(), Fail> {
     assert!(rt; are_refused(rt.alloc(), REFUSED)?);
     Ok(())
 }
 
 #[test]
-fn tells_of_too_many_nodes(rt: HostRuntime) -> Result<(), Fail> {
+fn refuses_too_many_nodes(rt: HostRuntime) -> Result<(), Fail> {
     let ranks = vec![in rt.alloc(); 0u32; 33_554_433]?;
     let refused = Hierarchy::checked(rt.alloc(), ranks, Vec::new(rt.alloc()), Cost::ZERO).err();
     assert!(rt; refused == Some(HierarchyError::TooManyNodes));

@@ -136,8 +136,8 @@ fn are_told(graph: &Graph, walks: &[Walk]) -> bool {
     holds
 }
 
-/// Whether the graph of these arcs tells walks from other lists of nodes.
-fn tells(alloc: Global, nodes: u32, arcs: &[Arc], walks: &[Walk]) -> Result<bool, Fail> {
+/// Whether the graph of these arcs distinguishes walks from other lists of nodes.
+fn distinguishes(alloc: Global, nodes: u32, arcs: &[Arc], walks: &[Walk]) -> Result<bool, Fail> {
     let graph = graph_of(alloc, nodes, arcs)?;
     Ok(are_told(&graph, walks))
 }
@@ -287,8 +287,8 @@ const WALKS_OF_PARALLEL: &[Walk] = &[
 ];
 
 #[test]
-fn tells_walks(rt: HostRuntime) -> Result<(), Fail> {
-    assert!(rt; tells(rt.alloc(), 3, ROW, WALKS_OF_ROW)?);
-    assert!(rt; tells(rt.alloc(), 2, PARALLEL, WALKS_OF_PARALLEL)?);
+fn distinguishes_walks(rt: HostRuntime) -> Result<(), Fail> {
+    assert!(rt; distinguishes(rt.alloc(), 3, ROW, WALKS_OF_ROW)?);
+    assert!(rt; distinguishes(rt.alloc(), 2, PARALLEL, WALKS_OF_PARALLEL)?);
     Ok(())
 }

@@ -80,7 +80,7 @@ fn is_told(alloc: Global, is_indexed: bool) -> Result<bool, Fail> {
 }
 
 #[test]
-fn tells_its_parts(rt: HostRuntime) -> Result<(), Fail> {
+fn returns_the_parts_of_links(rt: HostRuntime) -> Result<(), Fail> {
     assert!(rt; is_told(rt.alloc(), false)?);
     assert!(rt; is_told(rt.alloc(), true)?);
     Ok(())

@@ -375,7 +375,7 @@ fn pairs_are_within(alloc: Global, cases: &[Wanting]) -> bool {
 }
 
 #[test]
-fn lines_that_want_memory(rt: HostRuntime) {
+fn lines_that_take_memory(rt: HostRuntime) {
     assert!(rt; graphs_are_within(rt.alloc(), &WANTING));
     assert!(rt; pairs_are_within(rt.alloc(), &PAIRS_WANTING));
 }

@@ -66,7 +66,7 @@ impl Write for Narrow {
 struct Bench {
     room: usize,
     put: bool,
-    thrown_away: bool,
+    discarded: bool,
 }
 
 impl Destination for Bench {
@@ -82,7 +82,7 @@ impl Destination for Bench {
     }
 
     fn discard(&mut self, _draft: Narrow) {
-        self.thrown_away = true;
+        self.discarded = true;
     }
 }
 
@@ -183,13 +183,13 @@ fn a_file_comes_where_nothing_stood(rt: HostRuntime) {
     assert!(rt; comes_where_nothing_stood(&rt, rt.alloc()));
 }
 
-/// Whether a draft that takes this many bytes is put if it is whole, and else thrown away.
-fn is_thrown_away<R: Threads + Wait + Sync>(rt: &R, alloc: Global, room: usize) -> bool {
+/// Whether a draft that takes this many bytes is put if it is whole, and else discarded.
+fn is_discarded<R: Threads + Wait + Sync>(rt: &R, alloc: Global, room: usize) -> bool {
     let mut graph = ONE_ARC_TEXT;
     let mut bench = Bench {
         room,
         put: false,
-        thrown_away: false,
+        discarded: false,
     };
     let is_whole = room == ONE_ARC.len();
     let (status, line) = if is_whole {
@@ -198,12 +198,12 @@ fn is_thrown_away<R: Threads + Wait + Sync>(rt: &R, alloc: Global, room: usize) 
         (7, b"routecli: write\n".as_slice())
     };
     let is_ended = is_ended(rt, alloc, &mut graph, &mut bench, status, line);
-    is_ended & (bench.put == is_whole) & (bench.thrown_away != is_whole)
+    is_ended & (bench.put == is_whole) & (bench.discarded != is_whole)
 }
 
 #[test]
-fn a_draft_that_is_cut_is_thrown_away(rt: HostRuntime) {
+fn a_draft_that_is_cut_is_discarded(rt: HostRuntime) {
     for room in [0, 1, 55, 56] {
-        assert!(rt; is_thrown_away(&rt, rt.alloc(), room));
+        assert!(rt; is_discarded(&rt, rt.alloc(), room));
     }
 }

@@ -266,7 +266,7 @@ fn are_explained(alloc: Global, lines: &[&str]) -> Result<bool, Fail> {
 }
 
 #[test]
-fn words_that_ask_for_explanations(rt: HostRuntime) -> Result<(), Fail> {
+fn arguments_that_ask_for_explanations(rt: HostRuntime) -> Result<(), Fail> {
     assert!(rt; are_explained(rt.alloc(), &EXPLAINED)?);
     Ok(())
 }
@@ -292,14 +292,14 @@ fn are_chosen(alloc: Global, cases: &[Chosen]) -> Result<bool, Fail> {
 }
 
 #[test]
-fn words_that_name_a_job(rt: HostRuntime) -> Result<(), Fail> {
+fn arguments_that_name_a_job(rt: HostRuntime) -> Result<(), Fail> {
     assert!(rt; are_named(rt.alloc(), &NAMED)?);
     assert!(rt; are_chosen(rt.alloc(), &CHOSEN)?);
     Ok(())
 }
 
 /// Whether the user is shown this line alone, on standard error, with this status.
-fn tells_line(alloc: Global, why: &Stop, status: u8, line: &[u8]) -> bool {
+fn shows_line(alloc: Global, why: &Stop, status: u8, line: &[u8]) -> bool {
     let mut out = Vec::new(alloc);
     let mut err = Vec::new(alloc);
     let shown = show_stop(why, &mut out, &mut err);
@@ -307,6 +307,6 @@ fn tells_line(alloc: Global, why: &Stop, status: u8, line: &[u8]) -> bool {
 }
 
 #[test]
-fn want_of_memory(rt: HostRuntime) {
-    assert!(rt; tells_line(rt.alloc(), &Stop::OutOfMemory, 6, b"routecli: memory\n"));
+fn out_of_memory(rt: HostRuntime) {
+    assert!(rt; shows_line(rt.alloc(), &Stop::OutOfMemory, 6, b"routecli: memory\n"));
 }

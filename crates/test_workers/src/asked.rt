@@ -168,7 +168,7 @@ fn puts_back_once(tally: &Tally, built: &Built) -> bool {
 type Slowly = Both<Both<OneAtATime, Slow>, Tally>;
 
 /// Whether two workers, who put a node back before each commit, do so once in three shifts or more.
-fn put_back<R: Threads + Wait + Sync>(rt: &R, alloc: Global, gate: &Slowly) -> Result<bool, Fail> {
+fn requeue<R: Threads + Wait + Sync>(rt: &R, alloc: Global, gate: &Slowly) -> Result<bool, Fail> {
     let asked = Asked::new(alloc, 0)?;
     let options = Options { defer: 1, ..TWO };
     let built = built_by(rt, alloc, cliques(alloc, 200)?, options, &asked, gate)?;
@@ -188,6 +188,6 @@ fn deferrals_go_on_in_the_next_shift(rt: HostRuntime) -> Result<(), Fail> {
         },
         second: Tally::new(),
     };
-    assert!(rt; put_back(&rt, rt.alloc(), &gate)?);
+    assert!(rt; requeue(&rt, rt.alloc(), &gate)?);
     Ok(())
 }

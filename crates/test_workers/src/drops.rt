@@ -12,7 +12,7 @@ use std::test::Fail;
 use std::thread::Threads;
 
 /// Whether the first of two estimators of one worker alone receives entries of the tie's log, three of them.
-fn hears_by_one<R: Threads + Wait + Sync>(rt: &R, alloc: Global) -> Result<bool, Fail> {
+fn catches_up_alone<R: Threads + Wait + Sync>(rt: &R, alloc: Global) -> Result<bool, Fail> {
     let traces = Traces::new(alloc, 1, 2)?;
     let graph = tie(alloc)?;
     let built = built_by(rt, alloc, graph, ONE, Keys::Greatest, &traces, &OpenGate)??;
@@ -22,8 +22,8 @@ fn hears_by_one<R: Threads + Wait + Sync>(rt: &R, alloc: Global) -> Result<bool,
 // The first estimator alone receives entries. The worker takes the fourth node when the log has three of them, and its
 // own entry isn't received.
 #[test]
-fn one_worker_hears_of_the_log(rt: HostRuntime) -> Result<(), Fail> {
-    assert!(rt; hears_by_one(&rt, rt.alloc())?);
+fn one_worker_catches_up_with_the_log(rt: HostRuntime) -> Result<(), Fail> {
+    assert!(rt; catches_up_alone(&rt, rt.alloc())?);
     Ok(())
 }
 
@@ -38,9 +38,9 @@ fn is_first_of(worker: usize, built: &Built) -> bool {
     }
 }
 
-/// Whether workers of one estimator each, who pass a gate, contract a graph and hear of its log, worker 0 of an entry at
+/// Whether workers of one estimator each, who pass a gate, contract a graph and receive its log, worker 0 an entry at
 /// least that worker 1 committed first, where that is wanted.
-fn hear<G: Gate, R: Threads + Wait + Sync>(
+fn catch_up<G: Gate, R: Threads + Wait + Sync>(
     rt: &R,
     alloc: Global,
     graph: Graph,
@@ -56,12 +56,12 @@ fn hear<G: Gate, R: Threads + Wait + Sync>(
 
 // Worker 0 receives the first entry, which isn't its own, before it commits anything.
 #[test]
-fn two_workers_hear_of_each_other(rt: HostRuntime) -> Result<(), Fail> {
+fn two_workers_catch_up_with_each_other(rt: HostRuntime) -> Result<(), Fail> {
     let gate = Both {
         first: Together::new(2),
         second: Overtaken::at(Point::Took),
     };
-    let holds = hear(&rt, rt.alloc(), tie(rt.alloc())?, TWO, &gate, true)?;
+    let holds = catch_up(&rt, rt.alloc(), tie(rt.alloc())?, TWO, &gate, true)?;
     assert!(rt; holds & gate.first.was_met() & gate.second.was_met());
     Ok(())
 }
@@ -70,7 +70,7 @@ fn two_workers_hear_of_each_other(rt: HostRuntime) -> Result<(), Fail> {
 fn five_workers_hear_of_the_log(rt: HostRuntime) -> Result<(), Fail> {
     let options = Options { workers: 5, ..TWO };
     let gate = Together::new(5);
-    let holds = hear(&rt, rt.alloc(), grid(rt.alloc())?, options, &gate, false)?;
+    let holds = catch_up(&rt, rt.alloc(), grid(rt.alloc())?, options, &gate, false)?;
     assert!(rt; holds & gate.was_met());
     Ok(())
 }

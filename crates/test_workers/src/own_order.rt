@@ -10,7 +10,7 @@ use std::alloc::{AllocError, Global};
 use std::sync::Wait;
 use std::test::Fail;
 
-/// Nodes of few arcs go first, and each step of its depth puts a node back by four. What it hears is kept by [`Depth`].
+/// Nodes of few arcs go first, and each step of its depth puts a node back by four. What it receives is kept by [`Depth`].
 #[derive(Drop)]
 struct FewArcs {
     depth: Depth,

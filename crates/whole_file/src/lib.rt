@@ -1,7 +1,7 @@
 //! Files that are whole or not there.
 //!
 //! A file that is written in place is cut if a write fails, and what was there is lost. So bytes are gathered in a draft,
-//! beside their [`Destination`], and put there once the draft is whole; a draft that isn't is thrown away. Uses std alone.
+//! beside their [`Destination`], and put there once the draft is whole; a draft that isn't is discarded. Uses std alone.
 //! [`OutFile`] is a destination in the file system. [`is_one_file`] returns whether two names are of one file, and
 //! [`obstacle`] why no file can be made at a path. The promise is in the contract of [`Destination`]: what is there changes
 //! by [`Destination::put`] alone, and then it is the draft whole. One that shows what is there is held to it; a file shows

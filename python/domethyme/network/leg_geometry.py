@@ -281,7 +281,7 @@ def driven_sum(column: Column, parts: Sequence[Leg]) -> float:
 
 
 def driven_thousandths(column: Column, leg: Leg) -> int:
-    """The same in thousandths. Each arc has a whole number of these, and so has a part of the first and of the last arc."""
+    """The same in thousandths, an integer for each arc, and for a part of the first and of the last arc."""
     if not len(leg.arcs):
         return 0
     values = thousandths(column[leg.arcs])

@@ -137,7 +137,7 @@ def arcs_file(word: StrPath) -> str:
 
 
 def read_attribution(network: StrPath) -> str:
-    """What the comment at the beginning of the network's graph asks to be said; "" where it asks for nothing."""
+    """The attribution that the comment at the beginning of the network's graph asks for; "" where it asks for none."""
     graph = graph_of(network)
     if not os.path.exists(graph):
         return ""

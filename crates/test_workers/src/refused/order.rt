@@ -109,7 +109,7 @@ fn is_told<E: Estimator>(
 }
 
 /// Whether a new estimator receives both entries.
-fn hears<E: Estimator>(mut estimator: E, first: &Contraction, second: &Contraction) -> bool
+fn takes_both<E: Estimator>(mut estimator: E, first: &Contraction, second: &Contraction) -> bool
     requires fresh { E.heard estimator ≡ [] }
     requires first_rank { first.now.rank ≡ 0 }
     requires first_neighbours { first.now.neighbours ≡ 1 ∷ 2 ∷ [] }
@@ -134,9 +134,9 @@ fn all_hear(
     requires second_rank { second.now.rank ≡ 1 }
     requires second_neighbours { second.now.neighbours ≡ 2 ∷ [] }
 {
-    let by_edges = hears(EdgeDifference::new(alloc, leases.lease()?), first, second);
-    let by_neighbours = hears(Neighbours::new(alloc, leases.lease()?), first, second);
-    let by_depth = hears(Depth::new(alloc, leases.lease()?), first, second);
+    let by_edges = takes_both(EdgeDifference::new(alloc, leases.lease()?), first, second);
+    let by_neighbours = takes_both(Neighbours::new(alloc, leases.lease()?), first, second);
+    let by_depth = takes_both(Depth::new(alloc, leases.lease()?), first, second);
     Ok(by_edges & by_neighbours & by_depth)
 }
 
