@@ -187,7 +187,10 @@ class Column:
     def __getitem__(self, index: Any) -> Any:
         if not self._all_verified:
             self.verify_rows(index[0] if isinstance(index, tuple) else index)
-        return self._values[index] - self.spec.base if self.spec.base else self._values[index]
+        # (`take` is up to seven times as fast as an array of numbers as index)
+        is_rows = isinstance(index, np.ndarray) and index.dtype.kind == "i"
+        found = self._values.take(index, axis=0) if is_rows else self._values[index]
+        return found - self.spec.base if self.spec.base else found
 
     def verify_rows(self, rows: Any) -> None:
         """Verifies the blocks of the rows that an index takes, those that aren't yet."""

@@ -265,7 +265,7 @@ def size_of(slices: list[tuple[int, int]]) -> int:
 def concat_ranges(begins: NDArray[Any], counts: NDArray[Any]) -> tuple[Ints, Ints]:
     """All numbers from begins[k], counts[k] of them, for each k in a row; and k for each of them, which comes first."""
     owner = np.arange(len(counts)).repeat(counts)
-    return owner, np.arange(len(owner)) + (begins - (counts.cumsum(dtype=np.int64) - counts))[owner]
+    return owner, np.arange(len(owner)) + (begins - (counts.cumsum(dtype=np.int64) - counts)).take(owner)
 
 
 def half_widths(lat: Floats, angle: Floats, south: Floats, height: float) -> Floats:

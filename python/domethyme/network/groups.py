@@ -9,7 +9,9 @@ Ints = NDArray[np.int64]
 
 def offsets(counts: NDArray[Any]) -> Ints:
     """Where each group begins, by how many rows each has, and last where they end: [2, 0, 3] -> [0, 2, 2, 5]."""
-    return np.concatenate((np.zeros(1, np.int64), np.cumsum(counts, dtype=np.int64)))
+    found = np.zeros(len(counts) + 1, np.int64)
+    np.add.accumulate(counts, out=found[1:])
+    return found
 
 
 def expand(counts: NDArray[Any]) -> tuple[Ints, Ints]:
@@ -22,10 +24,10 @@ def rows_of_groups(begins: Any, groups: Ints, is_back: Any = False) -> tuple[Int
     """Where each of chosen groups begins, one after the other, and their rows: those of a group from the last to the first where it is
     turned back."""
     first, behind = begins[groups], begins[groups + 1]
-    owner, position = expand(behind - first)
-    step = np.where(is_back, -1, 1)
+    counts = behind - first
+    bounds, step = offsets(counts), np.broadcast_to(1 - 2 * np.asarray(is_back, np.int64), counts.shape)
     start = np.where(is_back, behind - 1, first)
-    return offsets(behind - first), start[owner] + position * np.broadcast_to(step, start.shape)[owner]
+    return bounds, (start - step * bounds[:-1]).repeat(counts) + step.repeat(counts) * np.arange(bounds[-1])
 
 
 def mask(count: int, *rows: Any) -> NDArray[np.bool_]:

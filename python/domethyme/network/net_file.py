@@ -391,9 +391,9 @@ class MappedNetwork(NetworkColumns):
         counts = self.out_begin[starts + 1] - begins
         pair, rows = concat_ranges(begins, counts)
         arcs = self.out_arcs[rows]
-        hits = np.flatnonzero(self.arc_to[arcs] == ends.repeat(counts))[::-1]
+        hits = (self.arc_to[arcs] == ends.repeat(counts)).nonzero()[0][::-1]
         found = np.full(len(starts), -1, dtype=np.int64)
-        found[pair[hits]] = arcs[hits]  # (the last that is assigned, the first of a pair, is its lightest)
+        found[pair.take(hits)] = arcs.take(hits)  # (the last that is assigned, the first of a pair, is its lightest)
         return found
 
     def line(self, arc: int) -> list[Point]:
