@@ -87,7 +87,7 @@ def open_hierarchy(paths: DatasetPaths, hierarchy: str, graph: str | None, roads
         del data
         if roads is not None:
             # (what is computed here, before the fork, is in memory once for all workers)
-            roads.roundabout_texts, roads.metres_of_weight, roads.one_way
+            roads.roundabout_rows, roads.ferry_rows, roads.metres_of_weight, roads.one_way
             belonging.compare(number, hierarchy, roads.arrays, paths.compare_all)
             summers = open_summers(number, hierarchy, roads, router)
         if file_stamp(number) != stamp:

@@ -1,5 +1,6 @@
 """JSON in parts: objects and arrays are joined from texts, and long columns of numbers are written by numpy, each rounded to so
 many decimals before. Such a number is the same, once it is parsed, as the one of Python that is nearest to it."""
+import itertools
 import json
 from collections.abc import Iterable, Mapping
 from typing import Any, NamedTuple
@@ -84,6 +85,10 @@ class Texts(NamedTuple):
         text, bounds = self.text, zip(self.begins[numbers].tolist(), self.begins[numbers + 1].tolist())
         return [text[begin : end - 1] for begin, end in bounds]
 
+    def all_rows(self) -> list[str]:
+        text = self.text
+        return [text[begin : end - 1] for begin, end in itertools.pairwise(self.begins.tolist())]
+
 
 def number_texts(values: Ints, digits: int, is_null: NDArray[np.bool_] | None = None) -> Texts:
     """Integers of 10**-digits: with at least one decimal unless there are no digits, and null where they are none."""
@@ -111,9 +116,11 @@ def joined_texts(rows: Ints, digits: int, is_null: NDArray[np.bool_] | None) -> 
     parts = (slice(begin, begin + CHUNK) for begin in range(0, len(rows), CHUNK))
     words = (words_of_rows(rows[part], width, digits, None if is_null is None else is_null[part]) for part in parts)
     text = b"".join(some.tobytes().translate(None, NOTHING) for some in words)
-    ends = np.flatnonzero(np.frombuffer(text, np.uint8) == ord("[" if is_array else ","))
+    ends = (np.frombuffer(text, np.uint8) == ord("[" if is_array else ",")).nonzero()[0]
+    begins = np.zeros(len(ends) + 1, np.int64)
+    np.add(ends, 1, out=begins[1:])
     # (the bracket of each array but the first one comes with the comma before it)
-    return Texts(("[" * is_array + text.decode("ascii"))[: len(text)], np.append(0, ends + 1))
+    return Texts(("[" * is_array + text.decode("ascii"))[: len(text)], begins)
 
 
 def words_of_rows(rows: Ints, width: int, digits: int, is_null: NDArray[np.bool_] | None) -> NDArray[np.uint32]:

@@ -179,7 +179,7 @@ def route_parts(engine: Engine, request: Request, way: Way, budget: Budget, more
     }
     texts = None
     if geometry is not None and request.values[GEOMETRIES] == "geojson" and shows_all_points(request):
-        texts = point_texts(geometry.shown, 6)
+        texts = point_texts(geometry.shown_and_ends, 6)
     if geometry is not None and request.values[OVERVIEW] != "false":
         lines = geometry.lines()
         line = join_lines(simplify_lines(lines, budget) if request.values[OVERVIEW] == "simplified" else lines)
@@ -200,7 +200,7 @@ def needs_points(request: Request) -> bool:
 
 
 def leg_texts(request: Request, totals: Sequence[LegTotals], geometry: RouteGeometry | None, texts: Texts | None) -> Iterator[str]:
-    """The OSRM legs of a route, with their totals. `texts` are those of the points that are shown, if there are any."""
+    """The OSRM legs of a route, with their totals. `texts` are those of the points that are shown and of the legs' ends, if there are any."""
     steps: Iterable[LegSteps] = itertools.repeat(LegSteps("[]", ""))
     annotations: Iterable[str] = itertools.repeat("")
     if geometry is not None and request.values[STEPS] == "true":

@@ -8,7 +8,7 @@ from numpy.typing import NDArray
 from shapely.geometry import LineString
 
 from domethyme.network.groups import Ints, offsets
-from domethyme.network.leg_geometry import MICRODEGREES, RouteGeometry
+from domethyme.network.leg_geometry import MICRODEGREES, RouteGeometry, joined, rows_differ
 from domethyme.network.parallel import differs_from_previous
 from domethyme.network.polyline import encode_polylines
 
@@ -59,14 +59,14 @@ class Budget:
 
 def join_lines(lines: Sequence[Ints]) -> Ints:
     """One line of several, without repeated points; at least two points."""
-    line = np.concatenate(lines)
-    line = line[differs_from_previous(line[:, 0]) | differs_from_previous(line[:, 1])]
+    line = joined(lines)
+    line = line.compress(rows_differ(line), axis=0)
     return line if len(line) > 1 else line.repeat(2, axis=0)
 
 
 def simplify_lines(lines: Sequence[Ints], budget: Budget) -> list[Ints]:
     """The lines, each of which begins where the one before ends, simplified with a tolerance of a thousandth of the extent of all."""
-    east, north = np.concatenate(lines).T
+    east, north = joined(lines).T
     shrink = math.cos(math.radians(north[0] / MICRODEGREES))
     tolerance = float(max(np.ptp(unwrapped(east)) * shrink, np.ptp(north))) / 1000
     return [line[simplified(line, tolerance, budget)] for line in lines]

@@ -10,9 +10,10 @@ import numpy as np
 from numpy.typing import NDArray
 
 from domethyme.network.columns import TEXTS
-from domethyme.network.groups import Ints
+from domethyme.network.groups import Ints, mask
 from domethyme.network.junctions import MIN_DEGREE, Junctions, junctions
-from domethyme.network.leg_geometry import RouteGeometry, microdegrees
+from domethyme.network.leg_geometry import RouteGeometry
+from domethyme.network.parallel import differs_from_previous
 from domethyme.network.snapping import RoadIndex
 
 from .json_text import Texts, join_array, number_texts, point_texts, string_json
@@ -60,18 +61,18 @@ class StepBuilder:
 
     def __init__(self, geometry: RouteGeometry) -> None:
         self.geometry, self.roads = geometry, geometry.roads
-        self.names = self.roads.arrays.arc_texts(geometry.arcs, NAME_COLUMNS[0])
-        self.is_on_roundabout = self.roads.is_roundabout(geometry.arcs)
-        self.is_on_ferry = self.roads.are_ferries(geometry.arcs)
+        self.rows = self.roads.arrays.arc_row[geometry.arcs]
+        self.names = self.roads.arrays.row_texts[self.rows, NAME_COLUMNS[0]]
+        self.is_on_roundabout, self.is_on_ferry = self.roads.roundabout_rows[self.rows], self.roads.ferry_rows[self.rows]
         self.first_bearings, self.last_bearings = geometry.bearings
-        self.starts = self.roads.arrays.arc_from[geometry.arcs]
+        self.starts = geometry.starts
         self.is_junction = self.roads.arrays.degree(self.starts) >= MIN_DEGREE
-        self.begins = np.flatnonzero(self._is_first())
+        self.begins = self._is_first().nonzero()[0]
         self.ends = np.append(self.begins[1:], len(geometry.arcs))
-        self.is_leg_first = np.isin(self.begins, geometry.first)
+        self.is_leg_first = mask(len(geometry.arcs) + 1, geometry.first)[self.begins]
         # (a step that enters a roundabout is named after the first arc behind it)
         self.named = self.begins.copy()
-        self.roundabouts: list[int] = np.flatnonzero(self.is_on_roundabout[self.begins] & ~self.is_leg_first).tolist()
+        self.roundabouts: list[int] = (self.is_on_roundabout[self.begins] & ~self.is_leg_first).nonzero()[0].tolist()
         for step in self.roundabouts:
             behind = np.flatnonzero(~self.is_on_roundabout[self.begins[step] : self.ends[step]])
             self.named[step] += behind[0] if len(behind) else 0
@@ -82,16 +83,17 @@ class StepBuilder:
         turns = (self.first_bearings[1:] - self.last_bearings[:-1] + 180) % 360 - 180
         is_turn = self.is_junction[1:] & (np.abs(turns) > MIN_TURN_DEGREES)
         # (at a point within a road a leg goes on, or turns round)
-        is_along = self.roads.arrays.arc_along[geometry.arcs]
-        is_turn[geometry.joints - 1] = is_along[geometry.joints] != is_along[geometry.joints - 1]
-        is_new = np.append(True, (names[1:] != names[:-1]) | is_turn | (self.is_on_ferry[1:] != self.is_on_ferry[:-1]))
+        joints, is_along = geometry.joints, geometry.are_along
+        is_turn[joints - 1] = is_along[joints] != is_along[joints - 1]
+        is_new = differs_from_previous(names) | differs_from_previous(self.is_on_ferry)
+        is_new[1:] |= is_turn
         if is_round.any():  # (a step begins before a roundabout, but not on it or after it)
             is_free = np.append(True, ~is_round[:-1])
             for first, behind in itertools.pairwise(geometry.first.tolist()):
                 if first < behind and is_round[first]:  # (the leg begins on this one, so no step has entered it)
                     is_free[first : first + 1 + int(np.argmin(is_round[first:behind]))] = True
             is_new = np.where(is_round, np.append(True, ~is_round[:-1]), is_new & is_free)
-        is_new[geometry.first[:-1][np.diff(geometry.first) > 0]] = True
+        is_new[geometry.first[:-1][geometry.first[:-1] < geometry.first[1:]]] = True
         return is_new
 
     def steps(self, locations: Sequence[str], shapes: Sequence[str], passed: list[str]) -> tuple[list[str], list[RoadTexts]]:
@@ -103,7 +105,7 @@ class StepBuilder:
         totals = self.geometry.totals(self.begins, self.ends).rows
         modes = [mode_json(self.roads, is_ferry) for is_ferry in (False, True)]
         ways = [modes[is_on] for is_on in self.is_on_ferry[self.begins].tolist()]
-        for step in np.flatnonzero(self.is_leg_first).tolist():
+        for step in self.is_leg_first.nonzero()[0].tolist():
             passed[step] = f'{intersection_json(locations[step], after[step], "out")}{"," if passed[step] else ""}{passed[step]}'
         maneuvers = map(maneuver_json, self.turns(), locations, before, after)
         return [*map(step_json, maneuvers, roads, totals, shapes, passed, ways)], roads
@@ -118,7 +120,7 @@ class StepBuilder:
         is_there[geometry.joints] = False
         is_there |= is_begin[:-1]
         is_there[geometry.first[geometry.first < len(is_there)]] = False
-        arcs = np.flatnonzero(is_there)
+        arcs = is_there.nonzero()[0]
         return junctions(geometry, arcs, is_begin[arcs])
 
     def intersections(self, found: Junctions, locations: Sequence[str]) -> list[str]:
@@ -129,10 +131,11 @@ class StepBuilder:
 
     def road_texts(self) -> list[RoadTexts]:
         """The texts of each step's road, each row of texts once."""
-        rows, number = np.unique(self.roads.arrays.arc_row[self.geometry.arcs[self.named]], return_inverse=True)
-        texts = self.roads.texts
-        known = [RoadTexts.of(*(texts[each] for each in row)) for row in self.roads.arrays.row_texts[rows, :][:, NAME_COLUMNS].tolist()]
-        return [known[each] for each in number.tolist()]
+        texts, rows = self.roads.texts, self.rows[self.named].tolist()
+        different = [*dict.fromkeys(rows)]
+        names = self.roads.arrays.row_texts[np.array(different)][:, NAME_COLUMNS].tolist()
+        known = {row: RoadTexts.of(*(texts[each] for each in some)) for row, some in zip(different, names)}
+        return [known[row] for row in rows]
 
     def turns(self) -> list[str]:
         """The first members of each step's maneuver: its type, its modifier, and the exit of a roundabout that it leaves."""
@@ -143,7 +146,7 @@ class StepBuilder:
         modifiers = np.searchsorted(MODIFIER_LIMITS, np.abs(angles), side="right")
         numbers = (kinds * 2 + (angles > 0)) * len(MODIFIERS[0]) + modifiers
         found = [TURNS[number] for number in numbers.tolist()]
-        for step in np.flatnonzero(self.is_leg_first).tolist():
+        for step in self.is_leg_first.nonzero()[0].tolist():
             found[step] = DEPART
         for step in self.roundabouts:
             found[step] += self.exit_member(step)
@@ -201,35 +204,35 @@ def step_json(maneuver: str, road: RoadTexts, totals: StepTotals, shape: str, pa
 
 
 def build_steps(geometry: RouteGeometry, format_: str, shown: Texts | None) -> list[LegSteps]:
-    """The steps of each leg, with geometries as `format_`; `shown` are the texts of the points that are shown, for GeoJSON."""
-    ends, numbers = microdegrees(geometry.ends), np.arange(len(geometry.ends))
-    of_places = point_texts(ends, 6)
-    places, at_places = of_places.rows(numbers), shapes_of(ends, None if shown is None else of_places, numbers, numbers + 1, format_)
-    nothing, mode = (0.0, 0.0 if geometry.roads.has_seconds else None, 0.0), mode_json(geometry.roads)
-    texts, roads, bounds, last_bearings = list[str](), list[RoadTexts](), [0] * len(ends), list[int]()
+    """The steps of each leg, with geometries as `format_`; `shown` are the texts of `geometry.shown_and_ends`, for GeoJSON."""
+    points = geometry.shown_and_ends
+    places = np.arange(len(geometry.shown), len(points))
+    count, begins, behind, chosen, bounds = len(places), places, places + 1, places, [0] * len(places)
     if len(geometry.arcs):
         builder = StepBuilder(geometry)
-        firsts, behind = geometry.slices(builder.begins, builder.ends)
-        at_junctions = builder.junctions()
-        chosen = np.append(firsts, geometry.slices(at_junctions.arcs, at_junctions.arcs + 1)[0])
-        if shown is None:
-            locations = point_texts(geometry.shown[chosen], 6).rows(np.arange(len(chosen)))
-        else:
-            locations = shown.rows(chosen)
-        passed = builder.intersections(at_junctions, locations[len(firsts) :])
-        texts, roads = builder.steps(locations, shapes_of(geometry.shown, shown, firsts, behind, format_), passed)
-        bounds = np.searchsorted(builder.begins, geometry.first).tolist()
+        at_junctions, (firsts, after) = builder.junctions(), geometry.slices(builder.begins, builder.ends)
+        begins, behind = np.concatenate((places, firsts)), np.concatenate((places + 1, after))
+        chosen = np.append(begins, geometry.slices(at_junctions.arcs, at_junctions.arcs + 1)[0])
+        bounds = builder.begins.searchsorted(geometry.first).tolist()
+    # one look for all texts: of places, of steps, and of junctions
+    shapes = shapes_of(points, shown, begins, behind, format_)
+    locations = point_texts(points.take(chosen, axis=0), 6).all_rows() if shown is None else shown.rows(chosen)
+    texts, roads, last_bearings = list[str](), list[RoadTexts](), list[int]()
+    if len(geometry.arcs):
+        passed = builder.intersections(at_junctions, locations[len(begins) :])
+        texts, roads = builder.steps(locations[count:], shapes[count:], passed)
         last_bearings = builder.last_bearings[geometry.first[1:] - 1].tolist()
+    nothing, mode = (0.0, 0.0 if geometry.roads.has_seconds else None, 0.0), mode_json(geometry.roads)
     found = []
     for leg, (low, high) in enumerate(itertools.pairwise(bounds)):
         some, names, before = texts[low:high], roads[low:high], last_bearings[leg] if low < high else 0
         if not some:
             names = [RoadTexts.of("", "", "")]
-            crossing = intersection_json(places[leg], 0, "out")
-            some = [step_json(maneuver_json(DEPART, places[leg], 0, 0), names[0], nothing, at_places[leg], crossing, mode)]
-        arrival, place = names[-1]._replace(more=""), places[leg + 1]
+            crossing = intersection_json(locations[leg], 0, "out")
+            some = [step_json(maneuver_json(DEPART, locations[leg], 0, 0), names[0], nothing, shapes[leg], crossing, mode)]
+        arrival, place = names[-1]._replace(more=""), locations[leg + 1]
         crossing = intersection_json(place, (before + 180) % 360, "in")
-        some.append(step_json(maneuver_json(ARRIVE, place, before, 0), arrival, nothing, at_places[leg + 1], crossing, mode))
+        some.append(step_json(maneuver_json(ARRIVE, place, before, 0), arrival, nothing, shapes[leg + 1], crossing, mode))
         found.append(LegSteps(join_array(some), ", ".join(first_names(names))))
     return found
 

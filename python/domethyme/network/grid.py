@@ -178,15 +178,16 @@ class Grid(NamedTuple):
             some = self._small_key_ranges(*place, (reach + self.margin) / EARTH_RADIUS)
             counts.append(-1 if some is None else len(some) // 2)
             cells += some or ()
-        bounds = iter(self.begins[np.searchsorted(self.keys[:], np.array(cells, np.int64))].tolist())
+        bounds = iter(self.begins[self.keys[:].searchsorted(np.array(cells, np.int64))].tolist())
         pairs = zip(bounds, bounds)
         found: list[NDArray[Any]] = []
         sizes: list[int] = []
         for place, count in zip(places, counts):
             slices = self._slices_around(place, reach) if count < 0 else [*itertools.islice(pairs, count)]
-            is_few = size_of(slices) <= MAX_CANDIDATES
-            found += (self.things[begin:end] for begin, end in slices if is_few)
-            sizes.append(size_of(slices) if is_few else 0)
+            if (size := size_of(slices)) > MAX_CANDIDATES:
+                slices, size = [], 0
+            found += [self.things[begin:end] for begin, end in slices]
+            sizes.append(size)
         return np.arange(len(places)).repeat(sizes), np.concatenate(found) if found else np.empty(0, np.int32)
 
     def candidates(self, place: tuple[float, float], reach: float) -> Iterator[NDArray[Any]]:
@@ -199,8 +200,7 @@ class Grid(NamedTuple):
         if cells is None:
             _, begins, ends = self.candidate_slices(np.array([place[0]]), np.array([place[1]]), np.array([reach]))
             return list(zip(begins.tolist(), ends.tolist()))
-        rows = np.searchsorted(self.keys[:], cells)
-        bounds = self.begins[rows].tolist()
+        bounds = self.begins[self.keys[:].searchsorted(cells)].tolist()
         return [(begin, end) for begin, end in zip(bounds[::2], bounds[1::2]) if begin < end]
 
     def _small_key_ranges(self, lon: float, lat: float, angle: float) -> list[int] | None:

@@ -70,16 +70,19 @@ class RouteGeometry:
         self.roads, self._parts, self._points = roads, parts, points
         self._stops = list(range(len(points))) if stops is None else stops
         self.ends = [points[stop] for stop in self._stops]
-        self.arcs: Ints = np.concatenate([part.arcs for part in parts])
-        self._part_first = offsets(np.array([len(part.arcs) for part in parts]))
-        self.first = self._part_first[self._stops]
+        self.arcs = joined([part.arcs for part in parts])
+        part_first = [*itertools.accumulate((len(part.arcs) for part in parts), initial=0)]
+        first = [part_first[stop] for stop in self._stops]
+        self._part_first, self.first = np.array(part_first), np.array(first)
         # (the parts, and the legs, that have arcs)
-        self._driven, self._driven_legs = np.flatnonzero(np.diff(self._part_first)), np.flatnonzero(np.diff(self.first))
+        self._driven, self._driven_legs = (
+            np.array([number for number, (begin, end) in enumerate(itertools.pairwise(some)) if begin < end], np.int64) for some in (part_first, first)
+        )
 
     @functools.cached_property
     def _weights(self) -> Ints:
         """The weight before each arc, and in total."""
-        return offsets(np.concatenate([part.weights for part in self._parts]))
+        return offsets(joined([part.weights for part in self._parts]))
 
     @functools.cached_property
     def _milliseconds(self) -> Ints:
@@ -111,6 +114,16 @@ class RouteGeometry:
         return Totals(weights, seconds.round(3), metres.round(2))
 
     @functools.cached_property
+    def are_along(self) -> NDArray[np.bool_]:
+        """Whether each arc has its edge's direction."""
+        return np.asarray(self.roads.arrays.arc_along[self.arcs])
+
+    @functools.cached_property
+    def starts(self) -> Ints:
+        """The node at which each arc starts."""
+        return np.asarray(self.roads.arrays.arc_from[self.arcs], np.int64)
+
+    @functools.cached_property
     def point_count(self) -> int:
         """How many points the arcs have."""
         edges = self.roads.arrays.arc_edge[self.arcs]
@@ -120,7 +133,7 @@ class RouteGeometry:
     def _lines(self) -> tuple[Ints, Ints]:
         """The points of arc a are points[begins[a]:begins[a + 1]], in 1/UNITS degrees: the begins, and the points."""
         begins, points = self.roads.arrays.arc_lines(self.arcs)
-        counts, pieces, done = np.diff(begins), [], 0
+        counts, pieces, done = begins[1:] - begins[:-1], [], 0
         for arc, low, high in self._driven_parts():
             line = self.roads.line(int(self.arcs[arc]), low, high)
             units = [(round(lon * UNITS), round(lat * UNITS)) for lon, lat in line]
@@ -154,9 +167,9 @@ class RouteGeometry:
         firsts, lasts = begins[self._part_first[self._driven]], begins[self._part_first[self._driven + 1]] - 1
         places = microdegrees(self._points)
         shown[firsts], shown[lasts] = places[self._driven], places[self._driven + 1]
-        is_new = differs_from_previous(shown[:, 0]) | differs_from_previous(shown[:, 1])
+        is_new = rows_differ(shown)
         is_new[begins[self.first[self._driven_legs]]] = True
-        return shown[is_new], is_new.cumsum() - 1
+        return shown.compress(is_new, axis=0), is_new.cumsum() - 1
 
     @functools.cached_property
     def _shown_arcs(self) -> tuple[Ints, Ints]:
@@ -168,6 +181,11 @@ class RouteGeometry:
     def shown(self) -> Ints:
         """The points of the lines that are shown, in microdegrees, of shape (points, 2)."""
         return self._shown[0]
+
+    @functools.cached_property
+    def shown_and_ends(self) -> Ints:
+        """The same, and behind them the points between which the legs lead."""
+        return np.concatenate((self.shown, microdegrees(self.ends)))
 
     def slices(self, begins: Ints, ends: Ints) -> tuple[Ints, Ints]:
         """The slices of `shown` that are the lines of arcs begins[k]:ends[k]; of one point, if they have no length."""
@@ -233,11 +251,11 @@ class RouteGeometry:
         """The bearings of each arc at its start and at its end, in degrees."""
         arc_begins, points = self._lines
         begins = np.concatenate((arc_begins[:-1], arc_begins[1:] - 2))
-        places, others = points[begins], points[begins + 1]
-        found = whole_bearings(places, others)
-        shares = {arc: low for arc, low, _ in self._driven_parts()}
+        places, others = points.take(begins, axis=0), points.take(begins + 1, axis=0)
+        found, same = whole_bearings(places, others), are_equal(places, others).nonzero()[0].tolist()
+        shares = {arc: low for arc, low, _ in self._driven_parts()} if same else {}
         # (where the segment has no length, the next point that is another one tells, and without any the arc at the share that is driven)
-        for index in np.flatnonzero(are_equal(places, others)).tolist():
+        for index in same:
             arc_index, step = index % len(self.arcs), 1 if index < len(self.arcs) else -1
             line = points[arc_begins[arc_index] : arc_begins[arc_index + 1]][::step] / UNITS
             here, *rest = [(lon, lat) for lon, lat in line.tolist()]
@@ -251,9 +269,19 @@ class RouteGeometry:
         return found[: len(self.arcs)], found[len(self.arcs) :]
 
 
+def joined(arrays: Sequence[Ints]) -> Ints:
+    """One array of several."""
+    return arrays[0] if len(arrays) == 1 else np.concatenate(arrays)
+
+
 def are_equal(places: Ints, others: Ints) -> NDArray[np.bool_]:
     """Whether each place is the other one, of shape (places, 2)."""
     return np.asarray((places[:, 0] == others[:, 0]) & (places[:, 1] == others[:, 1]))
+
+
+def rows_differ(points: Ints) -> NDArray[np.bool_]:
+    """Whether each point, of shape (points, 2), is another one than that before it."""
+    return differs_from_previous(points[:, 0]) | differs_from_previous(points[:, 1])
 
 
 def whole_bearings(places: Ints, others: Ints) -> Ints:
@@ -262,7 +290,8 @@ def whole_bearings(places: Ints, others: Ints) -> Ints:
     if np.abs(east).max(initial=0) > 180 * UNITS:
         east = wrapped_difference(east)
     found = np.rint(np.arctan2(east * np.cos(places[:, 1] * (math.pi / 180 / UNITS)), north) * (180 / math.pi)).astype(np.int64)
-    return np.asarray(np.where(found < 0, found + 360, found))
+    found[found < 0] += 360
+    return found
 
 
 def leg_totals(roads: RoadIndex, parts: Sequence[Leg]) -> LegTotals:

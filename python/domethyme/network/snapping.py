@@ -135,14 +135,22 @@ class RoadIndex:
         most = math.inf if metres[weights == 0].any() else float(each.max(initial=0.0))
         return float(each.min(initial=most)), most
 
+    def _rows_with(self, column: int, words: Sequence[str]) -> NDArray[np.bool_]:
+        """Whether rows of texts have one of some words in a column of TEXTS."""
+        texts = self.arrays.row_texts[:, column]
+        return np.isin(texts, [number for number in np.unique(texts).tolist() if self.texts[number] in words])
+
     @functools.cached_property
-    def roundabout_texts(self) -> Ints:
-        """The numbers of the texts whose junctions are roundabouts."""
-        junctions: list[int] = np.unique(self.arrays.row_texts[:, JUNCTION]).tolist()
-        return np.array([text for text in junctions if self.texts[text] in ROUNDABOUT_VALUES], dtype=np.int64)
+    def roundabout_rows(self) -> NDArray[np.bool_]:
+        """Whether rows of texts are those of roundabouts."""
+        return self._rows_with(JUNCTION, ROUNDABOUT_VALUES)
+
+    @functools.cached_property
+    def ferry_rows(self) -> NDArray[np.bool_]:
+        return self._rows_with(HIGHWAY, [FERRY])
 
     def is_roundabout(self, arcs: NDArray[np.int64]) -> NDArray[np.bool_]:
-        return np.asarray((self.arrays.arc_texts(arcs, JUNCTION)[:, None] == self.roundabout_texts).any(axis=1))
+        return np.asarray(self.roundabout_rows[self.arrays.arc_row[arcs]])
 
     @functools.cached_property
     def one_way(self) -> tuple[Ints, Ints]:
@@ -270,18 +278,12 @@ class RoadIndex:
             found.setdefault(number, []).append(self._snap_on_segment(edge, lines[edge], ways, way))
         return found
 
-    @functools.cached_property
-    def _ferry_rows(self) -> NDArray[np.bool_]:
-        """Whether rows of texts are those of ferries."""
-        highways = self.arrays.row_texts[:, HIGHWAY]
-        return np.isin(highways, [number for number in np.unique(highways).tolist() if self.texts[number] == FERRY])
-
     def are_ferries(self, arcs: NDArray[np.int64]) -> NDArray[np.bool_]:
-        return np.asarray(self._ferry_rows[self.arrays.arc_row[arcs]])
+        return np.asarray(self.ferry_rows[self.arrays.arc_row[arcs]])
 
     @functools.cached_property
     def _has_ferries(self) -> bool:
-        return bool(self._ferry_rows.any())
+        return bool(self.ferry_rows.any())
 
     def _may_be_closed(self, is_any: bool) -> bool:
         """Whether there are edges for which `_are_open` is false."""
@@ -302,7 +304,7 @@ class RoadIndex:
         begins = self.arrays.edge_begin[edges]
         which, rows = concat_ranges(begins, self.arrays.edge_begin[edges + 1] - begins - 1)
         points = self.arrays.points[rows + SEGMENT_END_OFFSETS] / UNITS
-        metres, shares = nearest_on_segments(places if places.ndim < 2 else places[which], points)
+        metres, shares = nearest_on_segments(places if places.ndim < 2 else places.take(which, axis=0), points)
         return SegmentProjections(which, rows, metres.round(6), shares)
 
     def _snap_on_segment(self, edge: int, line: Edge, ways: SegmentProjections, best: int) -> SnappedPoint:
