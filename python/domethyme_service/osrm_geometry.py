@@ -14,7 +14,7 @@ from domethyme.network.polyline import encode_polylines
 
 from .costs import Meter, Work
 from .errors import too_big
-from .json_text import Texts, decimal_texts, join_object, number_texts, point_texts, string_json
+from .json_text import Texts, decimal_texts, join_array, join_object, number_texts, point_texts, string_json
 
 # Points of the lines of an answer, and points that may be examined to simplify its line.
 MAX_POINTS, MAX_EXAMINED = 1_500_000, 80_000_000
@@ -157,24 +157,20 @@ def annotations_json(geometry: RouteGeometry, names: list[str]) -> Iterator[str]
     weights, seconds, metres = segments.totals
     speeds = None if seconds is None else np.where(seconds == 0, 0, metres / np.where(seconds == 0, 1, seconds))
     of_parts = {"weight": weights, "distance": metres, "duration": seconds, "speed": speeds}
-    texts = {}
-    for name in names:
-        of_part = of_parts.get(name)
-        if name == "nodes":
-            texts[name] = node_texts(geometry, segments.begins)
-        elif name == "datasources":
-            texts[name] = leg_arrays(number_texts(np.zeros(len(segments.parts), np.int64), 0), segments.begins)
-        elif of_part is None:
-            texts[name] = leg_arrays(decimal_texts(np.full(len(segments.parts), np.nan), DECIMALS), segments.begins)
-        else:
-            values = of_part[segments.parts] * (1.0 if name == "speed" else segments.shares)
-            texts[name] = leg_arrays(decimal_texts(values, DECIMALS), segments.begins)
-    return (join_object({name: texts[name][leg] for name in names}) for leg in range(len(geometry.ends) - 1))
-
-
-def leg_arrays(texts: Texts, begins: Ints) -> list[str]:
-    """The array of each leg, which begins at these rows."""
-    return texts.arrays(begins[:-1], begins[1:])
+    asked = [name for name in names if name in of_parts]
+    # (one call writes the numbers of all of these)
+    values = np.full((len(asked), len(segments.parts)), np.nan)
+    for row, name in zip(values, asked):
+        if (of_part := of_parts[name]) is not None:
+            np.multiply(of_part.take(segments.parts), 1.0 if name == "speed" else segments.shares, out=row)
+    bounds, legs = segments.begins + len(segments.parts) * np.arange(len(asked))[:, None], len(geometry.ends) - 1
+    arrays = decimal_texts(values.ravel(), DECIMALS).arrays(bounds[:, :-1].ravel(), bounds[:, 1:].ravel())
+    texts = {name: arrays[legs * row : legs * (row + 1)] for row, name in enumerate(asked)}
+    if "nodes" in names:
+        texts["nodes"] = node_texts(geometry, segments.begins)
+    if "datasources" in names:
+        texts["datasources"] = [join_array(["0"] * count) for count in np.diff(segments.begins).tolist()]
+    return (join_object({name: texts[name][leg] for name in names}) for leg in range(legs))
 
 
 def node_texts(geometry: RouteGeometry, begins: Ints) -> list[str]:

@@ -47,23 +47,24 @@ def junctions(geometry: RouteGeometry, arcs: Ints, are_kept: NDArray[np.bool_]) 
     before, behind = geometry.arcs[arcs - 1], geometry.arcs[arcs]
     numbers, others, are_starts, open_count = roads_around(geometry, arcs, before, behind)
     every = np.concatenate((before, behind, others))
-    numbers = np.concatenate((np.arange(count), np.arange(count), numbers))
-    are_starts = np.concatenate((np.zeros(count, bool), np.ones(count, bool), are_starts))
-    keys = numbers << ROAD_BITS | 2 * roads.arrays.arc_edge[every].astype(np.int64) + (roads.arrays.arc_along[every] != are_starts)
+    own = np.arange(count)
+    numbers = np.concatenate((own, own, numbers))
+    are_starts = np.concatenate((np.repeat((False, True), count), are_starts))
+    keys = (numbers << ROAD_BITS) + 2 * roads.arrays.arc_edge[every].astype(np.int64) + (roads.arrays.arc_along[every] != are_starts)
     rows = np.sort(keys, kind="stable")  # (which is quick, since most are sorted)
-    rows = rows[differs_from_previous(rows)]
-    place, owner = np.searchsorted(rows, keys[: 2 * count + open_count]), rows >> ROAD_BITS
+    rows = rows.compress(differs_from_previous(rows))
+    place, owner = rows.searchsorted(keys[: 2 * count + open_count]), rows >> ROAD_BITS
     entries, bearings = np.zeros(len(rows), bool), road_bearings(roads, rows & (1 << ROAD_BITS) - 1)
     entries[place[count:]] = True
     first, last = geometry.bearings
     bearings[place[:count]], bearings[place[count : 2 * count]] = (last[arcs - 1] + 180) % 360, first[arcs]
     is_kept = are_kept | (np.bincount(owner[differs_from_previous(rows >> 1)], minlength=count) >= MIN_DEGREE)
-    order = np.argsort(owner * 360 + bearings, kind="stable")
+    order = (owner * 360 + bearings).argsort(kind="stable")
     rank, counts = np.empty(len(rows), np.int64), np.bincount(owner, minlength=count)
     rank[order] = np.arange(len(rows))
-    into, out = (rank[place[: 2 * count]].reshape(2, count) - offsets(counts)[:-1])[:, is_kept]
-    order = order[is_kept[owner[order]]]
-    return Junctions(arcs[is_kept], offsets(counts[is_kept]), bearings[order], entries[order], into, out)
+    into, out = (rank.take(place[: 2 * count]).reshape(2, count) - offsets(counts)[:-1])[:, is_kept]
+    order = order.compress(is_kept.take(owner.take(order)))
+    return Junctions(arcs[is_kept], offsets(counts[is_kept]), bearings.take(order), entries.take(order), into, out)
 
 
 def roads_around(geometry: RouteGeometry, arcs: Ints, before: Ints, behind: Ints) -> tuple[Ints, Ints, NDArray[np.bool_], int]:
@@ -71,19 +72,19 @@ def roads_around(geometry: RouteGeometry, arcs: Ints, before: Ints, behind: Ints
     which a route may go on are the first ones, so many. A place within a road has none."""
     roads, arrays = geometry.roads, geometry.roads.arrays
     here = np.flatnonzero(~np.isin(arcs, geometry.joints)) if len(geometry.joints) else np.arange(len(arcs))
-    starts, ends, owners = arrays.arc_from[behind[here]], arrays.arc_to[before[here]], here
-    open_count, split = len(here), np.flatnonzero(arrays.node_ends[starts])
+    starts, ends, owners = geometry.starts[arcs[here]], arrays.arc_to[before[here]], here
+    open_count, split = len(here), arrays.node_ends[starts].nonzero()[0]
     if len(split):
         starts = np.append(starts, twins(roads, behind[here[split]], arrays.arc_from, "from"))
         owners, ends = np.append(here, here[split]), ends.copy()
         ends[split] = twins(roads, before[here[split]], arrays.arc_to, "to")
     begins, (one_way_ends, one_way) = arrays.out_begin[starts], roads.one_way
     junction, rows = concat_ranges(begins, arrays.out_begin[starts + 1] - begins)
-    low = np.searchsorted(one_way_ends, ends)
-    other, other_rows = concat_ranges(low, np.searchsorted(one_way_ends, ends, side="right") - low)
+    low = one_way_ends.searchsorted(ends)
+    other, other_rows = concat_ranges(low, one_way_ends.searchsorted(ends, side="right") - low)
     are_starts = np.arange(len(rows) + len(other_rows)) < len(rows)
-    leading = np.concatenate((arrays.out_arcs[rows], one_way[other_rows]))
-    return np.concatenate((owners[junction], here[other])), leading, are_starts, int(np.searchsorted(junction, open_count))
+    leading = np.concatenate((arrays.out_arcs[rows], one_way.take(other_rows)))
+    return np.concatenate((owners.take(junction), here.take(other))), leading, are_starts, int(junction.searchsorted(open_count))
 
 
 def twins(roads: RoadIndex, arcs: Ints, column: Column, side: str) -> Ints:
@@ -104,7 +105,7 @@ def road_bearings(roads: RoadIndex, ends: Ints) -> Ints:
     at = np.where(side == 0, arrays.edge_begin[edges], arrays.edge_begin[edges + 1] - 1)
     here, there = arrays.points[at], arrays.points[at + 1 - 2 * side]
     found = whole_bearings(here, there)
-    for row in np.flatnonzero(are_equal(here, there)).tolist():
+    for row in are_equal(here, there).nonzero()[0].tolist():
         begin, behind = arrays.edge_begin[edges[row] : edges[row] + 2].tolist()
         place, *line = [(lon, lat) for lon, lat in (arrays.points[begin:behind] / UNITS)[:: 1 - 2 * int(side[row])].tolist()]
         found[row] = bearing(place, next((each for each in line if each != place), place))

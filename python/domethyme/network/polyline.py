@@ -32,17 +32,16 @@ def encode_polylines(points: ArrayLike, digits: int, firsts: Ints, behind: Ints)
     short lines take little longer than one of all points."""
     whole = np.rint(np.asarray(points, np.float64) * 10**digits).astype(np.int32)
     line, rows = concat_ranges(firsts, behind - firsts)
-    begins = np.flatnonzero(differs_from_previous(line))
+    begins = differs_from_previous(line).nonzero()[0]
     steps = whole.take(rows, axis=0)
     places = steps[begins]
-    steps[1:] = np.diff(steps, axis=0)
+    steps[1:] -= whole.take(rows[:-1], axis=0)
     steps[begins] = places
-    # a latitude, a longitude, and the end of a line
-    words = np.zeros((len(rows), 2 * MAX_PAIRS + 1), np.uint16)
-    words[begins[1:] - 1, -1] = ord(END_OF_LINE)
-    for axis, first in ((1, 0), (0, MAX_PAIRS)):
-        some = steps[:, axis] << 1
-        write_pairs(np.bitwise_xor(some, some >> 31, out=some), words[:, first : first + MAX_PAIRS])
+    # a latitude and a longitude, each with room for the end of a line behind it
+    words = np.zeros((2 * len(rows), MAX_PAIRS + 1), np.uint16)
+    words[2 * begins[1:] - 1, -1] = ord(END_OF_LINE)
+    numbers = (steps[:, ::-1] << 1).ravel()
+    write_pairs(np.bitwise_xor(numbers, numbers >> 31, out=numbers), words[:, :MAX_PAIRS])
     return words.tobytes().translate(None, NOTHING).decode("ascii").split(END_OF_LINE)
 
 
