@@ -200,7 +200,7 @@ def needs_points(request: Request) -> bool:
 
 
 def leg_texts(request: Request, totals: Sequence[LegTotals], geometry: RouteGeometry | None, texts: Texts | None) -> Iterator[str]:
-    """The OSRM legs of a route, with their totals. `texts` are those of the points that are shown and of the legs' ends, if there are any."""
+    """The OSRM legs of a route, with their totals. `texts` are those of the points that are shown and of the legs' ends, if any."""
     steps: Iterable[LegSteps] = itertools.repeat(LegSteps("[]", ""))
     annotations: Iterable[str] = itertools.repeat("")
     if geometry is not None and request.values[STEPS] == "true":

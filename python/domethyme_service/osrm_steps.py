@@ -16,7 +16,7 @@ from domethyme.network.leg_geometry import RouteGeometry
 from domethyme.network.parallel import differs_from_previous
 from domethyme.network.snapping import RoadIndex
 
-from .json_text import Texts, join_array, number_texts, point_texts, string_json
+from .json_text import Texts, join_array, point_texts, string_json
 from .osrm_geometry import line_string, polylines_json
 
 MIN_TURN_DEGREES = 45
@@ -26,6 +26,8 @@ MODIFIERS = [("straight", f"slight {side}", side, f"sharp {side}", "uturn") for 
 KINDS = ("continue", "new name", "turn", "roundabout")
 # The first members of a maneuver, by kind, side and modifier.
 TURNS = [f'"type":"{kind}","modifier":"{modifier}"' for kind in KINDS for side in MODIFIERS for modifier in side]
+# The texts of bearings, from 0 to 360.
+BEARINGS = [*map(str, range(361))]
 DEPART, ARRIVE = '"type":"depart"', '"type":"arrive"'
 # The columns of arc_texts that steps have.
 NAME_COLUMNS = [TEXTS.index(name) for name in ("name", "ref", "destination")]
@@ -163,13 +165,12 @@ class StepBuilder:
 
 def intersection_texts(found: Junctions, locations: Sequence[str]) -> list[str]:
     """The JSON of junctions at these places."""
-    begins, behind = found.begins[:-1], found.begins[1:]
-    flags, bounds = found.entries.tobytes(), itertools.pairwise(found.begins.tolist())
-    entries = (entry_json(flags[low:high]) for low, high in bounds)
-    rows = zip(locations, number_texts(found.bearings, 0).arrays(begins, behind), entries, found.into.tolist(), found.out.tolist())
+    flags, bearings = found.entries.tobytes(), [BEARINGS[bearing] for bearing in found.bearings.tolist()]
+    rows = zip(locations, itertools.pairwise(found.begins.tolist()), found.into.tolist(), found.out.tolist())
     return [
-        f'{{"location":{location},"bearings":{bearings},"entry":{entry},"in":{into},"out":{out}}}'
-        for location, bearings, entry, into, out in rows
+        f'{{"location":{location},"bearings":[{",".join(bearings[low:high])}],'
+        f'"entry":{entry_json(flags[low:high])},"in":{into},"out":{out}}}'
+        for location, (low, high), into, out in rows
     ]
 
 

@@ -50,7 +50,8 @@ def junctions(geometry: RouteGeometry, arcs: Ints, are_kept: NDArray[np.bool_]) 
     own = np.arange(count)
     numbers = np.concatenate((own, own, numbers))
     are_starts = np.concatenate((np.repeat((False, True), count), are_starts))
-    keys = (numbers << ROAD_BITS) + 2 * roads.arrays.arc_edge[every].astype(np.int64) + (roads.arrays.arc_along[every] != are_starts)
+    ends = 2 * roads.arrays.arc_edge[every].astype(np.int64) + (roads.arrays.arc_along[every] != are_starts)
+    keys = (numbers << ROAD_BITS) + ends
     rows = np.sort(keys, kind="stable")  # (which is quick, since most are sorted)
     rows = rows.compress(differs_from_previous(rows))
     place, owner = rows.searchsorted(keys[: 2 * count + open_count]), rows >> ROAD_BITS
@@ -84,7 +85,8 @@ def roads_around(geometry: RouteGeometry, arcs: Ints, before: Ints, behind: Ints
     other, other_rows = concat_ranges(low, one_way_ends.searchsorted(ends, side="right") - low)
     are_starts = np.arange(len(rows) + len(other_rows)) < len(rows)
     leading = np.concatenate((arrays.out_arcs[rows], one_way.take(other_rows)))
-    return np.concatenate((owners.take(junction), here.take(other))), leading, are_starts, int(junction.searchsorted(open_count))
+    numbers = np.concatenate((owners.take(junction), here.take(other)))
+    return numbers, leading, are_starts, int(junction.searchsorted(open_count))
 
 
 def twins(roads: RoadIndex, arcs: Ints, column: Column, side: str) -> Ints:

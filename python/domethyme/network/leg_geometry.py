@@ -75,9 +75,7 @@ class RouteGeometry:
         first = [part_first[stop] for stop in self._stops]
         self._part_first, self.first = np.array(part_first), np.array(first)
         # (the parts, and the legs, that have arcs)
-        self._driven, self._driven_legs = (
-            np.array([number for number, (begin, end) in enumerate(itertools.pairwise(some)) if begin < end], np.int64) for some in (part_first, first)
-        )
+        self._driven, self._driven_legs = with_rows(part_first), with_rows(first)
 
     @functools.cached_property
     def _weights(self) -> Ints:
@@ -269,6 +267,11 @@ class RouteGeometry:
         return found[: len(self.arcs)], found[len(self.arcs) :]
 
 
+def with_rows(begins: Sequence[int]) -> Ints:
+    """The numbers of the groups that have rows, by where each begins, and last where they end."""
+    return np.array([number for number, (low, high) in enumerate(itertools.pairwise(begins)) if low < high], np.int64)
+
+
 def joined(arrays: Sequence[Ints]) -> Ints:
     """One array of several."""
     return arrays[0] if len(arrays) == 1 else np.concatenate(arrays)
@@ -289,7 +292,8 @@ def whole_bearings(places: Ints, others: Ints) -> Ints:
     east, north = others[:, 0] - places[:, 0].astype(float), others[:, 1] - places[:, 1].astype(float)
     if np.abs(east).max(initial=0) > 180 * UNITS:
         east = wrapped_difference(east)
-    found = np.rint(np.arctan2(east * np.cos(places[:, 1] * (math.pi / 180 / UNITS)), north) * (180 / math.pi)).astype(np.int64)
+    degrees = np.arctan2(east * np.cos(places[:, 1] * (math.pi / 180 / UNITS)), north) * (180 / math.pi)
+    found: Ints = np.rint(degrees).astype(np.int64)
     found[found < 0] += 360
     return found
 
