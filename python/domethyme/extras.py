@@ -6,7 +6,7 @@ from typing import Any
 
 # By the name of a package the extra of this one that installs it.
 EXTRAS = {
-    "numpy": "arrays", "pandas": "frames", "scipy": "reach", "contourpy": "reach", "shapely": "reach", "tqdm": "maps",
+    "numpy": "arrays", "pandas": "frames", "scipy": "reach", "shapely": "reach", "tqdm": "maps",
     "geopandas": "geo",
 }
 

@@ -318,8 +318,7 @@ class Hierarchy:
     ) -> Features:
         """What is reached from a place (lon, lat) in degrees, or from the nearest of several, as GeoJSON: a
         FeatureCollection (Features, a dict) with a Feature for each number of minutes, the greatest first, with the properties of Mapbox's
-        Isochrone API. It begins at the nearest point of a road, in both directions. Needs the network, scipy, contourpy and
-        shapely.
+        Isochrone API. It begins at the nearest point of a road, in both directions. Needs the network, scipy and shapely.
 
         minutes     numbers that rise, (5, 10, 15) without them and without `metres`; weights have to be milliseconds
         metres      the same in metres; weights have to be centimetres
@@ -334,7 +333,7 @@ class Hierarchy:
         road is near enough, ValueError, and what `reach` does.
         """
         network, radius = self._need_network(), radius_of(radius, max_metres, "within(max_metres=)")
-        for name in ("numpy", "scipy", "contourpy", "shapely"):
+        for name in ("numpy", "scipy", "shapely"):
             need(name)
         from . import batch
         from .network import isochrones

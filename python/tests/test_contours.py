@@ -13,9 +13,10 @@ from shapely.affinity import scale, translate
 from shapely.geometry import LineString, MultiPolygon, Point, Polygon, box as rectangle, shape
 
 from domethyme.network import contour_shapes, isochrones, net_file
-from domethyme.network.contours import contours, meshes_of
+from domethyme.network.contours import NONE, contours, meshes_of, nearest_levels, nearest_levels_far
 from domethyme.network.indexes import UNITS
 from domethyme.network.isochrones import Style, features
+from domethyme.network.outlines import outlines
 from domethyme.network.reach import DECIMALS, METRES_OF_DEGREE, Reach, Zone
 
 BENCH = pathlib.Path(__file__).resolve().parents[2] / "bench"
@@ -150,6 +151,42 @@ def test_roads_far_from_what_is_reached_change_nothing(made_roads, monkeypatch):
             patched.setattr(Reach, "zone", lambda *_: everywhere)
             patched.setattr(Zone, "without", lambda zone, _: zone)
             assert found == [MultiPolygon(contour.polygons).wkt for contour in contours(reach)]
+
+
+@pytest.mark.parametrize("radius", [1, 6, 25, 126])
+def test_nearest_levels(radius):
+    """By columns and rows up to a radius, and by scipy's transform, as by all points one after the other."""
+    draw, bits = np.random.default_rng(radius), 2
+    for share in (0.003, 0.03, 0.3):
+        levels = np.where(draw.random((50, 70)) < share, draw.integers(0, 3, (50, 70)), NONE).astype(np.uint8)
+        least = np.full(levels.shape, 1 << 30)
+        rows, columns = np.indices(levels.shape)
+        for row, column in np.argwhere(levels != NONE):
+            away = (rows - row) ** 2 + (columns - column) ** 2
+            least = np.minimum(least, away << bits | levels[row, column])
+        found, is_near = nearest_levels(levels, radius, bits), least >> bits <= radius**2
+        assert (found[is_near] == least[is_near]).all() and (found[~is_near] >> bits > radius**2).all()
+        assert (nearest_levels_far(levels, bits) >> bits == least >> bits).all()
+
+
+@pytest.mark.parametrize("share", [0.05, 0.4, 0.6, 0.95])
+def test_outlines(share):
+    """Points are on their side of them; between neighbours they pass where the value would be 0; and rings are as RFC 7946 has them."""
+    draw = np.random.default_rng(7)
+    for _ in range(30):
+        size = draw.integers(1, 12, 2)
+        is_inside = np.pad(draw.random(size) < share, 1)
+        values = np.where(is_inside, 1, -1) * draw.choice([1, 3, 9], is_inside.shape)
+        points, polygons = outlines(values.astype(np.int8))
+        shapes = [Polygon(points[outer], [points[hole] for hole in holes]) for outer, *holes in polygons]
+        assert MultiPolygon(shapes).is_valid
+        rows, columns = np.indices(values.shape)
+        assert (is_inside == np.any([vectorized.contains(each, columns, rows) for each in shapes or [Polygon()]], axis=0)).all()
+        low, high = np.floor(points).astype(int), np.ceil(points).astype(int)
+        (low, high), share_of_way = (values[each[:, 1], each[:, 0]] for each in (low, high)), (points - low).sum(axis=1)
+        assert np.allclose(low + (high - low) * share_of_way, 0) and (low * high < 0).all()
+        for each in shapes:
+            assert each.exterior.is_ccw and not any(hole.is_ccw for hole in each.interiors)
 
 
 def has_both(box, ends):

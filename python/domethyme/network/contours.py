@@ -1,4 +1,4 @@
-"""Polygons around what is reached of a network's roads, by a field on a grid. Needs numpy, scipy, contourpy and shapely.
+"""Polygons around what is reached of a network's roads, by a field on a grid. Needs numpy, scipy and shapely.
 
     contours(reach)     the polygons of each limit: those of a lesser limit lie within those of a greater one
 
@@ -21,10 +21,9 @@ differ have a grid each, unless they are small: in the box of a lesser one all a
 import itertools
 import math
 from collections.abc import Iterator, Sequence
-from typing import NamedTuple
+from typing import Any, NamedTuple
 
 import numpy as np
-from contourpy import FillType, contour_generator
 from numpy.typing import NDArray
 from scipy.ndimage import distance_transform_edt
 from shapely.geometry import MultiPolygon, Polygon, box as rectangle
@@ -32,6 +31,7 @@ from shapely.ops import unary_union
 
 from .contour_shapes import parts_of, rounded
 from .grid import Ints
+from .outlines import outlines
 from .reach import DECIMALS, Box, Levels, Plane, Reach, Zone
 from .sphere import Floats
 
@@ -50,6 +50,8 @@ RATIO = 16
 RIM_SHARE = 1 / 16
 # No level.
 NONE = 255
+# Points whose distances are found together, since they fit into a processor's cache.
+CACHED = 1 << 15
 
 
 class Mesh(NamedTuple):
@@ -189,11 +191,9 @@ def united(parts: Sequence[list[Polygon]]) -> list[Polygon]:
 
 
 class Field:
-    """What is inside from which limit on: arrays of a number for each point of a grid, row by row.
-
-    level   the least level of the nearest road, or of the nodes in the point's square
-    away    the square of the distance to that road, in half steps; 0 in squares with nodes
-    """
+    """What is inside from which limit on: a number for each point of a grid, row by row. Its last bits are the least level of the
+    nearest road, or of the nodes in the point's square; those before them the square of the distance to that road, in half steps; 0
+    in squares with nodes."""
 
     def __init__(self, reach: Reach, mesh: Mesh, zone: Zone, drawn: Box | None) -> None:
         """`zone` has all roads and nodes within twice the allowance of what is reached: beyond, nothing is inside. What is within
@@ -212,21 +212,20 @@ class Field:
             extend(np.minimum, least, numbers, levels[is_on])
             extend(np.minimum, west, squares, levels[is_on])
             extend(np.maximum, east, squares, levels[is_on])
-        is_free = least.reshape(mesh.height, mesh.width) == NONE
-        rows, columns = distance_transform_edt(is_free, return_distances=False, return_indices=True)
-        nearest = rows * np.int32(mesh.width) + columns
-        rows -= np.arange(mesh.height, dtype=np.int32)[:, None]
-        columns -= np.arange(mesh.width, dtype=np.int32)
-        halves = np.stack((west, np.where(west == NONE, west, east)), axis=1)
-        of_nodes = halves.reshape(mesh.height // 2, mesh.width).repeat(2, axis=0)
-        self.level = np.where(of_nodes == NONE, least[nearest], of_nodes)
-        # (integers as great as allowances' squares are exact)
-        away = np.square(rows, dtype=np.float32) + np.square(columns, dtype=np.float32)
-        self.away = np.where(of_nodes == NONE, away, 0)
+        bits = len(reach.boxes).bit_length()
+        self._bits, self._mask = bits, (1 << bits) - 1
+        farthest = max(allowance_of(box) for box in reach.boxes if box is not None) / self._half
+        self._found = nearest_levels(least.reshape(mesh.height, mesh.width), math.floor(farthest), bits)
+        squares = np.flatnonzero(west != NONE)
+        corners = squares // (mesh.width // 2) * (2 * mesh.width) + squares % (mesh.width // 2) * 2
+        for side, levels in enumerate((west, east)):
+            for up in (0, mesh.width):
+                self._found.reshape(-1)[corners + (side + up)] = levels[squares]
 
     def polygons(self, limit: int, allowance: float) -> Iterator[list[Floats]]:
         """The polygons of a limit in the plane, each by its rings, the outer one first."""
-        is_inside = (self.level <= limit) & (self.away <= (allowance / self._half) ** 2)
+        is_inside = self._found <= (math.floor((allowance / self._half) ** 2) << self._bits | self._mask)
+        is_inside &= self._found & self._mask <= limit
         shown = self.mesh.shown
         if self._drawn is not None:  # (so that no lines are drawn there)
             is_inside[self._slices(self._drawn.grown(-self.mesh.step))] = True
@@ -238,20 +237,13 @@ class Field:
             return
         is_inside = np.pad(is_inside[rows[0] : rows[-1] + 1, columns[0] : columns[-1] + 1], 2)
         around = 2 * sums_of_nine(is_inside.view(np.int8)) - np.int8(9)
-        is_inside = is_inside[1:-1, 1:-1]
         # the line divides the way between two points by their values: 1 to 3 at most, and on the finest grids in the middle
         least = np.int8(3 if self._half >= MIN_STEP else 9)
-        values = np.where(is_inside, np.maximum(around, least), np.minimum(around, -least))
-        # (contourpy takes half of the time where its numbers come as floats, and places with them)
-        x, y = np.empty((2, *values.shape))
-        x[:], y[:] = np.arange(values.shape[1]), np.arange(values.shape[0])[:, None]
-        lines = contour_generator(x, y, values.astype(float), fill_type=FillType.OuterOffset).filled(0.0, 9.0)
-        corner = self.mesh.left + columns[0] - 0.5, self.mesh.bottom + rows[0] - 0.5
-        for points, offsets in zip(*lines):
-            # (one of both is an integer, but for last bits)
-            places = (points.round(9) + corner) * self._half
-            yield [places[begin:end] for begin, end in zip(offsets, offsets[1:])]
-
+        values = np.where(is_inside[1:-1, 1:-1], np.maximum(around, least), np.minimum(around, -least))
+        points, polygons = outlines(values)
+        points += self.mesh.left + columns[0] - 0.5, self.mesh.bottom + rows[0] - 0.5
+        points *= self._half
+        yield from ([points[ring] for ring in polygon] for polygon in polygons)
 
     def _slices(self, box: Box) -> tuple[slice, slice]:
         """The rows and columns of the points in a box."""
@@ -260,6 +252,62 @@ class Field:
             for low, high, first in ((box.west, box.east, self.mesh.left), (box.south, box.north, self.mesh.bottom))
         )
         return slice(south, north), slice(west, east)
+
+
+def nearest_levels(levels: Levels, radius: int, bits: int) -> NDArray[np.unsignedinteger[Any]]:
+    """For each point the square of the distance to the nearest ones that have a level, and in the last `bits` the least level of
+    these. Where none is within the radius, it is the square of some greater distance.
+
+    First come columns, and then rows: s steps at once add the square of s, and so do one that adds 1, one that adds 3, and so on.
+    """
+    far = radius + 1
+    if far * far + 2 * radius >> 16 - bits:
+        return nearest_levels_far(levels, bits)
+    found = levels.astype(np.uint16)
+    found[levels == NONE] = far << bits
+    farther, reached = np.empty_like(found), 0
+    while reached < radius:
+        step = min(reached + 1, radius - reached)
+        np.add(found, step << bits, out=farther)
+        np.minimum(found[step:], farther[:-step], out=found[step:])
+        np.minimum(found[:-step], farther[step:], out=found[:-step])
+        reached += step
+    np.right_shift(found, bits, out=farther)
+    farther *= farther
+    farther <<= bits
+    found &= (1 << bits) - 1
+    found |= farther
+    height, width = levels.shape
+    at_a_time = max(1, CACHED // (width + radius))
+    for begin in range(0, height, at_a_time):
+        rows = found[begin : begin + at_a_time]
+        # (behind each row are so many that no step leads to the next one)
+        line = np.full((len(rows), width + radius), far * far << bits, np.uint16)
+        line[:, :width] = rows
+        add_squares(line.ravel(), radius, bits)
+        rows[...] = line[:, :width]
+    return found
+
+
+def add_squares(line: NDArray[np.uint16], radius: int, bits: int) -> None:
+    """Has at each place the least, with the square of how far the place is that has it, up to the radius."""
+    farther = np.empty_like(line)
+    (low, high), (farther_low, farther_high) = ((each[:-1], each[1:]) for each in (line, farther))
+    for cost in range(1, 2 * radius, 2):
+        np.add(line, cost << bits, out=farther)
+        np.minimum(high, farther_low, out=high)
+        np.minimum(low, farther_high, out=low)
+
+
+def nearest_levels_far(levels: Levels, bits: int) -> NDArray[np.uint32]:
+    """The same, however far, of equally near ones of any."""
+    height, width = levels.shape
+    rows, columns = distance_transform_edt(levels == NONE, return_distances=False, return_indices=True)
+    found: NDArray[np.uint32] = levels[rows, columns].astype(np.uint32)
+    rows -= np.arange(height, dtype=np.int32)[:, None]
+    columns -= np.arange(width, dtype=np.int32)
+    found |= (rows * rows + columns * columns).astype(np.uint32) << np.uint32(bits)
+    return found
 
 
 def sums_of_nine(values: NDArray[np.int8]) -> NDArray[np.int8]:
