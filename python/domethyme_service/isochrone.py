@@ -5,12 +5,13 @@ from collections.abc import Sequence
 
 import numpy as np
 
-from domethyme.network.groups import Ints
-from domethyme.network.isochrones import METRICS, Shape, Style, features, limits, reach_of
+from domethyme.network.groups import Ints, offsets
+from domethyme.network.isochrones import METRICS, Drawn, Shape, Style, drawn, limits, reach_of
+from domethyme.network.reach import DECIMALS
 
 from .costs import MOST_DRAWN, Work
 from .errors import invalid_query, invalid_value, not_implemented, too_big
-from .json_text import to_json
+from .json_text import join_array, join_object, point_texts, to_json
 from .osrm import Engine, snap_places
 from .osrm_request import Request
 from .parameters import CONTOURS_COLORS, CONTOURS_METERS, CONTOURS_MINUTES, DENOISE, GENERALIZE, POLYGONS, REVERSE, Values
@@ -32,14 +33,33 @@ def answer(engine: Engine, request: Request) -> str:
         if np.count_nonzero(found >= 0) > MAX_REACHED:
             raise too_big(f"more than {MAX_REACHED:,} nodes are reached: ask for less")
         engine.meter.spend(Work.CONTOUR, len(weight_limits))
-        drawn = (np.count_nonzero((0 <= found) & (found <= each)) for each in weight_limits)
-        engine.meter.spend(Work.DRAWN, sum(min(count, MOST_DRAWN) for count in drawn))
+        counts = (np.count_nonzero((0 <= found) & (found <= each)) for each in weight_limits)
+        engine.meter.spend(Work.DRAWN, sum(min(count, MOST_DRAWN) for count in counts))
         return found
 
     reach = reach_of(roads, snap_places(engine, request), weight_limits, lengths, towards)
     shape: Shape = "polygons" if values[POLYGONS] == "true" else "lines"
-    style = Style(shape, values[GENERALIZE], values[DENOISE], colors, roads.texts[0])
-    return to_json(features(reach, contours, METRICS[roads.unit][0], style))
+    style = Style(shape, values[GENERALIZE], values[DENOISE], colors)
+    features = (
+        join_object({"type": '"Feature"', "properties": to_json(properties), "geometry": geometry_text(found)})
+        for properties, found in drawn(reach, contours, METRICS[roads.unit][0], style)
+    )
+    attribution = {"attribution": to_json(roads.texts[0])} if roads.texts[0] else {}
+    return join_object({"type": '"FeatureCollection"', "features": join_array(features), **attribution})
+
+
+def geometry_text(found: Drawn | None) -> str:
+    """A geometry as GeoJSON."""
+    if found is None:
+        return "null"
+    lines = [line for part in found.parts for line in part]
+    points, bounds = np.rint(np.concatenate(lines) * 10**DECIMALS).astype(np.int64), offsets(np.array([*map(len, lines)]))
+    texts = point_texts(points, DECIMALS).arrays(bounds[:-1], bounds[1:])
+    if found.kind == "Polygon":
+        rings = iter(texts)
+        texts = [join_array(itertools.islice(rings, len(part))) for part in found.parts]
+    kind, coordinates = (found.kind, texts[0]) if len(texts) == 1 else (f"Multi{found.kind}", join_array(texts))
+    return join_object({"type": to_json(kind), "coordinates": coordinates})
 
 
 def parse_limits(values: Values, unit: str) -> tuple[list[float], list[int]]:

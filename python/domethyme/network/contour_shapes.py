@@ -12,6 +12,7 @@ from shapely.prepared import prep
 
 from .geo import Point
 from .reach import DECIMALS, METRES_OF_DEGREE
+from .sphere import Floats
 
 Ring = tuple[Point, ...]
 # How often a tolerance is halved, until contours are valid and lie within one another.
@@ -130,14 +131,14 @@ def split(polygons: Sequence[Polygon]) -> list[Polygon]:
     return found
 
 
-def closed_rings(polygon: Polygon) -> list[list[list[float]]]:
+def closed_rings(polygon: Polygon) -> list[Floats]:
     """The rings of a polygon with DECIMALS, the outer one first and counterclockwise, holes clockwise (RFC 7946, 3.1.6)."""
-    found: list[list[list[float]]] = []
+    found: list[Floats] = []
     for ring in (polygon.exterior, *polygon.interiors):
         points = np.array(ring.coords).round(DECIMALS)
         x, y = (points - points[0]).T
         is_counterclockwise = (x[:-1] * y[1:] - x[1:] * y[:-1]).sum() > 0
-        found.append(points[:: 1 if is_counterclockwise == (not found) else -1].tolist())
+        found.append(points[:: 1 if is_counterclockwise == (not found) else -1])
     return found
 
 

@@ -1,8 +1,10 @@
-"""What is reached, as GeoJSON with the properties of Mapbox's Isochrone API. Needs numpy, scipy, contourpy and shapely."""
+"""What is reached, as GeoJSON with the properties of Mapbox's Isochrone API. Needs numpy, scipy and shapely."""
 import numbers
 import re
 from collections.abc import Callable, Sequence
 from typing import Any, Literal, NamedTuple, get_args
+
+import numpy as np
 
 from .contour_shapes import closed_rings, denoised, generalized, split
 from .contours import contours
@@ -10,6 +12,7 @@ from .geo import multi_geometry
 from .grid import Ints
 from .reach import PlaceOnRoad, Reach
 from .snapping import RoadIndex, SnappedPoint
+from .sphere import Floats
 
 # Of the palette of Okabe and Ito (Color Universal Design, 2008), whose colours differ for the colour-blind.
 COLORS = ("0072B2", "E69F00", "009E73", "CC79A7")
@@ -86,6 +89,30 @@ def features(reach: Reach, asked: Sequence[float], metric: Metric, style: Style 
 
     Raises ValueError for numbers that don't fit together.
     """
+    more = {"attribution": style.attribution} if style.attribution else {}
+    shown = [
+        {"type": "Feature", "properties": properties, "geometry": None if shape is None else shape.geometry}
+        for properties, shape in drawn(reach, asked, metric, style)
+    ]
+    return {"type": "FeatureCollection", "features": shown, **more}
+
+
+class Drawn(NamedTuple):
+    """A geometry of a kind, or of several of it: the rings of each polygon, or lines, each alone; of shape (points, 2), in degrees
+    with six decimals."""
+
+    kind: Literal["Polygon", "LineString"]
+    parts: list[list[Floats]]
+
+    @property
+    def geometry(self) -> dict[str, Any]:
+        """As GeoJSON."""
+        parts = [[line.tolist() for line in part] for part in self.parts]
+        return multi_geometry(self.kind, parts if self.kind == "Polygon" else [line for line, in parts])
+
+
+def drawn(reach: Reach, asked: Sequence[float], metric: Metric, style: Style) -> list[tuple[dict[str, Any], Drawn | None]]:
+    """The properties and the geometries of `features`."""
     count = len(reach.limits)
     colors = style.colors or [COLORS[place % len(COLORS)] for place in range(count)]
     if len(asked) != count or len(colors) != count:
@@ -94,13 +121,8 @@ def features(reach: Reach, asked: Sequence[float], metric: Metric, style: Style 
         raise ValueError("colours are six hexadecimal digits each")
     if style.shape not in get_args(Shape):
         raise ValueError(f"the shape has to be one of {', '.join(get_args(Shape))}, and is {style.shape!r}")
-    shapes = geometries(reach, style)
-    found = [
-        {"type": "Feature", "properties": properties(value, metric, color), "geometry": shape}
-        for value, color, shape in zip(asked, colors, shapes)
-    ]
-    more = {"attribution": style.attribution} if style.attribution else {}
-    return {"type": "FeatureCollection", "features": found[::-1], **more}
+    found = [properties(value, metric, color) for value, color in zip(asked, colors)]
+    return [*zip(found, shapes_of(reach, style))][::-1]
 
 
 def properties(value: float, metric: Metric, color: str) -> dict[str, Any]:
@@ -112,16 +134,18 @@ def properties(value: float, metric: Metric, color: str) -> dict[str, Any]:
     }
 
 
-def geometries(reach: Reach, style: Style) -> list[dict[str, Any] | None]:
+def shapes_of(reach: Reach, style: Style) -> list[Drawn | None]:
+    parts: list[list[list[Floats]]]
     if style.shape == "roads":
-        roads = [[[[*point] for point in line] for line in reach.roads(limit)] for limit in range(len(reach.limits))]
-        return [multi_geometry("LineString", lines) if lines else None for lines in roads]
-    polygons = [contour.polygons for contour in contours(reach)]
-    if style.denoise:
-        polygons = denoised(polygons, style.denoise)
-    if style.generalize:
-        polygons = generalized(polygons, style.generalize)
-    rings = [[closed_rings(part) for part in split(parts)] for parts in polygons]
-    if style.shape == "polygons":
-        return [multi_geometry("Polygon", parts) if parts else None for parts in rings]
-    return [multi_geometry("LineString", [ring for part in parts for ring in part]) if parts else None for parts in rings]
+        parts = [[[np.array(line)] for line in reach.roads(limit)] for limit in range(len(reach.limits))]
+    else:
+        polygons = [contour.polygons for contour in contours(reach)]
+        if style.denoise:
+            polygons = denoised(polygons, style.denoise)
+        if style.generalize:
+            polygons = generalized(polygons, style.generalize)
+        parts = [[closed_rings(part) for part in split(some)] for some in polygons]
+    if style.shape == "lines":
+        parts = [[[ring] for rings in some for ring in rings] for some in parts]
+    kind: Literal["Polygon", "LineString"] = "Polygon" if style.shape == "polygons" else "LineString"
+    return [Drawn(kind, some) if some else None for some in parts]
