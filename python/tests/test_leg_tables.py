@@ -8,7 +8,7 @@ from tool_case import TOOLS, VILLAGE
 
 import domethyme
 from domethyme.network import leg_tables
-from domethyme.network.snapping import RoadIndex
+from domethyme.network.snapping import MANY_EDGES, RoadIndex
 
 
 @pytest.fixture(scope="module")
@@ -47,3 +47,10 @@ def test_no_points(village):
     assert none.shape == (len(points), 0)
 
 
+
+
+def test_edges_are_read_at_once_as_one_by_one(village):
+    _, roads, _ = village
+    one_by_one = {number: roads.edge(number) for number in range(roads.edges)}
+    assert len(one_by_one) > MANY_EDGES
+    assert RoadIndex(roads.arrays).find_edges(range(roads.edges)) == one_by_one

@@ -15,7 +15,7 @@ from ..protocol import FAR, NO_PATH
 from .column_file import Column
 from .groups import Ints
 from .leg_geometry import driven_thousandths, thousandths
-from .legs import SnapEnds, leg_without_nodes
+from .legs import EMPTY_LEG, SnapEnds, leg_without_nodes
 from .snapping import NO_ARC, RoadIndex, SnappedPoint
 
 # The lengths from each of some nodes, from 0, to each of others, NO_PATH for no path: a new array with a row for each of the first.
@@ -76,7 +76,7 @@ def table_rows(
         found = least_by_nodes(ask, exits, entries, (len(some), len(ends)), out_of, into)
         for row, start in enumerate(some):
             for number in itertools.chain(*(ends_by_key.get(key, ()) for key in place_keys(start))):
-                leg = leg_without_nodes(roads, start, ends[number])
+                leg = EMPTY_LEG if start is ends[number] else leg_without_nodes(roads, start, ends[number])
                 if leg is not None and leg.weight <= found[0][row, number]:
                     found[0][row, number] = leg.weight
                     for sums, column in zip(found[1:], columns):

@@ -20,6 +20,7 @@ from .columns import ENDS, NO_OSM, TEXTS, UNITS
 from .from_tables import load_network
 from .geo import Point, metres_between
 from .grid import Ints, concat_ranges
+from .groups import offsets
 from .net_file import MappedNetwork
 from .node_index import NodeIndex
 from .parallel import differs_from_previous
@@ -28,8 +29,8 @@ from .sphere import Floats, interpolate_one, nearest_on_segments
 # So many metres from an end of an edge a point is at the end.
 END_TOLERANCE = 0.005
 NO_ARC = -1
-# Edges that are cached.
-EDGE_CACHE_SIZE = 1 << 8
+# Edges that are cached; and how many are read at once.
+EDGE_CACHE_SIZE, MANY_EDGES = 1 << 8, 8
 # Segments that are projected on at once; and the offsets of a segment's ends.
 SEGMENTS_PER_BATCH = 1 << 15
 SEGMENT_END_OFFSETS = np.array([[0], [1]])
@@ -182,7 +183,7 @@ class RoadIndex:
         kept = kept if of == changes else {}
         if not (missing := [number for number in dict.fromkeys(numbers) if number not in kept]):
             return kept
-        read = {number: self._read_edge(number) for number in missing}
+        read = self._read_edges(missing) if len(missing) >= MANY_EDGES else {number: self._read_edge(number) for number in missing}
         found = {**kept, **read}
         self._kept = changes, found if len(found) <= EDGE_CACHE_SIZE else dict(itertools.islice(read.items(), EDGE_CACHE_SIZE))
         return found
@@ -200,6 +201,25 @@ class RoadIndex:
         name = self.texts[int(arrays.row_texts[int(arrays.arc_row[arc]), NAME])]
         start, end, weight = (int(column[arc]) for column in (arrays.arc_from, arrays.arc_to, arrays.arc_weight))
         return Arc(start, end, weight, name, edge, bool(arrays.arc_along[arc]))
+
+    def _read_edges(self, numbers: list[int]) -> dict[int, Edge]:
+        """The same of many edges, of which each column is read at once: a call of numpy takes as long as some edges."""
+        arrays, edges = self.arrays, np.array(numbers)
+        arcs_of, points_of = ((begins[edges], begins[edges + 1] - begins[edges]) for begins in (arrays.edge_first, arrays.edge_begin))
+        arcs, points = (concat_ranges(*ranges)[1] for ranges in (arcs_of, points_of))
+        arcs = arrays.edge_arcs[arcs]
+        names = [self.texts[number] for number in arrays.row_texts[arrays.arc_row[arcs], NAME].tolist()]
+        columns = (column[arcs].tolist() for column in (arrays.arc_from, arrays.arc_to, arrays.arc_weight, arrays.arc_along))
+        rows = [*zip(arcs.tolist(), names, *columns)]
+        places = [(lon / UNITS, lat / UNITS) for lon, lat in arrays.points[points].tolist()]
+        found = dict[int, Edge]()
+        bounds = (itertools.pairwise(offsets(counts).tolist()) for _, counts in (arcs_of, points_of))
+        for number, first, (low, high), (begin, end) in zip(numbers, points_of[0].tolist(), *bounds):
+            line = tuple(places[begin:end])
+            metres = list(itertools.accumulate(segment_metres(line), initial=0.0))
+            arcs_here = {arc: Arc(start, end, weight, name, number, is_along) for arc, name, start, end, weight, is_along in rows[low:high]}
+            found[number] = Edge(line, metres, arcs_here, first)
+        return found
 
     def nearest(
         self, place: Point, count: int = 1, step: Callable[[], object] = lambda: None, within: float = math.inf, is_any: bool = False
