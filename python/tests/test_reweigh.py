@@ -70,6 +70,7 @@ SPEEDS = st.one_of(st.integers(1, 130), st.floats(1, 200).map(lambda value: roun
 def maps(draw: Any) -> Map:
     steps = st.tuples(st.integers(-40, 40), st.integers(-40, 40))
     points = [(9.5 + east * 1e-4, 47.1 + north * 1e-4) for east, north in draw(st.lists(steps, min_size=3, max_size=12, unique=True))]
+    points += draw(st.lists(st.sampled_from(points), max_size=3))  # (some lie in one place)
     ways, end = [], 0
     for _ in range(draw(st.integers(1, 6))):
         line = [end]
@@ -100,6 +101,7 @@ def test_as_the_map_says(data: Any) -> None:
                 rows.append((*(100 + point for point in step), speed))
                 shared.setdefault(step, set()).add(speed)
     is_by_way = any(len(speeds) > 1 for speeds in shared.values()) or data.draw(st.booleans())
+    is_by_way |= len({*after.points}) < len(after.points)  # (in one place points may be of one road, which has no ids there)
     if is_by_way:
         after = after._replace(ways=[way._replace(speeds=way.speeds[:1] * 2) for way in after.ways])
         rows = [(number + 1, way.speeds[0]) for number, way in enumerate(after.ways)]
@@ -225,6 +227,25 @@ class ToolTests(ToolCase):
         self.assertEqual((self.folder / "rows").read_text(), "".join(f"{row}\n" for row in range(1, 13)))
         for ending in ("gr", "net"):
             self.assertEqual((self.folder / f"new.{ending}").read_bytes(), (self.folder / f"map.{ending}").read_bytes())
+
+    def test_roads_of_one_way_in_one_place(self):
+        """From 1 to 2 and from 3 to 4, and there and back by 7, points that nothing but their ids tells apart: rows of these match nothing,
+        and those of the way both."""
+        lons = {1: 0, 2: 0.001, 3: 0, 4: 0.001, 5: 0.001, 6: 0, 7: 0.0005, 8: 0, 9: 0}
+        lats = dict.fromkeys(lons, 0) | {5: -0.001, 6: -0.001, 7: 0.001}
+        nodes = "".join(f"<node id='{each}' lon='{lons[each]}' lat='{lats[each]}'/>" for each in lons)
+        ways = "".join(
+            f"<way id='{number}'>{''.join(f'<nd ref={ref!r}/>' for ref in refs)}<tag k='highway' v='primary'/></way>"
+            for number, refs in {21: "12734", 22: "25", 23: "63", 24: "879", 25: "81"}.items()
+        )
+        self.write("map.osm", f"<osm version='0.6'>{nodes}{ways}</osm>")
+        self.run_tool("osm_to_gr", "map.osm", "map", "--keep-islands")
+        before = self.arcs("map")
+        said, arcs = self.reweighed("1,2,35\n3,4,35\n8,7,35\n9,7,35\n2,7,35\n-9223372036854775808,7,35\n")
+        self.assertEqual(said[0], "reweigh: speeds.csv: 5 of 6 rows match nothing: 1, 2, 3, 4, 6")
+        self.assertEqual({ends for ends in arcs if arcs[ends] != before[ends]}, {(2, 7)} if (2, 7) in arcs else {(2, 3)})
+        said, arcs = self.reweighed("21,35\n")
+        self.assertEqual([arcs[ends] for ends in ((1, 2), (2, 1), (3, 4), (4, 3))], [11437] * 4)
 
     def test_closed(self):
         """A direction, a road, and what it cuts off; in the graph, the network, and in another network that is made of that."""

@@ -273,7 +273,8 @@ def texts_of(row_of_arc: NDArray[np.uint32], rows_of: RowsOf, attribution: str) 
 
 
 def edges_from_pieces(network: RoadNetwork) -> tuple[Int32s, Bools, Floats, Ints, Int32s, Ints]:
-    """The edge of each arc and whether it leads along it, and the edges' metres, points and ids, as net_file.Arrays has them."""
+    """The edge of each arc and whether it leads along it, and the edges' metres, points and ids, as net_file.Arrays has them. A point has
+    no id where two pieces of an edge differ by it, or both directions of one that leads back on itself."""
     runs, is_used = network.runs, mask(len(network.piece_run), network.piece)
     is_along, is_ring, keys = look_at_lines(network)
     is_same = np.zeros(len(keys), np.bool_)
@@ -290,11 +291,17 @@ def edges_from_pieces(network: RoadNetwork) -> tuple[Int32s, Bools, Floats, Ints
         if first != piece:
             first_of[piece] = first
     is_edge = is_used & ~mask(len(keys), list(first_of))
+    others = [(piece, 1 if is_along[piece] else -1) for piece in first_of]
+    others += [(piece, -1) for piece in np.flatnonzero(is_same).tolist()]
     del keys, known, leader, is_again
     number = np.cumsum(is_edge, dtype=np.int32) - np.int32(1)
     number[list(first_of)] = number[list(first_of.values())]
     along = is_along[network.piece] ^ network.is_back | is_same[network.piece]
-    return number[network.piece], along, runs.metres[network.piece_run[is_edge]], *chosen_lines(runs, is_edge, is_along)
+    begins, points, osm = chosen_lines(runs, is_edge, is_along)
+    for piece, step in others:
+        of_edge = osm[begins[number[piece]] : begins[number[piece] + 1]]
+        of_edge[of_edge != ids_of(runs, piece)[::step]] = NO_OSM
+    return number[network.piece], along, runs.metres[network.piece_run[is_edge]], begins, points, osm
 
 
 def look_at_lines(network: RoadNetwork) -> list[NDArray[Any]]:
@@ -313,6 +320,12 @@ def look_at_lines(network: RoadNetwork) -> list[NDArray[Any]]:
 
 def line_of(runs: Runs, piece: int) -> Int32s:
     return np.array(runs.points[runs.begin[piece] : runs.end[piece]])
+
+
+def ids_of(runs: Runs, piece: int) -> Ints:
+    """The ids of the points of a line."""
+    places = np.arange(runs.begin[piece], runs.end[piece])
+    return np.array(runs.osm[runs.nodes[places, (places > places[0]).astype(np.int8)]])
 
 
 def chosen_lines(runs: Runs, chosen: Bools, is_along: Bools) -> tuple[Ints, Int32s, Ints]:

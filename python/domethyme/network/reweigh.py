@@ -22,7 +22,7 @@ from ..errors import NetworkError
 from ..limits import MAX_WEIGHT
 from ..program import StrPath
 from . import indexes, net_file
-from .columns import ENDS, INT64, OF_TABLES, UNITS
+from .columns import ENDS, INT64, NO_OSM, OF_TABLES, UNITS
 from .figures import PENALTY, seconds_of, whole_weights
 from .groups import Ints, expand, mask, offsets
 from .net_file import MappedNetwork
@@ -189,7 +189,8 @@ def rows_of_steps(network: MappedNetwork, rows: SpeedRows) -> tuple[NDArray[np.i
     those against the edge, and along it."""
     first, edge = indexes.edge_segments(network.edge_begin[:])
     found, is_named = np.full((2, len(first)), -1, np.int32), np.zeros((2, len(network.edge_metres)), np.bool_)
-    ranks = rows.ranks(network.point_osm[:])
+    ids = network.point_osm[:]
+    ranks = np.where(ids == NO_OSM, 0, rows.ranks(ids))
     steps = np.flatnonzero((ranks[first] > 0) & (ranks[first + 1] > 0))
     here, there = ranks[first[steps]], ranks[first[steps] + 1]
     for side, ends in enumerate(((there, here), (here, there))):
@@ -229,7 +230,7 @@ def milliseconds_of(network: MappedNetwork, arcs: Ints, steps: Steps) -> Floats:
     begins, metres = offsets(counts)[:-1], network.edge_metres[network.arc_edge[arcs]]
     least, most = np.minimum.reduceat(steps.kmh, begins), np.maximum.reduceat(steps.kmh, begins)
     is_closed, is_mixed = np.fmin.reduceat(steps.kmh, begins) == 0, ~(least == most)
-    with np.errstate(divide="ignore", over="ignore"):
+    with np.errstate(divide="ignore", invalid="ignore", over="ignore"):
         found: Floats = metres * 3600 / least
     chosen = np.flatnonzero(is_mixed[steps.owner])
     owner, point, kmh = (column[chosen] for column in steps)
