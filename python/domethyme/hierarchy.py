@@ -514,8 +514,8 @@ class Hierarchy:
         from .network import directions
         from .network.network import trace_of
 
-        found = trace_of(trace, seconds, deviation, bearings)
-        return directions.match(self._router, self._need_network().roads, found, gaps == "split", tidy)
+        found, roads = trace_of(trace, seconds, deviation, bearings), self._need_network().roads
+        return directions.match(self._router, self._metres_summer(), roads, found, gaps == "split", tidy)
 
     # What they share
 

@@ -14,6 +14,7 @@ from collections.abc import Callable, Sequence
 from typing import NamedTuple
 
 from domethyme.network.geo import Point
+from domethyme.network.matching import MAX_ROADS, STEPS_AT_ONCE
 
 from .errors import too_big
 from .parameters import (
@@ -25,8 +26,6 @@ from .parameters import (
 SHORT, MOST = 250_000, 10_000_000
 # Nodes in a contour, from which on one of more takes no longer: it is drawn on a coarser grid.
 MOST_DRAWN = 150_000
-# Ways that are asked for at most from a place of a trace to the next; of those with less deviation one for each metre of it.
-MOST_ASKED = 30
 # Units between two calls of a meter's `tick`.
 TICK = 20_000
 
@@ -46,7 +45,7 @@ class Work(enum.Enum):
     DRAWN = 15, f"a node that is reached, for each contour, of {MOST_DRAWN:,} at most"
     CELL = 1, "a cell of a table"
     STOP = 10_000, "a place of a trip, whose order is searched for"
-    TRACE = 1000, "a place of a trace: roads near it, and which ways lead there"
+    TRACE = 500, "a place of a trace: roads near it, and which ways lead there"
     POINT = 2, "a point of a leg's line, and as much for each thing that is written of it"
     LINE = 5, "a line of a batch"
     TILE = 50_000, "a tile of the map"
@@ -79,14 +78,14 @@ VARIABLES = {
     "P": "places",
     "B": "places with a bearing",
     "K": "points that are asked for (`number`)",
-    "G": "legs: one for each two places, or four with `continue_straight=true`. "
-    f"Of a trace one for each metre of a deviation, to {MOST_ASKED}",
+    "G": "legs: one for each two places, or four with `continue_straight=true`",
     "W": "nodes of all legs, of each 2 √N or less by the distance of its places",
     "V": "points of all legs, by W, and as many more for each annotation, for steps and for the overview",
     "M": "rows of a table: two for each different source, or place of a trip",
     "L": "links of a table's selection: those of the hierarchy, or 20 √N for each different destination, if these are fewer",
     "Z": "cells of a table",
-    "S": "sums between nodes for a table: four for each different source and destination, and each annotation that isn't the weight",
+    "S": "sums between nodes: for a table four for each different source and destination, and each annotation that isn't the weight; "
+    f"for each place of a trace {STEPS_AT_ONCE} times the square of its deviation in metres, to {2 * MAX_ROADS}",
     "A": "other routes that are asked for (`alternatives`), to 3; 0 if none are searched for",
     "U": "1 if other routes are searched for, else 0",
     "C": "contours",
@@ -156,9 +155,9 @@ def expected(size: Size, places: Sequence[Point], values: Values, unit: str) -> 
         found["L"] = selected_links(size.nodes, size.links, 2 * len(places))
     others = min(values.get(ALTERNATIVES, 0), size.alternatives) if len(places) == 2 else 0
     nodes = sum(path_nodes(size, degrees) for degrees in legs)
-    asked = sum(min(each, MOST_ASKED) for each in values[DEVIATIONS]) / len(places) if DEVIATIONS in values else 1
-    if values.get(CONTINUE_STRAIGHT) == "true":
-        asked = 4
+    asked = 4 if values.get(CONTINUE_STRAIGHT) == "true" else 1
+    if DEVIATIONS in values:
+        found["S"] = sum(STEPS_AT_ONCE * min(each, 2 * MAX_ROADS) ** 2 for each in values[DEVIATIONS])
     found |= {"G": asked * len(legs), "W": asked * nodes, "V": nodes * size.points * things(values), "M": rows, "Z": cells}
     found |= {"A": others, "U": min(others, 1)}
     minutes, metres = values.get(CONTOURS_MINUTES) or (), values.get(CONTOURS_METERS) or ()

@@ -87,7 +87,7 @@ def open_hierarchy(paths: DatasetPaths, hierarchy: str, graph: str | None, roads
         del data
         if roads is not None:
             # (what is computed here, before the fork, is in memory once for all workers)
-            roads.roundabout_rows, roads.ferry_rows, roads.metres_of_weight, roads.one_way
+            roads.roundabout_rows, roads.ferry_rows, roads.one_way
             belonging.compare(number, hierarchy, roads.arrays, paths.compare_all)
             summers = open_summers(number, hierarchy, roads, router)
         if file_stamp(number) != stamp:
@@ -96,10 +96,10 @@ def open_hierarchy(paths: DatasetPaths, hierarchy: str, graph: str | None, roads
 
 
 def open_summers(file: int, hierarchy: str, roads: RoadIndex, router: Router) -> dict[str, Summer]:
-    """What sums up along paths for tables, by the name of the annotation, what isn't the weight; nothing by an older library."""
-    columns = {"duration": roads.arrays.arc_seconds} if roads.has_seconds else {}
-    columns |= {"distance": roads.arrays.arc_metres}
-    columns.pop(roads.unit, None)
+    """What sums up along paths, by the name of the annotation: for traces metres, and for tables seconds where these aren't the weight;
+    nothing by an older library."""
+    columns = {"duration": roads.arrays.arc_seconds} if roads.has_seconds and roads.unit != "duration" else {}
+    columns["distance"] = roads.arrays.arc_metres
     numbers = Links.of(file, hierarchy).thousandths(roads.arrays, [*columns.values()])
     with contextlib.suppress(LibraryNotFound):
         return {name: Summer(router, some) for name, some in zip(columns, numbers)}

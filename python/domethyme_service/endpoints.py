@@ -115,7 +115,7 @@ ENDPOINTS = (
                   range(2, 501), f"{SNAPPING} + ROW*M*(1 + L/10000) + CELL*Z + STOP*P + PAIR*G + NODE*W + POINT*V", "Trips",
                   ROUNDTRIP, SOURCE, DESTINATION, *OF_ROUTES),
     osrm_endpoint("match", "the way of a vehicle along roads, by 2 to 500 places where it was measured to be",
-                  handlers.places(osrm_match.match), range(2, 501), "TRACE*P + PAIR*G + NODE*W + POINT*V", "Matchings",
+                  handlers.places(osrm_match.match), range(2, 501), "TRACE*P + SUM*S + PAIR*G + NODE*W + POINT*V", "Matchings",
                   DEVIATIONS, TIMESTAMPS, GAPS, TIDY, WAYPOINTS, unsupported("approaches", "unrestricted"), *OF_ROUTES),
     Endpoint("/isochrone", "/isochrone/v1/PROFILE/PLACE", "isochrones: what is within minutes or metres of a place, or leads to it, as GeoJSON",
              handlers.places(isochrone.answer), Kind.PLACES, range(1, 2),

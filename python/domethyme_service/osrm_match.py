@@ -1,4 +1,6 @@
 """OSRM's match: the way of a vehicle along roads, by the places where it was measured to be (domethyme.network.matching)."""
+import functools
+
 from domethyme.network.bearings import BearingRange
 from domethyme.network.matching import Matcher, Trace
 
@@ -18,7 +20,8 @@ def match(engine: Engine, request: Request) -> str:
     ranges = [bearing and BearingRange(*bearing) for bearing in values[BEARINGS]]
     trace = Trace(request.places, values.get(TIMESTAMPS), values[DEVIATIONS], ranges)
     engine.meter.spend(Work.TRACE, len(request.places))
-    matcher = Matcher(engine.queries.between, engine.queries.table, engine.roads, trace)
+    sums = functools.partial(engine.queries.table_sums, names=["distance"])
+    matcher = Matcher(engine.queries.between, sums, engine.roads, trace)
     found = matcher.ways(values[GAPS] == "split", values[TIDY] == "true")
     if not found:
         raise RequestError(400, "NoMatch", "no two points of the trace are on roads with a way between them")

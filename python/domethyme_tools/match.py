@@ -7,7 +7,7 @@ standard deviation of the error of each place in metres, above 0 and to 200; an 
 
 OUT is a collection with a feature for each way: another one begins at a gap of time, of more than a minute and more than ten times the
 usual, unless --ignore-gaps is given, and where no way leads on. Its properties are weight, seconds and metres of the way;
-rows, those of TRACE that are on it; and confidence, about the mean probability that a place is where it is. A row that is in none has
+rows, those of TRACE that are on it; and confidence, the mean probability that a place is where it is. A row that is in none has
 no match.
 
 The way is the most probable one by a hidden Markov model. It has an own deviation to be right: one that is too small gives wrong roads.

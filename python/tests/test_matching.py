@@ -117,42 +117,68 @@ class VillageTests(ToolCase):
             self.assert_refused("match", "v", "v.rch", "bad.csv", says=says)
 
 
+def drawn_leg(draw, weights):
+    """A leg along arcs of these weights, from a share of the first to one of the last."""
+    begin, end = (draw.choice([0.0, draw.random(), 1.0]) for _ in range(2))
+    if len(weights) == 1:
+        begin, end = sorted((begin, end))
+    driven = [*weights[:-1], round(end * weights[-1])]
+    driven[0] -= round(begin * weights[0])
+    return Leg(sum(driven), np.arange(len(weights)), np.array(driven), begin, end)
+
+
+def place_at(line, share):
+    """The place at a share of a line."""
+    metres = [metres_between(*step) for step in itertools.pairwise(line)]
+    left = share * sum(metres)
+    for (begin, end), long in zip(itertools.pairwise(line), metres):
+        if left <= long:
+            return [low + left / long * (high - low) for low, high in zip(begin, end)]
+        left -= long
+    return line[-1]
+
+
+def segments_of(lines, leg):
+    """The segments that are driven on a leg along all of these lines."""
+    for number, line in enumerate(lines):
+        low, high = leg.begin if number == 0 else 0.0, leg.end if number == len(lines) - 1 else 1.0
+        metres = [*itertools.accumulate((metres_between(*step) for step in itertools.pairwise(line)), initial=0.0)]
+        for first, last in itertools.pairwise(each / metres[-1] for each in metres):
+            if max(first, low) <= min(last, high):
+                yield place_at(line, max(first, low)), place_at(line, min(last, high))
+
+
 @pytest.mark.parametrize("seed", range(40))
-def test_places_on_a_leg(seed):
-    """Places are put in order along a leg for the least sum of squares, of all ways to take segments that rise; and its parts sum to it."""
+def test_places_on_legs(seed):
+    """Places are put in order along what is driven of legs for the least sum of squares, of all ways to take segments that rise; and the
+    parts of a leg sum to it."""
     draw = random.Random(seed)
     lines = [[(draw.uniform(0, 1e-3), draw.uniform(0, 1e-3)) for _ in range(draw.randint(2, 3))] for _ in range(draw.randint(1, 3))]
     lines = [[*([lines[number - 1][-1]] if number else []), *line] for number, line in enumerate(lines)]
     weights = [draw.randint(1, 1000) for _ in lines]
     units = [[(round(lon * 1e7), round(lat * 1e7)) for lon, lat in line] for line in lines]
-    arrays = SimpleNamespace(
-        arc_lines=lambda arcs: (np.cumsum([0, *map(len, units)]), np.array([point for line in units for point in line])),
-        arc_weight=np.array(weights),
-    )
-    roads = SimpleNamespace(arrays=arrays)
-    leg = Leg(sum(weights), np.arange(len(lines)), np.array(weights), 0.0, 1.0)
-    places = [(draw.uniform(0, 1e-3), draw.uniform(0, 1e-3)) for _ in range(draw.randint(1, 3))]
+
+    def arc_lines(arcs):
+        some = [units[arc] for arc in arcs.tolist()]
+        return np.cumsum([0, *map(len, some)]), np.array([point for line in some for point in line])
+
+    lines = [[(lon / 1e7, lat / 1e7) for lon, lat in line] for line in units]
+    roads = SimpleNamespace(arrays=SimpleNamespace(arc_lines=arc_lines, arc_weight=np.array(weights)))
+    legs = [drawn_leg(draw, weights) for _ in range(3)]
+    numbers = [[0, 1, 2][: draw.randint(1, 3)], [3], [4, 5]]
+    places = [(draw.uniform(0, 1e-3), draw.uniform(0, 1e-3)) for _ in range(6)]
     reach = [draw.choice([10.0, 1000.0]) for _ in places]
-    marks = nearest_marks(roads, leg, np.array(places), np.array(reach))
-    segments = [(arc, step) for arc, line in enumerate(units) for step in itertools.pairwise([(lon / 1e7, lat / 1e7) for lon, lat in line])]
-    ways = [[min(nearest_on_segment(place, *step)[0], far) ** 2 for _, step in segments] for place, far in zip(places, reach)]
-    least = min(sum(row[at] for row, at in zip(ways, some)) for some in itertools.combinations_with_replacement(range(len(segments)), len(places)))
-
-    def at_mark(mark):
-        line = [(lon / 1e7, lat / 1e7) for lon, lat in units[mark[0]]]
-        metres = [metres_between(*step) for step in itertools.pairwise(line)]
-        left = mark[1] * sum(metres)
-        for (begin, end), long in zip(itertools.pairwise(line), metres):
-            if left <= long:
-                break
-            left -= long
-        return [low + min(1.0, left / long) * (high - low) for low, high in zip(begin, end)]
-
-    found = sum(min(metres_between(at_mark(mark), place), far) ** 2 for mark, place, far in zip(marks, places, reach))
-    assert marks == sorted(marks) and (found <= least + 0.1 or len({mark[0] for mark in marks}) < len(marks))
-    parts = parts_of(roads, leg, marks)
-    assert len(parts) == len(marks) + 1 and sum(part.weight for part in parts) == leg.weight
-    for part in parts:
-        assert part.weight == part.weights.sum() and (part.weights >= 0).all() and len(part.weights) == len(part.arcs)
-    ends = [(part.arcs[0] + part.begin, part.arcs[-1] + part.end) for part in parts if len(part.arcs)]
-    assert ends[0][0] == 0 and ends[-1][1] == len(lines) and all(before[1] == behind[0] for before, behind in itertools.pairwise(ends))
+    for leg, some, marks in zip(legs, numbers, nearest_marks(roads, legs, numbers, np.array(places), np.array(reach)), strict=True):
+        segments, marked = [*segments_of(lines, leg)], [place_at(lines[arc], share) for arc, share in marks]
+        ways = [[min(nearest_on_segment(places[number], *step)[0], reach[number]) ** 2 for step in segments] for number in some]
+        every = itertools.combinations_with_replacement(range(len(segments)), len(some))
+        least = min(sum(row[at] for row, at in zip(ways, each)) for each in every)
+        found = sum(min(metres_between(place, places[number]), reach[number]) ** 2 for place, number in zip(marked, some))
+        assert marks == sorted(marks) and (found <= least + 0.1 or len({mark[0] for mark in marks}) < len(marks))
+        parts = parts_of(roads, leg, marks)
+        assert len(parts) == len(marks) + 1 and sum(part.weight for part in parts) == leg.weight
+        for part in parts:
+            assert part.weight == part.weights.sum() and (part.weights >= 0).all() and len(part.weights) == len(part.arcs)
+        ends = [(part.arcs[0] + part.begin, part.arcs[-1] + part.end) for part in parts if len(part.arcs)]
+        ends = [(leg.begin, leg.begin), *ends, (len(lines) - 1 + leg.end,) * 2]
+        assert all(before[1] == pytest.approx(behind[0], abs=1e-9) for before, behind in itertools.pairwise(ends))

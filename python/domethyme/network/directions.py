@@ -157,9 +157,9 @@ class Match(NamedTuple):
     places: list[SnappedPoint | None]
 
 
-def match(router: Router, roads: RoadIndex, trace: Trace, is_split: bool, is_tidy: bool) -> Match:
-    """What a trace is matched to. Raises NetworkError."""
-    found = Matcher(functools.partial(ask_router, router), functools.partial(table, router), roads, trace).ways(is_split, is_tidy)
+def match(router: Router, summer: Summer, roads: RoadIndex, trace: Trace, is_split: bool, is_tidy: bool) -> Match:
+    """What a trace is matched to, by what sums up millimetres along paths. Raises NetworkError."""
+    found = Matcher(functools.partial(ask_router, router), summer.table, roads, trace).ways(is_split, is_tidy)
     places: list[SnappedPoint | None] = [None] * len(trace.places)
     for way in found:
         for number, place in zip(way.points, way.places):

@@ -12,7 +12,7 @@ import numpy as np
 
 from ..errors import NetworkError
 from ..protocol import RouterResult
-from .groups import Ints
+from .groups import Ints, expand
 from .snapping import NO_ARC, RoadIndex, SnappedPoint
 
 # Candidate nodes of a snapped point: node -> (weight, arc) of the part of the arc between.
@@ -39,6 +39,20 @@ def find_leg(ask: Between, roads: RoadIndex, start: SnappedPoint, end: SnappedPo
     if is_same_node(start, end):
         return EMPTY_LEG
     return choose_leg(roads, start, end, ask(start.exits, end.entries))
+
+
+def find_each(ask: Between, roads: RoadIndex, pairs: Sequence[tuple[SnappedPoint, SnappedPoint]]) -> list[Leg | None]:
+    """The leg between each two points, as by `find_leg`: the arcs of all are found at once."""
+    routes = [None if is_same_node(start, end) else ask(start.exits, end.entries) for start, end in pairs]
+    nodes = [np.array(route.nodes if route else (), np.int64) for route in routes]
+    owner, position = expand(np.array([*map(len, nodes)], np.int64))
+    line, begins = np.concatenate([*nodes, np.empty(0, np.int64)]), np.flatnonzero(position[1:] > 0)
+    arcs = roads.arrays.lightest(line[begins], line[begins + 1])
+    each = np.split(arcs, owner[begins].searchsorted(range(1, len(pairs))))
+    return [
+        EMPTY_LEG if is_same_node(start, end) else choose_leg(roads, start, end, route, some)
+        for (start, end), route, some in zip(pairs, routes, each)
+    ]
 
 
 def find_legs(ask: Between, roads: RoadIndex, points: Sequence[SnappedPoint], is_straight: bool = False) -> list[Leg] | int:
@@ -87,12 +101,14 @@ def is_same_node(start: SnappedPoint, end: SnappedPoint) -> bool:
     return bool(start.copies) and start.copies == end.copies and not (start.arcs and end.arcs)
 
 
-def choose_leg(roads: RoadIndex, start: SnappedPoint, end: SnappedPoint, route: RouterResult | None) -> Leg | None:
-    """The leg, given the shortest path between the points' nodes, or None; None if there is no path."""
+def choose_leg(
+    roads: RoadIndex, start: SnappedPoint, end: SnappedPoint, route: RouterResult | None, arcs: Ints | None = None
+) -> Leg | None:
+    """The leg, given the shortest path between the points' nodes, or None, and its arcs if they are known; None if there is no path."""
     straight = leg_without_nodes(roads, start, end)
     if route is None or straight is not None and straight.weight <= route.length:
         return straight
-    return leg_via_route(roads, start, end, route)
+    return leg_via_route(roads, start, end, route, arcs)
 
 
 def leg_without_nodes(roads: RoadIndex, start: SnappedPoint, end: SnappedPoint) -> Leg | None:
@@ -109,10 +125,12 @@ def leg_without_nodes(roads: RoadIndex, start: SnappedPoint, end: SnappedPoint) 
     return min(found, key=lambda leg: leg.weight) if found else None
 
 
-def leg_via_route(roads: RoadIndex, start: SnappedPoint, end: SnappedPoint, route: RouterResult) -> Leg:
+def leg_via_route(
+    roads: RoadIndex, start: SnappedPoint, end: SnappedPoint, route: RouterResult, arcs_of_route: Ints | None = None
+) -> Leg:
     """The leg of a route between the points' nodes. Raises NetworkError if the network isn't the hierarchy's."""
     (before, first), (behind, last) = start.exits[route.source], end.entries[route.target]
-    between = roads.lightest(route.nodes)
+    between = roads.lightest(route.nodes) if arcs_of_route is None else arcs_of_route
     if (between == NO_ARC).any():
         raise NetworkError("lacks an arc of the hierarchy's graph", roads.arrays.path)
     weights, arcs = np.empty((2, len(between) + 2), np.int64)

@@ -5,31 +5,30 @@ away, of up to 8 roads, one for each direction. Its density falls with the dista
 does, and from state to state with how many metres a shortest path, by weight, is longer or shorter than the great circle
 between both points. The way of the greatest probability is found from point to point (Viterbi 1967).
 
-Metres are sums along a shortest path. One table of the library has the weights from all states of a point to those of the next, and
-the least and the greatest metres of a weight on any arc bound the metres of each path. So a path is asked for only where it
-may be the best one.
+Metres are sums along a shortest path, of tables of the library with sums: from all states of some points to those of the next ones.
 
 Points that are nearer than their errors would lead to and fro: each k-th is taken, of the least k by which most steps are longer than 6
 deviations, and the others are placed on the way between. That each leg is a shortest path is the library's, which is proved; which
 points these are is tested.
 """
+import bisect
 import itertools
 import math
-from collections.abc import Iterator, Sequence
-from typing import Any, NamedTuple
+from collections.abc import Callable, Iterable, Iterator, Sequence
+from typing import NamedTuple
 
 import numpy as np
-from numpy.typing import NDArray
 
 from ..errors import NetworkError
-from ..protocol import FAR
+from ..protocol import FAR, NO_PATH
 from .bearings import BearingRange, bearing_at
 from .columns import UNITS
 from .geo import Point, metres_between
 from .groups import Ints, expand, offsets
-from .leg_tables import Ends, NodeTable, least_by_nodes
-from .legs import EMPTY_LEG, Between, Leg, find_leg, leg_without_nodes
-from .snapping import NO_ARC, RoadIndex, SnappedPoint, point_at
+from .leg_tables import Ends
+from .legs import EMPTY_LEG, Between, Leg, find_each, leg_without_nodes
+from .parallel import differs_from_previous
+from .snapping import RoadIndex, SnappedPoint, point_at
 from .sphere import Floats, great_circle_metres, nearest_on_segments, unit_vectors
 
 # Metres of the error of a point, by its deviation, to which states may be away; roads of a point; and the steps that are kept.
@@ -42,8 +41,8 @@ SLACK, SLACK_BY_DEVIATION = 2.0, 0.1
 MAX_STRIDE = 1000
 # Metres by which a path may be longer than the great circle, and points in a row that may be left out.
 MAX_DETOUR, MAX_LEFT_OUT = 2000.0, 3
-# Metres by which two points are nearer to one another than they are shown, to six digits of a degree, at most.
-ROUNDED = 0.2
+# Steps whose ways are found by one table of the library.
+STEPS_AT_ONCE = 16
 # A gap of time: so many seconds, and so many times as many as between most points.
 GAP_SECONDS, GAP_STEPS = 60.0, 10.0
 # What is tidied away: points nearer than so many metres, or seconds, to the last one that is kept.
@@ -75,18 +74,20 @@ class State(NamedTuple):
 
     number: int
     points: list[SnappedPoint]
-    vectors: Floats
     density: Floats
 
 
-class Step(NamedTuple):
-    """The logarithms of density of all ways from the states of a point to those of the next one, and for each of those the state before
-    it on the best way."""
+class Chain(NamedTuple):
+    """Points that ways connect, each with the one before: the logarithms of density of the ways from the states of each to those of the
+    next, and of the best way to each state of each."""
 
-    ways: Floats
-    before: Ints
+    states: list[State]
+    ways: list[Floats]
+    best: list[Floats]
 
 
+# The lengths from each of some nodes to each of others, NO_PATH for no path, and the millimetres along a path of that length.
+NodeSums = Callable[[Ints, Ints], Iterable[Ints]]
 # A place on a leg: the index of an arc, and the share of that.
 Mark = tuple[int, float]
 
@@ -94,23 +95,22 @@ Mark = tuple[int, float]
 class Matcher:
     """What finds the ways of a trace."""
 
-    def __init__(self, ask: Between, table: NodeTable, roads: RoadIndex, trace: Trace) -> None:
-        self._ask, self._table, self._roads, self._trace = ask, table, roads, trace
-        self._vectors = unit_vectors(*np.array(trace.places, float).reshape(-1, 2).T)
-        self._deviations = np.array(trace.deviations, float)
+    def __init__(self, ask: Between, sums: NodeSums, roads: RoadIndex, trace: Trace) -> None:
+        self._ask, self._sums, self._roads, self._trace = ask, sums, roads, trace
+        self._places, self._deviations = np.array(trace.places, float).reshape(-1, 2), np.array(trace.deviations, float)
+        self._vectors, self._reach = unit_vectors(*self._places.T), REACH * self._deviations
 
     def ways(self, is_split: bool, is_tidy: bool) -> list[Matched]:
         """The ways of the trace in order, each of two points or more. `is_split`: gaps of time begin another way. `is_tidy`: points that
         are near the one before in metres or seconds are left out."""
         found = []
         for part in self._parts(is_split, self._tidied() if is_tidy else list(range(len(self._vectors)))):
-            kept = self._thinned(part)
-            states = [each for each in self._states(kept) if each.points]
-            while len(states) > 1:
-                chain, steps, best = self._chain(states)
-                if len(chain) > 1:
-                    found.append(self._way(part, chain, steps, best))
-                states = [each for each in states if each.number > chain[-1].number]
+            states, begin = [each for each in self._states(self._thinned(part)) if each.points], 0
+            while begin < len(states) - 1:
+                chain = self._chain(states, begin)
+                if chain.ways:
+                    found.append(self._way(part, chain))
+                begin = bisect.bisect(states, chain.states[-1].number, key=lambda state: state.number)
         return found
 
     # Which points are taken
@@ -147,74 +147,92 @@ class Matcher:
 
     def _states(self, numbers: Sequence[int]) -> list[State]:
         """The states of points."""
-        trace, near = self._trace, dict[int, list[SnappedPoint]]()
-        for reach in sorted({trace.deviations[number] * REACH for number in numbers}):
-            some = [number for number in numbers if trace.deviations[number] * REACH == reach]
-            near |= zip(some, self._roads.nearest_of_each([trace.places[number] for number in some], MAX_ROADS, reach))
+        near = dict[int, list[SnappedPoint]]()
+        for reach, rows in itertools.groupby(sorted(numbers, key=self._reach.__getitem__), self._reach.__getitem__):
+            some = [*rows]
+            places = [self._trace.places[number] for number in some]
+            near |= zip(some, self._roads.nearest_of_each(places, MAX_ROADS, float(reach)))
         return [self._state(number, near[number]) for number in numbers]
 
     def _state(self, number: int, roads: list[SnappedPoint]) -> State:
         points = [each for point in roads for each in directed(self._roads, point, self._trace.ranges[number])]
-        places = np.array([(point.lon, point.lat) for point in points]).reshape(-1, 2)
         away = np.array([point.metres for point in points]) / self._deviations[number]
-        return State(number, points, unit_vectors(*places.T), -0.5 * away * away)
+        return State(number, points, -0.5 * away * away)
 
     # The most probable states
 
-    def _chain(self, states: Sequence[State]) -> tuple[list[State], list[Step], Floats]:
-        """The first points that ways connect, each with the one before, these ways, and the density of the best way to each of the last
-        states. Points in a row to which no way leads are left out, up to MAX_LEFT_OUT, if another one follows."""
-        chain, steps, best = [states[0]], list[Step](), states[0].density
-        left_out = 0
-        for state in states[1:]:
-            step = self._step(chain[-1], state, best)
-            reached = (best[:, None] + step.ways).max(axis=0)
+    def _chain(self, states: Sequence[State], begin: int) -> Chain:
+        """The points from one on that ways connect. Points in a row to which no way leads are left out, up to MAX_LEFT_OUT, if another
+        one follows."""
+        chain, left_out = Chain([states[begin]], [], [states[begin].density]), 0
+        for state, ways in zip(itertools.islice(states, begin + 1, None), self._ways(states, begin)):
+            if left_out:
+                ways, = self._ways_between([(chain.states[-1], state)])
+            reached = (chain.best[-1][:, None] + ways).max(axis=0)
             if math.isinf(reached.max()):
                 left_out += 1
                 if left_out > MAX_LEFT_OUT:
                     break
                 continue
-            chain.append(state)
-            steps.append(step)
-            best, left_out = reached + state.density, 0
-        return chain, steps, best
+            chain.states.append(state)
+            chain.ways.append(ways)
+            chain.best.append(reached + state.density)
+            left_out = 0
+        return chain
 
-    def _step(self, start: State, end: State, best: Floats) -> Step:
-        """The ways between the states of two points: those that are best to a state are exact, and others at most too dense."""
-        apart = self._apart(start.number, end.number)
-        off, is_known = self._bounds(start, end, apart)
-        slack = SLACK + SLACK_BY_DEVIATION * max(self._deviations[start.number], self._deviations[end.number])
-        while True:
-            before = (best[:, None] - off / slack).argmax(axis=0)
-            is_asked = ~is_known[before, np.arange(len(before))] & np.isfinite(off[before, np.arange(len(before))])
-            if not is_asked.any():
-                return Step(-off / slack, before)
-            rows, columns = before[is_asked], np.flatnonzero(is_asked)
-            metres = self._metres([(start.points[row], end.points[column]) for row, column in zip(rows.tolist(), columns.tolist())])
-            is_known[rows, columns] = True
-            off[rows, columns] = how_far_off(metres, apart)
+    def _ways(self, states: Sequence[State], begin: int) -> Iterator[Floats]:
+        """The ways from each point, from one on, to the next."""
+        for first in range(begin, len(states) - 1, STEPS_AT_ONCE):
+            yield from self._ways_between([*itertools.pairwise(states[first : first + STEPS_AT_ONCE + 1])])
 
-    def _bounds(self, start: State, end: State, apart: float) -> tuple[Floats, NDArray[np.bool_]]:
-        """By how many metres each way is longer or shorter at least than the points are apart, infinity where there is none, and
-        whether that is known."""
-        sides = Ends.of([point.exits for point in start.points]), Ends.of([point.entries for point in end.points])
-        added = ([side.weights] for side in sides)
-        weights, = least_by_nodes(lambda *nodes: [self._table(*nodes)], *sides, (len(start.points), len(end.points)), *added)
-        least, most = self._roads.metres_of_weight
-        # (the weight of a part of an arc is rounded)
-        straight = great_circle_metres(start.vectors[:, None], end.vectors[None]) - ROUNDED
-        low, high = np.maximum(straight, least * (weights - 2)), most * (weights + 2)
-        off = np.maximum(np.maximum(low - apart, apart - high), 0)
-        off[(weights == FAR) | (low - apart > MAX_DETOUR)] = np.inf
-        is_known, columns = np.zeros(off.shape, bool), dict[int, list[int]]()
-        for column, point in enumerate(end.points):
-            columns.setdefault(point.edge, []).append(column)
-        for row, point in enumerate(start.points):
-            for column in columns.get(point.edge, ()):
-                metres = self._metres_on_arc(point, end.points[column], STAND * self._deviations[end.number], int(weights[row, column]))
-                if metres is not None:
-                    off[row, column], is_known[row, column] = how_far_off(metres, apart), True
-        return off, is_known
+    def _ways_between(self, steps: Sequence[tuple[State, State]]) -> list[Floats]:
+        """For each two points the logarithms of density of all ways from the states of the first to those of the second."""
+        starts, ends = ([point for state in side for point in state.points] for side in zip(*steps))
+        shapes = np.array([(len(start.points), len(end.points)) for start, end in steps])
+        step, position = expand(shapes.prod(axis=1))
+        rows, columns = (offsets(counts)[step] for counts in shapes.T)
+        rows, columns = rows + position // shapes[step, 1], columns + position % shapes[step, 1]
+        here, there = np.array([(start.number, end.number) for start, end in steps]).T
+        metres = self._metres(starts, ends, rows, columns, STAND * self._deviations[there][step])
+        slack = SLACK + SLACK_BY_DEVIATION * np.maximum(self._deviations[here], self._deviations[there])
+        more = metres - great_circle_metres(self._vectors[here], self._vectors[there])[step]
+        ways = np.where(more > MAX_DETOUR, -np.inf, -np.abs(more) / slack[step])
+        return [each.reshape(shape) for each, shape in zip(np.split(ways, shapes.prod(axis=1).cumsum()[:-1]), shapes.tolist())]
+
+    def _metres(
+        self, starts: Sequence[SnappedPoint], ends: Sequence[SnappedPoint], rows: Ints, columns: Ints, behind: Floats
+    ) -> Floats:
+        """The metres along a shortest path from the start of each row to the end of each column, infinity for none; 0 for a vehicle that
+        stands, which goes back by less than `behind`."""
+        weights, metres = self._through_nodes(starts, ends, rows, columns)
+        of_starts, of_ends = (np.array([point.edge for point in points]) for points in (starts, ends))
+        for at in np.flatnonzero(of_starts[rows] == of_ends[columns]).tolist():
+            found = self._metres_on_arc(starts[rows[at]], ends[columns[at]], behind[at], weights[at])
+            if found is not None:
+                metres[at] = found
+        return metres
+
+    def _through_nodes(
+        self, starts: Sequence[SnappedPoint], ends: Sequence[SnappedPoint], rows: Ints, columns: Ints
+    ) -> tuple[Ints, Floats]:
+        """The least weights through nodes, FAR for no path, and the metres along a path of that weight, infinity for none."""
+        column = self._roads.arrays.arc_metres
+        exits, entries = Ends.of([point.exits for point in starts]), Ends.of([point.entries for point in ends])
+        (sources, source), (targets, target) = (np.unique(side.nodes, return_inverse=True) for side in (exits, entries))
+        lengths, millimetres = self._sums(sources, targets)
+        out_of, into = (np.bincount(side.points, minlength=len(points)) for side, points in ((exits, starts), (entries, ends)))
+        counts = out_of[rows] * into[columns]
+        pair, position = expand(counts)
+        one = offsets(out_of)[rows][pair] + position // into[columns][pair]
+        other = offsets(into)[columns][pair] + position % into[columns][pair]
+        between, sums = (table[source[one], target[other]] for table in (lengths, millimetres))
+        weights = np.where(between == NO_PATH, FAR, between + exits.weights[one] + entries.weights[other])
+        parts = exits.parts(self._roads, starts, column, True)[one] + entries.parts(self._roads, ends, column, False)[other]
+        # (a state is on an arc, so it has an exit and an entry)
+        firsts = offsets(counts)[:-1]
+        least = np.minimum.reduceat(weights, firsts)
+        metres = np.where((weights == FAR) | (weights > least[pair]), np.inf, (sums + parts) / 1000)
+        return least, np.minimum.reduceat(metres, firsts)
 
     def _metres_on_arc(self, start: SnappedPoint, end: SnappedPoint, behind: float, weight: int) -> float | None:
         """The metres of the way that stays on an arc, if it is a shortest path, or if the vehicle stands; None for none."""
@@ -224,66 +242,55 @@ class Matcher:
         leg = leg_without_nodes(self._roads, start, end)
         return metres if leg is not None and leg.weight <= weight else None
 
-    def _metres(self, pairs: Sequence[tuple[SnappedPoint, SnappedPoint]]) -> Floats:
-        """The metres along a shortest path through nodes between points, infinity for none: the arcs of all are found at once."""
-        replies = [self._ask(start.exits, end.entries) for start, end in pairs]
-        nodes = np.array([*itertools.chain.from_iterable(reply.nodes for reply in replies if reply)], np.int64)
-        owner, position = expand(np.array([len(reply.nodes) if reply else 0 for reply in replies], np.int64))
-        begins = np.flatnonzero(position[1:] > 0)
-        arrays = self._roads.arrays
-        sums = np.bincount(owner[begins], arrays.arc_metres[arrays.lightest(nodes[begins], nodes[begins + 1])], len(pairs))
-        ends = [
-            math.inf if reply is None
-            else part_metres(self._roads, start, start.exits[reply.source][1], True)
-            + part_metres(self._roads, end, end.entries[reply.target][1], False)
-            for reply, (start, end) in zip(replies, pairs)
-        ]
-        return sums + ends
-
     # The way by these states
 
-    def _way(self, part: list[int], chain: Sequence[State], steps: Sequence[Step], best: Floats) -> Matched:
+    def _way(self, part: list[int], chain: Chain) -> Matched:
         """The way of the greatest probability, with the points between on its legs."""
-        chosen = [int(best.argmax())]
-        for step in reversed(steps):
-            chosen.append(int(step.before[chosen[-1]]))
+        chosen = [int(chain.best[-1].argmax())]
+        for best, ways in zip(reversed(chain.best[:-1]), reversed(chain.ways)):
+            chosen.append(int((best + ways[:, chosen[-1]]).argmax()))
         chosen.reverse()
-        here = chain[0].points[chosen[0]]
-        numbers, places, legs = [chain[0].number], [here], list[Leg]()
-        for (state, other), (row, column) in zip(itertools.pairwise(chain), itertools.pairwise(chosen)):
-            there, leg = other.points[column], EMPTY_LEG
-            metres, before = ahead(self._roads, here, there), ahead(self._roads, state.points[row], there)
-            if metres is not None and metres < 0 and before is not None and before > -STAND * self._deviations[other.number]:
-                there = here._replace(metres=metres_between(*self._trace.places[other.number], here.lon, here.lat))  # (it stands)
-            else:
-                leg = needed(find_leg(self._ask, self._roads, here, there))
-            between, marks = self._placed([number for number in part if state.number < number < other.number], here, leg)
-            numbers += [*(number for number, _ in between), other.number]
-            places += [*(place for _, place in between), there]
-            legs += parts_of(self._roads, leg, marks)
-            here = there
-        return Matched(numbers, places, legs, confidence(chain, steps, chosen))
+        stops, stands = self._stops(chain, chosen)
+        moves = [ends for ends, is_standing in zip(itertools.pairwise(stops), stands) if not is_standing]
+        found = iter(find_each(self._ask, self._roads, moves))
+        legs = [EMPTY_LEG if is_standing else needed(next(found)) for is_standing in stands]
+        bounds = [bisect.bisect_left(part, state.number) for state in chain.states]
+        between = [part[first + 1 : last] for first, last in itertools.pairwise(bounds)]
+        numbers, places, parts = [chain.states[0].number], stops[:1], list[Leg]()
+        for state, stop, leg, on_leg in zip(chain.states[1:], stops[1:], legs, self._placed(stops, legs, between)):
+            numbers += [*(number for number, *_ in on_leg), state.number]
+            places += [*(place for _, place, _ in on_leg), stop]
+            parts += parts_of(self._roads, leg, [mark for *_, mark in on_leg])
+        return Matched(numbers, places, parts, confidence(chain, chosen))
 
-    def _placed(self, numbers: Sequence[int], here: SnappedPoint, leg: Leg) -> tuple[list[tuple[int, SnappedPoint]], list[Mark]]:
-        """Those of some points that are near a leg from a point, each with the place on it, in order along it, for which the sum of squares
-        of the metres to them is least; and these places by their marks."""
-        places = [self._trace.places[number] for number in numbers]
-        marks = [(0, 0.0)] * len(numbers)
-        reach = REACH * self._deviations[list(numbers)]
-        if numbers and len(leg.arcs):
-            marks = nearest_marks(self._roads, leg, np.array(places), reach)
-        found = []
-        for number, place, mark, most in zip(numbers, places, marks, reach.tolist()):
-            point = point_at_mark(self._roads, leg, mark) if len(leg.arcs) else here
-            point = point._replace(metres=round(metres_between(*place, point.lon, point.lat), 6))
-            if point.metres <= most:
-                found.append((number, point, mark))
-        return [each[:2] for each in found], [each[2] for each in found]
+    def _stops(self, chain: Chain, chosen: Sequence[int]) -> tuple[list[SnappedPoint], list[bool]]:
+        """Where the vehicle is by the chosen states, and whether it stands from each of these to the next."""
+        states = [state.points[row] for state, row in zip(chain.states, chosen)]
+        stops, stands = states[:1], list[bool]()
+        for other, (before, there) in zip(chain.states[1:], itertools.pairwise(states)):
+            here, number = stops[-1], other.number
+            metres, gone = ahead(self._roads, here, there), ahead(self._roads, before, there)
+            stands.append(metres is not None and metres < 0 and gone is not None and gone > -STAND * self._deviations[number])
+            at_once = here._replace(metres=metres_between(*self._trace.places[number], here.lon, here.lat))
+            stops.append(at_once if stands[-1] else there)
+        return stops, stands
 
+    def _placed(
+        self, stops: Sequence[SnappedPoint], legs: Sequence[Leg], between: Sequence[Sequence[int]]
+    ) -> Iterator[list[tuple[int, SnappedPoint, Mark]]]:
+        """For each leg those of some points that are near it, each with the place on it, in order along it, for which the sum of squares of
+        the metres to them is least; and these places by their marks."""
+        for begin in range(0, len(legs), STEPS_AT_ONCE):
+            some = slice(begin, begin + STEPS_AT_ONCE)
+            marks = nearest_marks(self._roads, legs[some], between[some], self._places, self._reach)
+            for stop, leg, numbers, on_leg in zip(stops[some], legs[some], between[some], marks):
+                points = (point_at_mark(self._roads, leg, mark) if len(leg.arcs) else stop for mark in on_leg)
+                found = zip(numbers, map(self._at, numbers, points), on_leg)
+                yield [each for each in found if each[1].metres <= self._reach[each[0]]]
 
-def how_far_off(metres: Any, apart: float) -> Any:
-    """By how many metres ways are longer or shorter than points are apart, infinity for one that is too long."""
-    return np.where(metres - apart > MAX_DETOUR, np.inf, np.abs(metres - apart))
+    def _at(self, number: int, point: SnappedPoint) -> SnappedPoint:
+        """A point on a road that stands for one of the trace."""
+        return point._replace(metres=round(metres_between(*self._trace.places[number], point.lon, point.lat), 6))
 
 
 def directed(roads: RoadIndex, point: SnappedPoint, wanted: BearingRange | None) -> Iterator[SnappedPoint]:
@@ -304,21 +311,13 @@ def ahead(roads: RoadIndex, start: SnappedPoint, end: SnappedPoint) -> float | N
     return (share if edge.arcs[min(start.arcs & end.arcs)].is_along else -share) * edge.metres
 
 
-def part_metres(roads: RoadIndex, point: SnappedPoint, number: int, is_exit: bool) -> float:
-    """The metres of the part of an arc behind a point, or before it."""
-    if number == NO_ARC:
-        return 0.0
-    edge = roads.edge(point.edge)
-    return (point.fraction if edge.arcs[number].is_along != is_exit else 1.0 - point.fraction) * edge.metres
-
-
-def confidence(chain: Sequence[State], steps: Sequence[Step], chosen: Sequence[int]) -> float:
+def confidence(chain: Chain, chosen: Sequence[int]) -> float:
     """The mean probability of the chosen states, of all ways by all states."""
-    forward, backward = [chain[0].density], [np.zeros(len(chain[-1].points))]
-    for state, step in zip(chain[1:], steps):
-        forward.append(state.density + np.logaddexp.reduce(forward[-1][:, None] + step.ways, axis=0))
-    for state, step in zip(chain[:0:-1], reversed(steps)):
-        backward.append(np.logaddexp.reduce(step.ways + state.density + backward[-1], axis=1))
+    forward, backward = [chain.states[0].density], [np.zeros(len(chain.states[-1].points))]
+    for state, ways in zip(chain.states[1:], chain.ways):
+        forward.append(state.density + np.logaddexp.reduce(forward[-1][:, None] + ways, axis=0))
+    for state, ways in zip(chain.states[:0:-1], reversed(chain.ways)):
+        backward.append(np.logaddexp.reduce(ways + state.density + backward[-1], axis=1))
     whole = np.logaddexp.reduce(forward[-1])
     each = [float(before[state] + behind[state]) for before, behind, state in zip(forward, reversed(backward), chosen)]
     return float(np.exp(np.array(each) - whole).mean())
@@ -327,32 +326,83 @@ def confidence(chain: Sequence[State], steps: Sequence[Step], chosen: Sequence[i
 # Parts of legs
 
 
-def nearest_marks(roads: RoadIndex, leg: Leg, places: Floats, reach: Floats) -> list[Mark]:
-    """The marks on a leg that are nearest to places, in order along it; a place that is farther than its reach counts as that far."""
-    begins, points = roads.arrays.arc_lines(leg.arcs)
-    arc, _ = expand(np.diff(begins))
-    first = np.flatnonzero(arc[1:] == arc[:-1])
-    ways = np.stack((points[first], points[first + 1])) / UNITS
-    which, count = arc[first], len(first)
-    metres = great_circle_metres(unit_vectors(*ways[0].T), unit_vectors(*ways[1].T))
+class Segments(NamedTuple):
+    """The segments of lines of some legs that are driven: the number of the leg, the index of the arc on it, the shares of the arc at both
+    ends, and these in degrees."""
+
+    legs: Ints
+    arcs: Ints
+    shares: Floats
+    ends: Floats
+
+
+def driven_segments(roads: RoadIndex, legs: Sequence[Leg]) -> Segments:
+    """The segments of legs, each with one or more."""
+    begins, points = roads.arrays.arc_lines(np.concatenate([leg.arcs for leg in legs]))
+    leg, index = expand(np.array([len(leg.arcs) for leg in legs]))
+    firsts = np.flatnonzero(index == 0)
+    drive = np.zeros(len(leg)), np.ones(len(leg))
+    drive[0][firsts], drive[1][np.append(firsts[1:], len(leg)) - 1] = np.array([(leg.begin, leg.end) for leg in legs]).T
+    of_point, _ = expand(np.diff(begins))
+    rows = np.flatnonzero(of_point[1:] == of_point[:-1])
+    arc, ends = of_point[rows], np.stack((points[rows], points[rows + 1])) / UNITS
+    is_first = differs_from_previous(arc)
+    metres = great_circle_metres(unit_vectors(*ends[0].T), unit_vectors(*ends[1].T))
     before = metres.cumsum() - metres
-    whole = np.bincount(which, metres, len(leg.arcs))
-    before -= (whole.cumsum() - whole)[which]
-    far, shares = nearest_on_segments(places.repeat(count, axis=0), np.tile(ways, (1, len(places), 1)))
-    far, shares = far.reshape(-1, count), shares.reshape(-1, count)
-    cost = np.minimum(far, reach[:, None]) ** 2
-    for row in range(1, len(places)):
-        cost[row] += np.minimum.accumulate(cost[row - 1])
-    chosen, behind = list[int](), count
-    for costs in cost[::-1]:
+    before -= before[is_first][is_first.cumsum() - 1]
+    low = before / np.maximum(np.bincount(arc, metres), 1e-9)[arc]
+    high = np.append(low[1:], 0.0)
+    high[np.append(is_first[1:], True)] = 1.0
+    shares = np.stack((np.maximum(low, drive[0][arc]), np.minimum(high, drive[1][arc])))
+    cut = (shares - low) / np.maximum(high - low, 1e-9)
+    kept = np.flatnonzero(shares[0] <= shares[1] + 1e-9)
+    ends = ends[0] + cut[:, :, None] * (ends[1] - ends[0])
+    return Segments(leg[arc[kept]], index[arc[kept]], shares[:, kept], ends[:, kept])
+
+
+def nearest_marks(
+    roads: RoadIndex, legs: Sequence[Leg], numbers: Sequence[Sequence[int]], places: Floats, reach: Floats
+) -> Iterator[list[Mark]]:
+    """For each leg the marks on it, in order along it, that are nearest to the places of some numbers; a place that is farther than its
+    reach counts as that far. Without arcs there is one mark."""
+    driven = [(leg, some) for leg, some in zip(legs, numbers) if some and len(leg.arcs)]
+    rows = mark_costs(roads, [leg for leg, _ in driven], [some for _, some in driven], places, reach)
+    for leg, some in zip(legs, numbers):
+        yield marks_in_order([*itertools.islice(rows, len(some))]) if some and len(leg.arcs) else [(0, 0.0)] * len(some)
+
+
+def mark_costs(
+    roads: RoadIndex, legs: Sequence[Leg], numbers: Sequence[Sequence[int]], places: Floats, reach: Floats
+) -> Iterator[tuple[Floats, Ints, Floats]]:
+    """For each place on a leg, of one or more, the square of its metres to each segment, and the mark there."""
+    if not legs:
+        return
+    segments = driven_segments(roads, legs)
+    firsts = segments.legs.searchsorted(range(len(legs) + 1))
+    chosen = np.array([*itertools.chain.from_iterable(numbers)])
+    leg, _ = expand(np.array([*map(len, numbers)]))
+    counts = np.diff(firsts)[leg]
+    pair, position = expand(counts)
+    rows = firsts[leg][pair] + position
+    far, shares = nearest_on_segments(places[chosen][pair], segments.ends[:, rows])
+    low, high = segments.shares[:, rows]
+    columns = np.minimum(far, reach[chosen][pair]) ** 2, segments.arcs[rows], low + shares * (high - low)
+    yield from zip(*(np.split(column, counts.cumsum()[:-1]) for column in columns))
+
+
+def marks_in_order(rows: Sequence[tuple[Floats, Ints, Floats]]) -> list[Mark]:
+    """The marks along a leg for which the sum of costs is least, by the cost of each place on each segment and the mark there."""
+    sums = [rows[0][0]]
+    for costs, *_ in rows[1:]:
+        sums.append(costs + np.minimum.accumulate(sums[-1]))
+    chosen, behind = list[int](), len(sums[0])
+    for costs in reversed(sums):
         behind = int(costs[:behind].argmin()) + 1
         chosen.append(behind - 1)
-    chosen.reverse()
-    share = (before[chosen] + shares[np.arange(len(places)), chosen] * metres[chosen]) / np.maximum(whole[which[chosen]], 1e-9)
-    along = np.clip(which[chosen] + np.clip(share, 0, 1), leg.begin, len(leg.arcs) - 1 + leg.end)
-    at = np.maximum.accumulate(along)
-    arcs = np.minimum(at.astype(np.int64), len(leg.arcs) - 1)
-    return [*zip(arcs.tolist(), (at - arcs).tolist())]
+    found = [(0, 0.0)]
+    for (_, arcs, shares), at in zip(rows, reversed(chosen)):
+        found.append(max(found[-1], (int(arcs[at]), float(shares[at]))))
+    return found[1:]
 
 
 def point_at_mark(roads: RoadIndex, leg: Leg, mark: Mark) -> SnappedPoint:

@@ -128,14 +128,6 @@ class RoadIndex:
         line = np.array(nodes, dtype=np.int64)
         return self.arrays.lightest(line[:-1], line[1:])
 
-    @functools.cached_property
-    def metres_of_weight(self) -> tuple[float, float]:
-        """The least and the greatest metres for a weight of 1 on any arc; infinity where an arc with metres weighs nothing."""
-        weights, metres = self.arrays.arc_weight[:], self.arrays.arc_metres[:]
-        each = metres[weights > 0] / weights[weights > 0]
-        most = math.inf if metres[weights == 0].any() else float(each.max(initial=0.0))
-        return float(each.min(initial=most)), most
-
     def _rows_with(self, column: int, words: Sequence[str]) -> NDArray[np.bool_]:
         """Whether rows of texts have one of some words in a column of TEXTS."""
         texts = self.arrays.row_texts[:, column]
