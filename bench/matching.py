@@ -4,8 +4,9 @@
     matching.py NETWORK HIERARCHY [--kilometres N] [--seed N]
 
 Traces are drawn along known routes, with a normal error in both directions: along fastest routes, and along odd ones, whose vias are
-some 1.5 km apart. For each deviation and each time between points a line says, of both kinds, which share of the true metres was
-matched, and of the matched ones which share is wrong, by road and direction; and how long 100 points take. Real traces are worse:
+some 1.5 km apart. For each deviation and each time between points a line says, of both kinds, which share of the true metres, up to the
+last point, was matched, and its standard error by routes; of the matched ones which share is wrong, by road and direction; and how
+long 100 points take. Real traces are worse:
 these have the errors that the model has, and a map that is exact. Beside a time stands that of a yardstick, so many steps of
 plain Python and numpy, which says how fast the machine was.
 """
@@ -22,7 +23,7 @@ from kit.counted import parser  # (finds domethyme too)
 
 import domethyme
 from domethyme.network.directions import ask_router
-from domethyme.network.legs import find_leg
+from domethyme.network.legs import find_legs
 
 DEVIATIONS, SECONDS = (5, 20), (1, 5, 10, 15, 30)
 VIA_METRES, METRES_OF_DEGREE = 1500, 111_195
@@ -37,10 +38,9 @@ class Roads:
         self.ask = functools.partial(ask_router, hierarchy._router)
 
     def legs(self, places):
-        """The legs by some places, or None."""
-        points = self.network.points_on_roads(places)
-        found = [find_leg(self.ask, self.roads, *each) for each in itertools.pairwise(points)]
-        return None if None in found else found
+        """The legs by some places without turning round at one, or None."""
+        found = find_legs(self.ask, self.roads, self.network.points_on_roads(places), True)
+        return None if isinstance(found, int) else found
 
     def route(self, is_odd):
         """The parts of arcs of a route: each with its arc and the shares between which it is driven."""
@@ -62,18 +62,19 @@ class Roads:
                 return [part for leg in legs for part in parts_of(leg)]
 
     def trace(self, route, deviation, seconds):
-        """The places of a vehicle along a route at these seconds, with errors."""
-        arrays, points, left = self.roads.arrays, [], 0.0
-        for arc, begin, end in route:
+        """The places of a vehicle along a route at these seconds, with errors; and the route up to the last of them."""
+        arrays, points, left, driven = self.roads.arrays, [], 0.0, []
+        for number, (arc, begin, end) in enumerate(route):
             whole = float(arrays.arc_seconds[arc]) or 0.001
             at = begin * whole + left
             while at < end * whole:
                 points.append(self.roads.line(arc, at / whole, 1.0)[0])
+                driven = [*route[:number], (arc, begin, at / whole)]
                 at += seconds
             left = at - end * whole
         lon, lat = np.array(points).T
         east, north = self.draw.normal(0, deviation / METRES_OF_DEGREE, (2, len(lon)))
-        return np.column_stack((lon + east / np.cos(np.radians(lat)), lat + north))
+        return np.column_stack((lon + east / np.cos(np.radians(lat)), lat + north)), driven
 
     def intervals(self, parts):
         """The metres that are driven of each road in each direction."""
@@ -116,12 +117,11 @@ def yardstick():
 
 
 def measure(roads, is_odd, deviation, seconds, kilometres):
-    """The shares of the metres that are matched and wrong, the mean confidence, points, and processor seconds."""
-    true = matched = right = spent = points = 0
-    trust = []
-    while true < 1000 * kilometres:
-        route = roads.route(is_odd)
-        trace = roads.trace(route, deviation, seconds)
+    """The share of the metres that is matched, its standard error, the wrong share, the mean confidence, points, and processor seconds."""
+    matched = spent = points = 0
+    trust, rows = [], []
+    while sum(true for true, _ in rows) < 1000 * kilometres:
+        trace, route = roads.trace(roads.route(is_odd), deviation, seconds)
         if len(trace) < 3:
             continue
         begun = time.process_time()
@@ -130,9 +130,12 @@ def measure(roads, is_odd, deviation, seconds, kilometres):
         points += len(trace)
         driven, wanted = roads.intervals(part for each in found.matchings for leg in each.matched.legs for part in parts_of(leg)), roads.intervals(route)
         trust += [each.confidence for each in found.matchings]
-        true, matched = true + total(wanted), matched + total(driven)
-        right += sum(common(parts, wanted[road]) for road, parts in driven.items() if road in wanted)
-    return right / true, (matched - right) / max(matched, 1), float(np.mean(trust)), points, spent
+        matched += total(driven)
+        rows.append((total(wanted), sum(common(parts, wanted[road]) for road, parts in driven.items() if road in wanted)))
+    true, right = np.array(rows).T
+    share = right.sum() / true.sum()
+    error = math.sqrt(((right - share * true) ** 2).sum()) / true.sum()
+    return share, error, (matched - right.sum()) / max(matched, 1), float(np.mean(trust)), points, spent
 
 
 def main():
@@ -147,8 +150,10 @@ def main():
         print("noise, every | fastest: matched, wrong, confidence | odd: matched, wrong, confidence | 100 points")
         for deviation, seconds in itertools.product(DEVIATIONS, SECONDS):
             rows = [measure(Roads(hierarchy, options.seed), is_odd, deviation, seconds, options.kilometres) for is_odd in (False, True)]
-            shares = " | ".join(f"{100 * right:.1f} %, {100 * wrong:.1f} %, {trust:.3f}" for right, wrong, trust, *_ in rows)
-            spent = 1e5 * sum(row[4] for row in rows) / sum(row[3] for row in rows)
+            shares = " | ".join(
+                f"{100 * right:.1f} +- {100 * error:.1f} %, {100 * wrong:.1f} %, {trust:.3f}" for right, error, wrong, trust, *_ in rows
+            )
+            spent = 1e5 * sum(row[5] for row in rows) / sum(row[4] for row in rows)
             print(f"{deviation:2} m, {seconds:2} s | {shares} | {spent:.0f} ms", flush=True)
         print(f"yardstick {1000 * yardstick():.0f} ms")
 
