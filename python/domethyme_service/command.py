@@ -64,7 +64,7 @@ def argument_parser() -> argparse.ArgumentParser:
     graph = "the graph for which the hierarchy has to be right, proved at each start"
     add("--verify", metavar="GRAPH", help=graph)
     add("--network", metavar="NETWORK", help="prefix of the network's files (PREFIX.net); needed for coordinates, OSRM's API and the map")
-    add("--towards", action="store_true", help="what leads to places too: reverse=true of isochrones, by a second hierarchy in memory")
+    add("--towards", action="store_true", help="what leads to places too: reverse=true of isochrones, and alternatives, by a second hierarchy in memory")
     add("--exclude", metavar="CLASSES=HIERARCHY", type=parse_excluded, action="append", default=[],
         help="the hierarchy without these classes of roads, as `without` leaves them out, for exclude=CLASSES; several times")
     add("--compare-all", action="store_true", help="compare all links with the network, also of more than ten million")
