@@ -1,5 +1,56 @@
-"""Tests of compare_converters: the second conversion agrees on the village, and sees what is changed in a network."""
-from tool_case import VILLAGE, ToolCase
+"""Conversions of drawn maps and of the village are those of compare_converters, the second conversion, which sees what is changed."""
+import pathlib
+import runpy
+import sys
+import tempfile
+from typing import Any
+from unittest import mock
+
+from draws import drawn, run_tool
+from hypothesis import given
+from hypothesis import strategies as st
+from test_profiles import BARRIERS, WAYS, tags_of
+from tool_case import MANUAL, VILLAGE, ToolCase
+
+from domethyme.errors import MapError
+
+COMPARE = runpy.run_path(str(MANUAL / "compare_converters"))["main"]
+FERRIES = ["route=ferry", "route=ferry duration=3", "route=ferry duration=7 oneway=yes", "route=ferry motor_vehicle=no", "route=bus"]
+
+
+@st.composite
+def maps(draw: Any) -> str:
+    """A map of ways that meet, pass barriers and the same nodes again, and name nodes that it lacks, with tags of all kinds."""
+    def tagged(text: str) -> str:
+        return "".join(f'<tag k="{key}" v="{value}"/>' for key, value in tags_of(text).items())
+
+    steps = st.lists(st.tuples(st.integers(-40, 40), st.integers(-40, 40)), min_size=2, max_size=9, unique=True)
+    barriers, tags = st.sampled_from([text for text, _ in BARRIERS]), st.sampled_from([*(row[0] for row in WAYS["car"]), *FERRIES])
+    nodes = [
+        f"<node id='{number}' lon='{9.5 + east * 1e-4}' lat='{47.1 + north * 1e-4}'>"
+        f"{tagged(draw(barriers)) if draw(st.integers(0, 3)) == 0 else ''}</node>" for number, (east, north) in enumerate(draw(steps), 1)
+    ]
+    refs, ways = st.lists(st.integers(1, len(nodes) + 1), min_size=2, max_size=6), ["highway=residential"]
+    ways += draw(st.lists(st.one_of(st.just("highway=residential"), tags), min_size=1, max_size=7))
+    lines = [
+        f"<way id='{number}'>{''.join(f'<nd ref={str(ref)!r}/>' for ref in draw(refs))}{tagged(text)}</way>" for number, text in enumerate(ways, 1)
+    ]
+    return f"<osm version='0.6'>{''.join(nodes)}{''.join(lines)}</osm>"
+
+
+@drawn(150)
+@given(maps(), st.sampled_from([30, 250]), st.sampled_from(["time", "length"]))
+def test_drawn_maps(text: str, longest: float, weight: str) -> None:
+    with tempfile.TemporaryDirectory() as folder:
+        path, out, words = pathlib.Path(folder, "map.osm"), f"{folder}/map", ["--longest-arc", str(longest), "--weight", weight]
+        path.write_text(text)
+        try:
+            run_tool("osm_to_gr", path, out, "--keep-islands", *words)
+        except MapError as error:
+            assert "has no road that the profile takes" in str(error)
+            return
+        with mock.patch.object(sys, "argv", ["compare_converters", str(path), out, *words]):
+            COMPARE()
 
 
 class CompareConverters(ToolCase):

@@ -2,22 +2,19 @@
 import bz2
 import collections
 import contextlib
-import itertools
 import json
 import xml.etree.ElementTree as xml
 
 import osmium
 from tool_case import PYTHON, VILLAGE, ToolCase, read_rows
 
-from domethyme import find_program
-from domethyme.dimacs import read_answers, read_graph, write_pairs
+from domethyme.dimacs import read_graph
 from domethyme.network.tables import ALL_ARC_COLUMNS, read_attribution
 
 # A step of the drawing is a thousandth of a degree: 6371008.8 m * pi / 180 / 1000 = 111.19508 m. At 1 km/h that takes
 # 400302.289 ms; so 1 step at 50 km/h 8006.05 ms, at 30 km/h 13343.41, at 15 km/h 26686.82, at 30 mph (48.28032 km/h)
 # 8291.21; 2 steps at 30 km/h 26686.82, at 40 km/h 20015.11, at 50 km/h 16012.09, at 60 km/h 13343.41, at 120 km/h
 # 6671.70, at 130 km/h 6158.50; and 5/3 steps at 100 km/h 6671.70.
-STEP_AT_1 = 400302.289
 CENTIMETRES = {0: 1, 1: 11120, 5 / 3: 18533, 2: 22239}
 FIRST_CUT, SECOND_CUT, RING_CUT = "(-1.667, 0.000)", "(-3.333, 0.000)", "(-5.500, 0.500)"
 
@@ -117,55 +114,37 @@ class Village(NetworkCase):
     def test_what_was_left_out_is_counted(self):
         self.assertEqual(self.convert().stderr, LEFT_OUT)
 
-    def test_graph_and_rows_have_the_same_arcs_in_the_same_order(self):
+    def test_rows(self):
+        """Arcs are as in the graph; nodes are where the map has them, two at a barrier; and lines follow the road, in the arc's direction,
+        and repeat no point where it is cut at one."""
         self.convert()
-        graph, rows = self.graph(), self.rows()
-        self.assertEqual(graph.nodes, len(self.nodes()))
-        self.assertEqual(
-            list(zip(graph.starts, graph.ends, graph.weights)), [(arc.start - 1, arc.end - 1, arc.weight) for arc in rows]
-        )
-
-    def test_nodes_lie_where_the_map_has_them(self):
-        self.convert()
-        nodes = self.nodes()
+        graph, rows, nodes, label = self.graph(), self.rows(), self.nodes(), self.labels()
+        self.assertEqual(graph.nodes, len(nodes))
+        arcs = [(arc.start - 1, arc.end - 1, arc.weight) for arc in rows]
+        self.assertEqual(list(zip(graph.starts, graph.ends, graph.weights)), arcs)
         places = {int(node.get("id")): (float(node.get("lon")), float(node.get("lat"))) for node in map_of("node")}
         for node in nodes:
             if node.osm is not None:
                 self.assertEqual((node.lon, node.lat), places[node.osm])
-        self.assertEqual(sum(node.osm is None for node in nodes), 3)
-
-    def test_a_barrier_has_a_node_for_each_end(self):
-        self.convert()
-        osm = [node.osm for node in self.nodes()]
-        self.assertEqual([osm.count(node) for node in (53, 71, 57, 81)], [2, 2, 0, 0])
-
-    def test_seconds_metres_ways_and_classes(self):
-        self.convert()
-        rows = {(arc.name, arc.weight): (arc.seconds, arc.metres, arc.osm, arc.highway) for arc in self.rows()}
-        self.assertEqual(rows["High Street", 16012], (16.012, 222.39, 101, "tertiary"))
-        self.assertEqual(rows["Long Road", 6672], (6.672, 185.33, 103, "secondary"))
-        self.assertEqual(rows["Top Street", 20015], (20.015, 222.39, 106, "residential"))
-        self.assertEqual(rows["Twin Link", 1], (0, 0, 109, "residential"))
-        self.assertEqual(rows["M1", 6158], (6.158, 222.39, 123, "motorway"))
-
-    def test_lines_follow_the_road_in_the_direction_of_the_arc(self):
-        self.convert()
-        label = self.labels()
-        lines = {(arc.name, label[arc.start], label[arc.end]): arc.wkt for arc in self.rows()}
-        there = ["0.0000000 0.0000000", "0.0000000 0.0010000", "0.0010000 0.0010000"]
-        self.assertEqual(lines["Bend Lane", 1, 12], f"LINESTRING ({', '.join(there)})")
-        self.assertEqual(lines["Bend Lane", 12, 1], f"LINESTRING ({', '.join(reversed(there))})")
-        self.assertEqual(
-            lines["Long Road", FIRST_CUT, SECOND_CUT], "LINESTRING (-0.0016667 0.0000000, -0.0033333 0.0000000)"
-        )
-
-    def test_a_cut_at_a_point_of_the_line_repeats_no_point(self):
-        self.convert()
-        lines = {arc.wkt for arc in self.rows() if arc.name == "The Ring"}
+        osm = [node.osm for node in nodes]
+        self.assertEqual([osm.count(node) for node in (None, 53, 71, 57, 81)], [3, 2, 2, 0, 0])
+        figures = {(arc.name, arc.weight): (arc.seconds, arc.metres, arc.osm, arc.highway) for arc in rows}
+        for name, weight, *wanted in [
+            ("High Street", 16012, 16.012, 222.39, 101, "tertiary"), ("Long Road", 6672, 6.672, 185.33, 103, "secondary"),
+            ("Top Street", 20015, 20.015, 222.39, 106, "residential"), ("Twin Link", 1, 0, 0, 109, "residential"),
+            ("M1", 6158, 6.158, 222.39, 123, "motorway"),
+        ]:
+            self.assertEqual(figures[name, weight], tuple(wanted))
+        lines = {(arc.name, label[arc.start], label[arc.end]): arc.wkt for arc in rows}
+        bend = ["0.0000000 0.0000000", "0.0000000 0.0010000", "0.0010000 0.0010000"]
+        self.assertEqual(lines["Bend Lane", 1, 12], f"LINESTRING ({', '.join(bend)})")
+        self.assertEqual(lines["Bend Lane", 12, 1], f"LINESTRING ({', '.join(reversed(bend))})")
+        long = "LINESTRING (-0.0016667 0.0000000, -0.0033333 0.0000000)"
+        self.assertEqual(lines["Long Road", FIRST_CUT, SECOND_CUT], long)
         first = ["-0.0050000 0.0000000", "-0.0050000 0.0005000", "-0.0055000 0.0005000"]
         second = ["-0.0055000 0.0005000", "-0.0055000 0.0000000", "-0.0050000 0.0000000"]
-        both = [*first, ""], [*reversed(first), ""], [*second, ""], [*reversed(second), ""]
-        self.assertEqual(lines, {f"LINESTRING ({', '.join(line[:-1])})" for line in both})
+        both = {f"LINESTRING ({', '.join(line[::step])})" for line in (first, second) for step in (1, -1)}
+        self.assertEqual({arc.wkt for arc in rows if arc.name == "The Ring"}, both)
 
     def test_longer_arcs(self):
         self.convert("--longest-arc", "600")
@@ -292,149 +271,13 @@ class Copier(osmium.SimpleHandler):
         self.writer.add_way(way)
 
 
-class Tags(NetworkCase):
-    """The speed in each direction, in km/h, for the tags of a way (~ is a blank); None where it may not be taken."""
-
-    CASES = [
-        ("highway=residential", 30, 30), ("highway=motorway", 110, None), ("highway=motorway oneway=no", 110, 110),
-        ("highway=motorway_link", 60, 60), ("highway=living_street", 10, 10), ("highway=service area=no", 15, 15),
-        ("highway=service area=yes", None, None), ("highway=construction construction=primary", None, None),
-        ("highway=track motorcar=yes", None, None), ("highway=primary oneway=yes", 70, None),
-        ("highway=primary oneway=true", 70, None), ("highway=primary oneway=1", 70, None),
-        ("highway=primary oneway=-1", None, 70), ("highway=primary oneway=reverse", None, 70),
-        ("highway=primary oneway=no", 70, 70), ("highway=primary oneway=alternating", 70, 70),
-        ("highway=primary oneway=reversible", None, None), ("highway=primary junction=roundabout", 70, None),
-        ("highway=primary junction=circular", 70, None), ("highway=primary junction=roundabout oneway=no", 70, 70),
-        ("highway=primary junction=roundabout oneway=-1", None, 70), ("highway=primary junction=yes", 70, 70),
-        ("highway=primary maxspeed=80", 80, 80), ("highway=primary maxspeed=57.5", 57.5, 57.5),
-        ("highway=primary maxspeed=50~km/h", 50, 50), ("highway=primary maxspeed=45mph", 72.42048, 72.42048),
-        ("highway=primary maxspeed=5~mph", 8.04672, 8.04672), ("highway=primary maxspeed=10~knots", 18.52, 18.52),
-        ("highway=primary maxspeed=none", 130, 130), ("highway=primary maxspeed=walk", 7, 7),
-        ("highway=primary maxspeed=DE:urban", 50, 50), ("highway=primary maxspeed=RO:urban", 50, 50),
-        ("highway=primary maxspeed=DE:rural", 100, 100), ("highway=primary maxspeed=XY:rural", 90, 90),
-        ("highway=primary maxspeed=DE:zone:30", 30, 30), ("highway=primary maxspeed=NL:zone60", 60, 60),
-        ("highway=primary maxspeed=DE:variable", 70, 70), ("highway=primary maxspeed=0", 70, 70),
-        ("highway=primary maxspeed=1001", 70, 70), ("highway=primary maxspeed=-50", 70, 70),
-        ("highway=primary maxspeed:forward=40", 40, 70),
-        ("highway=primary maxspeed=60 maxspeed:backward=20~mph", 60, 32.18688),
-        ("highway=primary oneway=yes maxspeed:backward=40", 70, None), ("highway=primary access=no", None, None),
-        ("highway=primary access=private", None, None), ("highway=primary access=permissive", 70, 70),
-        ("highway=primary access=destination", 70, 70), ("highway=primary access=customers", 70, 70),
-        ("highway=primary access=no vehicle=yes", 70, 70), ("highway=primary access=yes vehicle=no", None, None),
-        ("highway=primary vehicle=no motor_vehicle=yes", 70, 70),
-        ("highway=primary vehicle=yes motor_vehicle=private", None, None),
-        ("highway=primary motor_vehicle=no motorcar=yes", 70, 70),
-        ("highway=primary motor_vehicle=yes motorcar=no", None, None),
-        ("highway=primary access=yes vehicle=yes motor_vehicle=yes motorcar=private", None, None),
-        ("highway=primary access=no bicycle=yes", None, None), ("highway=primary motor_vehicle=forestry", None, None),
-        ("highway=primary motor_vehicle=agricultural;forestry", None, None),
-        ("highway=primary motor_vehicle=agricultural;destination", 70, 70),
-        ("highway=primary motor_vehicle:conditional=no~@~(22:00-06:00)", 70, 70),
-    ]
-
-    def test_speeds(self):
-        # each way joins two nodes of its own, a step apart
-        lines = ["<osm version='0.6'>"]
-        for number, (text, *_) in enumerate(self.CASES, 1):
-            lines.append(f"<node id='{2 * number}' lon='0.000' lat='0.0001'/>")
-            lines.append(f"<node id='{2 * number + 1}' lon='0.001' lat='0.0001'/>")
-            tags = (word.replace("~", " ").split("=", 1) for word in text.split())
-            lines.append(f"<way id='{number}'><nd ref='{2 * number}'/><nd ref='{2 * number + 1}'/>")
-            lines.extend(f"<tag k='{key}' v='{value}'/>" for key, value in tags)
-            lines.append("</way>")
-        self.write("ways.osm", "\n".join([*lines, "</osm>"]))
-        self.convert("--keep-islands", source="ways.osm", out="ways")
-        osm = [node.osm for node in self.nodes("ways")]
-        found = {}
-        for arc in self.rows("ways"):
-            found[arc.osm, osm[arc.start - 1] % 2 == 0] = arc.weight
-        for number, (text, forward, backward) in enumerate(self.CASES, 1):
-            with self.subTest(text):
-                self.assertEqual(found.get((number, True)), forward and round(STEP_AT_1 / forward))
-                self.assertEqual(found.get((number, False)), backward and round(STEP_AT_1 / backward))
-
-    def test_barriers(self):
-        # a way of three nodes, the middle one with these tags: is it parted there?
-        cases = [
-            ("barrier=bollard", True),
-            ("barrier=gate", False),
-            ("barrier=toll_booth", False),
-            ("barrier=gate access=no", True),
-            ("barrier=gate access=private motor_vehicle=yes", False),
-            ("barrier=bollard access=yes motorcar=no", True),
-            ("barrier=bollard access=yes", False),
-            ("barrier=bollard bicycle=yes", True),
-            ("access=private", False),
-            ("highway=crossing", False),
-        ]
-        lines = ["<osm version='0.6'>"]
-        for number, (text, _) in enumerate(cases, 1):
-            tags = "".join(f"<tag k='{key}' v='{value}'/>" for key, value in (word.split("=") for word in text.split()))
-            for place in range(3):
-                node = f"<node id='{3 * number + place}' lon='{place / 2000}' lat='0'>"
-                lines.append(node + (tags if place == 1 else "") + "</node>")
-            ends = "".join(f"<nd ref='{3 * number + place}'/>" for place in range(3))
-            lines.append(f"<way id='{number}'>{ends}<tag k='highway' v='residential'/></way>")
-        self.write("barriers.osm", "\n".join([*lines, "</osm>"]))
-        self.convert("--keep-islands", source="barriers.osm", out="barriers")
-        arcs = collections.Counter(arc.osm for arc in self.rows("barriers"))
-        for number, (text, parts) in enumerate(cases, 1):
-            with self.subTest(text):
-                self.assertEqual(arcs[number], 4 if parts else 2)
-
+class OwnProfile(NetworkCase):
     def test_a_profile_of_ones_own(self):
         profile = {**CAR, "speeds": {"footway": 5}, "access": ["access", "foot"], "barriers": ["gate"]}
         self.write("foot.json", json.dumps(profile))
         self.convert("--profile", "foot.json", "--keep-islands")
         # Footpath leads from 11 to 21, 2 steps
         self.assertEqual(self.drawn(), {("Footpath", 11, 21, 160121): 1, ("Footpath", 21, 11, 160121): 1})
-
-
-class Routes(NetworkCase):
-    """Answers of the proved program over the village."""
-
-    def answers(self, *words):
-        """The answers for all pairs of nodes, with the names of the nodes."""
-        self.convert(*words)
-        count = len(self.nodes())
-        with open(self.folder / "all.pairs", "w", encoding="utf-8") as file:
-            write_pairs(file, list(itertools.product(range(count), repeat=2)))
-        program = find_program()
-        self.run_program([program, "prepare", "--order", "depth", "village.gr", "village.rch"])
-        told = self.run_program([program, "route", "village.rch", "all.pairs"])
-        return list(read_answers(self.write("answers", told.stdout)))
-
-    def lengths(self, answers):
-        """The length from a node to another, by their ids in the map: the least where an id has two nodes."""
-        label, least = self.labels(), {}
-        for answer in answers:
-            pair = label[answer.source + 1], label[answer.target + 1]
-            least[pair] = min(answer.length, least.get(pair, answer.length))
-        return least
-
-    def test_lengths_that_the_drawing_tells(self):
-        length = self.lengths(self.answers())
-        # round the bollard: 5, 6, past the gate, 56, 54
-        self.assertEqual(length[5, 54], 16012 + 26687 + 26687)
-        # Down Street leads to 3 only: 3, 2, 21, 31; and Top Street backward is slower
-        self.assertEqual(length[3, 31], 16012 + 13343 + 13343)
-        self.assertEqual(length[31, 2], 13343 + 16012)
-        # the roundabout goes one way round
-        self.assertEqual(length[4, 45], 13343 + 26687 + 13343)
-        self.assertEqual(length[45, 4], 13343 + 26687 + 13343)
-        # of the arcs from 7 to 8 the lighter one
-        self.assertEqual(length[7, 8], 6672)
-        # the motorway one way, and back past the bollard that lets cars through
-        self.assertEqual(length[83, 85], 6158)
-        self.assertEqual(length[85, 83], 13343 + 26687 + 8291)
-        # 72 is behind a private gate: 7, 8, past the bollard, 82, 72 (by the motorway it would be 1105 ms longer)
-        self.assertEqual(length[7, 72], 6672 + 26687 + 13343)
-        # the gap of Cut Road isn't crossed: 35, 34, 33, 32, 31, 3, 4, 41, 43, 45, 46
-        self.assertEqual(length[35, 46], 2 * 13343 + 1 + 2 * 13343 + 16012 + 13343 + 26687 + 2 * 13343)
-        # Long Road's three parts, half the ring
-        self.assertEqual(length[1, RING_CUT], 3 * 6672 + 13343)
-        # by the raised weight
-        self.assertEqual(length[32, 33], 1)
 
 
 # A map, or a path, with what is said of it.

@@ -2,7 +2,7 @@
 import json
 import unittest
 
-from test_turns import STEP, CrossingCase, crossing
+from test_turns import STEP, crossing
 from tool_case import VILLAGE, ToolCase, read_rows
 
 from domethyme.maps.turn_restrictions import Member, restrictions_of
@@ -10,6 +10,42 @@ from domethyme.maps.vehicle_profile import PROFILES, blocks_way, judge, limit_of
 
 # The km/h forward and backward of a way with these tags (~ is a blank), by vehicle; None where it may not be taken
 WAYS = {
+    "car": [
+        ("highway=residential", 30, 30), ("highway=motorway", 110, None), ("highway=motorway oneway=no", 110, 110),
+        ("highway=motorway_link", 60, 60), ("highway=living_street", 10, 10), ("highway=service area=no", 15, 15),
+        ("highway=service area=yes", None, None), ("highway=construction construction=primary", None, None),
+        ("highway=track motorcar=yes", None, None), ("highway=primary oneway=yes", 70, None),
+        ("highway=primary oneway=true", 70, None), ("highway=primary oneway=1", 70, None),
+        ("highway=primary oneway=-1", None, 70), ("highway=primary oneway=reverse", None, 70),
+        ("highway=primary oneway=no", 70, 70), ("highway=primary oneway=alternating", 70, 70),
+        ("highway=primary oneway=reversible", None, None), ("highway=primary junction=roundabout", 70, None),
+        ("highway=primary junction=circular", 70, None), ("highway=primary junction=roundabout oneway=no", 70, 70),
+        ("highway=primary junction=roundabout oneway=-1", None, 70), ("highway=primary junction=yes", 70, 70),
+        ("highway=primary maxspeed=80", 80, 80), ("highway=primary maxspeed=57.5", 57.5, 57.5),
+        ("highway=primary maxspeed=50~km/h", 50, 50), ("highway=primary maxspeed=45mph", 72.42048, 72.42048),
+        ("highway=primary maxspeed=5~mph", 8.04672, 8.04672), ("highway=primary maxspeed=10~knots", 18.52, 18.52),
+        ("highway=primary maxspeed=none", 130, 130), ("highway=primary maxspeed=walk", 7, 7),
+        ("highway=primary maxspeed=DE:urban", 50, 50), ("highway=primary maxspeed=RO:urban", 50, 50),
+        ("highway=primary maxspeed=DE:rural", 100, 100), ("highway=primary maxspeed=XY:rural", 90, 90),
+        ("highway=primary maxspeed=DE:zone:30", 30, 30), ("highway=primary maxspeed=NL:zone60", 60, 60),
+        ("highway=primary maxspeed=DE:variable", 70, 70), ("highway=primary maxspeed=0", 70, 70),
+        ("highway=primary maxspeed=1001", 70, 70), ("highway=primary maxspeed=-50", 70, 70),
+        ("highway=primary maxspeed:forward=40", 40, 70),
+        ("highway=primary maxspeed=60 maxspeed:backward=20~mph", 60, 32.18688),
+        ("highway=primary oneway=yes maxspeed:backward=40", 70, None), ("highway=primary access=no", None, None),
+        ("highway=primary access=private", None, None), ("highway=primary access=permissive", 70, 70),
+        ("highway=primary access=destination", 70, 70), ("highway=primary access=customers", 70, 70),
+        ("highway=primary access=no vehicle=yes", 70, 70), ("highway=primary access=yes vehicle=no", None, None),
+        ("highway=primary vehicle=no motor_vehicle=yes", 70, 70),
+        ("highway=primary vehicle=yes motor_vehicle=private", None, None),
+        ("highway=primary motor_vehicle=no motorcar=yes", 70, 70),
+        ("highway=primary motor_vehicle=yes motorcar=no", None, None),
+        ("highway=primary access=yes vehicle=yes motor_vehicle=yes motorcar=private", None, None),
+        ("highway=primary access=no bicycle=yes", None, None), ("highway=primary motor_vehicle=forestry", None, None),
+        ("highway=primary motor_vehicle=agricultural;forestry", None, None),
+        ("highway=primary motor_vehicle=agricultural;destination", 70, 70),
+        ("highway=primary motor_vehicle:conditional=no~@~(22:00-06:00)", 70, 70),
+    ],
     "lorry": [
         ("highway=primary", 60, 60), ("highway=motorway", 80, None), ("highway=motorway maxspeed=120", 80, None),
         ("highway=primary maxspeed=70 maxspeed:hgv=50", 50, 50),
@@ -60,7 +96,9 @@ BARRIERS = [
     ("barrier=bollard", "car lorry"), ("barrier=bollard motor_vehicle=yes", ""), ("barrier=gate", ""),
     ("barrier=gate access=private", "car lorry bicycle foot"),
     ("barrier=gate access=private foot=yes", "car lorry bicycle"), ("barrier=stile", "car lorry bicycle"),
-    ("barrier=wall", "car lorry bicycle foot"),
+    ("barrier=wall", "car lorry bicycle foot"), ("barrier=toll_booth", ""), ("barrier=gate access=no", "car lorry bicycle foot"),
+    ("barrier=gate access=private motor_vehicle=yes", "bicycle foot"), ("barrier=bollard access=yes motorcar=no", "car"),
+    ("barrier=bollard access=yes", ""), ("barrier=bollard bicycle=yes", "car lorry"), ("access=private", ""), ("highway=crossing", ""),
 ]
 
 
@@ -170,34 +208,13 @@ class MemberTests(ToolCase):
         self.assert_refused("compare_converters", VILLAGE, "v", "--profile", "lorry", says=says)
 
 
-class PenaltyTests(CrossingCase):
+class PenaltyTests(ToolCase):
     """Penalties at the crossing: 5 s to the left, 2 s to the right, 20 s back, in milliseconds of a way of STEP."""
-
-    TURNS = {"left": 500, "right": 200, "back": 2000}
-    # by the side of the crossing from which and to which one goes: 2 in the west, 3 north, 4 east, 5 south
-    COSTS = {(2, 3): 5, (3, 4): 5, (4, 5): 5, (5, 2): 5, (3, 2): 2, (4, 3): 2, (5, 4): 2, (2, 5): 2}
 
     def setUp(self):
         super().setUp()
         car = json.loads((PROFILES / "car.json").read_text(encoding="utf-8"))
-        self.write("turns.json", json.dumps({**car, "turns": self.TURNS}))
-
-    def wanted(self):
-        free = self.free()
-        return {pair: steps * STEP + 1000 * self.COSTS.get(pair, 0) for pair, steps in free.items()}
-
-    def found(self, *restrictions, options=()):
-        lengths = self.lengths(*restrictions, options=["--profile", "turns.json", *options])
-        return {pair: None if steps is None else round(steps * STEP) for pair, steps in lengths.items()}
-
-    def test_left_right_and_straight_on(self):
-        self.assertEqual(self.found(), self.wanted())
-        self.assertIn("osm_to_gr: nodes split by turns: 5\n", self.said)
-
-    def test_with_a_restriction(self):
-        # from the west not north: on to the east, back there and to the right, or to the south, back and straight on
-        wanted = self.wanted() | {(2, 3): min(4 * STEP + 20000 + 2000, 4 * STEP + 2000 + 20000)}
-        self.assertEqual(self.found((2, 3, {"restriction": "no_left_turn"})), wanted)
+        self.write("turns.json", json.dumps({**car, "turns": {"left": 500, "right": 200, "back": 2000}}))
 
     def test_the_village_by_a_search_over_turns(self):
         told = self.run_tool("compare_turns", VILLAGE, "--draw", "30", "--penalties").stdout
@@ -213,14 +230,11 @@ class PenaltyTests(CrossingCase):
 
     def test_seconds_have_the_penalty(self):
         self.write("map.osm", crossing())
-        self.run_tool("osm_to_gr", "map.osm", "map", "--tables", "--profile", "turns.json")
+        said = self.run_tool("osm_to_gr", "map.osm", "map", "--tables", "--profile", "turns.json").stderr
+        self.assertIn("osm_to_gr: nodes split by turns: 5\n", said)
         rows = [line.split(",") for line in (self.folder / "map.arcs.csv").read_text().splitlines()[1:]]
         self.assertEqual({float(row[3]) * 1000 - int(row[2]) for row in rows}, {0.0})
         self.assertEqual({int(row[2]) - STEP for row in rows}, {0, 2000, 5000, 20000})
-
-    def test_free_turns_have_none(self):
-        free = {pair: steps * STEP for pair, steps in self.free().items()}
-        self.assertEqual(self.found(options=["--ignore-turn-restrictions"]), free)
 
     def test_the_side_of_a_turn_is_that_of_the_last_step(self):
         # way 1 leads from the crossing at 1 east and then north; way 2 leads north: from way 1 to it is to the right

@@ -1,7 +1,9 @@
 """Tests of turn restrictions: a crossing with figures by hand, relations of all kinds, and a search over turns."""
+import itertools
+
 from tool_case import VILLAGE, ToolCase, read_rows
 
-from domethyme import NO_PATH, find_program
+from domethyme import find_program
 from domethyme.dimacs import read_answers
 from domethyme.maps.turn_restrictions import Member, Restriction, restrictions_of
 from domethyme.network.columns import ENDS
@@ -29,69 +31,31 @@ def crossing(*restrictions):
     return "\n".join([*text, "</osm>\n"])
 
 
-class CrossingCase(ToolCase):
-    """Tests that route over the crossing."""
-
-    def lengths(self, *restrictions, options=()):
-        """The steps from each of the places to each, by nearest and the program; None where there is no route."""
-        self.write("map.osm", crossing(*restrictions))
+class CrossingTests(ToolCase):
+    def lengths(self, *options):
+        """The steps from each of the places to each, by nearest and the program, where who comes from the west may not turn north."""
+        self.write("map.osm", crossing((2, 3, {"restriction": "no_left_turn"})))
         self.said = self.run_tool("osm_to_gr", "map.osm", "map", "--tables", *options).stderr
         rows = [f"{x / 1000},{y / 1000}" for x, y in PLACES.values()]
         self.write("places.csv", "\n".join(["lon,lat", *rows]) + "\n")
         self.run_tool("nearest", "map", "places.csv", "--matrix", "--radius", "1", "-o", "pairs")
         self.write("answers", self.run_program([find_program(), "answer", "map.gr", "pairs"]).stdout)
-        answers = iter(read_answers(self.folder / "answers"))
-        found = {(start, end): next(answers).length for start in PLACES for end in PLACES}
-        return {pair: None if length == NO_PATH else length / STEP for pair, length in found.items()}
+        pairs = itertools.product(PLACES, repeat=2)
+        return {pair: answer.length / STEP for pair, answer in zip(pairs, read_answers(self.folder / "answers"), strict=True)}
 
-    def free(self):
-        """The steps where each turn may be taken."""
-        away = {node: 0 if node == 1 else 1 for node in PLACES}
-        return {(start, end): 0 if start == end else away[start] + away[end] for start in PLACES for end in PLACES}
-
-
-class CrossingTests(CrossingCase):
     def test_no_turn(self):
-        # from the west not north: on to the east or south, back, and then north; all else is as it was
-        wanted = self.free() | {(2, 3): 4}
-        self.assertEqual(self.lengths((2, 3, {"restriction": "no_left_turn"})), wanted)
+        # from the west not north: on to the east or south, back, and then north; all else is as where each turn may be taken
+        free = {(start, end): (start != end) * ((start != 1) + (end != 1)) for start, end in itertools.product(PLACES, repeat=2)}
+        self.assertEqual(self.lengths(), free | {(2, 3): 4})
         self.assertIn("osm_to_gr: junctions split by turn restrictions: 1\n", self.said)
         # 4 arcs to the crossing lead to 2 nodes each; 4 lead on from where routes begin, and 3 for who came from the west
         self.assertIn("osm_to_gr: map: 7 nodes, 15 arcs, 0.4 km of road\n", self.said)
         self.assertEqual(sorted(node.ends for node in read_rows(self.folder / "map.nodes.csv")), ["", "", "", "", "from", "no", "to"])
-        self.assertEqual(
-            self.lengths((2, 3, {"restriction": "no_left_turn"}), options=["--ignore-turn-restrictions"]), self.free()
-        )
-
-    def test_only_one_turn(self):
-        wanted = self.free() | {(2, 3): 4, (2, 5): 4}
-        self.assertEqual(self.lengths((2, 4, {"restriction": "only_straight_on"})), wanted)
-
-    def test_several_at_one_junction(self):
-        # from the west only east or south, and from the east not north: so north by way of south, from the west by 4 steps
-        rules = [(2, 4, {"restriction": "only_straight_on"}), (2, 5, {"restriction": "only_right_turn"}),
-                 (4, 3, {"restriction": "no_right_turn"})]
-        self.assertEqual(self.lengths(*rules), self.free() | {(2, 3): 4, (4, 3): 4})
-
-    def test_a_street_that_can_be_left_by_turning_alone(self):
-        # whoever comes from the west has to turn round: 2 leads to itself and to 1, where routes may end
-        self.assertEqual(
-            self.lengths((2, 2, {"restriction": "only_u_turn"}), options=["--keep-islands"]),
-            self.free() | {(2, 3): None, (2, 4): None, (2, 5): None},
-        )
-
-    def test_restrictions_that_do_not_bind(self):
-        for tags in ({"restriction": "no_left_turn", "except": "bicycle;motorcar"}, {"restriction:hgv": "no_left_turn"},
-                     {"restriction": "give_way"}, {"restriction:conditional": "no_left_turn @ (Mo-Fr 07:00-09:00)"}):
-            with self.subTest(tags=tags):
-                self.assertEqual(self.lengths((2, 3, tags)), self.free())
-
-    def test_a_network_without_the_column(self):
-        self.lengths((2, 3, {"restriction": "no_left_turn"}))
         rows = (self.folder / "map.nodes.csv").read_text().splitlines()
-        self.write("map.nodes.csv", "\n".join(row.rpartition(",")[0] for row in rows) + "\n")
+        self.write("map.nodes.csv", "\n".join(row.rpartition(",")[0] for row in rows) + "\n")  # (without the column ends)
         nodes = read_nodes(self.folder / "map.nodes.csv").arrays
         self.assertEqual({ENDS[each] for each in nodes.columns["node_ends"]}, {""})
+        self.assertEqual(self.lengths("--ignore-turn-restrictions"), free)
 
 
 class RelationTests(ToolCase):
