@@ -68,7 +68,7 @@ class StepBuilder:
         self.is_on_roundabout, self.is_on_ferry = self.roads.roundabout_rows[self.rows], self.roads.ferry_rows[self.rows]
         self.first_bearings, self.last_bearings = geometry.bearings
         self.starts = geometry.starts
-        self.is_junction = self.roads.arrays.degree(self.starts) >= MIN_DEGREE
+        self.is_junction = self._are_junctions()
         self.begins = self._is_first().nonzero()[0]
         self.ends = np.append(self.begins[1:], len(geometry.arcs))
         self.is_leg_first = mask(len(geometry.arcs) + 1, geometry.first)[self.begins]
@@ -78,6 +78,17 @@ class StepBuilder:
         for step in self.roundabouts:
             behind = np.flatnonzero(~self.is_on_roundabout[self.begins[step] : self.ends[step]])
             self.named[step] += behind[0] if len(behind) else 0
+
+    def _are_junctions(self) -> NDArray[np.bool_]:
+        """Whether three edges or more meet where each arc begins; nodes that restrictions split are one junction."""
+        arrays, firsts = self.roads.arrays, self.geometry.first
+        found = arrays.degree(self.starts) >= MIN_DEGREE
+        is_split = ~found & (arrays.node_ends[self.starts] != 0)
+        is_split[self.geometry.joints] = is_split[firsts[firsts < len(found)]] = False
+        if is_split.any():
+            arcs = np.flatnonzero(is_split)
+            found[junctions(self.geometry, arcs, np.zeros(len(arcs), bool)).arcs] = True
+        return found
 
     def _is_first(self) -> NDArray[np.bool_]:
         """Whether a step begins with each arc."""
@@ -117,8 +128,7 @@ class StepBuilder:
         geometry = self.geometry
         is_begin = np.zeros(len(geometry.arcs) + 1, bool)
         is_begin[self.begins] = True
-        # (nodes that restrictions split may be a junction that has more edges)
-        is_there = self.is_junction | (self.roads.arrays.node_ends[self.starts] != 0)
+        is_there = self.is_junction.copy()
         is_there[geometry.joints] = False
         is_there |= is_begin[:-1]
         is_there[geometry.first[geometry.first < len(is_there)]] = False

@@ -22,9 +22,9 @@ PLACES = [CENTRE, WEST, EAST, NORTH, SOUTH]
 ROADS = [(1, 0, "High Street"), (0, 2, "High Street"), (0, 3, "North Lane"), (3, 0, "North Lane"), (2, 0, "High Street"), (0, 1, "High Street")]
 
 
-def crossing(*forbidden: tuple[int, int]) -> Drawn:
+def crossing(*forbidden: tuple[int, int], north: str = "North Lane") -> Drawn:
     """Four roads that meet, where some arcs may not follow on others."""
-    ends = [*ROADS, (4, 0, "South Lane")]
+    ends = [(start, end, name.replace("North Lane", north)) for start, end, name in [*ROADS, (4, 0, "South Lane")]]
     ways = {frozenset((1, 0)): 1, frozenset((0, 2)): 2, frozenset((0, 3)): 3, frozenset((4, 0)): 4}
     arcs = [
         Arc(start, end, 8006, 8.006, 111.2, (PLACES[start], PLACES[end]), ways[frozenset((start, end))], name) for start, end, name in ends
@@ -52,6 +52,12 @@ def test_a_crossing(tmp_path: pathlib.Path, forbidden: list[tuple[int, int]], en
         {"location": [0.0, 0.0], "bearings": [0, 90, 180, 270], "entry": entry, "in": 3, "out": 1},
     ]
     assert arrival["intersections"] == [{"location": [0.0005, 0.0], "bearings": [270], "entry": [True], "in": 0}]
+
+
+def test_a_turn_at_a_split_junction(tmp_path: pathlib.Path) -> None:
+    """A step begins at a turn onto a road of the same name, though from the west one may only go on there."""
+    _, turn, _ = steps(tmp_path, crossing((0, 1), north="High Street"), "-0.0005,0;0,0.0005")
+    assert turn["maneuver"]["type"] == "continue" and turn["maneuver"]["modifier"] == "left"
 
 
 def test_one_leg_by_a_place_between(tmp_path: pathlib.Path) -> None:
