@@ -47,23 +47,26 @@ def way_of(network: Network, part: Part, line: list[Point]) -> list[Point]:
     return [whole[number - 1], whole[number]]
 
 
-def edges_at(network: Network, node: int, is_exit: bool) -> int:
-    """How many edges meet at a node, or how many leave a roundabout there."""
-    arcs = enumerate(network.arcs)
-    if is_exit:
-        return len({network.edge_of[number] for number, arc in arcs if arc.start == node and not is_round(arc)})
-    return len({network.edge_of[number] for number, arc in arcs if node in arc[:2]})
+def edges_at(network: Network, node: int) -> int:
+    """How many edges meet at a node."""
+    return len({network.edge_of[number] for number, arc in enumerate(network.arcs) if node in arc[:2]})
 
 
-def roads_at(network: Network, node: int) -> dict[tuple[int, bool], tuple[float | None, bool]]:
+def exits_behind(network: Network, number: int) -> int:
+    """How many edges leave a roundabout behind an arc of it."""
+    return len({network.edge_of[other] for other in network.followers[number] if not is_round(network.arcs[other])})
+
+
+def roads_at(network: Network, node: int, before: int) -> dict[tuple[int, bool], tuple[float | None, bool]]:
     """The roads at a node, each an edge and whether it begins there: the bearing along it, None for one about which rounding decides, and
-    whether an arc leads into it."""
+    whether an arc leads into it by which one may go on from the arc before."""
     found = dict[tuple[int, bool], tuple[float | None, bool]]()
     for number, edge in enumerate(network.edges):
         for is_begin in (True, False):
             nodes = {network.arcs[arc][0 if way == is_begin else 1] for arc, way in edge.arcs.items()}
             if node in nodes:
-                found[number, is_begin] = next(iter(directions([list(edge.line[:: 1 if is_begin else -1])], 1)), None), is_begin in edge.arcs.values()
+                is_open = any(way == is_begin and (before, arc) not in network.forbidden for arc, way in edge.arcs.items())
+                found[number, is_begin] = next(iter(directions([list(edge.line[:: 1 if is_begin else -1])], 1)), None), is_open
     return found
 
 
@@ -71,7 +74,7 @@ def intersection(network: Network, leg: Sequence[Part], number: int, place: Poin
     """The intersection before a part of a leg, by the bearings of the roads by which the leg comes and goes on."""
     before, behind = leg[number - 1 : number + 1]
     into, out = (network.edge_of[before[0]], not is_along(network, before)), (network.edge_of[behind[0]], is_along(network, behind))
-    roads = roads_at(network, network.arcs[behind[0]].start) if behind[1] == 0 else {into: (None, into == out), out: (None, True)}
+    roads = roads_at(network, network.arcs[behind[0]].start, before[0]) if behind[1] == 0 else {into: (None, into == out), out: (None, True)}
     roads[into], roads[out] = (ways[0], roads[into][1]), (ways[1], True)
     return Intersection(near(place), list(roads.values()), roads[into][0], roads[out][0])
 
@@ -86,7 +89,7 @@ def begins_of(network: Network, leg: Sequence[Part], turns: Sequence[float]) -> 
     found, free_from = [0], next((number for number, arc in enumerate(arcs) if not is_round(arc)), len(arcs))
     for number in range(1, len(arcs)):
         before, arc = arcs[number - 1 : number + 1]
-        is_turn = abs(turns[number - 1]) > 45 and edges_at(network, arc.start, False) >= 3
+        is_turn = abs(turns[number - 1]) > 45 and edges_at(network, arc.start) >= 3
         if leg[number][1] != 0:  # (at a point within a road it goes on, or turns round)
             is_turn = is_along(network, leg[number]) != is_along(network, leg[number - 1])
         is_new = before.name != arc.name or is_turn
@@ -106,7 +109,7 @@ def steps(
     first, last = directions(ways, 1), directions(ways, -1)
     turns = [(begin - end + 180) % 360 - 180 for end, begin in zip(last, first[1:])]
     unsure = Holds("two steps or more", lambda found: len(found) >= 2)
-    if any(map(is_near_limit, turns)) or not len(first) == len(last) == len(leg) or network.forbidden:
+    if any(map(is_near_limit, turns)) or not len(first) == len(last) == len(leg):
         return unsure
     found, begins = [], begins_of(network, leg, turns) if leg else []
     for begin, stop in itertools.pairwise([*begins, len(leg)]):
@@ -117,12 +120,12 @@ def steps(
         if begin and is_near_limit(first[named] - last[begin - 1]):
             return unsure
         if begin:
-            turn = turn_at(network, arcs[begin - 1 : stop], named - begin, first[named] - last[begin - 1])
+            turn = turn_at(network, [part[0] for part in leg[begin - 1 : stop]], named - begin, first[named] - last[begin - 1])
         line = [point for part in lines[begin:stop] for point in part]
         sides: tuple[Any, Any] = (Direction(last[begin - 1]) if begin else 0, Direction(first[begin]))
         passed = [Intersection(near(start.place), [(first[begin], True)], None, first[begin])] if not begin else []
         for number in range(begin, stop):
-            is_junction = leg[number][1] == 0 and edges_at(network, arcs[number].start, False) >= 3
+            is_junction = leg[number][1] == 0 and edges_at(network, arcs[number].start) >= 3
             if number and (number == begin or is_junction):
                 both = (last[number - 1] + 180) % 360, first[number]
                 passed.append(intersection(network, leg, number, lines[number][0], both))
@@ -148,13 +151,13 @@ def modifier_of(angle: float) -> str:
     return MODIFIERS[sum(abs(angle) >= limit for limit in LIMITS)].format("right" if angle > 0 else "left")
 
 
-def turn_at(network: Network, arcs: Sequence[Arc], named: int, angle: float) -> dict[str, Any]:
-    """The type of the maneuver of a step, with its modifier, and the exit of a roundabout. The first arc is that before."""
+def turn_at(network: Network, numbers: Sequence[int], named: int, angle: float) -> dict[str, Any]:
+    """The type of the maneuver of a step, with its modifier, and the exit of a roundabout, by its arcs and the one before."""
     angle = (angle + 180) % 360 - 180
     modifier = modifier_of(angle)
-    before, *behind = arcs
+    before, *behind = (network.arcs[number] for number in numbers)
     if is_round(behind[0]):
-        exits = [edges_at(network, arc.end, True) for arc in behind[: max(0, named - 1)]]
+        exits = [exits_behind(network, number) for number in numbers[1 : max(1, named)]]
         is_left = named > 0 or not is_round(behind[-1])
         return {"type": "roundabout", "modifier": modifier, **({"exit": 1 + sum(exits)} if is_left else {})}
     kind = "continue" if before.name == behind[0].name else "turn" if abs(angle) > 45 else "new name"
