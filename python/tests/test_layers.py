@@ -5,8 +5,11 @@ import os
 import pathlib
 import subprocess
 import sys
+import tomllib
 
 import pytest
+
+from domethyme.extras import EXTRAS
 
 PYTHON = pathlib.Path(__file__).resolve().parents[1]
 # What each package may import; domethyme_part is the one file that Dask is sent, and domethyme_launcher is above all.
@@ -89,3 +92,9 @@ def test_alone(tmp_path, package):
     ended = subprocess.run(command, cwd=tmp_path, capture_output=True, text=True, env=environment)
     assert ended.returncode == 0, ended.stderr
     assert set(ended.stdout.split()) <= {package} | BELOW[package]
+
+
+def test_what_a_call_needs_is_in_its_extra():
+    """By the name that an error says."""
+    extras = tomllib.loads((PYTHON / "pyproject.toml").read_text(encoding="utf-8"))["project"]["optional-dependencies"]
+    assert [name for name, extra in EXTRAS.items() if not any(each.startswith(f"{name}>=") for each in extras[extra])] == []

@@ -21,7 +21,7 @@ from domethyme_service.dataset import DatasetPaths, open_dataset
 from domethyme_service.errors import malformed
 from domethyme_service.gunicorn_app import FIXED_SETTINGS
 from domethyme_service.metrics import SharedMetrics
-from domethyme_service.worker import MAX_HEAD, HeadState, classify_head
+from domethyme_service.worker import MAX_HEAD, SHORT_BODY, HeadState, classify_head
 from domethyme_service.wsgi import Options, Service
 
 SEED, COUNT, FEW = 17, 10_000, 100
@@ -323,6 +323,15 @@ class InProcess:
                 return Answer(int(status[:3]), {name.lower(): value for name, value in fields}, body)
         fields = {"content-type": "application/json; charset=utf-8"}
         return Answer(error.status, fields, json.dumps({"code": error.code, "message": error.message}).encode())
+
+
+def test_a_short_body_is_waited_for() -> None:
+    """A request is read once its body is there, to the last byte; and before a long body."""
+    for length in (1, 4, 5, SHORT_BODY):
+        head = f"POST / HTTP/1.1\r\nContent-Length: {length}\r\n\r\n".encode()
+        states = [classify_head(head + bytes(count)) for count in (0, max(0, length - 4), length - 1, length)]
+        assert states == [HeadState.PARTIAL] * 3 + [HeadState.WHOLE]
+    assert classify_head(b"POST / HTTP/1.1\r\nContent-Length: %d\r\n\r\n" % (SHORT_BODY + 1)) is HeadState.WHOLE
 
 
 class MalformedTests(ServiceCase):
