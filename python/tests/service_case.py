@@ -12,7 +12,7 @@ import time
 import unittest.mock
 from typing import BinaryIO, NamedTuple
 
-from tool_case import SECONDS, TOOLS, VILLAGE, ToolCase
+from tool_case import SECONDS, TOOLS, VILLAGE, ToolCase, end
 
 import domethyme
 from domethyme.dimacs import read_graph
@@ -173,14 +173,6 @@ def children_of(number: int) -> list[int]:
     return sorted(found)
 
 
-def is_running(number: int) -> bool:
-    """Whether a process runs; one that has ended, and that its parent hasn't waited for, doesn't."""
-    try:
-        return pathlib.Path(f"/proc/{number}/stat").read_text().rpartition(")")[2].split()[0] != "Z"
-    except OSError:
-        return False
-
-
 def workers_of(process: "subprocess.Popen[str]") -> list[int]:
     """The workers of a service, which its arbiter has forked."""
     return children_of(process.pid)
@@ -195,8 +187,3 @@ def read_rest(stream, lines):
     """Adds the lines that are left of a stream to others, and closes it at its end, which is when no worker is left."""
     with stream:
         lines.extend(stream)
-
-
-def end(process):
-    process.kill()
-    process.wait()

@@ -5,7 +5,6 @@ import contextlib
 import hashlib
 import io
 import os
-import pathlib
 import random
 import re
 import shlex
@@ -13,7 +12,7 @@ import signal
 import subprocess
 import time
 
-from tool_case import SECONDS, TAKES_SIGNALS, TOOLS, ToolCase
+from tool_case import SECONDS, TAKES_SIGNALS, TOOLS, ToolCase, end, is_running
 
 from domethyme import find_program
 from domethyme.dimacs import write_graph
@@ -169,18 +168,6 @@ def text_of(pairs):
         if number % 90 == 0:
             lines += ["c q 1 2", " \t\r"]
     return "\n".join(lines)
-
-
-def is_running(process):
-    """Whether there is such a process, and it hasn't ended."""
-    with contextlib.suppress(FileNotFoundError, ProcessLookupError):
-        return pathlib.Path(f"/proc/{process}/stat").read_text().rpartition(")")[2].split()[0] != "Z"
-    return False
-
-
-def end(process):
-    process.kill()
-    process.wait()
 
 
 class PartsTests(ToolCase):

@@ -16,8 +16,8 @@ import zlib
 
 import numpy as np
 import pytest
-from service_case import NDJSON, ServiceCase, is_running, read_answer, without_end, workers_of
-from tool_case import PYTHON, ROOT, SECONDS
+from service_case import NDJSON, ServiceCase, read_answer, without_end, workers_of
+from tool_case import PYTHON, ROOT, SECONDS, is_running
 
 import domethyme
 from domethyme.network.column_file import HEAD

@@ -11,9 +11,9 @@ import threading
 import time
 import unittest.mock
 
-from service_case import ServiceCase, is_running, without_end, workers_of
+from service_case import ServiceCase, without_end, workers_of
 from test_service_attack import IMPORT
-from tool_case import SECONDS
+from tool_case import SECONDS, is_running
 
 import domethyme
 

@@ -86,3 +86,16 @@ class ToolCase(unittest.TestCase):
         path = self.folder / name
         path.write_text(text, encoding="utf-8")
         return path
+
+
+def is_running(number: int) -> bool:
+    """Whether a process runs; one that has ended, and that its parent hasn't waited for, doesn't."""
+    try:
+        return pathlib.Path(f"/proc/{number}/stat").read_text().rpartition(")")[2].split()[0] != "Z"
+    except OSError:
+        return False
+
+
+def end(process):
+    process.kill()
+    process.wait()
