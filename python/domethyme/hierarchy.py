@@ -286,7 +286,7 @@ class Hierarchy:
                 path to each node, to the millimetre, NaN where there is no length. Needs the network
 
         The library goes once over all nodes, whatever the limit: 0.02 s for a million, and 0.1 s the first time. With sums one or
-        two starts take some ten times as long, and `matrix` says what the first ones take. Memory: 8
+        two starts take 7 or 11 times as long, and `matrix` says what the first ones take. Memory: 8
         bytes for each node, and the library's. The first question `towards` reads the file again and turns each link round, which
         takes some three times as long as to open it, and then the memory of a hierarchy more. Raises NoSuchNode, ValueError,
         OutOfMemory, LibraryNotFound for a library that is older and lacks the call, and WrongHierarchy if the file was replaced before

@@ -6,3 +6,4 @@ pub mod Towards
 pub mod Bands
 pub mod Listed
 pub mod Starts
+pub mod LinkPlaces

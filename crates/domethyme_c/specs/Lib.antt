@@ -4,6 +4,7 @@ pub mod Handles
 pub mod Engines
 pub mod Sets
 pub mod Sums
+pub mod StepLinks
 pub mod Summing
 pub mod Starting
 pub mod Towards

@@ -20,6 +20,7 @@ mod reach_sums;
 mod route;
 mod seeds;
 mod sharing;
+mod step_links;
 mod summing;
 mod sums;
 mod text;

@@ -1,8 +1,10 @@
 ghost use Rattle.std.specs.Prelude.{◌≡◌, ◌<◌, ◌≤◌, IfOk, length};
+ghost use Rattle.std.specs.Arc.{arc_value};
 ghost use Rattle.std.specs.List.{range_with_len};
 ghost use Rattle.ch_query.specs.Seeds.{AreSeeds};
 ghost use Rattle.domethyme_c.specs.Answers.{Answers, IsLimit};
 ghost use Rattle.domethyme_c.specs.Sets.{IsSet};
+ghost use Rattle.domethyme_c.specs.StepLinks.{AreStepLinks};
 ghost use Rattle.domethyme_c.specs.Starting.{AreSumsOfStarts};
 ghost use Rattle.domethyme_c.specs.Summing.{IsSumming};
 ghost use Rattle.domethyme_c.specs.Sums.{IsReachSumsAnswer};
@@ -14,7 +16,8 @@ use crate::engine::Engine;
 use crate::handle::Handle;
 use crate::reach::{all_nodes, answer_reach, most_of};
 use crate::seeds::{SeedInfo, seeds_of};
-use crate::summing::{Summing, put_cells};
+use crate::step_links::StepLinks;
+use crate::summing::{Summing, numbers_of, put_cells};
 use crate::sums::SumInfo;
 use ch_route::Seed;
 use std::alloc::{AllocError, Global};
@@ -149,7 +152,43 @@ fn sums_of(
     let Ok(selection) = engine.selection(alloc, nodes.as_slice()) else {
         return Err(AllocError);
     };
+    let chosen = summing.choose(alloc, &selection)?;
+    let sums = sums_over(alloc, summing, &chosen, set, starts, added, lengths);
+    summing.keep(chosen);
+    sums
+}
+
+// The same by a selection with the links of its steps.
+fn sums_over(
+    alloc: Global,
+    summing: &mut Summing,
+    chosen: &StepLinks,
+    set: &[u64],
+    starts: &[Seed],
+    added: &[u32],
+    lengths: &[u64],
+) -> Result<Vec<u64>, AllocError>
+    requires summing { IsSumming summing.old.search summing.old }
+    requires chosen { AreStepLinks summing.old.search chosen.now }
+    requires set { IsSet summing.old.search set.now }
+    requires starts { AreSeeds summing.old.search starts.now }
+    requires added { length added.now ≡ length starts.now }
+    requires lengths { length lengths.now ≡ length (arc_value chosen.now.selection).targets }
+    ensures summing { IsSumming summing.old.search summing.new }
+    ensures search { summing.new.search ≡ summing.old.search }
+    ensures sums { IfOk result (λ sums. AreSumsOfStarts summing.old.search set.now starts.now added.now (length starts.now) (arc_value chosen.now.selection).targets lengths.now sums.items) }
+{
+    let steps = chosen.numbers(alloc, &summing.search, numbers_of(set))?;
     let mut sums = vec![in alloc; NO_LENGTH; lengths.len()]?;
-    summing.sum_from(alloc, &selection, set, starts, added, lengths, &mut sums)?;
+    summing.sum_from(
+        alloc,
+        &chosen.selection,
+        &steps,
+        set,
+        starts,
+        added,
+        lengths,
+        &mut sums,
+    )?;
     Ok(sums)
 }

@@ -4,12 +4,14 @@ ghost use Rattle.ch_query.specs.Seeds.{AreSeeds};
 ghost use Rattle.ch_table.specs.Selection.{IsSelection};
 ghost use Rattle.ch_table.specs.Sums.{AreStepNumbers};
 ghost use Rattle.domethyme_c.specs.Sets.{IsSet};
+ghost use Rattle.domethyme_c.specs.StepLinks.{AreStepLinks};
 ghost use Rattle.domethyme_c.specs.Starting.{AreSumsOfStarts, AreTaken, IsTaken};
 ghost use Rattle.domethyme_c.specs.Summing.{ArePut, IsSumming};
 ghost use Rattle.domethyme_c.specs.Sums.{AreCells, IsCellOf};
 
 use crate::code::NO_LENGTH;
 use crate::digest::digest_of;
+use crate::step_links::StepLinks;
 use crate::sums::SumInfo;
 use ch_graph::Hierarchy;
 use ch_query::SearchOf;
@@ -24,13 +26,15 @@ const BAND: usize = 64;
 // The greatest number that a link may have.
 const GREATEST: u64 = 1 << 36;
 
-/// What makes sums of the numbers of a set: a search of a hierarchy, and the digest of it.
+/// What makes sums of the numbers of a set: a search of a hierarchy, and the digest of it, and the last selection with the
+/// links of its steps.
 #[derive(Drop)]
 pub(crate) struct Summing {
     pub(crate) search: SearchOf<Arc<Hierarchy>>,
     pub(crate) digest: u64,
     // Room for a number for each node.
     pub(crate) kept: Vec<u64>,
+    pub(crate) chosen: Option<StepLinks>,
 }
 
 impl Summing {
@@ -44,7 +48,38 @@ impl Summing {
             search,
             digest: digest_of(hierarchy),
             kept,
+            chosen: None,
         })
+    }
+
+    /// Takes out a selection of the same targets with the links of its steps, which are found if none is kept.
+    pub(crate) fn choose(
+        &mut self,
+        alloc: Global,
+        selection: &Arc<Selection>,
+    ) -> Result<StepLinks, AllocError>
+        requires summing { IsSumming self.old.search self.old }
+        requires selection { IsSelection self.old.search (arc_value selection.now) }
+        ensures summing { IsSumming self.old.search self.new }
+        ensures search { self.new.search ≡ self.old.search }
+        ensures chosen { IfOk result (λ s. AreStepLinks self.old.search s) }
+        ensures targets { IfOk result (λ s. (arc_value s.selection).targets ≡ (arc_value selection.now).targets) }
+    {
+        if let Some(chosen) = self.chosen.take() {
+            if chosen.selection.targets() == selection.targets() {
+                return Ok(chosen);
+            }
+        }
+        StepLinks::new(alloc, &self.search, Arc::try_clone(selection)?)
+    }
+
+    /// Keeps it, for the next call.
+    pub(crate) fn keep(&mut self, chosen: StepLinks)
+        requires summing { IsSumming self.old.search self.old }
+        requires chosen { AreStepLinks self.old.search chosen }
+        ensures { IsSumming self.old.search self.new }
+    {
+        self.chosen = Some(chosen);
     }
 
     /// Whether an array is a set of numbers of the hierarchy.
@@ -67,26 +102,27 @@ impl Summing {
         &mut self,
         alloc: Global,
         selection: &Selection,
+        steps: &[u64],
         set: &[u64],
         sources: &[u32],
         cells: &mut [SumInfo],
     ) -> Result<(), AllocError>
         requires summing { IsSumming self.old.search self.old }
         requires selection { IsSelection self.old.search selection.now }
+        requires steps { AreStepNumbers self.old.search (drop 1 set.now) selection.now steps.now }
         requires set { IsSet self.old.search set.now }
         requires sources { All (λ v. v < length self.old.search.ranks) sources.now }
         requires room { length sources.now * length selection.now.targets ≤ length cells.old }
         ensures summing { IsSumming self.old.search self.new }
         ensures cells { OnOk result (AreCells (length sources.now * length selection.now.targets) (IsCellOf self.old.search set.now sources.now selection.now.targets) cells.old cells.new) }
     {
-        let steps = selection.step_numbers(alloc, &self.search, numbers_of(set))?;
         let room = sources.len().min(BAND) * selection.targets().len();
         let mut lengths = vec![in alloc; 0u64; room]?;
         let mut sums = vec![in alloc; 0u64; room]?;
         self.fill_bands(
             selection,
             set,
-            &steps,
+            steps,
             sources,
             &mut lengths,
             &mut sums,
@@ -146,6 +182,7 @@ impl Summing {
         &mut self,
         alloc: Global,
         selection: &Selection,
+        steps: &[u64],
         set: &[u64],
         starts: &[Seed],
         added: &[u32],
@@ -154,6 +191,7 @@ impl Summing {
     ) -> Result<(), AllocError>
         requires summing { IsSumming self.old.search self.old }
         requires selection { IsSelection self.old.search selection.now }
+        requires steps { AreStepNumbers self.old.search (drop 1 set.now) selection.now steps.now }
         requires set { IsSet self.old.search set.now }
         requires starts { AreSeeds self.old.search starts.now }
         requires added { length added.now ≡ length starts.now }
@@ -166,7 +204,6 @@ impl Summing {
         summed_ways_are_along();
         let _well_made = self.search.hierarchy().nodes();
         let numbers = numbers_of(set);
-        let steps = selection.step_numbers(alloc, &self.search, numbers)?;
         let mut row_room = vec![in alloc; 0u64; lengths.len()]?;
         let mut sum_room = vec![in alloc; 0u64; lengths.len()]?;
         let row = row_room.as_mut_slice();
@@ -177,7 +214,7 @@ impl Summing {
             selection.sums(
                 &mut self.search,
                 numbers,
-                &steps,
+                steps,
                 self.kept.as_mut_slice(),
                 &source,
                 row,
@@ -197,8 +234,8 @@ fn start_at(starts: &[Seed], at: usize) -> Seed
     starts[at]
 }
 
-// The numbers of a set, behind its digest.
-fn numbers_of(set: &[u64]) -> &[u64]
+/// The numbers of a set, behind its digest.
+pub(crate) fn numbers_of(set: &[u64]) -> &[u64]
     requires { 0 < length set.now }
     ensures { result.now ≡ drop 1 set.now }
 {

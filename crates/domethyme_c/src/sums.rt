@@ -1,16 +1,20 @@
 ghost use Rattle.std.specs.Prelude.{◌≡◌, ◌*◌, ◌<◌, ◌≤◌, All, length};
 ghost use Rattle.ch_table.specs.Selection.{IsSelection};
 ghost use Rattle.domethyme_c.specs.Answers.{Answers};
+ghost use Rattle.std.specs.Arc.{arc_value};
 ghost use Rattle.domethyme_c.specs.Sets.{IsSet};
+ghost use Rattle.domethyme_c.specs.StepLinks.{AreStepLinks};
 ghost use Rattle.domethyme_c.specs.Summing.{IsSumming};
 ghost use Rattle.domethyme_c.specs.Sums.{IsSumsAnswer};
 
 use crate::code::{BAD_SET, NO_HANDLE, NO_ROOM, NODE_RANGE, OK, OUT_OF_MEMORY};
 use crate::engine::Engine;
 use crate::handle::Handle;
-use crate::summing::Summing;
+use crate::step_links::StepLinks;
+use crate::summing::{Summing, numbers_of};
 use ch_route::Selection;
 use std::alloc::Global;
+use std::sync::Arc;
 
 /// How long a shortest path is, and what the numbers along it sum to.
 #[repr(C)]
@@ -80,24 +84,53 @@ fn answer_sums(
     code
 }
 
-// Row by row.
+// By the links of the selection's steps, which are kept.
 fn fill_sums(
     alloc: Global,
     summing: &mut Summing,
-    selection: &Selection,
+    selection: &Arc<Selection>,
     set: &[u64],
     sources: &[u32],
     cells: &mut [SumInfo],
 ) -> u32
     requires summing { IsSumming summing.old.search summing.old }
-    requires selection { IsSelection summing.old.search selection.now }
+    requires selection { IsSelection summing.old.search (arc_value selection.now) }
     requires set { IsSet summing.old.search set.now }
     requires sources { All (λ v. v < length summing.old.search.ranks) sources.now }
-    requires room { length sources.now * length selection.now.targets ≤ length cells.old }
+    requires room { length sources.now * length (arc_value selection.now).targets ≤ length cells.old }
     ensures summing { IsSumming summing.old.search summing.new }
-    ensures answer { IsSumsAnswer summing.old.search set.now sources.now selection.now.targets result cells.old cells.new }
+    ensures answer { IsSumsAnswer summing.old.search set.now sources.now (arc_value selection.now).targets result cells.old cells.new }
 {
-    match summing.fill(alloc, selection, set, sources, cells) {
+    let Ok(chosen) = summing.choose(alloc, selection) else {
+        return OUT_OF_MEMORY;
+    };
+    let code = fill_chosen(alloc, summing, &chosen, set, sources, cells);
+    summing.keep(chosen);
+    code
+}
+
+// Row by row.
+fn fill_chosen(
+    alloc: Global,
+    summing: &mut Summing,
+    chosen: &StepLinks,
+    set: &[u64],
+    sources: &[u32],
+    cells: &mut [SumInfo],
+) -> u32
+    requires summing { IsSumming summing.old.search summing.old }
+    requires chosen { AreStepLinks summing.old.search chosen.now }
+    requires set { IsSet summing.old.search set.now }
+    requires sources { All (λ v. v < length summing.old.search.ranks) sources.now }
+    requires room { length sources.now * length (arc_value chosen.now.selection).targets ≤ length cells.old }
+    ensures summing { IsSumming summing.old.search summing.new }
+    ensures search { summing.new.search ≡ summing.old.search }
+    ensures answer { IsSumsAnswer summing.old.search set.now sources.now (arc_value chosen.now.selection).targets result cells.old cells.new }
+{
+    let Ok(steps) = chosen.numbers(alloc, &summing.search, numbers_of(set)) else {
+        return OUT_OF_MEMORY;
+    };
+    match summing.fill(alloc, &chosen.selection, &steps, set, sources, cells) {
         Ok(()) => OK,
         Err(_) => OUT_OF_MEMORY,
     }

@@ -46,6 +46,7 @@ bands-preserved c =
       summing = record {
         of = c.in_ok-sums.ensures.same ∙ same;
         digest = c.bands.invariant.summing.digest;
+        chosen = c.bands.invariant.summing.chosen;
         room = written-count c.bands.self.kept.len c.sums.new.kept (drop (length c.sums.new.kept) c.bands.self.kept.items) kept ∙ room;
       };
       within = within;

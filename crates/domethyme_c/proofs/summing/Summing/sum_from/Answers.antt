@@ -35,6 +35,7 @@ starts-preserved c =
       summing = record {
         of = c.in_ok-sums.ensures.same ∙ same;
         digest = c.starts.invariant.summing.digest;
+        chosen = c.starts.invariant.summing.chosen;
         room = written-count c.starts.self.kept.len c.sums.new.kept (drop (length c.sums.new.kept) c.starts.self.kept.items) kept ∙ room;
       };
       within = omega (arith, c.starts-test.true);
