@@ -38,33 +38,33 @@ extern "C" {
 
 /* What calls return. A call that returns another code than DOMETHYME_OK has written nothing, except where it says so. */
 enum {
-    DOMETHYME_OK = 0,
+    DOMETHYME_OK = 0,            /* ok */
     DOMETHYME_NO_PATH = 1,       /* no path leads from the source to the target */
     DOMETHYME_NO_HANDLE = 2,     /* the handle is closed */
     DOMETHYME_NODE_RANGE = 3,    /* a node isn't below the number of nodes */
     DOMETHYME_NO_ROOM = 4,       /* an array is too short for the answer */
-    DOMETHYME_OUT_OF_MEMORY = 5, /* memory was refused */
+    DOMETHYME_OUT_OF_MEMORY = 5, /* out of memory */
     DOMETHYME_TOO_LONG = 6,      /* the route would repeat a node: the file isn't right for any graph */
     DOMETHYME_SEED_COST = 7,     /* a start or an end has a length above 2^57, or more than 2^25 arcs */
-    DOMETHYME_BAD_LIMIT = 8,     /* a limit is above 2^62 and isn't DOMETHYME_NO_LENGTH; since 1.1 */
-    DOMETHYME_NUMBER_COUNT = 9,  /* there isn't one number for each link without a middle, or for each start; since 1.1 */
+    DOMETHYME_BAD_LIMIT = 8,     /* a limit is above 2^62 and isn't the number that means none; DOMETHYME_NO_LENGTH does; since 1.1 */
+    DOMETHYME_NUMBER_COUNT = 9,  /* there isn't one number for each link without a middle; or for each start; since 1.1 */
     DOMETHYME_NUMBER_GREAT = 10, /* the numbers of the arcs of a link sum to more than 2^36; since 1.1 */
     DOMETHYME_BAD_SET = 11,      /* the array is no set of numbers of this hierarchy; since 1.1 */
 
     /* Faults of a hierarchy file, as docs/FORMATS.md has them. */
-    DOMETHYME_READ = 34,          /* a reader failed, which bytes in memory don't */
-    DOMETHYME_BAD_MAGIC = 35,     /* the first bytes are those of no hierarchy file */
+    DOMETHYME_READ = 34,          /* the file couldn't be read; bytes in memory can */
+    DOMETHYME_BAD_MAGIC = 35,     /* the bytes are no hierarchy file */
     DOMETHYME_TRUNCATED = 36,     /* the bytes end too early */
     DOMETHYME_TOO_BIG = 37,       /* more than 2^25 nodes, or more links than pairs of nodes */
-    DOMETHYME_BOUND_TOO_BIG = 38, /* the bound is above what a walk that repeats no node can cost */
+    DOMETHYME_BOUND_TOO_BIG = 38, /* the bound is above what a walk can cost */
     DOMETHYME_RANK_RANGE = 39,    /* a rank isn't below the number of nodes */
     DOMETHYME_RANK_TWICE = 40,    /* two nodes have one rank */
     DOMETHYME_LINK_ENDS = 41,     /* a link's ends aren't two nodes */
     DOMETHYME_LINK_ORDER = 42,    /* a link doesn't come after the one before it */
-    DOMETHYME_LINK_WEIGHT = 43,   /* a link's weight, or how many arcs it has, can't be */
+    DOMETHYME_LINK_WEIGHT = 43,   /* a link's weight or number of arcs can't be */
     DOMETHYME_MIDDLE_RANGE = 44,  /* a middle isn't a node */
     DOMETHYME_MIDDLE_RANK = 45,   /* a middle's rank isn't below those of both ends */
-    DOMETHYME_HALF_MISSING = 46,  /* one of the halves of a link with a middle is no link */
+    DOMETHYME_HALF_MISSING = 46,  /* a half of a link with a middle is no link */
     DOMETHYME_HALF_SUM = 47,      /* the halves of a link don't sum to it */
     DOMETHYME_TRAILING = 48       /* bytes follow the last link */
 };

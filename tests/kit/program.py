@@ -67,14 +67,22 @@ def need_compiled(folder: Path, name: str) -> pathlib.Path:
     return target
 
 
+def built_library() -> pathlib.Path:
+    """The library, which is built where it isn't there, or is older than its archive."""
+    archive = pathlib.Path(os.environ.get("DOMETHYME_ARCHIVE") or ROOT / "crates/domethyme_c/out/libdomethyme_c.a")
+    own = "DOMETHYME_LIBRARY" not in os.environ
+    if not LIBRARY.exists() or own and archive.exists() and archive.stat().st_mtime > LIBRARY.stat().st_mtime:
+        subprocess.run([ROOT / "packaging/build-library", LIBRARY.parent], check=True)
+    return LIBRARY
+
+
 def linked(folder: Path, source: str) -> pathlib.Path:
-    """The program of bench/SOURCE over the library, which is built where it isn't there, compiled into the folder."""
-    if not LIBRARY.exists():
-        subprocess.run([ROOT / "packaging/build-library"], check=True)
+    """The program of bench/SOURCE over the library, compiled into the folder."""
+    library = built_library()
     target = pathlib.Path(folder) / pathlib.Path(source).stem
     words = ["g++", "-std=c++17"] if source.endswith(".cpp") else ["gcc"]
     words += ["-O3", "-pthread", f"-I{ROOT}/packaging/library", f"-I{ROOT}/tests/library", "-o", str(target)]
-    subprocess.run([*words, str(ROOT / "bench" / source), str(LIBRARY), f"-Wl,-rpath,{LIBRARY.parent}"], check=True)
+    subprocess.run([*words, str(ROOT / "bench" / source), str(library), f"-Wl,-rpath,{library.parent}"], check=True)
     return target
 
 

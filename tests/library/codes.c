@@ -239,63 +239,6 @@ static void sums(domethyme *handle, domethyme *turned)
     WANT(cells[0].length == none && cells[0].sum == none);
 }
 
-/* A code and its text. */
-typedef struct meaning {
-    uint32_t code;
-    const char *text;
-} meaning;
-
-static const meaning MEANINGS[] = {
-    {DOMETHYME_OK, "ok"},
-    {DOMETHYME_NO_PATH, "no path leads from the source to the target"},
-    {DOMETHYME_NO_HANDLE, "the handle is closed"},
-    {DOMETHYME_NODE_RANGE, "a node isn't below the number of nodes"},
-    {DOMETHYME_NO_ROOM, "an array is too short for the answer"},
-    {DOMETHYME_OUT_OF_MEMORY, "out of memory"},
-    {DOMETHYME_TOO_LONG, "the route would repeat a node: the file isn't right for any graph"},
-    {DOMETHYME_SEED_COST, "a start or an end has a length above 2^57, or more than 2^25 arcs"},
-    {DOMETHYME_BAD_LIMIT, "a limit is above 2^62 and isn't the number that means none"},
-    {DOMETHYME_NUMBER_COUNT, "there isn't one number for each link without a middle"},
-    {DOMETHYME_NUMBER_GREAT, "the numbers of the arcs of a link sum to more than 2^36"},
-    {DOMETHYME_BAD_SET, "the array is no set of numbers of this hierarchy"},
-    {DOMETHYME_READ, "the file couldn't be read"},
-    {DOMETHYME_BAD_MAGIC, "the bytes are no hierarchy file"},
-    {DOMETHYME_TRUNCATED, "the bytes end too early"},
-    {DOMETHYME_TOO_BIG, "more than 2^25 nodes, or more links than pairs of nodes"},
-    {DOMETHYME_BOUND_TOO_BIG, "the bound is above what a walk can cost"},
-    {DOMETHYME_RANK_RANGE, "a rank isn't below the number of nodes"},
-    {DOMETHYME_RANK_TWICE, "two nodes have one rank"},
-    {DOMETHYME_LINK_ENDS, "a link's ends aren't two nodes"},
-    {DOMETHYME_LINK_ORDER, "a link doesn't come after the one before it"},
-    {DOMETHYME_LINK_WEIGHT, "a link's weight or number of arcs can't be"},
-    {DOMETHYME_MIDDLE_RANGE, "a middle isn't a node"},
-    {DOMETHYME_MIDDLE_RANK, "a middle's rank isn't below those of both ends"},
-    {DOMETHYME_HALF_MISSING, "a half of a link with a middle is no link"},
-    {DOMETHYME_HALF_SUM, "the halves of a link don't sum to it"},
-    {DOMETHYME_TRAILING, "bytes follow the last link"},
-};
-
-static const char *meaning_of(uint32_t code)
-{
-    for (size_t place = 0; place < sizeof MEANINGS / sizeof MEANINGS[0]; ++place)
-        if (MEANINGS[place].code == code)
-            return MEANINGS[place].text;
-    return "a code that no call returns";
-}
-
-static void texts(void)
-{
-    char text[DOMETHYME_TEXT];
-    for (uint32_t code = 0; code < 60; ++code) {
-        const char *wanted = meaning_of(code);
-        size_t count = strlen(wanted) + 1;
-        memset(text, 42, sizeof text);
-        WANT(domethyme_text(code, text, count - 1) == count && text[0] == 42);
-        WANT(domethyme_text(code, text, count) == count && strcmp(text, wanted) == 0);
-        WANT(domethyme_text(code, text, sizeof text) == count && strcmp(text, wanted) == 0);
-    }
-}
-
 /* Turned: the lengths to 2 and to 0, and the way from 0 to 2 backwards. */
 static void turned(const file *hierarchy)
 {
@@ -345,7 +288,6 @@ int main(int count, char **words)
     sums(&handle, &other);
     domethyme_close(&handle);
     domethyme_close(&other);
-    texts();
     free(hierarchy.bytes);
     puts("ok");
     return 0;
