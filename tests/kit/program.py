@@ -2,7 +2,6 @@
 import os
 import pathlib
 import re
-import shutil
 import subprocess
 import sys
 import time
@@ -87,12 +86,10 @@ def linked(folder: Path, source: str) -> pathlib.Path:
 
 
 def refuse_library(folder: Path) -> str:
-    """The library that refuses calls of the system (tests/program/refuse_call.c), compiled into the folder."""
-    compiler = shutil.which("cc") or shutil.which("gcc") or shutil.which("g++")
-    if compiler is None:
-        sys.exit("tests/program/refuse_call.c can't be compiled, which needs gcc")
-    library, source = str(pathlib.Path(folder) / "refuse.so"), str(ROOT / "tests/program/refuse_call.c")
-    subprocess.run([compiler, "-x", "c", "-shared", "-fPIC", "-O1", "-o", library, source, "-ldl"], check=True)
+    """The library that refuses growths and calls of the system (tests/program/refuse.c), compiled into the folder."""
+    library = str(pathlib.Path(folder) / "refuse.so")
+    words = ["g++", "-x", "c", "-Wall", "-Werror", "-shared", "-fPIC", "-O1", "-o", library]
+    subprocess.run([*words, str(ROOT / "tests/program/refuse.c")], check=True)
     return library
 
 

@@ -1,148 +1,165 @@
-// Loaded before a program, this refuses one of its growths, or one of its reads, writes and syncs, and keeps an account
-// of it in a file. Built with the toolchain's clang, which has no header files, so what is used of the C library is
-// declared here.
+// Loaded before a program, this refuses what it asks of the C library, by numbers or by names, and keeps an account in a file.
 //
-// REFUSE       growth, call, short, interrupt or bytes: what happens to the growth or call of the number REFUSE_AT, as
-//              the program makes them, counted from 1. A growth and a call are refused, a read or write of several bytes
-//              moves one (short), is interrupted, or each of them moves one (bytes, which takes no number).
+// REFUSE       growth, call, short, interrupt or bytes: what happens to the growth, or the read, write or sync, of the number
+//              REFUSE_AT, as the program makes them, counted from 1. A growth and a call are refused, a read or write of several
+//              bytes moves one (short), is interrupted, or each of them moves one (bytes, which takes no number).
 // REFUSE_FILE  the file of the account, which is there and as long as one.
+// REFUSED      a call that is refused: fsync, rename, fchmod, chown, write N (of those into files), open NAME or open new; or what
+//              all writes into files are: interrupted, short or slow.
+#define _GNU_SOURCE
+#include <errno.h>
+#include <fcntl.h>
+#include <link.h>
+#include <stdarg.h>
+#include <stdio.h>
+#include <stdlib.h>
+#include <string.h>
+#include <sys/mman.h>
+#include <sys/stat.h>
+#include <sys/syscall.h>
+#include <sys/uio.h>
+#include <unistd.h>
 
-typedef unsigned long word;
-
-struct header { unsigned type, flags; word offset, at, physical, held, size, align; };
-struct object { word base; const char *name; const struct header *headers; unsigned short count; };
-struct part { void *start; word length; };
-
-extern void *__libc_malloc(word);
-extern void *__libc_realloc(void *, word);
-extern int dl_iterate_phdr(int (*)(struct object *, word, void *), void *);
-extern char *getenv(const char *);
-extern int open(const char *, int, ...);
-extern void *mmap(void *, word, int, int, int, long);
-extern long syscall(long, ...);
-extern int *__errno_location(void);
-
-enum { READ = 0, WRITE = 1, WRITE_PARTS = 20, SYNC = 74, SYNC_DATA = 75 };
-enum { INTERRUPTED = 4, NO_MEMORY = 12, INPUT_OUTPUT = 5 };
+extern void *__libc_malloc(size_t);
+extern void *__libc_realloc(void *, size_t);
 
 // How many growths and calls there were, and whether one was refused.
-static struct account { word growths, calls, refused; } *account;
+static struct account { size_t growths, calls, refused; } *account;
 
-static enum { NOTHING, GROWTH, CALL, SHORT, INTERRUPT, BYTES } what;
-static word which, low, high;
+static const char *what = "", *named = "";
+static size_t which;
+static uintptr_t low = ~0ul, high;
 
-static int main_program(struct object *object, word size, void *unused)
-{
-    word base = object->base;
-    low = ~0ul;
-    for (unsigned short i = 0; i < object->count; i++) {
-        const struct header *part = object->headers + i;
-        if (part->type == 1 && part->at + base < low)
-            low = part->at + base;
-        if (part->type == 1 && part->at + part->size + base > high)
-            high = part->at + part->size + base;
+static int main_program(struct dl_phdr_info *object, size_t size, void *unused) {
+    for (int i = 0; i < object->dlpi_phnum; i++) {
+        const ElfW(Phdr) *part = object->dlpi_phdr + i;
+        uintptr_t begin = object->dlpi_addr + part->p_vaddr;
+        if (part->p_type == PT_LOAD && begin < low) low = begin;
+        if (part->p_type == PT_LOAD && begin + part->p_memsz > high) high = begin + part->p_memsz;
     }
     return 1;
 }
 
-static int is(const char *a, const char *b)
-{
-    while (*a && *a == *b)
-        a++, b++;
-    return *a == *b;
-}
-
-__attribute__((constructor)) static void begin(void)
-{
-    const char *kind = getenv("REFUSE"), *number = getenv("REFUSE_AT"), *file = getenv("REFUSE_FILE");
-    int opened = file ? open(file, 2) : -1;
-    if (!kind || opened < 0)
-        return;
-    for (; number && *number; number++)
-        which = which * 10 + (word)(*number - '0');
-    what = is(kind, "growth") ? GROWTH : is(kind, "call") ? CALL : is(kind, "short") ? SHORT
-         : is(kind, "interrupt") ? INTERRUPT : is(kind, "bytes") ? BYTES : NOTHING;
-    account = mmap(0, sizeof *account, 3, 1, opened, 0);
-    if ((long)account == -1)
-        account = 0;
+__attribute__((constructor)) static void begin(void) {
+    const char *kind = getenv("REFUSE"), *number = getenv("REFUSE_AT"), *file = getenv("REFUSE_FILE"), *call = getenv("REFUSED");
+    named = call ? call : "";
+    int opened = file ? (int)syscall(SYS_open, file, O_RDWR) : -1;
+    if (!kind || opened < 0) return;
+    what = kind;
+    which = number ? strtoul(number, NULL, 10) : 0;
+    account = mmap(0, sizeof *account, PROT_READ | PROT_WRITE, MAP_SHARED, opened, 0);
+    if (account == MAP_FAILED) account = NULL;
     dl_iterate_phdr(main_program, 0);
 }
 
-// Whether the program itself calls, and no library for it.
-static int is_own(void *caller)
-{
-    return account && (word)caller >= low && (word)caller < high;
+static int is(const char *name) { return strcmp(what, name) == 0; }
+static int is_named(const char *call) { return strcmp(named, call) == 0; }
+
+static int fails(int error) {
+    errno = error;
+    return -1;
 }
 
-static int is_refused_growth(void *caller)
-{
-    if (!is_own(caller) || __atomic_add_fetch(&account->growths, 1, 5) != which || what != GROWTH)
-        return 0;
+// Whether the program itself calls, and no library for it.
+static int is_own(void *caller) { return account && (uintptr_t)caller >= low && (uintptr_t)caller < high; }
+
+static int is_refused_growth(void *caller) {
+    if (!is_own(caller) || __atomic_add_fetch(&account->growths, 1, 5) != which || !is("growth")) return 0;
     account->refused = 1;
-    *__errno_location() = NO_MEMORY;
+    errno = ENOMEM;
     return 1;
 }
 
-void *malloc(word size)
-{
-    return is_refused_growth(__builtin_return_address(0)) ? 0 : __libc_malloc(size);
-}
+void *malloc(size_t size) { return is_refused_growth(__builtin_return_address(0)) ? 0 : __libc_malloc(size); }
 
-void *realloc(void *old, word size)
-{
-    return is_refused_growth(__builtin_return_address(0)) ? 0 : __libc_realloc(old, size);
-}
+void *realloc(void *old, size_t size) { return is_refused_growth(__builtin_return_address(0)) ? 0 : __libc_realloc(old, size); }
 
 // Whether the call ends here with an error. Else a length of several bytes may become one.
-static int is_refused_call(void *caller, word *length)
-{
-    if (!is_own(caller))
-        return 0;
+static int is_refused_call(void *caller, size_t *length) {
+    if (!is_own(caller)) return 0;
     int is_one = __atomic_add_fetch(&account->calls, 1, 5) == which;
-    if (*length > 1 && (what == BYTES || (what == SHORT && is_one))) {
+    if (*length > 1 && (is("bytes") || (is("short") && is_one))) {
         *length = 1;
         account->refused = 1;
     }
-    if (!is_one || (what != CALL && what != INTERRUPT))
-        return 0;
+    if (!is_one || !(is("call") || is("interrupt"))) return 0;
     account->refused = 1;
-    *__errno_location() = what == CALL ? INPUT_OUTPUT : INTERRUPTED;
+    errno = is("call") ? EIO : EINTR;
     return 1;
 }
 
-long read(int file, void *bytes, word length)
-{
-    return is_refused_call(__builtin_return_address(0), &length) ? -1 : syscall(READ, file, bytes, length);
+// The same of a write into a file, by its name.
+static int is_refused_write(int file, size_t *length) {
+    static int writes;
+    if (file <= 2) return 0;
+    char call[32];
+    snprintf(call, sizeof call, "write %d", ++writes);
+    if (is_named(call)) return fails(ENOSPC);
+    if (is_named("interrupted") && writes % 2 == 1) return fails(EINTR);
+    if (is_named("slow")) usleep(2000);
+    if (is_named("short") && *length > 7) *length = 7;
+    return 0;
 }
 
-long write(int file, const void *bytes, word length)
-{
-    return is_refused_call(__builtin_return_address(0), &length) ? -1 : syscall(WRITE, file, bytes, length);
+ssize_t read(int file, void *bytes, size_t length) {
+    return is_refused_call(__builtin_return_address(0), &length) ? -1 : syscall(SYS_read, file, bytes, length);
 }
 
-long writev(int file, const struct part *parts, int count)
-{
-    struct part first = { 0, 0 };
-    word length = 0;
+ssize_t write(int file, const void *bytes, size_t length) {
+    if (is_refused_call(__builtin_return_address(0), &length) || is_refused_write(file, &length)) return -1;
+    return syscall(SYS_write, file, bytes, length);
+}
+
+ssize_t writev(int file, const struct iovec *parts, int count) {
+    size_t length = 0;
+    const struct iovec *first = parts;
     for (int i = 0; i < count; i++) {
-        if (!first.length)
-            first = parts[i];
-        length += parts[i].length;
+        if (!first->iov_len) first = parts + i;
+        length += parts[i].iov_len;
     }
-    word whole = length;
-    if (is_refused_call(__builtin_return_address(0), &length))
-        return -1;
-    return length < whole ? syscall(WRITE, file, first.start, length) : syscall(WRITE_PARTS, file, parts, count);
+    size_t whole = length;
+    if (is_refused_call(__builtin_return_address(0), &length)) return -1;
+    return length < whole ? syscall(SYS_write, file, first->iov_base, length) : syscall(SYS_writev, file, parts, count);
 }
 
-int fsync(int file)
-{
-    word none = 0;
-    return is_refused_call(__builtin_return_address(0), &none) ? -1 : (int)syscall(SYNC, file);
+static int synced(void *caller, long number, int file) {
+    size_t none = 0;
+    if (is_refused_call(caller, &none)) return -1;
+    return is_named("fsync") ? fails(EIO) : (int)syscall(number, file);
 }
 
-int fdatasync(int file)
-{
-    word none = 0;
-    return is_refused_call(__builtin_return_address(0), &none) ? -1 : (int)syscall(SYNC_DATA, file);
+int fsync(int file) { return synced(__builtin_return_address(0), SYS_fsync, file); }
+
+int fdatasync(int file) { return synced(__builtin_return_address(0), SYS_fdatasync, file); }
+
+int rename(const char *from, const char *to) {
+    if (is_named("slow")) usleep(20000);
+    return is_named("rename") ? fails(EIO) : (int)syscall(SYS_rename, from, to);
+}
+
+int fchmod(int file, mode_t mode) { return is_named("fchmod") ? fails(EPERM) : (int)syscall(SYS_fchmod, file, mode); }
+
+int chown(const char *path, uid_t user, gid_t group) {
+    return is_named("chown") ? fails(EPERM) : (int)syscall(SYS_chown, path, user, group);
+}
+
+static int opened(const char *path, int flags, va_list rest) {
+    mode_t mode = flags & O_CREAT ? va_arg(rest, mode_t) : 0;
+    const char *base = strrchr(path, '/');
+    char call[64];
+    snprintf(call, sizeof call, "open %s", base ? base + 1 : path);
+    if ((flags & O_EXCL) && is_named("open new")) return fails(ENOSPC);
+    return is_named(call) ? fails(ENOMEM) : (int)syscall(SYS_open, path, flags, mode);
+}
+
+int open(const char *path, int flags, ...) {
+    va_list rest;
+    va_start(rest, flags);
+    return opened(path, flags, rest);
+}
+
+int open64(const char *path, int flags, ...) {
+    va_list rest;
+    va_start(rest, flags);
+    return opened(path, flags, rest);
 }
