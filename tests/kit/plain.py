@@ -286,3 +286,8 @@ def least_from(arcs: list[list[int]], source: int) -> dict[int, Cost]:
             if start == node and end not in least:
                 heapq.heappush(queue, (plus(cost, (weight, 1)), end))
     return least
+
+
+def least_costs(nodes, arcs):
+    """The least cost between each two nodes below a number."""
+    return {(start, to): cost for start in range(nodes) for to, cost in least_from(arcs, start).items()}

@@ -1,7 +1,6 @@
-"""Small hierarchy files by hand, and least costs of small graphs, found slowly."""
+"""Small hierarchy files by hand."""
 import itertools
 
-from .checked import plus
 from .hierarchy_file import NONE, spelled
 
 HEAVY = 4_294_967_295
@@ -44,17 +43,3 @@ def changed(file: bytes, changes: dict[int, int]) -> bytes:
     for place, value in changes.items():
         data[place] = value
     return bytes(data)
-
-
-def least_costs(nodes: int, arcs: list[tuple[int, int, int]]) -> dict[tuple[int, int], tuple[int, int]]:
-    """The least length and number of arcs between each two nodes: walks over no other node, and then over those up to each in
-    turn (Floyd 1962)."""
-    costs = {(node, node): (0, 0) for node in range(nodes)}
-    for start, to, weight in arcs:
-        costs[start, to] = min((weight, 1), costs.get((start, to), (weight, 1)))
-    for middle, start, to in itertools.product(range(nodes), repeat=3):
-        first, second = costs.get((start, middle)), costs.get((middle, to))
-        if first and second:
-            whole = plus(first, second)
-            costs[start, to] = min(whole, costs.get((start, to), whole))
-    return costs

@@ -121,25 +121,6 @@ static void many(domethyme *handle)
     WANT(memcmp(lengths, wanted, sizeof wanted) == 0);
 }
 
-/* A table of 72 lengths, which has a selection of its own. */
-static void rows(domethyme *handle)
-{
-    /* the towns' lengths, as README's session has them */
-    const uint64_t towns[3][3] = {{0, 300, 700}, {300, 0, 400}, {DOMETHYME_NO_LENGTH, DOMETHYME_NO_LENGTH, 0}};
-    const uint32_t sources[] = {2, 0, 1};
-    uint32_t targets[24];
-    uint64_t lengths[73] = {0};
-    for (uint32_t place = 0; place < 24; ++place)
-        targets[place] = place % 3;
-    lengths[72] = 42;
-    WANT(domethyme_table(handle, sources, 3, targets, 24, lengths, 73) == DOMETHYME_OK && lengths[72] == 42);
-    for (int cell = 0; cell < 72; ++cell)
-        WANT(lengths[cell] == towns[sources[cell / 24]][cell % 3]);
-    WANT(domethyme_table(handle, sources, 3, targets, 24, lengths, 71) == DOMETHYME_NO_ROOM);
-    targets[23] = 3;
-    WANT(domethyme_table(handle, sources, 3, targets, 24, lengths, 72) == DOMETHYME_NODE_RANGE);
-}
-
 /* Which refusal of a reach comes first, and that none writes. */
 static void reaches(domethyme *handle)
 {
@@ -218,7 +199,7 @@ static void sums(domethyme *handle, domethyme *turned)
 
     /* from 0 with 100 and 5, and from 1 with 350 and 6 */
     domethyme_seed starts[] = {{100, 0, 0}, {350, 1, 0}}, far_off[] = {{0, 0, 0}, {0, 3, 0}};
-    const uint32_t added[] = {5, 6}, most[] = {5, UINT32_MAX};
+    const uint32_t added[] = {5, 6};
     memset(cells, 42, sizeof cells);
     WANT(domethyme_reach_sums(handle, set, 1, far_off, 2, added, 1, none - 1, cells, 2) == DOMETHYME_BAD_LIMIT);
     WANT(domethyme_reach_sums(handle, set, 1, far_off, 2, added, 1, none, cells, 2) == DOMETHYME_NO_ROOM);
@@ -229,29 +210,15 @@ static void sums(domethyme *handle, domethyme *turned)
     WANT(domethyme_reach_sums(handle, set, many, starts, 2, added, 2, none, cells, 5) == DOMETHYME_OK);
     WANT(cells[0].length == 100 && cells[0].sum == 5 && cells[1].length == 350 && cells[1].sum == 6);
     WANT(cells[2].length == 750 && cells[2].sum == 19 && memcmp(&cells[3], &before, sizeof before) == 0);
-    WANT(domethyme_reach_sums(handle, set, many, starts, 2, most, 2, 350, cells, 3) == DOMETHYME_OK);
-    WANT(cells[1].length == 350 && cells[1].sum == UINT32_MAX && cells[2].length == none && cells[2].sum == none);
-    /* both starts lead to 1 in 400: one of two sums */
-    starts[1].length = 400;
-    WANT(domethyme_reach_sums(handle, set, many, starts, 2, added, 2, none, cells, 3) == DOMETHYME_OK);
-    WANT(cells[1].length == 400 && (cells[1].sum == 7 || cells[1].sum == 6));
     WANT(domethyme_reach_sums(handle, set, many, starts, 0, added, 0, none, cells, 3) == DOMETHYME_OK);
     WANT(cells[0].length == none && cells[0].sum == none);
 }
 
-/* Turned: the lengths to 2 and to 0, and the way from 0 to 2 backwards. */
+/* Turned: the way from 0 to 2 backwards. */
 static void turned(const file *hierarchy)
 {
     domethyme handle = DOMETHYME_CLOSED;
     WANT(domethyme_open_turned(&handle, hierarchy->bytes, hierarchy->count) == DOMETHYME_OK);
-    domethyme_seed end = {5, 2, 0}, other = {0, 0, 0};
-    uint64_t lengths[4] = {42, 42, 42, 42};
-    WANT(domethyme_reach(&handle, &end, 1, DOMETHYME_NO_LENGTH, lengths, 4) == DOMETHYME_OK);
-    WANT(lengths[0] == 705 && lengths[1] == 405 && lengths[2] == 5 && lengths[3] == 42);
-    WANT(domethyme_reach(&handle, &end, 1, 704, lengths, 3) == DOMETHYME_OK);
-    WANT(lengths[0] == DOMETHYME_NO_LENGTH && lengths[1] == 405 && lengths[2] == 5);
-    WANT(domethyme_reach(&handle, &other, 1, 300, lengths, 3) == DOMETHYME_OK);
-    WANT(lengths[0] == 0 && lengths[1] == 300 && lengths[2] == DOMETHYME_NO_LENGTH);
     domethyme_route_info route = {0, 0};
     uint32_t nodes[3];
     WANT(domethyme_route(&handle, 2, 0, &route, nodes, 3) == DOMETHYME_OK && route.length == 700 && route.nodes == 3);
@@ -270,14 +237,12 @@ int main(int count, char **words)
     single(&handle);
     several(&handle);
     many(&handle);
-    rows(&handle);
     reaches(&handle);
-    /* A second handle lives on behind the first, whose selection it shares; a handle that is opened again closes what it had. */
+    /* A second handle lives on behind the first; a handle that is opened again closes what it had. */
     WANT(domethyme_beside(&handle, &other) == DOMETHYME_OK);
     WANT(domethyme_beside(&handle, &other) == DOMETHYME_OK);
     WANT(domethyme_open(&handle, hierarchy.bytes, hierarchy.count) == DOMETHYME_OK);
     domethyme_close(&handle);
-    rows(&other);
     single(&other);
     WANT(domethyme_open(&other, hierarchy.bytes, hierarchy.count - 1) == DOMETHYME_TRUNCATED);
     closed(&other);
