@@ -77,10 +77,7 @@ static void compare(domethyme *handle, const domethyme_pair *pairs, size_t count
 int main(int count, char **words)
 {
     WANT(count == 3);
-    file hierarchy = file_of(words[1]);
-    domethyme handle = DOMETHYME_CLOSED;
-    WANT(domethyme_open(&handle, hierarchy.bytes, hierarchy.count) == DOMETHYME_OK);
-    free(hierarchy.bytes);
+    domethyme handle = opened(words[1]);
     size_t asked;
     domethyme_pair *pairs = pairs_of(words[2], &asked);
     for (size_t place = 0; place < asked; ++place)

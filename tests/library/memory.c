@@ -1,52 +1,14 @@
-/* Counts the bytes that calls ask for, beside what the header and docs/LIBRARY.md promise of them. It is linked with
- * --wrap=malloc --wrap=realloc --wrap=free.
+/* Counts the bytes that calls ask for, beside what the header and docs/LIBRARY.md promise of them.
  *
  *     memory HIER
  *
  * The file is of a lane: node v has rank v, and arcs in both directions to the next. So a climb from node 0 comes to all nodes
  * while its queue has one, and one link falls to each node but the last. There are more nodes than a handle keeps room for. */
-#include "support.h"
+#include "wrapped.h"
 
-/* What a block takes before its first byte, for its size. */
-#define HEAD 16
 /* Bytes of what doesn't depend on the number of nodes. */
 #define SMALL 4096
 #define FEW 1000
-
-/* The bytes that are held, and the most that were held since it was set. */
-static size_t held, most;
-
-void *__wrap_malloc(size_t size)
-{
-    size_t *block = (size_t *)__real_malloc(size + HEAD);
-    if (block == NULL)
-        return NULL;
-    *block = size;
-    held += size;
-    most = held > most ? held : most;
-    return (char *)block + HEAD;
-}
-
-void __wrap_free(void *block)
-{
-    if (block == NULL)
-        return;
-    size_t *whole = (size_t *)(void *)((char *)block - HEAD);
-    held -= *whole;
-    __real_free(whole);
-}
-
-/* The bytes of both blocks count while they are copied. */
-void *__wrap_realloc(void *block, size_t size)
-{
-    void *other = __wrap_malloc(size);
-    if (other == NULL || block == NULL)
-        return other;
-    size_t had = *(size_t *)(void *)((char *)block - HEAD);
-    memcpy(other, block, had < size ? had : size);
-    __wrap_free(block);
-    return other;
-}
 
 static uint32_t nodes, *targets;
 static uint64_t *lengths;
@@ -78,10 +40,7 @@ static void near(const char *what, size_t bytes, size_t least, size_t promised)
 int main(int count, char **words)
 {
     WANT(count == 2);
-    file hierarchy = file_of(words[1]);
-    domethyme one = DOMETHYME_CLOSED, two = DOMETHYME_CLOSED, three = DOMETHYME_CLOSED;
-    WANT(domethyme_open(&one, hierarchy.bytes, hierarchy.count) == DOMETHYME_OK);
-    free(hierarchy.bytes);
+    domethyme one = opened(words[1]), two = DOMETHYME_CLOSED, three = DOMETHYME_CLOSED;
     WANT(domethyme_nodes(&one, &nodes) == DOMETHYME_OK);
     size_t many = nodes;
     uint32_t far[2] = {0, 1}, top[2] = {nodes - 1, nodes - 2};

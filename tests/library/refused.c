@@ -1,41 +1,8 @@
 /* Refuses each allocation of a run in turn: each call says that memory is out, or did what it was asked, and nothing leaks.
  * The latter is where a list asked for room by an estimate, was refused, and then got what it needed.
- * It is linked with --wrap=malloc --wrap=realloc --wrap=free.
  *
  *     refused HIER */
-#include "support.h"
-
-/* The calls until the refused one, if any, and the blocks that are held. */
-static long until = -1, held;
-
-static int is_refused(void) { return until == 0 || (until > 0 && --until == 0 && (until = 0) == 0); }
-
-void *__wrap_malloc(size_t size)
-{
-    if (is_refused()) {
-        until = -1;
-        return NULL;
-    }
-    void *block = __real_malloc(size);
-    held += block != NULL;
-    return block;
-}
-
-void *__wrap_realloc(void *block, size_t size)
-{
-    if (is_refused()) {
-        until = -1;
-        return NULL;
-    }
-    held += block == NULL;
-    return __real_realloc(block, size);
-}
-
-void __wrap_free(void *block)
-{
-    held -= block != NULL;
-    __real_free(block);
-}
+#include "wrapped.h"
 
 static size_t refusals;
 
@@ -118,8 +85,7 @@ int main(int count, char **words)
 {
     WANT(count == 2);
     file hierarchy = file_of(words[1]);
-    long before = held;
-    size_t tried = 0;
+    size_t before = held, tried = 0;
     for (long refuse = 1;; ++refuse, ++tried) {
         until = refuse;
         run(hierarchy.bytes, hierarchy.count);

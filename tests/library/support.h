@@ -18,14 +18,6 @@
         }                                                                                                                      \
     } while (0)
 
-/* What programs are linked with that count or refuse (--wrap=malloc --wrap=realloc --wrap=free). They are C. */
-void *__real_malloc(size_t size);
-void *__real_realloc(void *block, size_t size);
-void __real_free(void *block);
-void *__wrap_malloc(size_t size);
-void *__wrap_realloc(void *block, size_t size);
-void __wrap_free(void *block);
-
 typedef struct file {
     uint8_t *bytes;
     size_t count;
@@ -43,6 +35,16 @@ static inline file file_of(const char *path)
     WANT(read.bytes != NULL && fread(read.bytes, 1, read.count, source) == read.count);
     fclose(source);
     return read;
+}
+
+/* A handle of a file. */
+static inline domethyme opened(const char *path)
+{
+    domethyme handle = DOMETHYME_CLOSED;
+    file hierarchy = file_of(path);
+    WANT(domethyme_open(&handle, hierarchy.bytes, hierarchy.count) == DOMETHYME_OK);
+    free(hierarchy.bytes);
+    return handle;
 }
 
 /* Pairs of nodes from 1, two numbers a line. */

@@ -100,16 +100,13 @@ static void *work(void *given)
 int main(int count, char **words)
 {
     WANT(count == 5);
-    file hierarchy = file_of(words[1]);
     size_t threads = strtoul(words[3], NULL, 10);
-    domethyme first = DOMETHYME_CLOSED;
-    WANT(threads > 0 && domethyme_open(&first, hierarchy.bytes, hierarchy.count) == DOMETHYME_OK);
-    free(hierarchy.bytes);
+    domethyme first = opened(words[1]);
     pairs = pairs_of(words[2], &asked);
     wanted = (found *)malloc(asked * sizeof *wanted);
     share *shares = (share *)calloc(threads, sizeof *shares);
     pthread_t *started = (pthread_t *)malloc(threads * sizeof *started);
-    WANT(asked > 0 && wanted != NULL && shares != NULL && started != NULL);
+    WANT(threads > 0 && asked > 0 && wanted != NULL && shares != NULL && started != NULL);
     for (size_t place = 0; place < asked; ++place)
         wanted[place] = answer(&first, pairs[place]);
     make_set(&first);
