@@ -14,17 +14,8 @@ from .program import ROOT
 HEAVIEST = 4_294_967_295
 
 # What the weights of a network are drawn from. In most, many walks have the same length and different numbers of arcs.
-WEIGHTS: list[Sequence[int]] = [
-    range(1),
-    range(1, 2),
-    range(2),
-    range(1, 4),
-    range(4),
-    range(21),
-    range(1, 1001),
-    (0, HEAVIEST),
-    range(HEAVIEST + 1),
-]
+ENDS = [(0, 1), (1, 2), (0, 2), (1, 4), (0, 4), (0, 21), (1, 1001), (0, HEAVIEST + 1)]
+WEIGHTS: list[Sequence[int]] = [*(range(low, high) for low, high in ENDS), (0, HEAVIEST)]
 
 
 def drawn_arcs(draw: random.Random, nodes: int, count: int) -> list[tuple[int, int, int]]:
