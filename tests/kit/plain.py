@@ -288,6 +288,6 @@ def least_from(arcs: list[list[int]], source: int) -> dict[int, Cost]:
     return least
 
 
-def least_costs(nodes, arcs):
+def least_costs(nodes: int, arcs: list[list[int]]) -> dict[tuple[int, int], Cost]:
     """The least cost between each two nodes below a number."""
     return {(start, to): cost for start in range(nodes) for to, cost in least_from(arcs, start).items()}
