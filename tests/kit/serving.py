@@ -7,44 +7,29 @@ from . import plain
 
 MOST_BYTES = 4096
 Ends = list[tuple[int, int]]
-Cost = tuple[int, int | None]  # a length and a number of arcs, where that is settled
 
 
 class Answers:
-    """What the answers by a hierarchy may be, of walks no longer than `longest`, or than its bound. Nodes are from 1."""
+    """What the answers by a hierarchy of version 2 are, which is right for a graph. Nodes are from 1."""
 
-    def __init__(self, hierarchy: plain.Hierarchy, longest: int | None = None) -> None:
-        self.hierarchy, self.routes, self.version = hierarchy, plain.Routes(hierarchy, longest), hierarchy.version
+    def __init__(self, hierarchy: plain.Hierarchy) -> None:
+        self.routes = plain.Routes(hierarchy)
 
-    def is_route(self, nodes: list[int], length: int) -> bool:
-        """Whether links without a middle join these nodes, no more than there are, at this length."""
-        return len(nodes) <= self.routes.nodes and self.routes.is_route([node - 1 for node in nodes], length)
-
-    def cost_of(self, source: int, target: int) -> Cost | None:
+    def cost_of(self, source: int, target: int) -> tuple[int, int] | None:
         """What a shortest path costs, or none."""
-        cost = self.routes.value(source - 1, target - 1)
-        return cost if cost is None or self.version == 2 else (cost[0], None)
-
-    def may_be_long(self, source: int, target: int) -> bool:
-        """Whether a shortest path may repeat a node."""
-        arcs = self.routes.most_arcs(source - 1, target - 1)
-        return arcs is not None and arcs >= self.routes.nodes
+        return self.routes.value(source - 1, target - 1)
 
     def is_line(self, line: bytes, source: int, target: int) -> bool:
         """Whether an answer line is right."""
-        return is_line(line, source, target, self.cost_of(source, target), self.is_route)
-
-
-def is_line(line: bytes, source: int, target: int, cost: Cost | None, is_route: Callable[[list[int], int], bool]) -> bool:
-    """Whether an answer line is right where a shortest path costs this, or where there is no walk."""
-    if cost is None:
-        return line == b"n %d %d" % (source, target)
-    fields = line.split(b" ")
-    length, arcs = cost[0], len(fields) - 6 if cost[1] is None else cost[1]
-    if fields[:5] != [b"r", b"%d" % source, b"%d" % target, b"%d" % length, b"%d" % arcs]:
-        return False
-    nodes = [int(field) for field in fields[5:]]
-    return len(nodes) == arcs + 1 and (nodes[0], nodes[-1]) == (source, target) and is_route(nodes, length)
+        cost = self.cost_of(source, target)
+        if cost is None:
+            return line == b"n %d %d" % (source, target)
+        fields = line.split(b" ")
+        if fields[:5] != [b"r", *(b"%d" % number for number in (source, target, *cost))]:
+            return False
+        nodes = [int(field) for field in fields[5:]]
+        is_whole = len(nodes) == cost[1] + 1 and (nodes[0], nodes[-1]) == (source, target)
+        return is_whole and self.routes.is_route([node - 1 for node in nodes], cost[0])
 
 
 # What is asked of a pair
@@ -63,11 +48,6 @@ def pair_in(fields: list[bytes], nodes: int) -> tuple[int, int]:
 def drawn_pair(draw: random.Random, nodes: int) -> str:
     """Two nodes."""
     return f"{draw.randint(1, nodes)} {draw.randint(1, nodes)}"
-
-
-def is_routed(answers: Answers, line: bytes, source: int, target: int) -> bool:
-    """Whether a line has a shortest path, or that it repeats a node."""
-    return answers.may_be_long(source, target) if line == b"e TooLong" else answers.is_line(line, source, target)
 
 
 def is_measured(answers: Answers, line: bytes, source: int, target: int) -> bool:
@@ -114,24 +94,17 @@ def drawn_places(draw: random.Random, nodes: int) -> str:
 
 def is_between(answers: Answers, line: bytes, starts: Ends, ends: Ends) -> bool:
     """Whether a line has a best way from one of the starts to one of the ends."""
-    # (the limit is on the whole, and not the bound: only a file that is of no graph has a walk between them)
-    answers = Answers(answers.hierarchy, 1 << 62)
     ways = []
     for source, before in starts:
         for target, after in ends:
             cost = answers.cost_of(source, target)
             if cost is not None:
                 ways.append((before + cost[0] + after, source, target, cost[0]))
-    best = [way for way in ways if way[0] == min(ways)[0]]
-    if not best:
-        return line == b"n"
-    if line == b"e TooLong":
-        return any(answers.may_be_long(source, target) for _, source, target, _ in best)
-    fields = line.split(b" ")
+    best, fields = [way for way in ways if way[0] == min(ways)[0]], line.split(b" ")
     for whole, source, target, length in best:
         if fields[:4] == [b"r", b"%d" % source, b"%d" % target, b"%d" % whole]:
             return answers.is_line(b" ".join([*fields[:3], b"%d" % length, *fields[4:]]), source, target)
-    return False
+    return not best and line == b"n"
 
 
 # All requests
@@ -148,7 +121,7 @@ class Kind(NamedTuple):
 
 
 KINDS = {
-    "q": Kind("S T", pair_in, drawn_pair, is_routed),
+    "q": Kind("S T", pair_in, drawn_pair, Answers.is_line),
     "d": Kind("S T", pair_in, drawn_pair, is_measured),
     "b": Kind("S C .. : T D ..", sides_in, drawn_sides, is_between),
 }
