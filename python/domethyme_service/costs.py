@@ -84,8 +84,8 @@ VARIABLES = {
     "M": "rows of a table: two for each different source, or place of a trip",
     "L": "links of a table's selection: those of the hierarchy, or 20 √N for each different destination, if these are fewer",
     "Z": "cells of a table",
-    "S": "sums between nodes: for a table four for each different source and destination, and each annotation that isn't the weight; "
-    f"for each place of a trace {STEPS_AT_ONCE} times the square of its deviation in metres, to {2 * MAX_ROADS}",
+    "S": "sums between nodes: for a table four for each different source and destination, and each annotation that isn't the weight. "
+    f"For each place of a trace {STEPS_AT_ONCE} times the square of its deviation in metres, to {2 * MAX_ROADS}",
     "A": "other routes that are asked for (`alternatives`), to 3; 0 if none are searched for",
     "U": "1 if other routes are searched for, else 0",
     "C": "contours",

@@ -52,8 +52,8 @@ class CrossingTests(ToolCase):
         self.assertIn("osm_to_gr: map: 7 nodes, 15 arcs, 0.4 km of road\n", self.said)
         self.assertEqual(sorted(node.ends for node in read_rows(self.folder / "map.nodes.csv")), ["", "", "", "", "from", "no", "to"])
         rows = (self.folder / "map.nodes.csv").read_text().splitlines()
-        self.write("map.nodes.csv", "\n".join(row.rpartition(",")[0] for row in rows) + "\n")  # (without the column ends)
-        nodes = read_nodes(self.folder / "map.nodes.csv").arrays
+        self.write("older.csv", "\n".join(row.rpartition(",")[0] for row in rows) + "\n")  # (without the column ends)
+        nodes = read_nodes(self.folder / "older.csv").arrays
         self.assertEqual({ENDS[each] for each in nodes.columns["node_ends"]}, {""})
         self.assertEqual(self.lengths("--ignore-turn-restrictions"), free)
 
