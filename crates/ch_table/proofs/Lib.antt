@@ -12,3 +12,4 @@ pub mod Bounds
 pub mod StepLinks
 pub mod SumLanes
 pub mod SumRows
+pub mod Packing

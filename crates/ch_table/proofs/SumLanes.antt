@@ -65,7 +65,7 @@ module _ (h : Hierarchy) (numbers : List ℕ) (s : Selection) (p at : ℕ) (is :
   link-rises = omega (arith, is.leads.foot, is.leads.head, is.leads.climbs.rises)
 
   module _ {starts : List Seed} {long number : ℕ} (read : long ≡ slice_index s.lengths at) (own : number ≡ slice_index numbers is.link) where
-    way-over : (n m : ℕ) → IsSummedWay h numbers starts (slice_index s.ranks (slice_index s.tails at)) n m → IsSummedWay h numbers starts (slice_index s.ranks p) (n + long) (m + number)
+    pub way-over : (n m : ℕ) → IsSummedWay h numbers starts (slice_index s.ranks (slice_index s.tails at)) n m → IsSummedWay h numbers starts (slice_index s.ranks p) (n + long) (m + number)
     way-over n m way =
         let k : ℕ = is.link in
         let more : IsSummedWay h numbers starts (rank_of h (link_at h k).to) (n + length_of (cost_at h k)) (m + slice_index numbers k) = over k is.leads.climbs.within is.leads.head way in

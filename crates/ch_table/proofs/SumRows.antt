@@ -1,5 +1,5 @@
 -- Rows of sums.
-use Rattle.std.proofs.Common.{ℕ, ◌≡◌, ◌<◌, ◌≤◌, List, [], ◌∷◌, length, All, Option, Some, None, refl, subst, arith}
+use Rattle.std.proofs.Common.{ℕ, ◌≡◌, ◌^◌, ◌<◌, ◌≤◌, List, [], ◌∷◌, length, All, Option, Some, None, refl, subst, arith}
 use Rattle.ch_cost.specs.declared.cost.Cost.{Cost}
 use Rattle.ch_cost.specs.Cost.{length_of}
 use Rattle.ch_cost.specs.Cost.Numbers.{lengths-from_no_longer}
@@ -25,15 +25,15 @@ module _ (walks : WaysAreWalks) (h : Hierarchy) (made : IsWellMade h) (numbers :
       by_cost None none same = record { cost = None; is = value-from walks h made starts begins bound t t_in None none; sum = refl }
       by_cost (Some c) least same = absurd (omega (arith, distant, same, lengths-from_no_longer c bound least.0.short))
 
-  pub sum-some : (m : ℕ) → label ≤ length_of bound → IsSummedWay h numbers starts (rank_of h t) label m → IsSumFromAny h numbers starts bound t m
-  sum-some m near way = by_cost is.cost is.least is.is
+  pub sum-some : (m : ℕ) → label ≤ length_of bound → IsSummedWay h numbers starts (rank_of h t) label m → m ≤ 2 ^ 62 → IsSumFromAny h numbers starts bound t m
+  sum-some m near way small = by_cost is.cost is.least is.is
     where
       by_cost : (v : Option Cost) → IsLeastOrNone (IsWay h starts bound (rank_of h t)) v → label ≡ label_of bound v → IsSumFromAny h numbers starts bound t m
       by_cost None none same = absurd (omega (arith, near, same))
       by_cost (Some c) least same = record {
         cost = Some c;
         is = value-from walks h made starts begins bound t t_in (Some c) least;
-        sum = subst (λ n. IsSummedWay h numbers starts (rank_of h t) n m) same way;
+        sum = (subst (λ n. IsSummedWay h numbers starts (rank_of h t) n m) same way, small);
       }
 
 -- from one start at no cost, within the bound of the hierarchy

@@ -3,3 +3,4 @@ pub mod Labels
 pub mod Selection
 pub mod Laying
 pub mod Sums
+pub mod Packed

@@ -16,10 +16,10 @@ use Rattle.ch_table.specs.declared.table.TheConstants.{NO_LENGTH}
 
 -- Rows
 
--- the sum along a walk of the least length, or the number that stands for none
+-- the sum along a walk of the least length, which is at most 2^62, or the number that stands for none
 abbrev pub IsSumOrNone : Hierarchy → List ℕ → List Seed → ℕ → ℕ → Option Cost → Type 0
 IsSumOrNone h numbers starts t m None = m ≡ NO_LENGTH
-IsSumOrNone h numbers starts t m (Some c) = IsSummedWay h numbers starts (rank_of h t) (length_of c) m
+IsSumOrNone h numbers starts t m (Some c) = IsSummedWay h numbers starts (rank_of h t) (length_of c) m × (m ≤ 2 ^ 62)
 
 -- from several starts
 pub record IsSumFromAny (h : Hierarchy) (numbers : List ℕ) (starts : List Seed) (bound : Cost) (t m : ℕ) : Type 0 where

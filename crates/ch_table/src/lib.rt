@@ -16,6 +16,7 @@
 
 mod columns;
 mod lanes;
+mod packed;
 mod selection;
 mod step_numbers;
 mod steps;

@@ -150,10 +150,11 @@ impl Selection {
     }
 
     /// Writes the lengths of [`Selection::lengths`] from the first place on, and to the same places of `sums` what the
-    /// numbers of the links of some walk of that length sum to, or [`NO_LENGTH`](crate::NO_LENGTH) where there is no walk.
+    /// numbers of the links of some walk of that length sum to, at most 2^62, or [`NO_LENGTH`](crate::NO_LENGTH) where there
+    /// is no walk.
     ///
     /// `numbers` has a number for each link of the hierarchy, `steps` those of the links of the selection, and `kept` has
-    /// room for a number for each node. The sum is carried beside the label: it takes the time of `lengths` twice at most,
+    /// room for a number for each node. The sum is carried beside the label: it takes two to four times as long as `lengths`,
     /// and 16 bytes for each row of a block and each node of the selection in place of 8.
     pub fn sums<H: HierarchyRef>(
         &self,

@@ -1,4 +1,4 @@
-ghost use Rattle.std.specs.Prelude.{◌≡◌, ◌+◌, ◌-◌, ◌*◌, ◌<◌, ◌≤◌, ◌^◌, [], ℕ, List, length, slice_index, slice_index_or, All};
+ghost use Rattle.std.specs.Prelude.{◌≡◌, ◌+◌, ◌-◌, ◌*◌, ◌<◌, ◌≤◌, ◌^◌, ℕ, List, length, slice_index, All};
 ghost use Rattle.ch_query.specs.declared.climb.Climbed.{Climbed as a_climb};
 ghost use Rattle.ch_query.specs.declared.seed.Seed.{Seed as a_seed};
 ghost use Rattle.ch_query.specs.declared.side.Side.TheVariants.{Rise};
@@ -10,6 +10,7 @@ ghost use Rattle.ch_table.specs.Lengths.{IsRow};
 ghost use Rattle.ch_table.specs.Selection.{AreLinksOf, IsTable, lists_of};
 ghost use Rattle.ch_table.specs.Sums.{AreRaisedSums, AreSmallSums, AreStepNumbers, HaveSums, IsPlaceSummed, IsSumFromAny, IsSumOver};
 
+use crate::packed::unpack;
 use crate::steps::{Links, Number, Steps};
 use crate::table::{NO_LENGTH, Table};
 use ch_query::Climbed;
@@ -59,6 +60,7 @@ impl Table<'_> {
         requires small_sums { AreSmallSums (length self.now.hierarchy.now.ranks) self.now.columns.now.ranks.items sums.old }
         ensures lanes { HaveLanes (length self.now.columns.now.ranks.items) N labels.new }
         ensures sums { HaveLanes (length self.now.columns.now.ranks.items) N sums.new }
+        ensures small_sums { AreSmallSums (length self.now.hierarchy.now.ranks) self.now.columns.now.ranks.items sums.new }
         ensures swept { (starts : List a_seed) (lane : ℕ) → lane < N → AreLabels (IsClimb self.now.hierarchy.now Rise starts self.now.bound) self.now.bound self.now.columns.now.ranks.items (lane_of labels.old lane) → AreLabels (IsWay self.now.hierarchy.now starts self.now.bound) self.now.bound self.now.columns.now.ranks.items (lane_of labels.new lane) }
         ensures summed { (all : List ℕ) (starts : ℕ → List a_seed) → AreStepNumbers self.now.hierarchy.now all (lists_of self.now.columns.now) numbers.now → HaveSums self.now.hierarchy.now all starts self.now.bound self.now.columns.now.ranks.items N labels.old sums.old → HaveSums self.now.hierarchy.now all starts self.now.bound self.now.columns.now.ranks.items N labels.new sums.new }
     {
@@ -85,19 +87,20 @@ impl Table<'_> {
         requires small_sums { AreSmallSums (length self.now.hierarchy.now.ranks) self.now.columns.now.ranks.items sums.old }
         ensures lanes { HaveLanes (length self.now.columns.now.ranks.items) N labels.new }
         ensures sums { HaveLanes (length self.now.columns.now.ranks.items) N sums.new }
+        ensures small_sums { AreSmallSums (length self.now.hierarchy.now.ranks) self.now.columns.now.ranks.items sums.new }
         ensures swept { (starts : List a_seed) (lane : ℕ) → lane < N → AreLabels (IsClimb self.now.hierarchy.now Rise starts self.now.bound) self.now.bound self.now.columns.now.ranks.items (lane_of labels.old lane) → AreLabels (IsWay self.now.hierarchy.now starts self.now.bound) self.now.bound self.now.columns.now.ranks.items (lane_of labels.new lane) }
         ensures summed { (all : List ℕ) (starts : ℕ → List a_seed) → AreStepNumbers self.now.hierarchy.now all (lists_of self.now.columns.now) numbers.now → HaveSums self.now.hierarchy.now all starts self.now.bound self.now.columns.now.ranks.items N labels.old sums.old → HaveSums self.now.hierarchy.now all starts self.now.bound self.now.columns.now.ranks.items N labels.new sums.new }
     {
         let count = labels.len();
         'places: for done in 0..count {
             let place = count - 1 - done;
-            let mut own = sums[place];
-            labels[place] = self.least_sums(steps, numbers, labels, sums, place, &mut own);
+            let (least, own) = self.least_sums(steps, numbers, labels, sums, place);
+            labels[place] = least;
             sums[place] = own;
         }
     }
 
-    // The labels of a place from those of later ones, and beside them its sums, which `own` has first as climbs put them.
+    // The labels of a place from those of later ones, and beside them its sums.
     fn least_sums<W: Number, const N: usize>(
         &self,
         steps: &Steps<W>,
@@ -105,8 +108,7 @@ impl Table<'_> {
         labels: &[[u64; N]],
         sums: &[[u64; N]],
         place: usize,
-        own: &mut [u64; N],
-    ) -> [u64; N]
+    ) -> ([u64; N], [u64; N])
         requires table { IsTable self.now }
         requires steps { AreLinksOf W.number steps.now (lists_of self.now.columns.now) }
         requires numbers { (all : List ℕ) × HaveNumbers self.now.hierarchy.now all × AreStepNumbers self.now.hierarchy.now all (lists_of self.now.columns.now) numbers.now }
@@ -115,29 +117,33 @@ impl Table<'_> {
         requires small { AreSmall self.now.bound labels.now }
         requires sums { HaveLanes (length self.now.columns.now.ranks.items) N sums.now }
         requires small_sums { AreSmallSums (length self.now.hierarchy.now.ranks) self.now.columns.now.ranks.items sums.now }
-        requires own { own.old ≡ slice_index_or sums.now place [] }
-        ensures count { length result ≡ N }
-        ensures small { (lane : ℕ) → slice_index result lane ≤ far self.now.bound }
-        ensures least { (starts : List a_seed) (lane : ℕ) → lane < N → AreSwept (IsWay self.now.hierarchy.now starts self.now.bound) (IsClimb self.now.hierarchy.now Rise starts self.now.bound) self.now.bound self.now.columns.now.ranks.items (lane_of labels.now lane) (place + 1) → IsLabel (IsWay self.now.hierarchy.now starts self.now.bound (slice_index self.now.columns.now.ranks.items place)) self.now.bound (slice_index result lane) }
-        ensures sum_count { length own.new ≡ N }
-        ensures small_sums { (lane : ℕ) → slice_index own.new lane ≤ (length self.now.hierarchy.now.ranks + (length self.now.hierarchy.now.ranks - slice_index self.now.columns.now.ranks.items place)) * 2 ^ 36 }
-        ensures summed { (all : List ℕ) (starts : ℕ → List a_seed) → AreStepNumbers self.now.hierarchy.now all (lists_of self.now.columns.now) numbers.now → HaveSums self.now.hierarchy.now all starts self.now.bound self.now.columns.now.ranks.items N labels.now sums.now → IsPlaceSummed self.now.hierarchy.now all starts self.now.bound (slice_index self.now.columns.now.ranks.items place) N result own.new }
+        ensures count { length result.0 ≡ N }
+        ensures small { (lane : ℕ) → slice_index result.0 lane ≤ far self.now.bound }
+        ensures least { (starts : List a_seed) (lane : ℕ) → lane < N → AreSwept (IsWay self.now.hierarchy.now starts self.now.bound) (IsClimb self.now.hierarchy.now Rise starts self.now.bound) self.now.bound self.now.columns.now.ranks.items (lane_of labels.now lane) (place + 1) → IsLabel (IsWay self.now.hierarchy.now starts self.now.bound (slice_index self.now.columns.now.ranks.items place)) self.now.bound (slice_index result.0 lane) }
+        ensures sum_count { length result.1 ≡ N }
+        ensures small_sums { (lane : ℕ) → slice_index result.1 lane ≤ (length self.now.hierarchy.now.ranks + (length self.now.hierarchy.now.ranks - slice_index self.now.columns.now.ranks.items place)) * 2 ^ 36 }
+        ensures summed { (all : List ℕ) (starts : ℕ → List a_seed) → AreStepNumbers self.now.hierarchy.now all (lists_of self.now.columns.now) numbers.now → HaveSums self.now.hierarchy.now all starts self.now.bound self.now.columns.now.ranks.items N labels.now sums.now → IsPlaceSummed self.now.hierarchy.now all starts self.now.bound (slice_index self.now.columns.now.ranks.items place) N result.0 result.1 }
     {
+        if self.are_packed(steps, place) {
+            let packed = self.least_packed(steps, labels, place);
+            return unpack(&packed, steps, numbers, sums, place);
+        }
         let begin = steps.begin(place);
         let end = steps.begin(place + 1);
         let mut least = labels[place];
+        let mut own = sums[place];
         'steps: for at in begin..end {
             let tail = steps.tails[at] as usize;
             pass_over_sums(
                 &mut least,
-                own,
+                &mut own,
                 &labels[tail],
                 &sums[tail],
                 steps.length(at),
                 numbers[at],
             );
         }
-        least
+        (least, own)
     }
 
     /// Writes the sums of a lane: that of each target from a place on.
@@ -152,6 +158,7 @@ impl Table<'_> {
         requires table { IsTable self.now }
         requires lanes { HaveLanes (length self.now.columns.now.ranks.items) N labels.now }
         requires sums { HaveLanes (length self.now.columns.now.ranks.items) N sums.now }
+        requires small_sums { AreSmallSums (length self.now.hierarchy.now.ranks) self.now.columns.now.ranks.items sums.now }
         requires lane_in { lane < N }
         requires room { from + length self.now.columns.now.targets.items ≤ length row.old }
         requires walks { WaysAreWalks }

@@ -71,7 +71,7 @@ put_sums-requires g c =
     let row : (c.rows.lane + 1) * length targets ≡ c.rows.lane * length targets + length targets = omega (arith, add-mul c.rows.lane 1 (length targets)) in
     let lane_in : c.rows.lane < g.row.N = omega (arith, c.rows-test.true, c.requires.block) in
     let room : (c.args.from + c.rows.lane * c.len-width.result) + length targets ≤ length c.rows.sums = omega (arith, width, up, row, c.requires.sum_room, c.rows.invariant.sums.room) in
-    (omega (arith, c.requires.few), (table, (c.sweep_sums.ensures.lanes, (c.sweep_sums.ensures.sums, (lane_in, (room, c.ways_are_walks.ensures.walks))))))
+    (omega (arith, c.requires.few), (table, (c.sweep_sums.ensures.lanes, (c.sweep_sums.ensures.sums, (c.sweep_sums.ensures.small_sums, (lane_in, (room, c.ways_are_walks.ensures.walks)))))))
 
 pub rows-preserved : goal.rows-preserved
 rows-preserved g c =

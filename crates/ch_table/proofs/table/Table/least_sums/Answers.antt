@@ -1,23 +1,32 @@
-use Rattle.std.proofs.Common.{ℕ, ◌≡◌, ◌+◌, ◌-◌, ◌*◌, ◌^◌, ◌<◌, ◌≤◌, ◌∙◌, List, [], get_or, length, slice_index, ap, sym, subst, inl, inr, arith}
+use Rattle.std.proofs.Common.{ℕ, ◌≡◌, ◌+◌, ◌-◌, ◌*◌, ◌%◌, ◌^◌, ◌<◌, ◌≤◌, ◌∙◌, List, [], get_or, length, slice_index, ap, sym, subst, inl, inr, arith}
 use Rattle.std.proofs.Math.Nat.{mul-le-mul_right}
 use Rattle.std.proofs.lemmas.Bool.{cases_lt}
 use Rattle.std.proofs.lemmas.List.{get_or_default, get_or_past, length-map}
 use Rattle.ch_query.specs.declared.seed.Seed.{Seed}
 use Rattle.ch_cost.specs.Cost.{length_of}
 use Rattle.ch_table.specs.Labels.{IsLabel, IsLeastOver, far, lane_of}
-use Rattle.ch_table.specs.Selection.{IsLaidDown, IsTable, lists_of}
+use Rattle.ch_table.specs.Selection.{IsLaidDown, IsSelection, IsTable, Selection, lists_of}
 use Rattle.ch_table.specs.declared.table.Table.{Table}
 use Rattle.ch_table.proofs.LeastWays.{Comes}
-use Rattle.ch_query.specs.Sums.{IsSummedWay}
-use Rattle.ch_table.specs.Sums.{IsSumOver}
+use Rattle.ch_query.specs.Sums.{HaveNumbers, IsSummedWay}
+use Rattle.ch_graph.specs.Hierarchy.{Hierarchy}
+use Rattle.ch_table.specs.Packed.{HasSumOver}
+use Rattle.ch_table.specs.Sums.{AreStepNumbers, IsSumOver}
 use Rattle.ch_table.proofs.StepLinks.{link-of}
 use Rattle.ch_table.proofs.SumLanes.{small-over, summed-over}
 use Rattle.ch_table.proofs.Sweeping.{IsStepAt, step-at, least-none, least-over, least-all}
+use Rattle.ch_table.proofs.Packing.{over-links, won-small, won-summed}
 use Rattle.ch_table.proofs.table.Table.least_sums.Goals as goal
 
 -- the step that a turn looks at
 step : (table : Table) → IsTable table → (place at end : ℕ) → place < length table.columns.now.ranks.items → slice_index (lists_of table.columns.now).first place ≤ at → at < end → end ≡ slice_index (lists_of table.columns.now).first (place + 1) → IsStepAt (lists_of table.columns.now) at
 step table is place at end place_in from before whole = step-at table.hierarchy.now (lists_of table.columns.now) place at is.selection place_in from (omega (arith, before, whole))
+
+-- the number of a link
+number-small : (h : Hierarchy) (s : Selection) → IsSelection h s → (all numbers : List ℕ) → HaveNumbers h all → AreStepNumbers h all s numbers → (p at : ℕ) → p < length s.ranks → slice_index s.first p ≤ at → at < slice_index s.first (p + 1) → slice_index numbers at ≤ 2 ^ 36
+number-small h s selection all numbers have are p at p_in from before =
+    let is = link-of h s p at selection p_in from before in
+    omega (arith, are.each p at is.link p_in from before is.leads, have.small is.link 0 (omega (arith, is.leads.climbs.within, have.count)))
 
 pub steps-init : goal.steps-init
 steps-init g c =
@@ -31,7 +40,7 @@ steps-init g c =
     let none : 0 ≡ c.begin-begin.result - slice_index first c.args.place = omega (arith, begin) in
     let read : c.index-labels-place.result ≡ get_or c.args.labels.now c.args.place [] = c.index-labels-place.is ∙ get_or_default c.args.labels.now c.args.place c.index-labels-place.result [] c.requires.place_in in
     let own_in : c.args.place < length c.args.sums.now = omega (arith, place_in, c.requires.sums.count) in
-    let own_read : c.args.own.now ≡ get_or c.args.sums.now c.args.place [] = c.requires.own in
+    let own_read : c.index-sums-place.result ≡ get_or c.args.sums.now c.args.place [] = c.index-sums-place.is ∙ get_or_default c.args.sums.now c.args.place c.index-sums-place.result [] own_in in
     let own = c.requires.table.selection.laid c.args.place place_in in
     record {
       from = omega (arith, begin);
@@ -48,7 +57,7 @@ steps-init g c =
       summed = λ (all : List ℕ) (starts : ℕ → List Seed) are have. record {
         each = λ lane lane_in near.
             let label : slice_index c.index-labels-place.result lane ≡ lane_of c.args.labels.now lane c.args.place = ap (λ (row : List ℕ). slice_index row lane) read in
-            let sum : slice_index c.args.own.now lane ≡ lane_of c.args.sums.now lane c.args.place = ap (λ (row : List ℕ). slice_index row lane) own_read in
+            let sum : slice_index c.index-sums-place.result lane ≡ lane_of c.args.sums.now lane c.args.place = ap (λ (row : List ℕ). slice_index row lane) own_read in
             subst (λ m. IsSummedWay h all (starts lane) (slice_index ranks c.args.place) (slice_index c.index-labels-place.result lane) m) (sym sum)
             (subst (λ n. IsSummedWay h all (starts lane) (slice_index ranks c.args.place) n (lane_of c.args.sums.now lane c.args.place)) (sym label) (have.each lane c.args.place lane_in place_in (omega (arith, near, label))));
       };
@@ -135,15 +144,8 @@ pass_over_sums-requires g c =
     small_sum lane = omega (arith, c.requires.small_sums lane c.index.result.now, c.requires.table.made.few_nodes)
 
     number : slice_index c.args.numbers.now c.steps.at ≤ 68719476736
-    number =
-        let h = c.args.self.now.hierarchy.now in
-        let s = lists_of c.args.self.now.columns.now in
-        let place_in : c.args.place < length c.args.self.now.columns.now.ranks.items = omega (arith, c.requires.place_in, c.requires.lanes.count) in
-        let before : c.steps.at < slice_index s.first (c.args.place + 1) = omega (arith, c.steps-test.true, c.steps.invariant.end) in
-        let is = link-of h s c.args.place c.steps.at c.requires.table.selection place_in c.steps.invariant.from before in
-        let own : slice_index c.args.numbers.now c.steps.at ≡ slice_index c.requires.numbers.0 is.link = c.requires.numbers.2.each c.args.place c.steps.at is.link place_in c.steps.invariant.from before is.leads in
-        let low : slice_index c.requires.numbers.0 is.link ≤ 68719476736 = c.requires.numbers.1.small is.link 0 (omega (arith, is.leads.climbs.within, c.requires.numbers.1.count)) in
-        omega (arith, own, low)
+    number = number-small c.args.self.now.hierarchy.now (lists_of c.args.self.now.columns.now) c.requires.table.selection c.requires.numbers.0 c.args.numbers.now c.requires.numbers.1 c.requires.numbers.2 c.args.place c.steps.at
+        (omega (arith, c.requires.place_in, c.requires.lanes.count)) c.steps.invariant.from (omega (arith, c.steps-test.true, c.steps.invariant.end))
 
 pub steps-preserved : goal.steps-preserved
 steps-preserved g c =
@@ -163,8 +165,7 @@ steps-preserved g c =
     let over = λ (lane : ℕ) (lane_in : lane < g.row.N).
     subst (λ (row : List ℕ). IsLeastOver (slice_index c.steps.least lane) (slice_index row lane + c.length.result) (slice_index c.pass_over_sums.new.least lane)) read (c.pass_over_sums.ensures.least lane lane_in) in
     let is = link-of h (lists_of table.columns.now) c.args.place c.steps.at c.requires.table.selection place_in c.steps.invariant.from before in
-    let of_link : slice_index c.args.numbers.now c.steps.at ≡ slice_index c.requires.numbers.0 is.link = c.requires.numbers.2.each c.args.place c.steps.at is.link place_in c.steps.invariant.from before is.leads in
-    let low : slice_index c.args.numbers.now c.steps.at ≤ 2 ^ 36 = omega (arith, of_link, c.requires.numbers.1.small is.link 0 (omega (arith, is.leads.climbs.within, c.requires.numbers.1.count))) in
+    let low : slice_index c.args.numbers.now c.steps.at ≤ 2 ^ 36 = number-small h (lists_of table.columns.now) c.requires.table.selection c.requires.numbers.0 c.args.numbers.now c.requires.numbers.1 c.requires.numbers.2 c.args.place c.steps.at place_in c.steps.invariant.from before in
     let own_read : c.index-sums-tail.result ≡ get_or c.args.sums.now (slice_index tails c.steps.at) [] = c.index-sums-tail.is ∙ get_or_default c.args.sums.now c.index.result.now c.index-sums-tail.result [] (omega (arith, tail, at.tail_in, c.requires.sums.count)) ∙ ap (λ i. get_or c.args.sums.now i []) tail in
     let sum-over = λ (lane : ℕ) (lane_in : lane < g.row.N).
     subst (λ (row : List ℕ). IsSumOver (slice_index c.steps.least lane) (lane_of labels lane (slice_index tails c.steps.at) + c.length.result) (slice_index c.steps.own lane) (slice_index row lane + slice_index c.args.numbers.now c.steps.at) (slice_index c.pass_over_sums.new.sums lane)) own_read
@@ -215,3 +216,71 @@ returns-clause-least g c starts lane lane_in swept =
     let laid = c.requires.table.selection.laid c.args.place place_in in
     least-all h starts table.bound ranks first (lists_of table.columns.now).tails (lists_of table.columns.now).lengths (lane_of c.args.labels.now lane) c.args.place place_in swept laid c.steps.at (slice_index c.steps.least lane)
     (omega (arith, c.steps.invariant.within, c.steps.invariant.end)) (omega (arith, c.steps-test.false, c.steps.invariant.end)) (c.steps.invariant.least starts lane lane_in swept laid)
+
+-- By packed labels
+
+pub unpack-requires : goal.unpack-requires
+unpack-requires g c =
+    let table = c.args.self.now in
+    let steps = c.requires.steps in
+    let one : 1 * (g.row.N * 8) ≤ length c.args.labels.now * (g.row.N * 8) = mul-le-mul_right (g.row.N * 8) (omega (arith, c.requires.place_in)) in (
+      omega (arith, one, c.well_formed),
+      (
+        omega (arith, place_in, c.requires.sums.count),
+        (
+          c.requires.sums.wide,
+          (
+            omega (arith, place_in, c.requires.table.selection.count, ap (λ (fs : List ℕ). length fs) steps.first, length-map c.args.steps.now.first.items g.W.Number.number),
+            λ lane at lane_in here from. subst (λ (ts : List ℕ). HasSumOver ts c.args.numbers.now c.args.sums.now lane at) (sym steps.tails)
+                (over lane at (subst (λ (fs : List ℕ). slice_index fs c.args.place ≤ at) steps.first from)
+                ((c.least_packed-packed.ensures.won lane lane_in).over at (subst (λ (fs : List ℕ). at + 1 ≡ slice_index fs c.args.place + slice_index c.least_packed-packed.result lane % 1024) steps.first here) (subst (λ (fs : List ℕ). slice_index fs c.args.place ≤ at) steps.first from)).0),
+          ),
+        ),
+      ),
+    )
+  where
+    place_in : c.args.place < length c.args.self.now.columns.now.ranks.items
+    place_in = omega (arith, c.requires.place_in, c.requires.lanes.count)
+
+    over : (lane at : ℕ) → slice_index (lists_of c.args.self.now.columns.now).first c.args.place ≤ at → at < slice_index (lists_of c.args.self.now.columns.now).first (c.args.place + 1) → HasSumOver (lists_of c.args.self.now.columns.now).tails c.args.numbers.now c.args.sums.now lane at
+    over lane at from before =
+        let h = c.args.self.now.hierarchy.now in
+        let s = lists_of c.args.self.now.columns.now in
+        let is = link-of h s c.args.place at c.requires.table.selection place_in from before in
+        let number = number-small h s c.requires.table.selection c.requires.numbers.0 c.args.numbers.now c.requires.numbers.1 c.requires.numbers.2 c.args.place at place_in from before in
+        record {
+          step_in = is.within;
+          number_in = omega (arith, is.within, c.requires.numbers.2.count);
+          tail_in = omega (arith, is.tail_in, c.requires.sums.count);
+          small = omega (arith, number, c.requires.small_sums lane (slice_index s.tails at), c.requires.table.made.few_nodes);
+        }
+
+pub returns-then-are_packed-clause-small_sums : goal.returns-then-are_packed-clause-small_sums
+returns-then-are_packed-clause-small_sums g c lane = elim (cases_lt lane g.row.N) [
+  | inl lane_in ↦
+      let table = c.args.self.now in
+      let h = table.hierarchy.now in
+      let s = lists_of table.columns.now in
+      let p_in : c.args.place < length table.columns.now.ranks.items = omega (arith, c.requires.place_in, c.requires.lanes.count) in
+      won-small h s c.requires.table.selection c.args.place p_in (lane_of c.args.labels.now lane) (lane_of c.args.sums.now lane) (slice_index c.least_packed-packed.result lane) (slice_index c.unpack.result.1 lane) c.args.numbers.now (c.least_packed-packed.ensures.won lane lane_in)
+      (c.unpack.ensures.own lane lane_in) (over-links _ _ s c.requires.steps.first c.requires.steps.tails c.args.place (slice_index c.least_packed-packed.result lane) c.args.numbers.now c.args.sums.now lane (slice_index c.unpack.result.1 lane) (λ at. c.unpack.ensures.over lane at lane_in))
+      (length h.ranks) (λ at from before. number-small h s c.requires.table.selection c.requires.numbers.0 c.args.numbers.now c.requires.numbers.1 c.requires.numbers.2 c.args.place at p_in from before)
+      (λ q q_in. c.requires.table.selection.ranks_in q 0 q_in) (λ q. c.requires.small_sums lane q)
+  | inr past ↦
+      let none : slice_index c.unpack.result.1 lane ≡ 0 = get_or_past c.unpack.result.1 lane 0 (omega (arith, past, c.unpack.ensures.sum_count)) in
+      omega (arith, none)
+]
+
+pub returns-then-are_packed-clause-summed : goal.returns-then-are_packed-clause-summed
+returns-then-are_packed-clause-summed g c all starts are have = record {
+  each = λ lane lane_in near.
+      let table = c.args.self.now in
+      let h = table.hierarchy.now in
+      let s = lists_of table.columns.now in
+      let p_in : c.args.place < length table.columns.now.ranks.items = omega (arith, c.requires.place_in, c.requires.lanes.count) in
+      let done = c.unpack.ensures.labels lane in
+      subst (λ n. IsSummedWay h all (starts lane) (slice_index s.ranks c.args.place) n (slice_index c.unpack.result.1 lane)) (sym done)
+      (won-summed h s c.requires.table.selection c.args.place p_in (lane_of c.args.labels.now lane) (lane_of c.args.sums.now lane) (slice_index c.least_packed-packed.result lane) (slice_index c.unpack.result.1 lane) c.args.numbers.now (c.least_packed-packed.ensures.won lane lane_in)
+      (c.unpack.ensures.own lane lane_in) (over-links _ _ s c.requires.steps.first c.requires.steps.tails c.args.place (slice_index c.least_packed-packed.result lane) c.args.numbers.now c.args.sums.now lane (slice_index c.unpack.result.1 lane) (λ at. c.unpack.ensures.over lane at lane_in))
+      all (starts lane) (length_of table.bound) are (λ q q_in low_q. have.each lane q lane_in q_in low_q) (omega (arith, near, done)));
+}

@@ -43,7 +43,7 @@ targets-preserved g c =
                 subst (λ r. IsSummedWay h all (starts c.args.lane) r (lane_of labels c.args.lane c.index.result.now) (lane_of sums c.args.lane c.index.result.now)) rank (have.each c.args.lane c.index.result.now c.requires.lane_in (omega (arith, end, at.0)) (omega (arith, w.if-label-bound, bound))) in
                 subst (IsSumFromAny h all (starts c.args.lane) table.bound (slice_index targets n)) (sym w.row-is)
                 (sum-some c.requires.walks h c.requires.table.made all (starts c.args.lane) begins table.bound (slice_index targets n) t_in (lane_of labels c.args.lane c.index.result.now) label
-                (lane_of sums c.args.lane c.index.result.now) (omega (arith, w.if-label-bound, bound)) way)
+                (lane_of sums c.args.lane c.index.result.now) (omega (arith, w.if-label-bound, bound)) way (omega (arith, c.requires.small_sums c.args.lane c.index.result.now, c.requires.table.made.few_nodes)))
           ] in
           row-more c.args.row.now c.targets.row n c.if-label-bound.row (omega (arith, n_in, c.requires.room, c.targets.invariant.room)) is (c.targets.invariant.row all starts begins labelled have);
     }
