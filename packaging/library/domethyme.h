@@ -220,9 +220,9 @@ uint32_t domethyme_reach(domethyme *handle, const domethyme_seed *starts, size_t
  * it, and the number of that start, of `added`, which has one for each start: as metres of the part of an arc that is left from
  * where the start is. Of several such paths and starts it is any one. Where the length is DOMETHYME_NO_LENGTH the sum is too.
  *
- * The first of these that holds is the result: DOMETHYME_NO_HANDLE, DOMETHYME_NO_ROOM, DOMETHYME_NUMBER_COUNT unless there is a
- * number for each start, DOMETHYME_BAD_SET, DOMETHYME_BAD_LIMIT, then DOMETHYME_NODE_RANGE or DOMETHYME_SEED_COST.
- * DOMETHYME_OUT_OF_MEMORY comes after the first three. All write nothing.
+ * The first of these that holds is the result: DOMETHYME_NO_HANDLE, DOMETHYME_BAD_LIMIT, DOMETHYME_NO_ROOM,
+ * DOMETHYME_NUMBER_COUNT unless there is a number for each start, DOMETHYME_BAD_SET, then DOMETHYME_NODE_RANGE or
+ * DOMETHYME_SEED_COST. DOMETHYME_OUT_OF_MEMORY comes after the first four. All write nothing.
  *
  * It goes over the selection once, and once more for each start, and keeps it as domethyme_table_sums does. Since 1.1. */
 uint32_t domethyme_reach_sums(domethyme *handle, const uint64_t *set, size_t set_count,

@@ -69,20 +69,23 @@ module _ (along : SummedWaysAreAlong) (least : LengthsAreLeast) (by_weight : Len
       by_cost None value is =
           sum-or-none h set s t None least by_weight s_in t_in (record { value = None; least = value; long = refl })
           (λ given g number is right told. (along g h number numbers s t right made (is.numbers.sums number told) s_in t_in).1 value) _
-          (ap (λ x. record { length = x; sum = m }) (same None value) ∙ ap (λ x. record { length = NO_LENGTH; sum = x }) is)
+          (ap (λ x. record { length = x; sum = m }) (same None value) ∙ ap (λ x. record { length = NO_LENGTH; sum = x }) is) (λ some. absurd (some (same None value)))
       by_cost (Some c) value way =
           sum-or-none h set s t (Some (record { length = length_of c; sum = m })) least by_weight s_in t_in (record { value = Some c; least = value; long = refl })
-          (λ given g number is right told. (along g h number numbers s t right made (is.numbers.sums number told) s_in t_in).0 c m value way) _
-          (ap (λ x. record { length = x; sum = m }) (same (Some c) value))
+          (λ given g number is right told. (along g h number numbers s t right made (is.numbers.sums number told) s_in t_in).0 c m value way.0) _
+          (ap (λ x. record { length = x; sum = m }) (same (Some c) value)) (λ some. way.1)
 
   -- a row from one node
-  pub one-cells : (node : ℕ) (targets : List ℕ) → node < length h.ranks → All (λ t. t < length h.ranks) targets → (lengths row sums others : List ℕ) → AreRows (IsLengthFrom h) (node ∷ []) targets 0 1 lengths row → AreRows (IsSumFrom h numbers) (node ∷ []) targets 0 1 sums others
+  pub one-cells : (node : ℕ) (targets : List ℕ) → node < length h.ranks → All (λ t. t < length h.ranks) targets → (lengths row sums others : List ℕ) (k : Hierarchy) (own : List ℕ) → k ≡ h → own ≡ numbers
+      → AreRows (IsLengthFrom k) (node ∷ []) targets 0 1 lengths row → AreRows (IsSumFrom k own) (node ∷ []) targets 0 1 sums others
       → (p : ℕ) → p < length targets → IsSumOrNone h set node (slice_index targets p) (record { length = slice_index row p; sum = slice_index others p })
-  one-cells node targets s_in t_in lengths row sums others rows sum_rows p low =
+  one-cells node targets s_in t_in lengths row sums others k own same are rows sum_rows p low =
       let at : 0 + (0 * length targets + p) ≡ p = omega arith in
+      let length_is = subst (λ x. IsLengthFrom k node (slice_index targets p) (slice_index row x)) at (rows.each 0 p (omega arith) low) in
+      let sum_is = subst (λ x. IsSumFrom k own node (slice_index targets p) (slice_index others x)) at (sum_rows.each 0 p (omega arith) low) in
       pair-cell node (slice_index targets p) s_in (t_in p 0 low) (slice_index row p) (slice_index others p)
-      (subst (λ x. IsLengthFrom h node (slice_index targets p) (slice_index row x)) at (rows.each 0 p (omega arith) low))
-      (subst (λ x. IsSumFrom h numbers node (slice_index targets p) (slice_index others x)) at (sum_rows.each 0 p (omega arith) low))
+      (subst (λ (g : Hierarchy). IsLengthFrom g node (slice_index targets p) (slice_index row p)) same length_is)
+      (subst (λ (ns : List ℕ). IsSumFrom h ns node (slice_index targets p) (slice_index others p)) are (subst (λ (g : Hierarchy). IsSumFrom g own node (slice_index targets p) (slice_index others p)) same sum_is))
 
   -- more rows, those of the next sources
   module _ (sources targets block : List ℕ) (sources_in : All (λ s. s < length h.ranks) sources) (targets_in : All (λ t. t < length h.ranks) targets) (done count : ℕ) (within : done + count ≤ length sources) (same : (i : ℕ) → i < count → slice_index block i ≡ slice_index sources (done + i)) where

@@ -1,5 +1,5 @@
 -- A table with sums, cell by cell.
-use Rattle.std.proofs.Common.{ℕ, ◌≡◌, ◌+◌, ◌<◌, ◌∙◌, List, length, get_or, set, Option, option_map, sym, subst, inl, inr, arith}
+use Rattle.std.proofs.Common.{ℕ, ◌≡◌, ◌≢◌, ◌+◌, ◌^◌, ◌<◌, ◌≤◌, ◌∙◌, List, length, get_or, set, Option, option_map, sym, subst, inl, inr, arith}
 use Rattle.std.proofs.lemmas.Bool.{cases_eq}
 use Rattle.std.proofs.lemmas.List.{get_or-set_same, get_or-set_other, length-set}
 use Rattle.ch_graph.specs.Graph.{Graph}
@@ -12,6 +12,7 @@ use Rattle.ch_sums.specs.Numbers.{IsLengthBy as IsSumLength}
 use Rattle.ch_sums.specs.declared.along.Summed.{Summed}
 use Rattle.domethyme_c.specs.Sets.{IsSetOf}
 use Rattle.domethyme_c.specs.Sums.{AreCells, IsSumOrNone, cell_of}
+use Rattle.domethyme_c.specs.declared.code.TheConstants.{NO_LENGTH}
 use Rattle.domethyme_c.specs.declared.sums.SumInfo.{SumInfo}
 
 -- none is written yet
@@ -33,8 +34,8 @@ cells-more Is n old now cell within is was = record {
 
 -- what is found of a pair
 pub sum-or-none : (h : Hierarchy) (set : List ℕ) (s t : ℕ) (summed : Option Summed) → LengthsAreLeast → LengthsAreLeastByWeight → s < length h.ranks → t < length h.ranks → IsSumLength h s t (option_map (λ (f : Summed). f.length) summed)
-    → ((given : List ℕ) (g : Graph) (number : ℕ → ℕ → ℕ) → IsSetOf h given set → IsRightByWeight g h → AreGiven h given number → IsSummed g number s t summed) → (cell : SumInfo) → cell ≡ cell_of summed → IsSumOrNone h set s t cell
-sum-or-none h set s t summed least least_by_weight s_in t_in by along cell written = record {
+    → ((given : List ℕ) (g : Graph) (number : ℕ → ℕ → ℕ) → IsSetOf h given set → IsRightByWeight g h → AreGiven h given number → IsSummed g number s t summed) → (cell : SumInfo) → cell ≡ cell_of summed → (cell.length ≢ NO_LENGTH → cell.sum ≤ 2 ^ 62) → IsSumOrNone h set s t cell
+sum-or-none h set s t summed least least_by_weight s_in t_in by along cell written small = record {
   summed = summed;
   length =
       let found : IsLengthBy h s t (option_map (λ (f : Summed). f.length) summed) = record { value = by.value; least = by.least; long = by.long } in
@@ -45,4 +46,5 @@ sum-or-none h set s t summed least least_by_weight s_in t_in by along cell writt
       };
   along = along;
   written = written;
+  small = small;
 }

@@ -1,5 +1,5 @@
 -- Sums from several starts.
-use Rattle.std.proofs.Common.{ℕ, ◌≡◌, ◌≢◌, ◌+◌, ◌%◌, ◌^◌, ◌<◌, ◌≤◌, ◌∙◌, ◌⊎◌, Bool, true, false, List, [], ◌∷◌, All, length, replicate, set as put_at, get_or, slice_get, slice_index, Contains, Option, Some, None, map, option_map, ap, refl, sym, subst, inl, inr, arith}
+use Rattle.std.proofs.Common.{ℕ, ◌≡◌, ◌≢◌, ◌+◌, ◌^◌, ◌<◌, ◌≤◌, ◌∙◌, ◌⊎◌, Bool, true, false, List, [], ◌∷◌, All, length, replicate, set as put_at, get_or, slice_get, slice_index, Contains, Option, Some, None, map, option_map, ap, refl, sym, subst, inl, inr, arith}
 use Rattle.std.specs.List.{range_with_len}
 use Rattle.std.proofs.lemmas.Bool.{cases_eq, cases_lt}
 use Rattle.std.proofs.lemmas.List.{get_or-replicate, get_or-set_same, get_or-set_other, length-replicate, length-set}
@@ -130,7 +130,7 @@ only_end v stop (k, low, is) = let first : k ≡ 0 = omega (arith, low) in sym (
 
 -- so some start attains it
 module _ (h : Hierarchy) (set given : List ℕ) (g : Graph) (number : ℕ → ℕ → ℕ) (made : IsSetOf h given set) (right : IsRightByWeight g h) (told : AreGiven h given number) (starts : List Seed) (added : List ℕ) (v n m : ℕ) (some : n ≢ NO_LENGTH) where
-  from-taken : (k : ℕ) (start : Seed) (cell : SumInfo) → slice_get starts k ≡ Some start → IsSumOrNone h set start.node v cell → Attains n (length_of start.cost) cell.length → m ≡ (cell.sum + slice_index added k) % 2 ^ 64 → HasSumFrom g number starts added v n m
+  from-taken : (k : ℕ) (start : Seed) (cell : SumInfo) → slice_get starts k ≡ Some start → IsSumOrNone h set start.node v cell → Attains n (length_of start.cost) cell.length → m ≡ cell.sum + slice_index added k → HasSumFrom g number starts added v n m
   from-taken k start cell begins is leads sum = by_summed is.summed is.written (is.along given g number made right told)
     where
       by_summed : (f : Option Summed) → cell ≡ cell_of f → IsSummed g number start.node v f → HasSumFrom g number starts added v n m
@@ -144,7 +144,7 @@ module _ (h : Hierarchy) (set given : List ℕ) (g : Graph) (number : ℕ → �
         path = along.path;
         leads = along.leads;
         long = sym leads.sum ∙ ap (λ x. length_of start.cost + x) (ap (λ (c : SumInfo). c.length) written ∙ sym along.long);
-        sums = sum ∙ ap (λ x. (x + slice_index added k) % 2 ^ 64) (ap (λ (c : SumInfo). c.sum) written ∙ along.sums);
+        sums = sum ∙ ap (λ x. x + slice_index added k) (ap (λ (c : SumInfo). c.sum) written ∙ along.sums);
       }
 
   from-none : (has : HasLengthBetween g starts (free v ∷ []) n) → ((l : ℕ) → HasLengthBetween g starts (free v ∷ []) l → n ≤ l)

@@ -1,10 +1,6 @@
 -- What a turned hierarchy says in the graph itself.
-use Rattle.std.proofs.Common.{ℕ, ◌≡◌, ◌+◌, ◌<◌, ◌≤◌, ◌^◌, List, [], ◌∷◌, Option, Some, None, IfSome, ap, sym, subst, ◌∙◌, arith}
-use Rattle.ch_cost.specs.declared.cost.Cost.{Cost}
-use Rattle.ch_cost.specs.Cost.{length_of}
-use Rattle.ch_graph.specs.declared.version.Version.TheVariants.{Two}
-use Rattle.ch_graph.specs.Walk.{Walk}
-use Rattle.ch_graph.specs.Graph.{Graph, ArcOf, IsLeastLength}
+use Rattle.std.proofs.Common.{ℕ, ◌≡◌, List, [], ◌∷◌, Option, Some, None, sym, subst, ◌∙◌, arith}
+use Rattle.ch_graph.specs.Graph.{Graph, IsLeastLength}
 use Rattle.ch_graph.specs.Hierarchy.{Hierarchy}
 use Rattle.ch_graph.specs.Limits.{IsGraph}
 use Rattle.ch_query.specs.declared.seed.Seed.{Seed}

@@ -1,5 +1,5 @@
 -- How sums from several starts are found: by a row for each.
-use Rattle.std.specs.Prelude.{ℕ, ◌≡◌, ◌≢◌, ◌+◌, ◌%◌, ◌^◌, ◌<◌, ◌≤◌, List, Some, length, slice_get, slice_index}
+use Rattle.std.specs.Prelude.{ℕ, ◌≡◌, ◌≢◌, ◌+◌, ◌^◌, ◌<◌, ◌≤◌, List, Some, length, slice_get, slice_index}
 use Rattle.ch_cost.specs.Cost.{length_of}
 use Rattle.ch_graph.specs.Hierarchy.{Hierarchy}
 use Rattle.ch_query.specs.declared.seed.Seed.{Seed}
@@ -15,7 +15,7 @@ pub record Attains (n start m : ℕ) : Type 0 where
 
 -- the sum of such a path with what is added at the start is taken in place of what was
 pub record IsTaken (n start m sum added old new : ℕ) : Type 0 where
-  pub attained : Attains n start m → new ≡ (sum + added) % 2 ^ 64
+  pub attained : Attains n start m → new ≡ sum + added
   pub other : (Attains n start m → ⊥) → new ≡ old
   pub within : n < 2 ^ 64
 
@@ -28,7 +28,7 @@ pub record AreTaken (lengths row sums : List ℕ) (start added count : ℕ) (old
 -- The number at a node is the sum from one of the first starts, so many, that leads to it in the length n; or none does.
 pub data IsSumOfStart (h : Hierarchy) (set : List ℕ) (starts : List Seed) (added : List ℕ) (count t n m : ℕ) : Type 0 where
   taken : (k : ℕ) (start : Seed) (cell : SumInfo) → k < count → slice_get starts k ≡ Some start → IsSumOrNone h set start.node t cell → Attains n (length_of start.cost) cell.length
-      → m ≡ (cell.sum + slice_index added k) % 2 ^ 64 → IsSumOfStart h set starts added count t n m
+      → m ≡ cell.sum + slice_index added k → IsSumOfStart h set starts added count t n m
   none : m ≡ NO_LENGTH
       → ((k : ℕ) (start : Seed) → k < count → slice_get starts k ≡ Some start → (cell : SumInfo) × IsSumOrNone h set start.node t cell × (n < 2 ^ 64) × (Attains n (length_of start.cost) cell.length → ⊥)) → IsSumOfStart h set starts added count t n m
 

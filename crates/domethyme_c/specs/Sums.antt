@@ -1,5 +1,5 @@
 -- What calls answer that sum numbers along shortest paths: a table, and what is reached from several starts.
-use Rattle.std.specs.Prelude.{ℕ, ◌≡◌, ◌+◌, ◌*◌, ◌<◌, ◌≤◌, ◌/◌, ◌%◌, ◌^◌, List, All, length, map, slice_get, slice_index, slice_index_or, Option, Some, None, option_map}
+use Rattle.std.specs.Prelude.{ℕ, ◌≡◌, ◌≢◌, ◌+◌, ◌*◌, ◌<◌, ◌≤◌, ◌/◌, ◌%◌, ◌^◌, List, All, length, map, slice_get, slice_index, slice_index_or, Option, Some, None, option_map}
 use Rattle.ch_cost.specs.Cost.{length_of}
 use Rattle.ch_graph.specs.declared.road.Road.{Road}
 use Rattle.ch_graph.specs.Graph.{Graph}
@@ -21,12 +21,13 @@ cell_of (Some f) = record { length = f.length; sum = f.sum }
 cell_of None = record { length = NO_LENGTH; sum = NO_LENGTH }
 
 -- What is written of a pair: the length of a table without sums, and in each graph that the hierarchy is right for by weight
--- what the numbers that the set was made of sum to along some path of that length.
+-- what the numbers that the set was made of sum to along some path of that length. No sum is above 2^62.
 pub record IsSumOrNone (h : Hierarchy) (set : List ℕ) (from to : ℕ) (cell : SumInfo) : Type 0 where
   pub summed : Option Summed
   pub length : IsLength h from to (option_map (λ (f : Summed). f.length) summed)
   pub along : (given : List ℕ) (g : Graph) (number : ℕ → ℕ → ℕ) → IsSetOf h given set → IsRightByWeight g h → AreGiven h given number → IsSummed g number from to summed
   pub written : cell ≡ cell_of summed
+  pub small : cell.length ≢ NO_LENGTH → cell.sum ≤ 2 ^ 62
 
 -- so many cells are written, each of which is right, and the others stay
 pub record AreCells (count : ℕ) (Is : ℕ → SumInfo → Type 0) (old new : List SumInfo) : Type 0 where
@@ -55,7 +56,7 @@ pub data IsSumsAnswer (h : Hierarchy) (set sources targets : List ℕ) (code : �
 -- From several starts
 
 -- A path leads from a start to the node t. With the start it is n long, and with what is added at the start its numbers sum
--- to m, as 64 bits have it.
+-- to m.
 pub record HasSumFrom (g : Graph) (number : ℕ → ℕ → ℕ) (starts : List Seed) (added : List ℕ) (t n m : ℕ) : Type 0 where
   pub k : ℕ
   pub start : Seed
@@ -63,7 +64,7 @@ pub record HasSumFrom (g : Graph) (number : ℕ → ℕ → ℕ) (starts : List 
   pub path : List Road
   pub leads : IsPath g start.node t path
   pub long : n ≡ length_of start.cost + path_length path
-  pub sums : m ≡ (path_number number path + slice_index added k) % 2 ^ 64
+  pub sums : m ≡ path_number number path + slice_index added k
 
 -- What is written of a node: the length of a reach without sums, and in each graph that the hierarchy is right for by weight
 -- what the numbers that the set was made of sum to along some path of that length, from a start whose own number is added.

@@ -14,6 +14,7 @@ ghost use Rattle.ch_route.specs.Routes.{HasTooLong, IsRowLength};
 ghost use Rattle.ch_table.specs.Lengths.{AreRows, IsRow};
 ghost use Rattle.ch_table.specs.Selection.{IsSelection};
 ghost use Rattle.std.specs.Arc.{arc_value};
+ghost use Rattle.std.specs.List.{range_with_len};
 ghost use Rattle.ch_unpack.specs.declared.error.UnpackError.TheVariants.{TooLong};
 
 use crate::code::{NODE_RANGE, OUT_OF_MEMORY};
@@ -64,6 +65,21 @@ pub(crate) fn read_hierarchy(alloc: Global, bytes: &[u8]) -> Result<Hierarchy, H
     let hierarchy = hierfile::read(alloc, &mut rest)?;
     let _well_made = hierarchy.nodes();
     Ok(hierarchy)
+}
+
+// Whether these are the numbers below a count, in order.
+fn are_counted(numbers: &[u32], count: u32) -> bool
+    ensures { IsTrue result → numbers.now ≡ range_with_len 0 count }
+{
+    if numbers.len() != count as usize {
+        return false;
+    }
+    'numbers: for at in 0..numbers.len() {
+        if numbers[at] as usize != at {
+            return false;
+        }
+    }
+    true
 }
 
 impl Engine {
@@ -184,6 +200,19 @@ impl Engine {
             Ok(selection) => Ok(selection),
             Err(_) => Err(OUT_OF_MEMORY),
         }
+    }
+
+    /// The selection that is kept, if it is of all nodes, in order.
+    pub(crate) fn kept_of_all(&self) -> Option<Arc<Selection>>
+        ensures selection { IfSome result (λ s. IsSelection self.now (arc_value s)) }
+        ensures targets { IfSome result (λ s. (arc_value s).targets ≡ range_with_len 0 (length self.now.ranks)) }
+    {
+        if let Some(kept) = &self.kept {
+            if are_counted(kept.targets(), self.nodes()) {
+                return Arc::try_clone(kept).ok();
+            }
+        }
+        None
     }
 
     // The selection that is kept or shared, if it is of these targets. It is kept then.

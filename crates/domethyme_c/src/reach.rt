@@ -1,15 +1,18 @@
 ghost use Rattle.std.specs.Prelude.{◌≡◌, ◌≤◌, ◌^◌, IfNone, IfOk, IfSome, OnErr, OnOk, length};
+ghost use Rattle.std.specs.Arc.{arc_value};
 ghost use Rattle.std.specs.List.{range_with_len};
 ghost use Rattle.ch_query.specs.Seeds.{AreSeeds};
 ghost use Rattle.ch_route.specs.Between.{IsRowLengthFrom, IsRowLengthWithin};
+ghost use Rattle.ch_table.specs.Selection.{IsSelection};
 ghost use Rattle.domethyme_c.specs.Answers.{Answers, AreWritten, IsLimit, IsMostOf, IsReachAnswer};
 
 use crate::code::{BAD_LIMIT, NO_HANDLE, NO_LENGTH, NO_ROOM, OK, OUT_OF_MEMORY};
 use crate::engine::Engine;
 use crate::handle::Handle;
 use crate::seeds::{SeedInfo, seeds_of};
-use ch_route::Seed;
+use ch_route::{Seed, Selection};
 use std::alloc::{AllocError, Global};
+use std::sync::Arc;
 
 // The greatest limit, which no path is longer than.
 const GREATEST: u64 = 1 << 62;
@@ -90,15 +93,31 @@ fn fill_reach(
     ensures all { OnOk result (most ≡ 2 ^ 62 → AreWritten (length engine.old.ranks) (IsRowLengthFrom engine.old starts.now) lengths.old lengths.new) }
     ensures refused { OnErr result (lengths.new ≡ lengths.old) }
 {
+    let selection = selection_of_all(alloc, engine)?;
+    engine.lengths_from(starts, most, &selection, lengths)
+}
+
+/// The selection of all nodes, in order. If the engine keeps it, they aren't listed.
+pub(crate) fn selection_of_all(
+    alloc: Global,
+    engine: &mut Engine,
+) -> Result<Arc<Selection>, AllocError>
+    ensures selection { IfOk result (λ s. IsSelection engine.old (arc_value s)) }
+    ensures targets { IfOk result (λ s. (arc_value s).targets ≡ range_with_len 0 (length engine.old.ranks)) }
+    ensures kept { engine.new ≡ engine.old }
+{
+    if let Some(kept) = engine.kept_of_all() {
+        return Ok(kept);
+    }
     let nodes = all_nodes(alloc, engine.nodes())?;
     let Ok(selection) = engine.selection(alloc, nodes.as_slice()) else {
         return Err(AllocError);
     };
-    engine.lengths_from(starts, most, &selection, lengths)
+    Ok(selection)
 }
 
 // All nodes, in order.
-pub(crate) fn all_nodes(alloc: Global, count: u32) -> Result<Vec<u32>, AllocError>
+fn all_nodes(alloc: Global, count: u32) -> Result<Vec<u32>, AllocError>
     ensures { IfOk result (λ nodes. nodes.items ≡ range_with_len 0 count) }
 {
     (0..count).collect(alloc)

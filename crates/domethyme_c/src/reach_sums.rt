@@ -14,7 +14,7 @@ use crate::code::{
 };
 use crate::engine::Engine;
 use crate::handle::Handle;
-use crate::reach::{all_nodes, answer_reach, most_of};
+use crate::reach::{answer_reach, most_of, selection_of_all};
 use crate::seeds::{SeedInfo, seeds_of};
 use crate::step_links::StepLinks;
 use crate::summing::{Summing, numbers_of, put_cells};
@@ -148,10 +148,7 @@ fn sums_of(
     ensures kept { engine.new ≡ engine.old }
     ensures sums { IfOk result (λ sums. AreSumsOfStarts engine.old set.now starts.now added.now (length starts.now) (range_with_len 0 (length engine.old.ranks)) lengths.now sums.items) }
 {
-    let nodes = all_nodes(alloc, engine.nodes())?;
-    let Ok(selection) = engine.selection(alloc, nodes.as_slice()) else {
-        return Err(AllocError);
-    };
+    let selection = selection_of_all(alloc, engine)?;
     let chosen = summing.choose(alloc, &selection)?;
     let sums = sums_over(alloc, summing, &chosen, set, starts, added, lengths);
     summing.keep(chosen);

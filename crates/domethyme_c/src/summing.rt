@@ -1,4 +1,4 @@
-ghost use Rattle.std.specs.Prelude.{◌≡◌, ◌↔◌, ◌+◌, ◌*◌, ◌<◌, ◌≤◌, ℕ, All, IfOk, IsTrue, OnOk, Some, drop, length, replicate, slice_get};
+ghost use Rattle.std.specs.Prelude.{◌≡◌, ◌≢◌, ◌↔◌, ◌+◌, ◌*◌, ◌^◌, ◌<◌, ◌≤◌, ℕ, All, IfOk, IsTrue, OnOk, Some, drop, length, replicate, slice_get, slice_index};
 ghost use Rattle.std.specs.Arc.{arc_value};
 ghost use Rattle.ch_query.specs.Seeds.{AreSeeds};
 ghost use Rattle.ch_table.specs.Selection.{IsSelection};
@@ -93,7 +93,7 @@ impl Summing {
         if set[0] != self.digest {
             return false;
         }
-        numbers_of(set).iter().all(|number| *number <= GREATEST)
+        are_small(numbers_of(set))
     }
 
     /// Writes the least length of a path from each source to each target of a selection, and the sum of the numbers along
@@ -234,6 +234,17 @@ fn start_at(starts: &[Seed], at: usize) -> Seed
     starts[at]
 }
 
+// Whether no number of a set is too great: a loop without a branch, which the compiler unrolls, since each call looks at all.
+fn are_small(numbers: &[u64]) -> bool
+    ensures { IsTrue result ↔ All (λ n. n ≤ 2 ^ 36) numbers.now }
+{
+    let mut small = true;
+    'numbers: for at in 0..numbers.len() {
+        small = small & (numbers[at] <= GREATEST);
+    }
+    small
+}
+
 /// The numbers of a set, behind its digest.
 pub(crate) fn numbers_of(set: &[u64]) -> &[u64]
     requires { 0 < length set.now }
@@ -246,6 +257,7 @@ pub(crate) fn numbers_of(set: &[u64]) -> &[u64]
 fn take_sums(lengths: &[u64], row: &[u64], others: &[u64], start: u64, added: u32, sums: &mut [u64])
     requires row { length row.now ≡ length lengths.now }
     requires others { length others.now ≡ length lengths.now }
+    requires small { (p : ℕ) → p < length lengths.now → slice_index row.now p ≢ NO_LENGTH → slice_index others.now p ≤ 2 ^ 62 }
     requires sums { length sums.old ≡ length lengths.now }
     ensures { AreTaken lengths.now row.now others.now start added (length lengths.now) sums.old sums.new }
 {
@@ -263,6 +275,7 @@ fn take_sums(lengths: &[u64], row: &[u64], others: &[u64], start: u64, added: u3
 
 // The sum of one node.
 fn sum_taken(length: u64, start: u64, way: u64, sum: u64, added: u32, old: u64) -> u64
+    requires { way ≢ NO_LENGTH → sum ≤ 2 ^ 62 }
     ensures { IsTaken length start way sum added old result }
 {
     if length == NO_LENGTH {
@@ -274,7 +287,7 @@ fn sum_taken(length: u64, start: u64, way: u64, sum: u64, added: u32, old: u64) 
     if length - start != way {
         return old;
     }
-    sum.wrapping_add(u64::from(added))
+    sum + u64::from(added)
 }
 
 // Writes lengths and sums, so many, as cells from a place on.

@@ -1,32 +1,32 @@
-use Rattle.std.proofs.Common.{ℕ, ◌≡◌, ◌∙◌, List, [], ◌∷◌, drop, length, slice_index, ap, subst, arith}
+use Rattle.std.proofs.Common.{ℕ, ◌≡◌, ◌∙◌, List, drop, length, slice_index, ap, subst, arith}
 use Rattle.std.proofs.lemmas.Option.{get_or_from_slice_get}
 use Rattle.ch_cost.specs.Cost.{length_of}
-use Rattle.ch_graph.specs.Hierarchy.{Hierarchy, IsWellMade}
+use Rattle.ch_graph.specs.Hierarchy.{IsWellMade}
 use Rattle.ch_query.specs.Seeds.{IsSeed}
-use Rattle.ch_table.specs.Lengths.{AreRows, IsLengthFrom}
-use Rattle.ch_table.specs.Sums.{IsSumFrom}
 use Rattle.domethyme_c.specs.Starting.{AreSumsOfStarts, AreTaken}
 use Rattle.domethyme_c.proofs.Bands.{one-cells, written-count}
 use Rattle.domethyme_c.proofs.Starts.{starts-more}
 use Rattle.domethyme_c.proofs.summing.Summing.sum_from.Goals as goal
 
+pub take_sums-requires-clause-small : goal.take_sums-requires-clause-small
+take_sums-requires-clause-small c p low some =
+    let start = c.start_at-start.result in
+    let seed : IsSeed c.args.self.now.search c.start_at-start.result = subst (IsSeed c.args.self.now.search) (get_or_from_slice_get c.args.starts.now c.starts.at start start c.start_at-start.ensures) (c.requires.starts c.starts.at start c.starts-test.true) in
+    (one-cells c.summed_ways_are_along.ensures c.routes_are_least.ensures.lengths c.routes_are_least.ensures.lengths_by_weight c.args.self.now.search (subst IsWellMade c.hierarchy.ensures c.nodes-well_made.ensures.made) c.args.set.now
+    start.node c.args.selection.now.targets seed.node_in c.requires.selection.ends.targets_in c.starts.row c.sums.new.rows c.starts.others c.sums.new.sums c.starts.self.search c.numbers_of-numbers.result.now
+    c.starts.invariant.summing.of c.numbers_of-numbers.ensures c.in_ok-sums.ensures.rows c.in_ok-sums.ensures.sums p (omega (arith, low, c.requires.lengths))).small some
+
 pub starts-preserved : goal.starts-preserved
 starts-preserved c =
     let h = c.args.self.now.search in
     let set = c.args.set.now in
-    let numbers = drop 1 c.args.set.now in
     let targets = c.args.selection.now.targets in
     let start = c.start_at-start.result in
     let seed : IsSeed c.args.self.now.search c.start_at-start.result = subst (IsSeed c.args.self.now.search) (get_or_from_slice_get c.args.starts.now c.starts.at start start c.start_at-start.ensures) (c.requires.starts c.starts.at start c.starts-test.true) in
     let same : c.starts.self.search ≡ c.args.self.now.search = c.starts.invariant.summing.of in
     let made = subst IsWellMade c.hierarchy.ensures c.nodes-well_made.ensures.made in
-    let rows : AreRows (IsLengthFrom h) (start.node ∷ []) targets 0 1 c.starts.row c.sums.new.rows =
-    subst (λ (k : Hierarchy). AreRows (IsLengthFrom k) (start.node ∷ []) targets 0 1 c.starts.row c.sums.new.rows) same c.in_ok-sums.ensures.rows in
-    let sum_rows : AreRows (IsSumFrom h numbers) (start.node ∷ []) targets 0 1 c.starts.others c.sums.new.sums =
-    subst (λ (ns : List ℕ). AreRows (IsSumFrom h ns) (start.node ∷ []) targets 0 1 c.starts.others c.sums.new.sums) c.numbers_of-numbers.ensures
-    (subst (λ (k : Hierarchy). AreRows (IsSumFrom k c.numbers_of-numbers.result.now) (start.node ∷ []) targets 0 1 c.starts.others c.sums.new.sums) same c.in_ok-sums.ensures.sums) in
     let cells = one-cells c.summed_ways_are_along.ensures c.routes_are_least.ensures.lengths c.routes_are_least.ensures.lengths_by_weight h made set start.node targets seed.node_in c.requires.selection.ends.targets_in
-    c.starts.row c.sums.new.rows c.starts.others c.sums.new.sums rows sum_rows in
+    c.starts.row c.sums.new.rows c.starts.others c.sums.new.sums c.starts.self.search c.numbers_of-numbers.result.now same c.numbers_of-numbers.ensures c.in_ok-sums.ensures.rows c.in_ok-sums.ensures.sums in
     let taken : AreTaken c.args.lengths.now c.sums.new.rows c.sums.new.sums (length_of start.cost) (slice_index c.args.added.now c.starts.at) (length c.args.lengths.now) c.starts.sums c.take_sums.new.sums =
     subst (λ n. AreTaken c.args.lengths.now c.sums.new.rows c.sums.new.sums n (slice_index c.args.added.now c.starts.at) (length c.args.lengths.now) c.starts.sums c.take_sums.new.sums) c.length.ensures c.take_sums.ensures in
     let kept : length c.sums.new.kept ≡ c.starts.self.kept.len = omega (arith, c.in_ok-sums.ensures.kept, ap (λ (xs : List ℕ). length xs) c.as_mut_slice.ensures.value, c.starts.self.kept.ok) in
@@ -39,8 +39,8 @@ starts-preserved c =
         room = written-count c.starts.self.kept.len c.sums.new.kept (drop (length c.sums.new.kept) c.starts.self.kept.items) kept ∙ room;
       };
       within = omega (arith, c.starts-test.true);
-      row = rows.room ∙ c.starts.invariant.row;
-      others = sum_rows.room ∙ c.starts.invariant.others;
+      row = c.in_ok-sums.ensures.rows.room ∙ c.starts.invariant.row;
+      others = c.in_ok-sums.ensures.sums.room ∙ c.starts.invariant.others;
       sums = starts-more h set c.args.starts.now c.args.added.now c.starts.at targets c.args.lengths.now c.sums.new.rows c.sums.new.sums c.starts.sums c.take_sums.new.sums start c.requires.lengths c.start_at-start.ensures cells taken c.starts.invariant.sums;
     }
 
