@@ -97,10 +97,10 @@ VARIABLES = {
 
 def formula(text: str) -> Formula:
     """A formula by its text, which is Python's and has only names of Work and of VARIABLES."""
-    code = compile(text, "a cost", "eval")
-    prices = {work.name: work.units for work in Work}
-    assert {*code.co_names} <= prices.keys() | VARIABLES.keys(), text
-    return lambda variables: float(eval(code, {"__builtins__": {}}, {**prices, **variables}))
+    prices, names = {work.name: work.units for work in Work}, compile(text, "a cost", "eval").co_names
+    assert {*names} <= prices.keys() | VARIABLES.keys(), text
+    cost = eval(f"lambda {''.join(f'{name}, ' for name in names if name in VARIABLES)}**_: {text}", {"__builtins__": {}, **prices})
+    return lambda variables: float(cost(**variables))
 
 
 class Meter:
@@ -141,7 +141,9 @@ class Meter:
 
 def expected(size: Size, places: Sequence[Point], values: Values, unit: str) -> dict[str, float]:
     """The variables of a request with places; `unit` is that of the network's weights."""
-    found: dict[str, float] = {"S": 0, "P": len(places), "B": sum(map(bool, values[BEARINGS])), "K": values.get(NUMBER, 1), "N": size.nodes}
+    found: dict[str, float] = {"S": 0, "P": len(places), "B": sum(map(bool, values[BEARINGS])), "N": size.nodes}
+    if NUMBER in values:
+        return {**found, "K": values[NUMBER]}
     legs, rows, cells = [math.dist(*ends) for ends in itertools.pairwise(places)], 0, 0
     if SOURCES in values:
         sources, destinations = values[SOURCES], values[DESTINATIONS]

@@ -2,7 +2,7 @@
 many decimals before. Such a number is the same, once it is parsed, as the one of Python that is nearest to it."""
 import itertools
 import json
-from collections.abc import Iterable, Mapping
+from collections.abc import Callable, Iterable, Mapping
 from typing import Any, NamedTuple
 
 import numpy as np
@@ -11,7 +11,8 @@ from numpy.typing import NDArray
 from domethyme.network.groups import Ints, offsets
 from domethyme.network.sphere import Floats
 
-encode_string: Any = vars(json.encoder)["encode_basestring"]
+# What `to_json` returns of a text, sooner.
+string_json: Callable[[str], str] = vars(json.encoder)["encode_basestring"]
 Json = dict[str, Any]
 # (no value contains itself)
 ENCODER = json.JSONEncoder(separators=(",", ":"), allow_nan=False, ensure_ascii=False, check_circular=False)
@@ -44,14 +45,8 @@ def to_json(value: object) -> str:
     return ENCODER.encode(value)
 
 
-def string_json(text: str) -> str:
-    """What `to_json` returns, sooner."""
-    found: str = encode_string(text)
-    return found
-
-
 def figure_json(value: float | None) -> str:
-    """The same of a number that is finite, or none."""
+    """What `to_json` returns, sooner, of a number that is finite, or none."""
     return "null" if value is None else repr(value)
 
 
@@ -62,7 +57,7 @@ def join_object(members: Mapping[str, str]) -> str:
 
 def join_array(items: Iterable[str]) -> str:
     """An array, from the texts of its items."""
-    return "[" + ",".join(items) + "]"
+    return f"[{','.join(items)}]"
 
 
 class Texts(NamedTuple):
@@ -100,7 +95,7 @@ def decimal_texts(values: Floats, digits: int) -> Texts:
     is_null, scaled = np.isnan(values), np.rint(values * 10**digits)
     scaled[is_null] = 0
     if np.abs(scaled).max(initial=0) < MOST_EXACT:
-        return number_texts(scaled.astype(np.int64), digits, is_null)
+        return number_texts(scaled.astype(np.int64), digits, is_null if is_null.any() else None)
     texts = [f"{'null' if is_none else to_json(value)}," for value, is_none in zip(values.round(digits).tolist(), is_null)]
     return Texts("".join(texts), offsets(np.array([*map(len, texts)])))
 

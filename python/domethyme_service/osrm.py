@@ -1,6 +1,6 @@
 """OSRM's API, version 1: route, nearest and table. Answers are JSON with its members. A route is a shortest path, by
 `weight`, between the points of roads that are nearest to the places, as the library proves."""
-import base64
+import binascii
 import itertools
 from collections.abc import Iterable, Iterator, Sequence
 from typing import NamedTuple
@@ -121,7 +121,7 @@ def no_segment_error(roads: RoadIndex, request: Request, number: int) -> Request
 def waypoint_json(request: Request, snapped: SnappedPoint, more: str = "") -> str:
     """An OSRM waypoint, with more members. Clients send its hint back, and the service ignores it."""
     if request.values[GENERATE_HINTS] == "true":
-        more = f',"hint":"{base64.urlsafe_b64encode(f"{snapped.lon:.6f},{snapped.lat:.6f}".encode()).decode()}"{more}'
+        more = f',"hint":"{binascii.b2a_base64(f"{snapped.lon:.6f},{snapped.lat:.6f}".encode(), newline=False).decode()}"{more}'
     location, metres = f"{snapped.lon!r},{snapped.lat!r}", round(snapped.metres, 6)
     return f'{{"name":{string_json(snapped.name)},"location":[{location}],"distance":{metres!r}{more}}}'
 
@@ -185,7 +185,8 @@ def route_parts(engine: Engine, request: Request, way: Way, budget: Budget, more
         line = join_lines(simplify_lines(lines, budget) if request.values[OVERVIEW] == "simplified" else lines)
         is_shown = texts is not None and len(lines) == 1 and len(line) == len(geometry.shown)
         whole["geometry"] = line_json(line, request.values[GEOMETRIES], texts if is_shown else None)
-    return ['{"legs":[', ",".join(leg_texts(request, totals, geometry, texts)), f"],{join_object(whole)[1:]}"]
+    legs = [part for leg in leg_parts(request, totals, geometry, texts) for part in (",", *leg)]
+    return ['{"legs":[', *legs[1:], f"],{join_object(whole)[1:]}"]
 
 
 def shows_all_points(request: Request) -> bool:
@@ -199,14 +200,16 @@ def needs_points(request: Request) -> bool:
     return values[OVERVIEW] != "false" or values[STEPS] == "true" or bool(values[ANNOTATIONS])
 
 
-def leg_texts(request: Request, totals: Sequence[LegTotals], geometry: RouteGeometry | None, texts: Texts | None) -> Iterator[str]:
-    """The OSRM legs of a route, with their totals. `texts` are those of the points that are shown and of the legs' ends, if any."""
+def leg_parts(
+    request: Request, totals: Sequence[LegTotals], geometry: RouteGeometry | None, texts: Texts | None
+) -> Iterator[Sequence[str]]:
+    """The parts of the texts of a route's OSRM legs, with their totals. `texts` are those of the points that are shown and of the legs' ends, if any."""
     steps: Iterable[LegSteps] = itertools.repeat(LegSteps("[]", ""))
-    annotations: Iterable[str] = itertools.repeat("")
+    annotations: Iterable[Sequence[str]] = itertools.repeat(())
     if geometry is not None and request.values[STEPS] == "true":
         steps = build_steps(geometry, request.values[GEOMETRIES], texts)
     if geometry is not None and request.values[ANNOTATIONS]:
-        annotations = (f',"annotation":{text}' for text in annotations_json(geometry, request.values[ANNOTATIONS]))
+        annotations = ((',"annotation":', text) for text in annotations_json(geometry, request.values[ANNOTATIONS]))
     for some, annotation, (weight, duration, distance) in zip(steps, annotations, totals):
-        figures = f'"weight":{figure_json(weight)},"duration":{figure_json(duration)},"distance":{figure_json(distance)}'
-        yield f'{{"summary":{string_json(some.summary)},"steps":{some.text},{figures}{annotation}}}'
+        figures = f',"weight":{figure_json(weight)},"duration":{figure_json(duration)},"distance":{figure_json(distance)}'
+        yield f'{{"summary":{string_json(some.summary)},"steps":', some.text, figures, *annotation, "}"

@@ -14,7 +14,7 @@ from domethyme.network.polyline import encode_polylines
 
 from .costs import Meter, Work
 from .errors import too_big
-from .json_text import Texts, decimal_texts, join_array, join_object, number_texts, point_texts, string_json
+from .json_text import Texts, decimal_texts, join_object, number_texts, point_texts, string_json
 
 # Points of the lines of an answer, and points that may be examined to simplify its line.
 MAX_POINTS, MAX_EXAMINED = 1_500_000, 80_000_000
@@ -146,7 +146,9 @@ def line_string(coordinates: str) -> str:
 def polylines_json(points: Ints, firsts: Ints, behind: Ints, format_: str) -> list[str]:
     """The lines points[firsts[k]:behind[k]] as polyline or polyline6, of two equal points if it is of one."""
     texts = encode_polylines(points / MICRODEGREES, 6 if format_ == "polyline6" else 5, firsts, behind)
-    return [string_json(f"{text}{NO_STEP * is_point}") for text, is_point in zip(texts, (behind - firsts == 1).tolist())]
+    for line in (behind - firsts == 1).nonzero()[0].tolist():
+        texts[line] += NO_STEP
+    return [*map(string_json, texts)]
 
 
 def annotations_json(geometry: RouteGeometry, names: list[str]) -> Iterator[str]:
@@ -154,7 +156,7 @@ def annotations_json(geometry: RouteGeometry, names: list[str]) -> Iterator[str]
     divided by metres; for each point the OpenStreetMap id of its node, or 0. Durations and speeds are null if the network
     has no seconds."""
     segments = geometry.segments()
-    weights, seconds, metres = segments.totals
+    (weights, seconds, metres), counts = segments.totals, segments.begins[1:] - segments.begins[:-1]
     speeds = None if seconds is None else np.where(seconds == 0, 0, metres / np.where(seconds == 0, 1, seconds))
     of_parts = {"weight": weights, "distance": metres, "duration": seconds, "speed": speeds}
     asked = [name for name in names if name in of_parts]
@@ -167,17 +169,17 @@ def annotations_json(geometry: RouteGeometry, names: list[str]) -> Iterator[str]
     arrays = decimal_texts(values.ravel(), DECIMALS).arrays(bounds[:, :-1].ravel(), bounds[:, 1:].ravel())
     texts = {name: arrays[legs * row : legs * (row + 1)] for row, name in enumerate(asked)}
     if "nodes" in names:
-        texts["nodes"] = node_texts(geometry, segments.begins)
+        texts["nodes"] = node_texts(geometry, counts)
     if "datasources" in names:
-        texts["datasources"] = [join_array(["0"] * count) for count in np.diff(segments.begins).tolist()]
+        texts["datasources"] = [f"[{'0,' * count}"[: max(1, 2 * count)] + "]" for count in counts.tolist()]
     return (join_object({name: texts[name][leg] for name in names}) for leg in range(legs))
 
 
-def node_texts(geometry: RouteGeometry, begins: Ints) -> list[str]:
-    """The array of the ids at each leg's points, one more than segments; a leg of one point has none."""
+def node_texts(geometry: RouteGeometry, counts: Ints) -> list[str]:
+    """The array of the ids at each leg's points, one more than its segments, which are counted; a leg of one point has none."""
     nodes, places = geometry.shown_nodes()
     ids, of_points = geometry.roads.osm_ids(nodes), np.zeros(len(geometry.shown), np.int64)
     # (the first of several counts)
     of_points[places[ids != 0][::-1]] = ids[ids != 0][::-1]
-    firsts, counts = geometry.line_begins[:-1], np.diff(begins)
+    firsts = geometry.line_begins[:-1]
     return number_texts(of_points, 0).arrays(firsts, firsts + counts + (counts > 0))

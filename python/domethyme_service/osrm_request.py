@@ -14,7 +14,8 @@ from .parameters import Context, Values
 if TYPE_CHECKING:
     from .endpoints import Endpoint
 
-DEGREES = re.compile(r"[-+]?(?:[0-9]{1,3}(?:\.[0-9]{0,20})?|\.[0-9]{1,20})(?:[eE][-+]?[0-9]{1,2})?")
+DEGREES = r"([-+]?(?:[0-9]{1,3}(?:\.[0-9]{0,20})?|\.[0-9]{1,20})(?:[eE][-+]?[0-9]{1,2})?)"
+PLACE = re.compile(f"{DEGREES},{DEGREES}")
 PROFILE = re.compile("[A-Za-z0-9_.-]{1,64}")
 POLYLINE = re.compile(r"polyline(6?)\((.*)\)", re.DOTALL)
 
@@ -72,7 +73,7 @@ def parse_coordinates(text: str, counts: range) -> list[Point]:
 
 
 def parse_coordinate(word: str) -> Point:
-    lon, comma, lat = word.partition(",")
-    if not comma or not DEGREES.fullmatch(lon) or not DEGREES.fullmatch(lat):
+    found = PLACE.fullmatch(word)
+    if found is None:
         raise ValueError("no place")
-    return float(lon), float(lat)
+    return float(found[1]), float(found[2])

@@ -3,7 +3,7 @@ at a roundabout, until after its exit. Types are depart, turn, new name, continu
 that it passes."""
 import functools
 import itertools
-from collections.abc import Sequence
+from collections.abc import Iterator, Sequence
 from typing import NamedTuple
 
 import numpy as np
@@ -12,7 +12,7 @@ from numpy.typing import NDArray
 from domethyme.network.columns import TEXTS
 from domethyme.network.groups import Ints, mask
 from domethyme.network.junctions import MIN_DEGREE, Junctions, junctions
-from domethyme.network.leg_geometry import RouteGeometry
+from domethyme.network.leg_geometry import RouteGeometry, Totals
 from domethyme.network.parallel import differs_from_previous
 from domethyme.network.snapping import RoadIndex
 
@@ -31,8 +31,8 @@ BEARINGS = [*map(str, range(361))]
 DEPART, ARRIVE = '"type":"depart"', '"type":"arrive"'
 # The columns of arc_texts that steps have.
 NAME_COLUMNS = [TEXTS.index(name) for name in ("name", "ref", "destination")]
-# What a step's JSON has of its totals: a weight, seconds or None, and metres.
-StepTotals = tuple[float, float | None, float]
+# What a step's JSON has of its totals: a weight, seconds or null, and metres.
+StepTotals = tuple[str, str, str]
 
 
 class LegSteps(NamedTuple):
@@ -50,6 +50,7 @@ class RoadTexts(NamedTuple):
     more: str
 
     @classmethod
+    @functools.lru_cache(1 << 12)
     def of(cls, name: str, ref: str, destinations: str) -> "RoadTexts":
         """Semicolons between refs and destinations become "; " and ", "."""
         more = f',"ref":{string_json("; ".join(part.strip() for part in ref.split(";")))}' if ref else ""
@@ -115,13 +116,12 @@ class StepBuilder:
         roads = self.road_texts()
         before = np.where(self.is_leg_first, 0, self.last_bearings[self.begins - 1]).tolist()
         after = self.first_bearings[self.begins].tolist()
-        totals = self.geometry.totals(self.begins, self.ends).rows
+        totals = totals_json(self.geometry.totals(self.begins, self.ends))
         modes = [mode_json(self.roads, is_ferry) for is_ferry in (False, True)]
         ways = [modes[is_on] for is_on in self.is_on_ferry[self.begins].tolist()]
         for step in self.is_leg_first.nonzero()[0].tolist():
             passed[step] = f'{intersection_json(locations[step], after[step], "out")}{"," if passed[step] else ""}{passed[step]}'
-        maneuvers = map(maneuver_json, self.turns(), locations, before, after)
-        return [*map(step_json, maneuvers, roads, totals, shapes, passed, ways)], roads
+        return [*map(step_json, self.turns(), locations, before, after, roads, totals, shapes, passed, ways)], roads
 
     def junctions(self) -> Junctions:
         """Those that steps begin at, but the first one of a leg, or pass."""
@@ -138,15 +138,15 @@ class StepBuilder:
     def intersections(self, found: Junctions, locations: Sequence[str]) -> list[str]:
         """The JSON of the junctions of each step, at these places, with commas between."""
         texts = intersection_texts(found, locations)
-        bounds = np.searchsorted(found.arcs, [*self.begins, len(self.geometry.arcs)]).tolist()
+        bounds = found.arcs.searchsorted(np.append(self.begins, len(self.geometry.arcs))).tolist()
         return [",".join(texts[low:high]) for low, high in itertools.pairwise(bounds)]
 
     def road_texts(self) -> list[RoadTexts]:
         """The texts of each step's road, each row of texts once."""
         texts, rows = self.roads.texts, self.rows[self.named].tolist()
         different = [*dict.fromkeys(rows)]
-        names = self.roads.arrays.row_texts[np.array(different)][:, NAME_COLUMNS].tolist()
-        known = {row: RoadTexts.of(*(texts[each] for each in some)) for row, some in zip(different, names)}
+        numbers = self.roads.arrays.row_texts[np.array(different)].tolist()
+        known = {row: RoadTexts.of(*(texts[some[column]] for column in NAME_COLUMNS)) for row, some in zip(different, numbers)}
         return [known[row] for row in rows]
 
     def turns(self) -> list[str]:
@@ -175,19 +175,18 @@ class StepBuilder:
 
 def intersection_texts(found: Junctions, locations: Sequence[str]) -> list[str]:
     """The JSON of junctions at these places."""
-    flags, bearings = found.entries.tobytes(), [BEARINGS[bearing] for bearing in found.bearings.tolist()]
+    flags, bearings = found.entries.tobytes(), [*map(BEARINGS.__getitem__, found.bearings.tolist())]
     rows = zip(locations, itertools.pairwise(found.begins.tolist()), found.into.tolist(), found.out.tolist())
     return [
-        f'{{"location":{location},"bearings":[{",".join(bearings[low:high])}],'
-        f'"entry":{entry_json(flags[low:high])},"in":{into},"out":{out}}}'
+        f'{{"location":{location},"bearings":[{",".join(bearings[low:high])}],{ways_json(flags[low:high], into, out)}'
         for location, (low, high), into, out in rows
     ]
 
 
-@functools.lru_cache(1 << 10)
-def entry_json(flags: bytes) -> str:
-    """Which roads may be entered, by 0 or 1 for each."""
-    return f'[{",".join("true" if flag else "false" for flag in flags)}]'
+@functools.lru_cache(1 << 12)
+def ways_json(flags: bytes, into: int, out: int) -> str:
+    """The end of a junction's JSON: which of its roads may be entered, by 0 or 1 for each, and by which a route comes and goes on."""
+    return f'"entry":[{",".join("true" if flag else "false" for flag in flags)}],"in":{into},"out":{out}}}'
 
 
 def intersection_json(location: str, bearing: int, side: str) -> str:
@@ -200,16 +199,22 @@ def mode_json(roads: RoadIndex, is_on_ferry: bool = False) -> str:
     return f'"mode":"{"ferry" if is_on_ferry else roads.arrays.mode}","driving_side":"{roads.arrays.driving_side}"'
 
 
-def maneuver_json(turn: str, location: str, before: int, after: int) -> str:
-    return f'{{{turn},"location":{location},"bearing_before":{before},"bearing_after":{after}}}'
+def totals_json(totals: Totals) -> Iterator[StepTotals]:
+    """The totals of steps; seconds may be the weights."""
+    weights = [*map(repr, totals.weights.tolist())]
+    seconds = itertools.repeat("null") if totals.seconds is None else map(repr, totals.seconds.tolist())
+    return zip(weights, weights if totals.seconds is totals.weights else seconds, map(repr, totals.metres.tolist()))
 
 
-def step_json(maneuver: str, road: RoadTexts, totals: StepTotals, shape: str, passed: str, mode: str) -> str:
-    """An OSRM step; `passed` is the JSON of its intersections, `mode` what `mode_json` returns."""
+def step_json(
+    turn: str, location: str, before: int, after: int, road: RoadTexts, totals: StepTotals, shape: str, passed: str, mode: str
+) -> str:
+    """An OSRM step, by its turn and the bearings before and after it; `passed` is the JSON of its intersections, `mode` what `mode_json`
+    returns."""
     weight, seconds, metres = totals
     return (
-        f'{{"maneuver":{maneuver},"name":{road.name_json},{mode},"weight":{weight!r},'
-        f'"duration":{"null" if seconds is None else repr(seconds)},"distance":{metres!r},"geometry":{shape},'
+        f'{{"maneuver":{{{turn},"location":{location},"bearing_before":{before},"bearing_after":{after}}},"name":{road.name_json},{mode},'
+        f'"weight":{weight},"duration":{seconds},"distance":{metres},"geometry":{shape},'
         f'"intersections":[{passed}]{road.more}}}'
     )
 
@@ -233,17 +238,17 @@ def build_steps(geometry: RouteGeometry, format_: str, shown: Texts | None) -> l
         passed = builder.intersections(at_junctions, locations[len(begins) :])
         texts, roads = builder.steps(locations[count:], shapes[count:], passed)
         last_bearings = builder.last_bearings[geometry.first[1:] - 1].tolist()
-    nothing, mode = (0.0, 0.0 if geometry.roads.has_seconds else None, 0.0), mode_json(geometry.roads)
+    nothing, mode = ("0.0", "0.0" if geometry.roads.has_seconds else "null", "0.0"), mode_json(geometry.roads)
     found = []
     for leg, (low, high) in enumerate(itertools.pairwise(bounds)):
         some, names, before = texts[low:high], roads[low:high], last_bearings[leg] if low < high else 0
         if not some:
             names = [RoadTexts.of("", "", "")]
             crossing = intersection_json(locations[leg], 0, "out")
-            some = [step_json(maneuver_json(DEPART, locations[leg], 0, 0), names[0], nothing, shapes[leg], crossing, mode)]
+            some = [step_json(DEPART, locations[leg], 0, 0, names[0], nothing, shapes[leg], crossing, mode)]
         arrival, place = names[-1]._replace(more=""), locations[leg + 1]
         crossing = intersection_json(place, (before + 180) % 360, "in")
-        some.append(step_json(maneuver_json(ARRIVE, place, before, 0), arrival, nothing, shapes[leg + 1], crossing, mode))
+        some.append(step_json(ARRIVE, place, before, 0, arrival, nothing, shapes[leg + 1], crossing, mode))
         found.append(LegSteps(join_array(some), ", ".join(first_names(names))))
     return found
 

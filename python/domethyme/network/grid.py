@@ -133,11 +133,11 @@ class Grid(NamedTuple):
         found: list[tuple[float, int]] = []
         while True:
             step()
-            slices = self._slices_around(place, reach)
+            slices = self.slices_around(place, reach)
             wide = reach
             while len(found) < count and size_of(slices) > most and reach - known > 1.0:
                 reach = (known + reach) / 2
-                slices = self._slices_around(place, reach)
+                slices = self.slices_around(place, reach)
             most = max(MAX_CANDIDATES, 2 * size_of(slices))
             found = self._nearest_in(slices, count, metres, step)
             farthest = found[-1][0] if len(found) == count else math.inf
@@ -183,7 +183,7 @@ class Grid(NamedTuple):
         found: list[NDArray[Any]] = []
         sizes: list[int] = []
         for place, count in zip(places, counts):
-            slices = self._slices_around(place, reach) if count < 0 else [*itertools.islice(pairs, count)]
+            slices = self.slices_around(place, reach) if count < 0 else [*itertools.islice(pairs, count)]
             if (size := size_of(slices)) > MAX_CANDIDATES:
                 slices, size = [], 0
             found += [self.things[begin:end] for begin, end in slices]
@@ -192,9 +192,9 @@ class Grid(NamedTuple):
 
     def candidates(self, place: tuple[float, float], reach: float) -> Iterator[NDArray[Any]]:
         """The things within `reach` metres of a place, and others, about CHUNK_SIZE at a time; one may come several times."""
-        return self._parts(self._slices_around(place, reach))
+        return self._parts(self.slices_around(place, reach))
 
-    def _slices_around(self, place: tuple[float, float], reach: float) -> list[tuple[int, int]]:
+    def slices_around(self, place: tuple[float, float], reach: float) -> list[tuple[int, int]]:
         """The slices of one place, as `candidate_slices` has them: by few cells without arrays, since these are what is asked for most."""
         cells = self._small_key_ranges(*place, (reach + self.margin) / EARTH_RADIUS)
         if cells is None:

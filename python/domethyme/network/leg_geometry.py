@@ -13,7 +13,7 @@ from .column_file import Column
 from .columns import UNITS
 from .geo import bearing
 from .grid import concat_ranges
-from .groups import Ints, expand, offsets
+from .groups import Ints, offsets
 from .indexes import wrapped_difference
 from .legs import Leg
 from .parallel import differs_from_previous
@@ -30,7 +30,8 @@ LegTotals = tuple[float, float | None, float]
 
 
 class Totals(NamedTuple):
-    """Totals of some parts of a route: weights in the unit of answers, seconds, None if the network has none, and metres."""
+    """Totals of some parts of a route: weights in the unit of answers, seconds, None if the network has none and the weights if these are
+    seconds, and metres."""
 
     weights: Floats
     seconds: Floats | None
@@ -109,7 +110,7 @@ class RouteGeometry:
         if not self.roads.has_seconds:
             return Totals(weights, None, metres.round(2))
         seconds = weights if unit == "duration" else (self._milliseconds[ends] - self._milliseconds[begins]) / 1000
-        return Totals(weights, seconds.round(3), metres.round(2))
+        return Totals(weights, seconds, metres.round(2))
 
     @functools.cached_property
     def are_along(self) -> NDArray[np.bool_]:
@@ -207,7 +208,7 @@ class RouteGeometry:
         """The segments of the lines that are shown. An arc that is shown as one point adds to the part before it, the first ones of a
         leg to its first part."""
         begins, ends = self._shown_arcs
-        legs = np.repeat(np.arange(len(self.ends) - 1), np.diff(self.first))
+        legs = np.arange(len(self.ends) - 1).repeat(self.first[1:] - self.first[:-1])
         firsts = np.flatnonzero(ends > begins)
         is_leg_first, is_leg_last = (differs_from_previous(legs[firsts][::way])[::way] for way in (1, -1))
         behind = self.first[legs[firsts] + 1]
@@ -226,12 +227,12 @@ class RouteGeometry:
     def _segment_metres(self) -> Floats:
         """The metres from each point that is shown to the next, along the arcs' points between."""
         (begins, points), (_, index), (first, last) = self._lines, self._shown, self._shown_arcs
-        arc, _ = expand(np.diff(begins))
+        arc = np.arange(len(self.arcs)).repeat(begins[1:] - begins[:-1])
         steps = np.flatnonzero(arc[1:] == arc[:-1])
         sphere = unit_vectors(*(points / UNITS).T)
         segment = np.minimum(index[steps], last[arc[steps]] - 1)
         is_shown = segment >= first[arc[steps]]
-        metres = great_circle_metres(sphere[steps], sphere[steps + 1])
+        metres = great_circle_metres(sphere[:-1], sphere[1:])[steps]
         return np.asarray(np.bincount(segment[is_shown], metres[is_shown], len(self.shown)), float)
 
     def shown_nodes(self) -> tuple[Ints, Ints]:

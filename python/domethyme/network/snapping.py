@@ -8,6 +8,7 @@ import bisect
 import functools
 import itertools
 import math
+import operator
 from collections.abc import Callable, Iterable, Iterator, Sequence
 from typing import Any, NamedTuple
 
@@ -18,13 +19,13 @@ from ..errors import NetworkError
 from .column_file import Column
 from .columns import ENDS, NO_OSM, TEXTS, UNITS
 from .from_tables import load_network
-from .geo import Point, metres_between
-from .grid import Ints, concat_ranges
+from .geo import EARTH_RADIUS, Point, metres_between
+from .grid import MAX_CANDIDATES, Ints, concat_ranges, size_of
 from .groups import offsets
 from .net_file import MappedNetwork
 from .node_index import NodeIndex
 from .parallel import differs_from_previous
-from .sphere import Floats, interpolate_one, nearest_on_segments
+from .sphere import COS_FLAT, Floats, interpolate_one, local_components, nearest_on_segments
 
 # So many metres from an end of an edge a point is at the end.
 END_TOLERANCE = 0.005
@@ -36,6 +37,8 @@ SEGMENTS_PER_BATCH = 1 << 15
 SEGMENT_END_OFFSETS = np.array([[0], [1]])
 # Places for which several edges are found at once.
 PLACES_PER_BATCH = 16
+# Up to so many places are snapped one by one.
+FEW_PLACES = 1
 # The bits of an edge's number where it is packed with a place's.
 EDGE_BITS = 32
 HIGHWAY, NAME, JUNCTION = TEXTS.index("highway"), TEXTS.index("name"), TEXTS.index("junction")
@@ -93,6 +96,10 @@ class SegmentProjections(NamedTuple):
     rows: Ints
     metres: Floats
     shares: Floats
+
+    def of(self, number: int) -> tuple[float, int, float]:
+        """The metres, the row and the fraction of one segment."""
+        return float(self.metres[number]), int(self.rows[number]), float(self.shares[number])
 
 
 class RoadIndex:
@@ -223,7 +230,7 @@ class RoadIndex:
     def snap(self, place: Point, edge: int) -> SnappedPoint:
         """The nearest point of an edge."""
         ways = self.project(np.array(place), np.array([edge]))
-        return self._snap_on_segment(edge, self.edge(edge), ways, int(ways.metres.argmin()))
+        return self._snap_on_segment(edge, self.edge(edge), *ways.of(int(ways.metres.argmin())))
 
     def nearest_edges(
         self, place: Point, count: int, step: Callable[[], object] = lambda: None, within: float = math.inf, is_any: bool = False
@@ -272,6 +279,9 @@ class RoadIndex:
 
     def _snap_nearby(self, places: Sequence[Point], reach: float, count: int, is_any: bool) -> dict[int, list[SnappedPoint]]:
         """By the index of their places the nearest points of the `count` nearest edges up to `reach` metres, for places that have any."""
+        if count == 1 and len(places) <= FEW_PLACES:
+            near = ((number, self._snap_one(place, reach, is_any)) for number, place in enumerate(places))
+            return {number: [point] for number, point in near if point is not None}
         which, edges = self.arrays.edge_grid.candidates_of_each(places, reach)
         if self._may_be_closed(is_any):
             is_there = self._are_open(edges, is_any)
@@ -287,8 +297,40 @@ class RoadIndex:
         numbers = edges[ways.which[[way for _, way in chosen]]].tolist() if chosen else []
         lines, found = self.find_edges(numbers), dict[int, list[SnappedPoint]]()
         for (number, way), edge in zip(chosen, numbers):
-            found.setdefault(number, []).append(self._snap_on_segment(edge, lines[edge], ways, way))
+            found.setdefault(number, []).append(self._snap_on_segment(edge, lines[edge], *ways.of(way)))
         return found
+
+    def _snap_one(self, place: Point, reach: float, is_any: bool) -> SnappedPoint | None:
+        """The same of one place and edge, with fewer calls of numpy: each takes as long as to look at some segments."""
+        slices, things = self.arrays.edge_grid.slices_around(place, reach), self.arrays.edge_grid.things
+        if size_of(slices) > MAX_CANDIDATES:
+            return None
+        edges = np.array(sorted({edge for begin, end in slices for edge in things[begin:end].tolist()}), np.int64)
+        if self._may_be_closed(is_any):
+            edges = edges[self._are_open(edges, is_any)]
+        self.on_looked(len(edges))
+        begins, ends = self.arrays.edge_begin[edges + SEGMENT_END_OFFSETS].tolist()
+        rows = np.fromiter(itertools.chain.from_iterable(map(range, begins, ends)), np.int64)
+        east, north, up = (each.tolist() for each in local_components(np.array(place), self.arrays.points[rows] / UNITS))
+        firsts = {*itertools.accumulate(map(operator.sub, ends, begins))}
+        least, radius, found = reach + 1e-6, 1.001 * reach / EARTH_RADIUS, (0, 0.0)
+        for number, x, y, other_x, other_y in zip(itertools.count(1), east, north, east[1:], north[1:]):
+            # (most are beyond a side of the square around what is nearest until now)
+            if x > radius < other_x or y > radius < other_y or -x > radius < -other_x or -y > radius < -other_y or number in firsts:
+                continue
+            if up[number - 1] < COS_FLAT or up[number] < COS_FLAT:
+                return None
+            x, y = x / up[number - 1], y / up[number - 1]
+            step_x, step_y = other_x / up[number] - x, other_y / up[number] - y
+            share = min(max(-(x * step_x + y * step_y) / max(step_x * step_x + step_y * step_y, 1e-300), 0.0), 1.0)
+            away = math.hypot(x + step_x * share, y + step_y * share)
+            metres = round(EARTH_RADIUS * math.atan(away) * 1e6) / 1e6
+            if metres < least:
+                least, radius, found = metres, away, (int(rows[number - 1]), share)
+        if least > reach:
+            return None
+        edge = int(edges[bisect.bisect(begins, found[0]) - 1])
+        return self._snap_on_segment(edge, self.edge(edge), least, *found)
 
     def are_ferries(self, arcs: NDArray[np.int64]) -> NDArray[np.bool_]:
         return np.asarray(self.ferry_rows[self.arrays.arc_row[arcs]])
@@ -319,14 +361,14 @@ class RoadIndex:
         metres, shares = nearest_on_segments(places if places.ndim < 2 else places.take(which, axis=0), points)
         return SegmentProjections(which, rows, metres.round(6), shares)
 
-    def _snap_on_segment(self, edge: int, line: Edge, ways: SegmentProjections, best: int) -> SnappedPoint:
-        """The nearest point of segment `best` of the projections, which is of this edge."""
-        share, step = float(ways.shares[best]), int(ways.rows[best]) - line.first
+    def _snap_on_segment(self, edge: int, line: Edge, metres: float, row: int, share: float) -> SnappedPoint:
+        """The point of an edge at a share of the segment that begins at a row of points, so many metres away."""
+        step = row - line.first
         lon, lat = interpolate_one(line.points[step], line.points[step + 1], share)
         along = line.cumulative[step] + share * (line.cumulative[step + 1] - line.cumulative[step])
         is_at_start = along <= END_TOLERANCE or line.metres <= 2 * END_TOLERANCE
         fraction = 0.0 if is_at_start else 1.0 if along >= line.metres - END_TOLERANCE else along / line.metres
-        place = round(lon, 6), round(lat, 6), float(ways.metres[best]), edge, fraction
+        place = round(lon, 6), round(lat, 6), metres, edge, fraction
         name = next((arc.name for arc in line.arcs.values() if arc.name), "")
         if 0.0 < fraction < 1.0:
             return SnappedPoint(*place, *self.split_arcs(line.arcs, fraction), (), frozenset(line.arcs), name)

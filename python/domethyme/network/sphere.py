@@ -21,8 +21,8 @@ def unit_vectors(lon: ArrayLike, lat: ArrayLike) -> Floats:
 
 
 def angles(begins: Floats, ends: Floats) -> Floats:
-    x, y, z = np.moveaxis(np.square(ends - begins), -1, 0)
-    chords = np.sqrt(x + y + z)
+    squares = np.square(ends - begins)
+    chords = np.sqrt(squares[..., 0] + squares[..., 1] + squares[..., 2])
     found: Floats = 2 * np.arcsin(np.minimum(1, chords / 2))
     return found
 
@@ -65,12 +65,12 @@ def unit_vector(lon: float, lat: float) -> tuple[float, float, float]:
 
 def local_components(place: Floats, points: Floats) -> tuple[Floats, Floats, Floats]:
     """How far east, north and up of the earth's centre points are, by the directions at a place, or one for each point."""
-    here, there = np.radians(place), np.radians(points)
-    there[..., 0] -= here[..., 0]
-    sine, cosine = np.sin(there), np.cos(there)
-    up, away = np.sin(here[..., 1]), np.cos(here[..., 1])
-    ahead = cosine[..., 1] * cosine[..., 0]
-    return cosine[..., 1] * sine[..., 0], away * sine[..., 1] - up * ahead, up * sine[..., 1] + away * ahead
+    (lon, lat), there = np.radians(place).T, np.radians(points)
+    there[..., 0] -= lon
+    sines, cosines, up, away = np.sin(there), np.cos(there), np.sin(lat), np.cos(lat)
+    sine, cosine = sines[..., 1], cosines[..., 1]
+    ahead = cosine * cosines[..., 0]
+    return cosine * sines[..., 0], away * sine - up * ahead, up * sine + away * ahead
 
 
 def nearest_on_segments(place: Floats, ways: Floats) -> tuple[Floats, Floats]:
