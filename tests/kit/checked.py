@@ -4,57 +4,17 @@ The second follows what docs/FORMATS.md says of verdicts, and shares nothing wit
 a cost is a pair (weight, arcs), as in plain.py.
 """
 import functools
-import heapq
 import re
-import typing
-from collections.abc import Iterable, Mapping, Sequence
+from collections.abc import Iterable, Mapping
 
 from .hierarchy_file import NONE
+from .plain import Cost, Ends, Hierarchy, costs_of, least_from, plus
+from .program import Ended
 
 Arc = tuple[int, int, int]
-Ends = tuple[int, int]
-Cost = tuple[int, int]
 # What leads from one node to another: its cost, and its middle or NONE.
 Entry = tuple[Cost, int]
 Distances = dict[int, Cost]
-
-
-class Hierarchy(typing.Protocol):
-    """What a reader makes of a file (plain.py)."""
-
-    version: int
-    ranks: Sequence[int]
-    links: Mapping[Ends, Entry]
-    bound: int
-
-
-class Verdict(typing.NamedTuple):
-    """How a check ended: its status, and what it printed on standard output and on standard error."""
-
-    status: int
-    line: bytes
-    said: bytes
-
-
-def plus(one: Cost, other: Cost) -> Cost:
-    """What two walks cost together."""
-    return one[0] + other[0], one[1] + other[1]
-
-
-def least_from(costs: Mapping[Ends, Cost], source: int) -> Distances:
-    """The least cost of a walk along arcs of these costs from a node to each that it leads to."""
-    out: dict[int, list[tuple[int, Cost]]] = {}
-    for (start, end), cost in costs.items():
-        out.setdefault(start, []).append((end, cost))
-    least: Distances = {}
-    queue: list[tuple[Cost, int]] = [((0, 0), source)]
-    while queue:
-        cost, node = heapq.heappop(queue)
-        if node not in least:
-            least[node] = cost
-            for end, more in out.get(node, []):
-                heapq.heappush(queue, (plus(cost, more), end))
-    return least
 
 
 class Network:
@@ -62,10 +22,7 @@ class Network:
 
     def __init__(self, nodes: int, arcs: Iterable[Arc]) -> None:
         self.nodes, self.arcs = nodes, set(arcs)
-        self.costs: dict[Ends, Cost] = {}
-        for start, end, weight in self.arcs:
-            if start != end:
-                self.costs[start, end] = min((weight, 1), self.costs.get((start, end), (weight, 1)))
+        self.costs = costs_of(arc for arc in self.arcs if arc[0] != arc[1])
         self.bound = max(nodes - 1, 0) * max((weight for _, _, weight in self.arcs), default=0)
 
     @functools.cached_property
@@ -156,28 +113,28 @@ LINES = {
 }
 
 
-def complaint(network: Network, hierarchy: Hierarchy, found: Verdict) -> str | None:
+def complaint(network: Network, hierarchy: Hierarchy, found: Ended) -> str | None:
     """What is wrong with a verdict on a hierarchy of version 2, or none."""
     by_file = values(hierarchy)
     truth = is_right(network, hierarchy, by_file)
-    if found.said or found.status not in (0, 9, 10) or (found.status == 0) != (found.line == b"right\n"):
+    if found.err or found.status not in (0, 9, 10) or (found.status == 0) != (found.out == b"right\n"):
         return "no verdict"
     if truth != (found.status == 0) and found.status != 10:
         return f"the file is {'right' if truth else 'wrong'}"
     if len(hierarchy.ranks) != network.nodes:
-        return None if found.line == b"wrong: nodes\n" else "another number of nodes"
+        return None if found.out == b"wrong: nodes\n" else "another number of nodes"
     if hierarchy.bound != network.bound:
-        return None if found.line == b"not shown: bound\n" else "another bound"
+        return None if found.out == b"not shown: bound\n" else "another bound"
     places = faults(network, hierarchy)
     if found.status == 0 or not places:
         return None if found.status == 0 and not places else f"it ends at none of {sorted(places)}"
     return complaint_of_place(network, by_file, places, found)
 
 
-def complaint_of_place(network: Network, by_file: list[Distances], places: set[tuple[int, ...]], found: Verdict) -> str | None:
+def complaint_of_place(network: Network, by_file: list[Distances], places: set[tuple[int, ...]], found: Ended) -> str | None:
     """What is wrong with the place that a verdict names, which may be one of these. It refutes the hierarchy exactly if the pair
     is another distance apart by the file than in the graph."""
-    match = LINES[found.status].fullmatch(found.line)
+    match = LINES[found.status].fullmatch(found.out)
     place = tuple(int(node) - 1 for node in match.groupdict().values() if node is not None) if match else ()
     if place not in (places if found.status == 10 else {ends[:2] for ends in places}):
         return f"it ends at none of {sorted(places)}"

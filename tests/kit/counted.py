@@ -6,10 +6,17 @@ import typing
 from collections.abc import Callable, Iterable
 
 from .optional import LeftOut, left_out
+from .program import need_program
 
 
 class Failed(Exception):
     """A case failed, for the reason that it says."""
+
+
+def need(holds: bool, why: str) -> None:
+    """Fails a case in which this doesn't hold."""
+    if not holds:
+        raise Failed(why)
 
 
 class Found(typing.NamedTuple):
@@ -45,6 +52,15 @@ def chosen(words: argparse.ArgumentParser, names: typing.Iterable[str], word: st
     return found
 
 
+def run_parts(script: str, told: str, parts: dict[str, Callable[[], Found]]) -> typing.NoReturn:
+    """Runs the parts that a word names, as cases: the main function of a script of that text."""
+    words = parser(told)
+    words.add_argument("word", nargs="?", default="", metavar="WORD")
+    names = chosen(words, parts, words.parse_args().word)
+    need_program()
+    run_cases(script, ((name, parts[name]) for name in names))
+
+
 def end(script: str, passed: int, failed: int) -> typing.NoReturn:
     """Prints the count as the last line, and ends with status 0 only where something passed and nothing failed."""
     print(f"{script}: {passed:d} passed, {failed:d} failed", flush=True)
@@ -58,6 +74,7 @@ def run_cases(script: str, cases: Iterable[tuple[str, Callable[[], object]]]) ->
     for name, case in cases:
         try:
             told = case()
+            told = told.told() if isinstance(told, Found) else told
             passed += 1
             print(f"ok: {name}" + (f": {told}" if told else ""), flush=True)
         except LeftOut as lacking:

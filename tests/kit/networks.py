@@ -24,6 +24,12 @@ def drawn_arcs(draw: random.Random, nodes: int, count: int) -> list[tuple[int, i
     return [(draw.randrange(nodes), draw.randrange(nodes), draw.choice(weights)) for _ in range(count)]
 
 
+def grid_steps(side: int) -> list[tuple[int, int]]:
+    """The steps between neighbours of a square of nodes, in both directions."""
+    pairs = [(node, node + 1) for node in range(side * side) if (node + 1) % side] + [(node, node + side) for node in range(side * side - side)]
+    return [step for start, end in pairs for step in ((start, end), (end, start))]
+
+
 def text_of(nodes: int, arcs: Sequence[tuple[int, int, int]]) -> str:
     """The graph's text."""
     return f"p sp {nodes} {len(arcs)}\n" + "".join(f"a {start + 1} {end + 1} {weight}\n" for start, end, weight in arcs)

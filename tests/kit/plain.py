@@ -5,16 +5,17 @@ A cost is a pair (weight, arcs); Python orders pairs by the first number and the
 files of version 1 the arcs are 0.
 """
 import heapq
-from collections.abc import Callable, Iterator
+from collections.abc import Callable, Iterable, Iterator, Mapping
+
+from .answers import least_arcs
+from .hierarchy_file import LINK_BYTES, NONE
 
 MAGICS = {1: b"RCH1", 2: b"RCH2"}
-LINK_BYTES = {1: 20, 2: 24}
 MAX_NODES = 1 << 25
 MAX_LINES = 1 << 27
 HEAVIEST = (1 << 32) - 1
-NONE = (1 << 32) - 1
 
-
+Ends = tuple[int, int]
 Cost = tuple[int, int]
 Links = list[tuple[int, int, Cost, int]]
 
@@ -273,21 +274,28 @@ def pairs_of(text: bytes, nodes: int) -> list[list[int]]:
     return read(text, b"q", 3, [b"p", b"aux", b"sp", b"p2p"], pair_sizes, pair)[1]
 
 
-def least_from(arcs: list[list[int]], source: int) -> dict[int, Cost]:
-    """The least cost from a node to each that can be come to, by arcs (start, end, weight)."""
+def least_from(costs: Mapping[Ends, Cost], source: int) -> dict[int, Cost]:
+    """The least cost of a walk along arcs of these costs from a node to each that it leads to."""
+    out: dict[int, list[tuple[int, Cost]]] = {}
+    for (start, end), cost in costs.items():
+        out.setdefault(start, []).append((end, cost))
     least: dict[int, Cost] = {}
     queue = [((0, 0), source)]
     while queue:
         cost, node = heapq.heappop(queue)
-        if node in least:
-            continue
-        least[node] = cost
-        for start, end, weight in arcs:
-            if start == node and end not in least:
-                heapq.heappush(queue, (plus(cost, (weight, 1)), end))
+        if node not in least:
+            least[node] = cost
+            for end, more in out.get(node, []):
+                heapq.heappush(queue, (plus(cost, more), end))
     return least
 
 
-def least_costs(nodes: int, arcs: list[list[int]]) -> dict[tuple[int, int], Cost]:
+def costs_of(arcs: Iterable[tuple[int, int, int]]) -> dict[Ends, Cost]:
+    """What the least arc costs of each pair of nodes."""
+    return {ends: (weight, 1) for ends, weight in least_arcs(arcs).items()}
+
+
+def least_costs(nodes: int, arcs: Iterable[tuple[int, int, int]]) -> dict[Ends, Cost]:
     """The least cost between each two nodes below a number."""
-    return {(start, to): cost for start in range(nodes) for to, cost in least_from(arcs, start).items()}
+    costs = costs_of(arcs)
+    return {(start, to): cost for start in range(nodes) for to, cost in least_from(costs, start).items()}

@@ -39,6 +39,24 @@ def need_program() -> None:
         sys.exit(f"{PROGRAM} isn't built: README.md says how")
 
 
+class Ended(typing.NamedTuple):
+    """How a run ended: its status, and what it wrote on standard output and on standard error, where these are pipes."""
+
+    status: int
+    out: bytes
+    err: bytes
+
+
+def run_to_end(words: Iterable[object], **how: typing.Any) -> Ended:
+    """Runs words to their end, or until only a hang would take so long: then the status is -1."""
+    how = {"stdout": subprocess.PIPE, "stderr": subprocess.PIPE, **how}
+    try:
+        ran = subprocess.run([each if isinstance(each, bytes) else str(each) for each in words], timeout=SECONDS, check=False, **how)
+    except subprocess.TimeoutExpired:
+        return Ended(-1, b"", f"it hadn't ended after {SECONDS} seconds".encode())
+    return Ended(ran.returncode, ran.stdout or b"", ran.stderr or b"")
+
+
 def as_nobody() -> None:
     """Before a run as root, to whom no file is closed."""
     if os.getuid() == 0:

@@ -89,7 +89,7 @@ int main(int count, char **words)
     WANT(domethyme_reach(&one, &start, 1, DOMETHYME_NO_LENGTH, lengths, many) == DOMETHYME_OK);
     before = most = held;
     WANT(domethyme_reach(&one, &start, 1, DOMETHYME_NO_LENGTH, lengths, many) == DOMETHYME_OK);
-    near("a reach", most - before, 12 * many, 12 * many);
+    near("a reach, with its selection", most - before, 8 * many, 8 * many);
     domethyme_close(&one);
     free(targets);
     free(lengths);
