@@ -375,7 +375,7 @@ class PatternTests(unittest.TestCase):
     # The worst texts of each pattern that is applied to requests, to be repeated.
     WORST = {
         "METRES": ("9", "9.9", "0."), "BEARING": ("9", "9,", ","), "INDEX": ("9",), "NODE": ("9",), "COUNT": ("9",),
-        "DEGREES": ("9", "9.", "+9", "9e", ".9"), "PROFILE": ("a", "a.", "."), "POLYLINE": ("polyline(", "(", "polyline6("),
+        "PLACE": ("9", "9.", "+9", "9e", ".9", "9,9"), "PROFILE": ("a", "a.", "."), "POLYLINE": ("polyline(", "(", "polyline6("),
         "TILE": ("/map/roads/9/", "9/", "/"), "HOST": ("a", "a.", "[:", "a:9", "["), "ORIGIN": ("a", "a:", "://"),
         "TARGET": ("/", "http://", "a"), "LENGTH": ("9",), "BODY_LENGTH": ("\r\ncontent-length:", " ", "9"),
         "DECIMAL": ("9", "9.", "."), "COLOR": ("a", "9"), "TIMESTAMP": ("9",),
