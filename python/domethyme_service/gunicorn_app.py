@@ -164,7 +164,8 @@ class Arbiter(gunicorn.arbiter.Arbiter):  # type: ignore[misc] # (gunicorn has n
             self.end_trial(self.trial)
         if self.trial is None and self.wants_reload:
             self.start_trial()
-        current = sum(worker.generation == self.app.generation for worker in self.WORKERS.values())
+        # (gunicorn takes out workers that have ended whenever their signal comes, so no loop is over its own table)
+        current = sum(worker.generation == self.app.generation for worker in list(self.WORKERS.values()))
         while current < self.num_workers and self.spawn_worker():
             current += 1
         if current >= self.num_workers:
@@ -210,9 +211,9 @@ class Arbiter(gunicorn.arbiter.Arbiter):  # type: ignore[misc] # (gunicorn has n
         own.last_reload_failed, own.last_reload_timestamp_seconds = 0, time.time()
 
     def refuse_reload(self, why: str) -> None:
-        log.error("reload refused: %s", why)
         self.app.metrics.own.reload_failures_total += 1
         self.app.metrics.own.last_reload_failed = 1
+        log.error("reload refused: %s", why)
 
     def spawn_worker(self) -> int:
         """Forks a worker; 0 if the kernel refuses one. Until it handles signals itself those to end it wait: it would take them for the
@@ -251,10 +252,11 @@ class Arbiter(gunicorn.arbiter.Arbiter):  # type: ignore[misc] # (gunicorn has n
 
     def kill_worker(self, pid: int, sig: int) -> None:
         """Sends a signal to a worker, to end it; SIGABRT if it doesn't report."""
+        worker = self.WORKERS.get(pid)
         if sig == signal.SIGABRT:
             self.app.metrics.own.worker_timeouts_total += 1
-        elif pid in self.WORKERS and sig in (signal.SIGTERM, signal.SIGQUIT):
-            self.WORKERS[pid].is_stopping = True
+        elif worker is not None and sig in (signal.SIGTERM, signal.SIGQUIT):
+            worker.is_stopping = True
         super().kill_worker(pid, sig)
 
 

@@ -339,6 +339,23 @@ class ArbiterTests(ServiceCase):
                 process.send_signal(signal.SIGTERM)
                 self.assertEqual(process.wait(SECONDS), 0)
 
+    def test_a_worker_that_ends_while_they_are_counted(self):
+        """The arbiter handles its signal between any two steps; it stays, and replaces the worker."""
+        flag, script = self.folder / "kill", "import os, pathlib, time\nfrom domethyme_service.worker import Worker\n"
+        script += f"flag, own = pathlib.Path({str(flag)!r}), gunicorn_app.Arbiter.manage_workers\n"
+        script += "def manage(arbiter):\n global workers\n workers = arbiter.WORKERS\n own(arbiter)\n"
+        script += "def generation(worker):\n if flag.exists():\n  flag.unlink()\n  os.kill(max(workers), 9)\n  count = len(workers)\n"
+        script += "  while len(workers) == count:\n   time.sleep(0.01)\n return worker.number\n"
+        script += "Worker.number, Worker.generation = 0, property(generation, lambda worker, number: setattr(worker, 'number', number))\n"
+        script += "gunicorn_app.Arbiter.manage_workers = manage\n"
+        self.command = sys.executable, "-c", f"{IMPORT}{script}command.main()"
+        process = self.serve()
+        flag.touch()
+        self.wait_for(lambda: self.says("has ended: another one is started"))
+        self.wait_for(lambda: self.value("workers") == 4)
+        process.send_signal(signal.SIGTERM)
+        self.assertEqual(process.wait(SECONDS), 0)
+
     def test_two_services_at_one_path(self):
         """The second one begins when the path of the first one is gone, whose end leaves it alone."""
         path = self.folder / "serve.sock"
