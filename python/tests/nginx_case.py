@@ -26,12 +26,6 @@ http {{
 """
 
 
-def free_port() -> int:
-    """A free port."""
-    with socket.create_server(("127.0.0.1", 0)) as stream:
-        return int(stream.getsockname()[1])
-
-
 def configuration(folder: pathlib.Path, port: int, instead: dict[str, str]) -> str:
     """The shipped configuration, with the sockets, logs and the port of a test, and other texts in place of some."""
     text = SHIPPED.read_text(encoding="utf-8").replace("/run/domethyme/", f"{folder}/").replace("/var/log/nginx/", f"{folder}/")
@@ -54,22 +48,26 @@ class NginxCase(ServiceCase):
     def serve_behind_nginx(self, *words, instead={}):
         """Starts both, and returns the process of the service."""
         process = self.serve("--network", self.folder / "v", "--bind", f"unix:{self.folder}/serve.sock", *words)
-        self.port = free_port()
-        (self.folder / "nginx.conf").write_text(configuration(self.folder, self.port, instead), encoding="utf-8")
         program = shutil.which("nginx", path=f"{os.environ['PATH']}:/usr/sbin")
-        self.nginx = subprocess.Popen([program, "-c", self.folder / "nginx.conf", "-e", self.folder / "nginx.log"], stdin=subprocess.DEVNULL)
+        # (as an nginx that replaces another one it gets a socket that listens: a port that is only free may be taken)
+        with socket.create_server(("127.0.0.1", 0), backlog=511) as listening:
+            listening.setblocking(False)
+            number, self.port = listening.fileno(), listening.getsockname()[1]
+            (self.folder / "nginx.conf").write_text(configuration(self.folder, self.port, instead), encoding="utf-8")
+            given = [program, "-c", self.folder / "nginx.conf", "-e", self.folder / "nginx.log"]
+            environment = {**os.environ, "NGINX": f"{number};"}
+            self.nginx = subprocess.Popen(given, stdin=subprocess.DEVNULL, pass_fds=[number], env=environment)
         self.addCleanup(self.nginx.wait)
         self.addCleanup(self.nginx.terminate)  # (a kill would leave its workers)
-        self.wait_for(self.listens)
         return process
 
-    def listens(self):
-        self.assertIsNone(self.nginx.poll(), "nginx has ended")
-        try:
-            socket.create_connection(("127.0.0.1", self.port), SECONDS).close()
-            return True
-        except OSError:
-            return False
+    def hold(self, stack, path, address, count):
+        """Connections of an address that nginx has counted, and on which it waits for bodies while the stack is open."""
+        fields = f"Host: x\r\nX-Test-Address: {address}\r\nExpect: 100-continue\r\nContent-Length: 9"
+        for _ in range(count):
+            stream = stack.enter_context(socket.create_connection(("127.0.0.1", self.port), SECONDS))
+            stream.sendall(f"POST {path} HTTP/1.1\r\n{fields}\r\n\r\n".encode())
+            self.assertIn(b" 100 ", stream.recv(64))  # (which it sends once it has counted)
 
     def log(self, count):
         """The lines of nginx's log, once there are this many: they are written later than the answers."""

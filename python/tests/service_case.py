@@ -7,12 +7,13 @@ import pathlib
 import re
 import socket
 import subprocess
+import sys
 import threading
 import time
 import unittest.mock
 from typing import BinaryIO, NamedTuple
 
-from tool_case import SECONDS, TOOLS, VILLAGE, ToolCase, end
+from tool_case import PYTHON, SECONDS, TOOLS, VILLAGE, ToolCase, end
 
 import domethyme
 from domethyme.dimacs import read_graph
@@ -22,6 +23,9 @@ from domethyme.dimacs import read_graph
 MOST_GROWN, ROUNDS = 2048, 6
 # The type of the body of a batch.
 NDJSON = {"Content-Type": "application/x-ndjson"}
+# What a service begins with that a test changes; and one whose workers wait for the heads of connections however long that takes.
+IMPORT = f"import sys\nsys.path.insert(0, {str(PYTHON)!r})\nfrom domethyme_service import command, gunicorn_app\n"
+PATIENT = sys.executable, "-c", f"{IMPORT}from domethyme_service import worker\nworker.HEAD_SECONDS = worker.DRAIN_SECONDS = 1e6\ncommand.main()"
 
 
 class Answer(NamedTuple):

@@ -35,6 +35,12 @@ TOWN = "<osm version='0.6'>" + "".join(f"<node id='{node}' lon='{node / 1000}' l
 <way id='2'><nd ref='2'/><nd ref='4'/><tag k='highway' v='residential'/></way></osm>"""
 
 
+def is_taken(path):
+    """Whether a unix socket takes connections."""
+    with socket.socket(socket.AF_UNIX) as stream:
+        return stream.connect_ex(path) == 0
+
+
 def moved_village(folder):
     """The village as a map, moved to where the pages ask for places."""
     moved = re.sub(r"(?<=l(on|at))='([^']*)'", lambda at: f"='{float(at[2]) + (9.5215 if at[1] == 'on' else 47.141):.7f}'", VILLAGE.read_text())
@@ -50,17 +56,21 @@ def test_from_osrm(tmp_path):
     (tmp_path / "bin").mkdir()
     (tmp_path / "bin/routecli").symlink_to(pathlib.Path(os.environ["ROUTECLI"]).resolve())
     write_map(tmp_path / "out/liechtenstein-2013-08-03.osm.pbf", moved_village(tmp_path))
-    with socket.create_server(("127.0.0.1", 0)) as free:
-        port = str(free.getsockname()[1])
+    # (nobody else is given a port that is bound; the service may listen at it)
+    kept = socket.socket()
+    kept.setsockopt(socket.SOL_SOCKET, socket.SO_REUSEADDR, 1)
+    kept.bind(("127.0.0.1", 0))
+    port = str(kept.getsockname()[1])
     serving, pricing = re.findall(r"^```sh\n(.*?)^```$", page, re.S | re.M)
     serving = serving.replace("--network out/osrm &", f"--network out/osrm --port {port} &").replace(":5000/", f":{port}/")
     serving = serving.replace("9.5090,47.1650", "9.5225,47.1410").replace("--retry 50 ", f"--retry {SECONDS} ")  # (what only a hang exceeds)
     environment = {**os.environ, "PATH": f"{tmp_path}/bin:{os.environ['PATH']}"}
-    for block in (f"trap 'kill $(jobs -p); wait' EXIT\n{serving}", pricing):
-        ran = subprocess.run(["bash", "-euc", block], cwd=tmp_path, env=environment, capture_output=True, text=True)
-        assert ran.returncode == 0, ran.stderr
-        printed = ran.stdout if block == pricing else json.loads(ran.stdout)["code"]
-        assert printed.strip() == ("right" if block == pricing else "Ok")
+    with kept:
+        for block in (f"trap 'kill $(jobs -p); wait' EXIT\n{serving}", pricing):
+            ran = subprocess.run(["bash", "-euc", block], cwd=tmp_path, env=environment, capture_output=True, text=True)
+            assert ran.returncode == 0, ran.stderr
+            printed = ran.stdout if block == pricing else json.loads(ran.stdout)["code"]
+            assert printed.strip() == ("right" if block == pricing else "Ok")
     typed = {line.partition(" ")[0] for line in f"{serving}{pricing}".splitlines()}
     assert {"tools/osm_to_gr", "tools/domethyme-serve", "routecli", "curl"} == typed
 
@@ -162,7 +172,7 @@ class RecipeTests(NginxCase):
         self.addCleanup(process.wait)
         self.addCleanup(process.terminate)
         self.said = ["the second service"]
-        self.wait_for(pathlib.Path(words[-1].removeprefix("unix:")).exists)
+        self.wait_for(lambda: is_taken(words[-1].removeprefix("unix:")))
         return process
 
     def test_each_night(self):

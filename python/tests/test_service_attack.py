@@ -16,8 +16,8 @@ import zlib
 
 import numpy as np
 import pytest
-from service_case import NDJSON, ServiceCase, read_answer, without_end, workers_of
-from tool_case import PYTHON, ROOT, SECONDS, is_running
+from service_case import IMPORT, NDJSON, PATIENT, ServiceCase, read_answer, without_end, workers_of
+from tool_case import ROOT, SECONDS, is_running
 
 import domethyme
 from domethyme.network.column_file import HEAD
@@ -30,7 +30,6 @@ from domethyme_service.osrm_geometry import Budget, simplified
 
 PATH = "/nodes/length?from=1&to=2"
 HIGH = "0.0003,0.00001;0.0077,-0.00002"
-IMPORT = f"import sys\nsys.path.insert(0, {str(PYTHON)!r})\nfrom domethyme_service import command, gunicorn_app\n"
 
 
 class RestartTests(ServiceCase):
@@ -71,6 +70,7 @@ class RestartTests(ServiceCase):
     def test_no_connection_is_lost_as_workers_are_replaced(self):
         """Each request has its own connection while the files are reloaded: the socket stays open, so none is refused or
         reset."""
+        self.command = PATIENT
         process = self.serve()
         wanted, lost, count, is_over = self.ask(PATH), [], [0], threading.Event()
 
@@ -310,16 +310,24 @@ class FramingTests(ServiceCase):
 class WorkTests(ServiceCase):
     """Long requests, and others beside them. They may take longer than the service's limit on a busy machine, so there is none."""
 
-    command = (sys.executable, "-c", f"{IMPORT}from domethyme_service import worker\nworker.LONG_SECONDS = 1e6\ncommand.main()")
+    def setUp(self):
+        """The file `halt` halts a long request: a worker writes `halted` there, and goes on when the file is gone."""
+        super().setUp()
+        script = "import pathlib, time\nfrom domethyme_service import worker\nworker.LONG_SECONDS, own = 1e6, worker.Worker.load_wsgi\n"
+        script += f"halt = pathlib.Path({str(self.folder / 'halt')!r})\ndef load(self):\n own(self)\n def tick():\n  self.tick()\n"
+        script += "  while halt.exists():\n   halt.write_text('halted')\n   time.sleep(0.01)\n   self.tick()\n"
+        script += " self.service.meter.tick = tick\nworker.Worker.load_wsgi = load\n"
+        self.command = sys.executable, "-c", f"{IMPORT}{script}command.main()"
 
     def ask_beside(self, path):
-        """The status and the text of an answer, and how many requests of `/health` were answered before it."""
+        """The status and the text of an answer, which is under way while `/health` is requested."""
+        halt = self.write("halt", "")
         with concurrent.futures.ThreadPoolExecutor(1) as pool:
-            asked, count = pool.submit(self.ask_long, path), 0
-            while not asked.done():
-                self.assertEqual(self.ask("/health")[0], 200)
-                count += 1
-            return *asked.result(), count
+            asked = pool.submit(self.ask_long, path)
+            self.wait_for(lambda: halt.read_text() == "halted")
+            self.assertEqual([self.ask("/health")[0] for _ in range(4)], [200] * 4)
+            halt.unlink()
+            return asked.result()
 
     def test_five_hundred_places(self):
         """Routes that alternate between two corners of a random network, with all options: others are answered meanwhile."""
@@ -331,9 +339,8 @@ class WorkTests(ServiceCase):
         self.serve("--network", self.folder / "drawn", "--radius", "5000")
         for query in ("", "?steps=true&annotations=true&geometries=geojson"):
             with self.subTest(query=query):
-                status, text, answered = self.ask_beside(f"/route/v1/car/{';'.join(corners * 250)}{query}")
+                status, text = self.ask_beside(f"/route/v1/car/{';'.join(corners * 250)}{query}")
                 self.assertEqual(status, 200, text[:200])
-                self.assertGreater(answered, 3)
 
     def ask_long(self, path):
         connection = http.client.HTTPConnection("127.0.0.1", self.port, timeout=SECONDS)
@@ -358,7 +365,7 @@ class WorkTests(ServiceCase):
         """Five hundred places at the antipodes, with unlimited radiuses."""
         self.serve("--network", self.folder / "v")
         words = ";".join(["-179.99,0.01"] * 500)
-        status, text, _ = self.ask_beside(f"/route/v1/car/{words}?radiuses={';'.join(['unlimited'] * 500)}&overview=false")
+        status, text = self.ask_long(f"/route/v1/car/{words}?radiuses={';'.join(['unlimited'] * 500)}&overview=false")
         self.assertEqual(status, 200, text[:200])
 
 

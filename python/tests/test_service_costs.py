@@ -15,9 +15,8 @@ from unittest import mock
 import pytest
 from dearest import Climber
 from nginx_case import NginxCase
-from service_case import ServiceCase, workers_of
+from service_case import IMPORT, ServiceCase, workers_of
 from test_generated_service import ask, open_service
-from test_service_attack import IMPORT
 from tool_case import ROOT, SECONDS
 
 from domethyme_service import endpoints, slots, worker
@@ -443,11 +442,9 @@ class FairTests(NginxCase):
 
     def test_connections_for_what_is_long(self):
         """A public client has four of them; its other requests, and those of others, are answered."""
-        self.serve_behind_nginx()
+        self.serve_behind_nginx(instead={"client_body_timeout 10s": "client_body_timeout 300s"})
+        mine, other = {"X-Test-Address": "203.0.113.9"}, {"X-Test-Address": "203.0.113.10"}
         with contextlib.ExitStack() as stack:
-            for _ in range(4):
-                stream = stack.enter_context(socket.create_connection(("127.0.0.1", self.port), SECONDS))
-                stream.sendall(b"POST /nodes/lengths HTTP/1.1\r\nHost: x\r\nX-Test-Address: 203.0.113.9\r\nContent-Length: 9\r\n\r\n")
-            mine, other = {"X-Test-Address": "203.0.113.9"}, {"X-Test-Address": "203.0.113.10"}
-            self.wait_for(lambda: self.ask("/table/v1/car/0,0", headers=mine)[0] == 429)
-            self.assertEqual([self.ask("/table/v1/car/0,0", headers=other)[0], self.ask("/health", headers=mine)[0]], [200, 200])
+            self.hold(stack, "/nodes/lengths", "203.0.113.9", 4)
+            self.assertEqual([self.ask("/table/v1/car/0,0", headers=each)[0] for each in (mine, other)], [429, 200])
+            self.assertEqual(self.ask("/health", headers=mine)[0], 200)

@@ -11,8 +11,7 @@ import threading
 import time
 import unittest.mock
 
-from service_case import ServiceCase, without_end, workers_of
-from test_service_attack import IMPORT
+from service_case import IMPORT, PATIENT, ServiceCase, without_end, workers_of
 from tool_case import SECONDS, is_running
 
 import domethyme
@@ -68,6 +67,7 @@ class SignalTests(ServiceCase):
         domethyme.prepare(self.folder / "n.gr", self.folder / "v.rch", workers=1).close()
 
     def test_a_new_hierarchy(self):
+        self.command = PATIENT
         process = self.serve()
         old = self.ask(PATH)[1]["length"]
         clients = self.clients()
@@ -162,7 +162,9 @@ command.main()
 
     def test_sigterm_answers_accepted_requests(self):
         """Accepted requests are answered; a connection in the backlog is reset or refused."""
-        process = self.serve()
+        self.command = PATIENT
+        with without_end():
+            process = self.serve()
         right = self.ask(PATH)[1]["length"]
         clients = self.clients()
         self.wait_for(lambda: all(len(client.lengths) > 1 for client in clients))
