@@ -9,10 +9,12 @@ from collections.abc import Callable
 from typing import Any
 
 import pytest
-from draws import Drawn, drawn, networks, run_tool, write_network
+from draws import ORIGINS, Drawn, drawn, networks, places, run_tool, write_network
 from hypothesis import given
 from hypothesis import strategies as st
 from model.network import Ambiguous, Arc, Network
+from model.request import Request
+from test_generated_package import check_nearest
 from test_generated_service import ask, check, requests
 from tool_case import ToolCase
 
@@ -40,7 +42,10 @@ def without(roads: Network, is_left_out: Callable[[Arc], bool]) -> Network | Non
     if [len(each) for each in sets].count(most) > 1:
         return None
     largest = next(each for each in sets if len(each) == most)
-    found = Network(roads.nodes, [arc for arc in arcs if arc.start in largest and arc.end in largest], is_left=roads.is_left)
+    kept = [arc for arc in arcs if arc.start in largest and arc.end in largest]
+    joined = {node for arc in kept for node in arc[:2]}
+    nodes = [node if number in joined else node._replace(ends="no") for number, node in enumerate(roads.nodes)]
+    found = Network(nodes, kept, is_left=roads.is_left)
     vars(found).update(unit=roads.unit, has_seconds=roads.has_seconds)
     return found if found.arcs else None
 
@@ -60,7 +65,7 @@ def test_as_the_model(data: Any) -> None:
         domethyme.prepare(f"{prefix}.toll.gr", f"{prefix}.toll.rch", workers=0).close()
         service = serve(prefix, {frozenset(["toll"]): f"{prefix}.toll.rch"})
         for _ in range(4):
-            request, codes = data.draw(requests(made, data.draw(st.sampled_from(["route", "nearest", "table"]))))
+            request, codes = data.draw(requests(made, data.draw(st.sampled_from(["route", "nearest", "table", "trip", "match"]))))
             if "exclude" not in request.query and not codes:
                 # (junctions, at which steps begin, are those of all roads)
                 query = {name: text for name, text in request.query.items() if name != "steps"} | {"exclude": "toll"}
@@ -69,12 +74,31 @@ def test_as_the_model(data: Any) -> None:
         network = domethyme.Network(prefix, exclude=["toll"])
         hierarchy = domethyme.Hierarchy(f"{prefix}.toll.rch", network=network)
         assert pickle.loads(pickle.dumps(network)).exclude == {"toll"} and hierarchy.network is network
+        check_nearest(hierarchy, wanted, made.roads.nodes[0].place, data.draw(st.sampled_from(["from", "to"])))
         point = network.points_on_roads(made.roads.nodes[0].place, radius=1e8)[0]
         with contextlib.suppress(Ambiguous):
             assert point.metres <= min(metres for metres, _ in wanted.by_distance(made.roads.nodes[0].place, None)) + 0.01
         for path, other in ((f"{prefix}.rch", network), (f"{prefix}.toll.rch", str(prefix))):
             if len(wanted.arcs) < len(made.roads.arcs):
                 differs(made, wanted, path, other)
+
+
+@drawn(20)
+@given(st.data())
+def test_isochrones(data: Any) -> None:
+    """Neither roads that are left out nor nodes that have no others are any that aren't reached."""
+    made = data.draw(networks(["distance"], origins=[ORIGINS[0]]))
+    wanted = None if made.roads.forbidden else without(made.roads, is_toll)
+    if wanted is None:
+        return
+    with tempfile.TemporaryDirectory() as folder:
+        prefix = pathlib.Path(folder) / "net"
+        write_network(made, prefix)
+        run_tool("without", prefix, "toll", f"{prefix}.toll.gr")
+        domethyme.prepare(f"{prefix}.toll.gr", f"{prefix}.toll.rch", workers=0).close()
+        service = serve(prefix, {frozenset(["toll"]): f"{prefix}.toll.rch"})
+        query = {"contours_meters": "300,700,2000", "polygons": "true", "exclude": "toll"}
+        check(Drawn(wanted, wanted, False), service, Request("isochrone", data.draw(places(wanted, 1)), query), set())
 
 
 def differs(made: Drawn, wanted: Network, path: str, network: Any) -> None:

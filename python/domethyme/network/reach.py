@@ -379,13 +379,20 @@ class Reach:
         most of those that are within a box that is known."""
         network = self.network
         for edges in chunks_of(self._near(network.edge_grid, len(network.edge_begin) - 1, box, zone, known)):
+            if network.is_partial:  # (those without an arc are no roads)
+                edges = edges[network.edge_first[edges] < network.edge_first[edges + 1]]
             # (all arcs of an edge have its metres)
             yield edges[network.arc_metres[network.first_arcs(edges)] > metres]
 
     def nodes_near(self, box: Box, zone: Zone | None = None) -> Iterator[tuple[Floats, Levels]]:
         """The nodes in a box, and in a zone, and others near there, some at a time: their points in the plane, and their levels."""
-        nodes = self._near(self.network.node_grid, len(self.network.node_lon), box, zone)
-        return zip(map(self._points_of, chunks_of(nodes)), chunks_of(self.node_levels(nodes)))
+        network = self.network
+        nodes = self._near(network.node_grid, len(network.node_lon), box, zone)
+        levels = self.node_levels(nodes)
+        if network.is_partial:  # (those that have lost their arcs are on no road; of a junction that is split one has arcs that leave it)
+            leads_on = network.out_begin[nodes] < network.out_begin[nodes + 1]
+            nodes, levels = nodes[leads_on], levels[leads_on]
+        return zip(map(self._points_of, chunks_of(nodes)), chunks_of(levels))
 
     def _near(self, grid: Grid, count: int, box: Box, zone: Zone | None, known: Box | None = None) -> Ints:
         """The things of a grid with so many in a box, and in a zone, and others near there; and of those within a known box some."""

@@ -22,7 +22,7 @@ from ..errors import NetworkError
 from ..limits import MAX_WEIGHT
 from ..program import StrPath
 from . import indexes, net_file
-from .columns import ENDS, INT64, NO_OSM, OF_TABLES, UNITS
+from .columns import INT64, NO_OSM, OF_TABLES, UNITS
 from .figures import PENALTY, seconds_of, whole_weights
 from .groups import Ints, expand, mask, offsets
 from .net_file import MappedNetwork
@@ -272,19 +272,11 @@ def reweigh(network: MappedNetwork, speeds: Speeds) -> tuple[MappedNetwork, Rewe
     begins, in_order = indexes.outgoing_arcs(network.arc_from[:], network.arc_to[:], weights, len(network.node_osm))
     vars(view).update(out_begin=offsets(is_open[in_order])[begins], out_arcs=in_order[is_open[in_order]])
     if len(closed := arcs[is_closed]):
-        view = without_closed(view, is_open & ~mask(len(is_open), closed))
+        view = with_arcs(view, is_open & ~mask(len(is_open), closed))
+        if not len(view.out_arcs):
+            raise NetworkError("would have no arc that is open", network.path)
     cut_off = int(is_open.sum()) - len(closed) - len(view.out_arcs)
     return view, Reweighed(int(changed.sum()), len(closed), cut_off, unmatched)
-
-
-def without_closed(network: MappedNetwork, is_kept: NDArray[np.bool_]) -> MappedNetwork:
-    """The network with some of its arcs; no route begins or ends at a node that has none any more. Raises NetworkError if none is left."""
-    view = with_arcs(network, is_kept)
-    if not len(view.out_arcs):
-        raise NetworkError("would have no arc that is open", network.path)
-    has_arc = mask(len(network.node_osm), network.arc_from[view.out_arcs], network.arc_to[view.out_arcs])
-    vars(view)["node_ends"] = np.where(has_arc, network.node_ends[:], ENDS.index("no")).astype(np.uint8)
-    return view
 
 
 def write_reweighed(network: MappedNetwork, speeds: Speeds, out: StrPath) -> Reweighed:

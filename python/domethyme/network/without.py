@@ -1,8 +1,8 @@
 """A network without the roads of some classes, as a view of its mapped file. Needs numpy and scipy.
 
 Nodes, edges and arcs keep their numbers. Arcs of the classes aren't among those from a node or on an edge, nor are those that no longer
-lie in the largest set of nodes that can all reach one another: else places would be on roads that lead nowhere. The graph of the
-others is the one of which the view has the hierarchy.
+lie in the largest set of nodes that can all reach one another: else places would be on roads that lead nowhere. At a node that has no
+arc any more no route begins or ends. The graph of the others is the one of which the view has the hierarchy.
 """
 import copy
 from collections.abc import Iterable
@@ -12,8 +12,8 @@ import numpy as np
 from numpy.typing import NDArray
 
 from ..dimacs import write_graph
-from .columns import TEXTS
-from .groups import Ints, offsets
+from .columns import ENDS, TEXTS
+from .groups import Ints, mask, offsets
 from .net_file import MappedNetwork
 from .tables import ATTRIBUTION_COMMENT
 
@@ -46,7 +46,7 @@ def arcs_of(network: MappedNetwork, classes: Iterable[str]) -> NDArray[np.bool_]
 
 
 def without(network: MappedNetwork, classes: Iterable[str]) -> MappedNetwork:
-    """The network without the roads of the classes, and without what they cut off. It takes some 15 bytes an arc."""
+    """The network without the roads of the classes, and without what they cut off. It takes some 15 bytes an arc, and one a node."""
     return with_arcs(network, network.are_open() & ~arcs_of(network, classes))
 
 
@@ -62,6 +62,8 @@ def with_arcs(network: MappedNetwork, is_kept: NDArray[np.bool_]) -> MappedNetwo
         numbers = getattr(network, arcs)[:]
         vars(view)[arcs] = numbers[is_kept[numbers]]
         vars(view)[begins] = offsets(is_kept[numbers])[getattr(network, begins)[:]]
+    has_arc = mask(len(network.node_osm), starts[is_kept], ends[is_kept])
+    vars(view)["node_ends"] = np.where(has_arc, network.node_ends[:], ENDS.index("no")).astype(np.uint8)
     view.is_partial = True
     return view
 

@@ -58,7 +58,7 @@ def is_within(network: Network, shares: dict[int, Shares], place: Point, slack: 
         for step, ends in enumerate(itertools.pairwise(edge.line)):
             ways.append((nearest_on_segment(place, *ends), number, step))
     joined_nodes = {node for arc in network.arcs for node in arc[:2]}
-    alone = [metres_between(place, each.place) for node, each in enumerate(network.nodes) if node not in joined_nodes]
+    alone = [metres_between(place, each.place) for node, each in enumerate(network.nodes) if node not in joined_nodes and each.ends != "no"]
     least = min(min(ways)[0][0], *alone, math.inf)
     found |= {False for metres in alone if metres <= least + slack}  # (a node without roads isn't reached)
     for (metres, share), number, step in ways:
