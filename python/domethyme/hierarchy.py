@@ -12,7 +12,7 @@ from .errors import NoSuchNode, WrongHierarchy
 from .extras import need
 from .features import Features
 from .hierarchy_file import file_stamp, open_hierarchy_file, pread_all, read_header
-from .keys import Keys, as_list
+from .keys import Keys, as_list, to_python_scalar
 from .limits import DEFAULT_DEVIATION, DEFAULT_RADIUS
 from .network.tables import Side
 from .program import StrPath
@@ -341,7 +341,7 @@ class Hierarchy:
         for name, numbers in (("minutes", minutes), ("metres", metres)):
             if not isinstance(numbers, Iterable):
                 raise ValueError(f"{name} are a list, as [{numbers!r}], and a place is (lon, lat)")
-        asked = list(metres) or list(minutes) or list(DEFAULT_MINUTES)
+        asked = [*map(to_python_scalar, metres)] or [*map(to_python_scalar, minutes)] or list(DEFAULT_MINUTES)
         roads, is_metres = network.roads, len(metres) > 0
         limits = isochrones.limits(roads.unit, minutes if is_metres else asked, metres)
         if max(limits) > MAX_LIMIT:

@@ -169,15 +169,14 @@ class Keys:
         return np.fromiter(map(self.node, as_list(keys)), np.int64)
 
     def of(self, nodes: "NDArray[np.integer[Any]]") -> "NDArray[Any]":
-        """The keys of many nodes: an array of int64 where all of them are integers, else of objects."""
+        """The keys of many nodes, of their shape: an array of int64 where all of them are integers, else of objects."""
         import numpy as np
 
-        found = [self._names[node] for node in nodes.tolist()]
-        if all(type(key) is int and abs(key) < 1 << 63 for key in found):
-            return np.array(found, dtype=np.int64)
-        keys = np.empty(len(found), dtype=object)
+        found = [self._names[node] for node in nodes.ravel().tolist()]
+        are_whole = all(type(key) is int and abs(key) < 1 << 63 for key in found)
+        keys = np.empty(len(found), dtype=np.int64 if are_whole else object)
         keys[:] = found
-        return keys
+        return keys.reshape(nodes.shape)
 
 
 def keys_path(hierarchy: StrPath) -> str:

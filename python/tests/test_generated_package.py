@@ -1,4 +1,5 @@
 """The package on drawn networks, with and without keys: lengths, routes, tables, what is reached, nodes and frames."""
+import json
 import math
 import pathlib
 import shutil
@@ -209,7 +210,8 @@ def test_places(data: Any) -> None:
     made = data.draw(networks(["duration", "distance"]))
     with tempfile.TemporaryDirectory() as folder:
         write_network(made, pathlib.Path(folder) / "net")
-        hierarchy = domethyme.Hierarchy(f"{folder}/net.rch", network=f"{folder}/net")
+        keys = data.draw(st.sampled_from([None, [f"key {node}" for node in range(len(made.tables.nodes))]])) if not made.has_keys else None
+        hierarchy = domethyme.Hierarchy(f"{folder}/net.rch", network=f"{folder}/net", keys=keys)
         for place in data.draw(places(made.roads, 4)):
             for side in ("from", "to"):
                 check_nearest(hierarchy, made.tables, place, side)
@@ -227,9 +229,9 @@ def check_nearest(hierarchy: domethyme.Hierarchy, network: Network, place: Point
             hierarchy.nearest(*place, side)
         return
     node, away = hierarchy.nearest(*place, side)
-    assert node in nodes and abs(away - metres) < 1e-4
-    many, all_away = hierarchy.nearest([place[0]] * 2, [place[1]] * 2, side)
-    assert many.tolist() == [node] * 2 and all_away.tolist() == [away] * 2
+    assert (node if hierarchy.keys is None else hierarchy.keys.node(node)) in nodes and abs(away - metres) < 1e-4
+    many, all_away = hierarchy.nearest(*(np.full((1, 2), each) for each in place), side)
+    assert many.tolist() == [[node] * 2] and all_away.tolist() == [[away] * 2]
 
 
 def check_roads(hierarchy: domethyme.Hierarchy, roads: Network, place: Point, unit: str, factor: int, towards: bool) -> None:
@@ -243,7 +245,7 @@ def check_roads(hierarchy: domethyme.Hierarchy, roads: Network, place: Point, un
         with pytest.raises(domethyme.NoSuchNode):
             hierarchy.within(place, shape="roads", towards=towards, **{unit: [value]})
         return
-    (feature,) = hierarchy.within(place, shape="roads", towards=towards, **{unit: [value]})["features"]
+    (feature,) = json.loads(json.dumps(hierarchy.within(place, shape="roads", towards=towards, **{unit: np.array([value])})))["features"]
     geometry = feature["geometry"]
     parts = [] if geometry is None else geometry["coordinates"]
     lines = [[(lon, lat) for lon, lat in part] for part in ([parts] if geometry and geometry["type"] == "LineString" else parts)]

@@ -60,7 +60,7 @@ class VillageTests(ToolCase):
         """A bearing decides on the direction of a street, though the places are one."""
         trace = self.along(0.0005, 0.00051)
         for bearing, east in ((90, True), (270, False)):
-            (way,), places = self.hierarchy.match(trace, deviation=20, bearings=[(bearing, 30)] * 2)
+            (way,), places = self.hierarchy.match(trace, deviation=np.float32(20), bearings=np.full((2, 2), (bearing, 30)))
             arc, = places[0].arcs
             self.assertEqual(self.hierarchy.network.roads.arc(arc).is_along, east == (self.hierarchy.network.roads.edge(places[0].edge).points[0][0] == 0.0))
         found = self.hierarchy.match(self.along(0.0002, 0.0007), bearings=[(0, 10), (0, 10)])

@@ -299,7 +299,8 @@ class ToolTests(ToolCase):
         rows = [(1, 2, 30), (5, 4, 7.5), (8, 9, 10)]
         self.reweighed("".join(f"{','.join(map(str, row))}\n" for row in rows))
         frame = pandas.DataFrame(rows, columns=["from", "to", "kmh"])
-        for speeds, unmatched in ((rows, [2]), (np.array(rows), None), (frame, [2]), (self.folder / "speeds.csv", [3])):
+        others = (iter(rows), [2]), (frame.astype({"from": "Int64", "to": "Int64"}), [2])
+        for speeds, unmatched in ((rows, [2]), (np.array(rows), None), (frame, [2]), (self.folder / "speeds.csv", [3]), *others):
             if unmatched is None:
                 with self.assertRaisesRegex(ValueError, "ids have to be integers"):
                     network.reweigh(speeds, self.folder / "own")
@@ -311,6 +312,7 @@ class ToolTests(ToolCase):
         self.assertEqual(network.reweigh(pandas.DataFrame({"kmh": [35.0], "way": [11]}), self.folder / "own").changed, 4)
         self.assertEqual(network.reweigh([], self.folder / "own").changed, 0)
         for speeds, says in (([(1, 2, 3, 4)], "speeds have to be rows"), ([(11, 1001)], "kmh isn't from 0 to 1000"), ([(11, np.nan)], "kmh isn't"),
+                             (frame.assign(kmh=pandas.array([None, 5.5, 9], "Float64")), "kmh isn't"),
                              (frame.rename(columns={"from": "a"}), "a frame of speeds has to have the columns")):
             with self.assertRaisesRegex(ValueError, says):
                 network.reweigh(speeds, self.folder / "own")
@@ -323,7 +325,7 @@ class ToolTests(ToolCase):
     ("1,2,-1\n", ", row 1: kmh '-1' isn't from 0 to 1000"), ("11,1001\n", "isn't from 0 to 1000"), ("11,nan\n", "is no finite number"),
     ("a,2,50\n", ", row 1: from 'a' isn't an integer"), ("11,50\n1.5,2,50\n", ", row 2: from '1.5' isn't an integer"),
     ("9" * 20 + ",2,50\n", "from 99999999999999999999 isn't from -9223372036854775808 to 9223372036854775807"), ("1,2.0,50\n", "to '2.0' isn't an integer"),
-    ("way,kmh\n11,50\nway,kmh\n", ", row 3: way 'way' isn't an integer"),
+    ("way,kmh\n11,50\nway,kmh\n", ", row 3: way 'way' isn't an integer"), ("to,from,kmh\n1,2,50\n", ", row 1: from 'to' isn't an integer"),
 ])
 def test_wrong_rows(tmp_path, rows, says):
     (tmp_path / "speeds.csv").write_text(rows)
@@ -335,7 +337,7 @@ def test_wrong_rows(tmp_path, rows, says):
 @pytest.mark.parametrize("rows", ["", "1,2,50\n", "-1,2,7.5\n3,4,0\n1,2,.5\n", "5,10\n6,20.\n", "007,10\n"])
 def test_plain_rows(tmp_path, rows):
     """Rows of plain numbers, which are read at once, are those that are read one by one: with quotes, and a blank line behind."""
-    for names in ("", "from,to,kmh\n"):
+    for names in ("", "from,to,kmh\n", "\ufeffWAY,KMH\n", '"from","to","kmh"\n'):
         found = []
         for number, text in enumerate((rows, re.sub(r"^([-0-9]+),", r'"\1",', rows, flags=re.M), f"{rows}\n")):
             (tmp_path / f"{number}.csv").write_text(names + text)

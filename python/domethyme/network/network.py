@@ -2,6 +2,7 @@
 import functools
 import itertools
 import math
+import numbers
 import os
 from collections.abc import Iterable, Iterator, Sequence
 from typing import Any, Literal, overload
@@ -277,7 +278,7 @@ class Network:
             raise ValueError(f'approaches are "unrestricted" or "curb", and not {unknown[0]!r}')
         is_any, curbs = snapping == "any", [each == "curb" for each in wanted_sides]
         limits = [radius if each is None else each for each in each_place("radiuses", radiuses, len(rows))]
-        ranges = [each and bearing_range(each) for each in each_place("bearings", bearings, len(rows))]
+        ranges = [None if each is None else bearing_range(each) for each in each_place("bearings", bearings, len(rows))]
         spots = [(lon, lat) for lon, lat in rows.tolist()]
         points: Iterable[SnappedPoint | None] = self.roads.nearest_within(spots, [math.inf] * len(spots), is_any)
         if any(ranges):
@@ -314,11 +315,11 @@ def trace_of(places: Any, seconds: Sequence[float] | None, deviation: float | Se
     times = None if seconds is None else [float(each) for each in each_place("seconds", seconds, count)]
     if times is not None and not all(before <= behind < math.inf for before, behind in itertools.pairwise(times)):
         raise ValueError("seconds have to be numbers that don't fall")
-    each_deviation = [deviation] * count if isinstance(deviation, (int, float)) else each_place("deviation", deviation, count)
+    each_deviation = [deviation] * count if isinstance(deviation, numbers.Real) else each_place("deviation", deviation, count)
     deviations = [float(each) for each in each_deviation]
     if not all(0 < each <= MAX_DEVIATION for each in deviations):
         raise ValueError(f"a deviation is above 0 and up to {MAX_DEVIATION:g} metres")
-    ranges = [each and bearing_range(each) for each in each_place("bearings", bearings, count)]
+    ranges = [None if each is None else bearing_range(each) for each in each_place("bearings", bearings, count)]
     return Trace([(lon, lat) for lon, lat in rows.tolist()], times, deviations, ranges)
 
 

@@ -10,12 +10,13 @@ import functools
 import io
 import itertools
 import warnings
+from collections.abc import Sequence
 from typing import Any, NamedTuple
 
 import numpy as np
 from numpy.typing import NDArray
 
-from ..arrays import is_pandas
+from ..arrays import is_pandas, whole_numbers
 from ..atomic_files import atomic_write_all
 from ..csv_tables import Row, Table, open_input
 from ..errors import NetworkError
@@ -104,22 +105,27 @@ def read_speeds(path: StrPath) -> Speeds:
     with open_input(path) as stream:
         whole = stream.read()
     names, _, rest = whole.partition(b"\n")
-    has_names = names.rstrip().lower().endswith(b"kmh")
+    has_names = is_names(names.decode("utf-8-sig", "replace").strip().split(","))
     rows = plain_rows(rest if has_names else whole)
     if rows is not None:
         *ids, kmh = (rows[name] for name in rows.dtype.names or ())
         return one_kind(np.column_stack(ids), kmh, np.arange(len(kmh)) + 1 + has_names)
-    return read_rows(Table(path, io.BytesIO(whole), ()), has_names)
+    return read_rows(Table(path, io.BytesIO(whole), ()))
 
 
-def read_rows(table: Table, has_names: bool) -> Speeds:
+def is_names(fields: Sequence[str]) -> bool:
+    """Whether a row has the names of columns."""
+    return tuple(field.lower() for field in fields) in COLUMNS.values()
+
+
+def read_rows(table: Table) -> Speeds:
     """The speeds of a table of rows of both kinds, of which the first may be names. Raises NetworkError for what is wrong."""
     found = {count: (array.array("q"), array.array("d"), array.array("q")) for count in COLUMNS}
     for record in filter(None, itertools.chain([table.columns], iter(table.next_record, None))):
         if (columns := COLUMNS.get(len(record))) is None:
             row = f"a row is FROM,TO,KMH or WAY,KMH{table.form.doubt(record)}"
             raise NetworkError(f"has {len(record)} fields, and {row}", table.path, table.reader.line_num)
-        if table.reader.line_num == 1 and has_names:
+        if table.reader.line_num == 1 and is_names(record):
             continue
         fields = Row(zip(columns, record))
         fields.path, fields.row, fields.form = table.path, table.reader.line_num, table.form
@@ -148,7 +154,7 @@ def plain_rows(text: bytes) -> NDArray[Any] | None:
 
 def one_kind(ids: Ints, kmh: Floats, number: Ints) -> Speeds:
     """The speeds of rows that have the ids of ways, or of two points."""
-    given = SpeedRows(ids.astype(np.int64), kmh, number)
+    given = SpeedRows(ids, kmh, number)
     none = SpeedRows(np.empty((0, 3 - ids.shape[1]), np.int64), np.empty(0), np.empty(0, np.int64))
     return Speeds(given, none) if ids.shape[1] == 1 else Speeds(none, given)
 
@@ -159,14 +165,14 @@ def speeds_of(rows: Any) -> Speeds:
         names = next((names for names in COLUMNS.values() if {*names} <= {*rows.columns}), None)
         if names is None:
             raise ValueError("a frame of speeds has to have the columns from, to and kmh, or way and kmh")
-        columns = [rows[name].to_numpy() for name in names]
+        columns = [*(rows[name].to_numpy() for name in names[:-1]), rows["kmh"].to_numpy(float, na_value=np.nan)]
     else:
-        if not {*map(len, rows)} <= {*COLUMNS} or len({*map(len, rows)}) > 1:
+        listed = list(rows)
+        if len({*map(len, listed)}) > 1 or not {*map(len, listed)} <= {*COLUMNS}:
             raise ValueError("speeds have to be rows (from, to, kmh), or rows (way, kmh)")
-        columns = [np.array(column) for column in zip(*rows)] or [np.empty(0, np.int64)] * 2
+        columns = [np.array(column) for column in zip(*listed)] or [np.empty(0, np.int64)] * 2
     *ids, kmh = columns
-    if any(column.dtype.kind not in "iu" for column in ids):
-        raise ValueError("ids have to be integers")
+    ids = [whole_numbers("ids", column, *INT64) for column in ids]
     speeds = kmh.astype(float)
     if not ((speeds >= 0) & (speeds <= FASTEST)).all():
         raise ValueError(f"kmh isn't from 0 to {FASTEST:g}")
