@@ -114,13 +114,23 @@ def need_hierarchy(options: argparse.Namespace) -> "MappedNetwork | None":
 def refuse_overwriting(
     parser: argparse.ArgumentParser, outputs: Iterable[str | None], inputs: Iterable[str | None]
 ) -> None:
-    """Ends with status 2 where an output is a file that is read too, by whatever name, or by standard input."""
+    """Ends with status 2 where an output is a file that is read too, by whatever name, or by standard input; or another output. What is no
+    regular file, as /dev/null, may be written twice."""
     given = [(path, file) for path in inputs if path is not None and (file := file_at(path)) is not None]
+    written = dict[str, str]()
     for output in outputs:
-        found = None if output in (None, "-") else file_at(str(output))
+        if output is None:
+            continue
+        found = None if output == "-" else file_at(output)
         for path, file in given:
             if found is not None and os.path.samestat(found, file):
                 parser.error(f"{output} and {display_name(path)} are one file: it would be overwritten")
+        # (of files with two names each is written anew, so links alone lead to one)
+        target = output if output == "-" else os.path.realpath(output)
+        if target in written and (output == "-" or found is not None or not os.path.exists(output)):
+            both = "two outputs are standard output" if output == "-" else f"{written[target]} and {output} are one file"
+            parser.error(f"{both}: one would be written over the other")
+        written[target] = output
 
 
 def file_at(path: str) -> os.stat_result | None:

@@ -81,11 +81,8 @@ def parse_args() -> argparse.Namespace:
         parser.error("--on-roads goes with neither --matrix, --skip-far nor --snapped")
     if is_coordinates(options.trips) and not options.matrix:
         parser.error("a .co file has places and no trips: --matrix is needed")
-    if options.snapped == options.output:
-        parser.error("PAIRS and --snapped are one file")
     inputs = [options.trips, options.hierarchy, *paths_of(options.network)]
     refuse_overwriting(parser, [options.output, options.snapped], inputs)
-    refuse_overwriting(parser, [options.output], [options.snapped])
     return options
 
 

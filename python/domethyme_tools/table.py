@@ -72,7 +72,7 @@ def parse_args() -> argparse.Namespace:
     if options.sources == options.targets == "-":
         parser.error("SOURCES and TARGETS can't both be standard input")
     inputs = [options.sources, options.targets, options.hierarchy, *paths_of(options.network)]
-    refuse_overwriting(parser, [options.output, *([options.metres] if options.metres else [])], inputs)
+    refuse_overwriting(parser, [options.output, options.metres], inputs)
     return options
 
 

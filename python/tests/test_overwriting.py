@@ -1,7 +1,12 @@
 """Tests that no tool overwrites or removes a file of its user: outputs that are inputs, and tables that no tool has written."""
+import argparse
+import itertools
 import os
 import subprocess
+import sys
 
+import pytest
+from draws import run_tool
 from tool_case import TOOLS, VILLAGE, ToolCase
 
 import domethyme
@@ -10,6 +15,60 @@ from domethyme.network import from_tables
 NODES = "node,lon,lat\ndepot,0,0\nshop,0.001,0\n"
 ARCS = "from,to,kmh\ndepot,shop,50\nshop,depot,50\n"
 TRIPS = "from_lon,from_lat,to_lon,to_lat\n0,0,0.001,0\n"
+
+
+# A call of each tool, and the files that it writes.
+CALLS = [
+    ("nearest net trips.csv --hierarchy net.rch -o out --snapped more", "out more"),
+    ("to_geojson net answers --trips trips.csv --hierarchy net.rch -o out", "out"),
+    ("table net net.rch places.csv trips.csv -o out.npy --metres more.npy", "out.npy more.npy"),
+    ("reach net net.rch places.csv -o out", "out"), ("match net net.rch places.csv -o out", "out"),
+    ("reweigh net places.csv out --unmatched more", "out.gr out.net more"), ("without net toll out", "out"),
+    ("draw net answers out.svg", "out.svg"), ("page net net.rch out.html", "out.html"),
+    ("to_network places.csv trips.csv out --tables", "out.gr out.net out.nodes.csv out.arcs.csv"),
+    ("osm_to_gr answers out --profile own.json --tables", "out.gr out.net out.nodes.csv out.arcs.csv"),
+]
+OF_NETWORK = ["net.net", "net.gr", "net.nodes.csv", "net.arcs.csv"]
+
+
+@pytest.mark.parametrize("call, outputs", CALLS, ids=[call.split()[0] for call, _ in CALLS])
+def test_no_output_is_an_input(tmp_path, monkeypatch, call, outputs):
+    """By none of its names: the call is refused before anything is read, and nothing is written."""
+    monkeypatch.chdir(tmp_path)
+    tool, *words = call.split()
+    files = [*(OF_NETWORK if "net" in words else []), *(word for word in words if word in ("net.rch", "answers") or word.endswith((".csv", ".json")))]
+    for name in files:
+        (tmp_path / name).write_text(name)
+    with pytest.raises((domethyme.DomethymeError, ValueError)):  # (of the files, not of the words)
+        run_tool(tool, *words)
+    for output, name in itertools.product(outputs.split(), files):
+        os.link(name, output)
+        with pytest.raises(SystemExit) as ended:
+            run_tool(tool, *words)
+        assert ended.value.code == 2 and {path.name: path.read_text() for path in tmp_path.iterdir()} == {**{each: each for each in files}, output: name}
+        os.unlink(output)
+
+
+# Calls whose outputs are one file, or standard output.
+TWICE = [
+    "nearest net trips.csv -o out --snapped ./out", "nearest net trips.csv --snapped -", "reweigh net places.csv out --unmatched out.gr",
+    "reweigh net places.csv out --unmatched ./out.net", "table net net.rch places.csv trips.csv -o out --metres out",
+    "table net net.rch places.csv trips.csv --metres -"
+]
+
+
+@pytest.mark.parametrize("call, outputs", [*((call, "") for call in TWICE), *(row for row in CALLS if " " in row[1])])
+def test_no_output_is_another(tmp_path, monkeypatch, call, outputs):
+    """By none of its names: the call is refused before anything is read, and nothing is written."""
+    monkeypatch.chdir(tmp_path)
+    monkeypatch.setattr(argparse.ArgumentParser, "error", lambda _, text: sys.exit(text))
+    tool, *words = call.split()
+    for link, name in itertools.permutations(outputs.split(), 2) if outputs else [("link", "nothing")]:
+        os.symlink(name, link)
+        with pytest.raises(SystemExit, match="one would be written over the other"):
+            run_tool(tool, *words)
+        assert os.listdir() == [link]
+        os.unlink(link)
 
 
 class OverwritingTests(ToolCase):
@@ -24,37 +83,15 @@ class OverwritingTests(ToolCase):
         self.assertIn(says, self.run_tool(*words, status=status, given=given).stderr)
         self.assertEqual(self.contents(), before)
 
-    def test_outputs_that_are_inputs(self):
+    def test_standard_input(self):
         self.run_tool("to_network", "firm.nodes.csv", "firm.arcs.csv", "net")
         self.write("trips.csv", TRIPS)
-        self.write("answers", "r 1 2 8006 1 1 2\n")
-        self.run_tool("to_geojson", "net", "answers", "-o", "routes.svg")
-        os.link(self.folder / "trips.csv", self.folder / "link.csv")
-        os.symlink("answers", self.folder / "other")
-        for words, says in [
-            (("to_network", "firm.nodes.csv", "firm.arcs.csv", "firm", "--tables"), "firm.nodes.csv and firm.nodes.csv are one file"),
-            (("nearest", "net", "trips.csv", "-o", "trips.csv"), "trips.csv and trips.csv are one file: it would be overwritten"),
-            (("nearest", "net", "trips.csv", "-o", "link.csv"), "link.csv and trips.csv are one file"),
-            (("nearest", "net", "trips.csv", "--snapped", "link.csv"), "link.csv and trips.csv are one file"),
-            (("nearest", "net", "trips.csv", "-o", "net.net"), "net.net and net.net are one file"),
-            (("to_geojson", "net", "answers", "-o", "other"), "other and answers are one file"),
-            (("to_geojson", "net", "answers", "--trips", "trips.csv", "-o", "trips.csv"), "trips.csv and trips.csv are one file"),
-            (("draw", "net", "routes.svg", "routes.svg"), "routes.svg and routes.svg are one file"),
-        ]:
-            with self.subTest(words=words):
-                self.assert_kept(*words, says=says)
-        self.write("x.co", "p aux sp co 2\nv 1 0 0\nv 2 1000 0\n")
-        self.write("x.gr", "p sp 2 1\na 1 2 7\n")
-        self.assert_kept("to_network", "x.co", "x.gr", "x", says="x.gr and x.gr are one file")
-        (self.folder / "map.gr").write_bytes(VILLAGE.read_bytes())
-        self.assert_kept("osm_to_gr", "map.gr", "map", says="map.gr and map.gr are one file")
+        before = self.contents()
         with open(self.folder / "trips.csv", encoding="utf-8") as trips:
-            before = self.contents()
-            ended = subprocess.run(
-                [str(TOOLS / "nearest"), "net", "-", "-o", "trips.csv"], stdin=trips, cwd=self.folder, capture_output=True, text=True
-            )
+            words = [str(TOOLS / "nearest"), "net", "-", "-o", "trips.csv"]
+            ended = subprocess.run(words, stdin=trips, cwd=self.folder, capture_output=True, text=True)
         self.assertEqual((ended.returncode, self.contents()), (2, before))
-        self.assertIn("trips.csv and standard input are one file", ended.stderr)
+        self.assertIn("trips.csv and standard input are one file: it would be overwritten", ended.stderr)
 
     def test_tables_of_a_user(self):
         """They are neither overwritten nor removed, and are never read in place of the network's file."""
