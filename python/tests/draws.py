@@ -76,12 +76,19 @@ def networks(draw: Any, kinds: Sequence[str] = KINDS, most: int = 8, origins: Se
         end = draw(st.integers(0, count - 1))
         inner = [draw(points_near(origin, scale)) for _ in range(draw(st.sampled_from([0, 0, 1, 2, 4])))]
         line = (nodes[start].place, *inner, nodes[end].place)
+        bent = [arc for arc in arcs if len(arc.line) > 2]
+        if bent and draw(st.integers(0, 5)) == 0:  # (by all points of another way)
+            start, end, *_, line = draw(st.sampled_from(bent))[:6]
+            start, end, line = (start, end, line) if draw(st.booleans()) else (end, start, line[::-1])
         texts = way + 1, *(draw(st.sampled_from(some)) for some in (NAMES, REFS, REFS, JUNCTIONS))
         arcs.append(draw_arc(draw, kind, start, end, line, texts))
         if draw(st.booleans()):
             arcs.append(draw_arc(draw, kind, end, start, line[::-1], texts))
         if draw(st.integers(0, 5)) == 0:
             arcs.append(draw_arc(draw, kind, start, end, line, texts))
+    if draw(st.integers(0, 3)) == 0:  # (the column of metres may say more than the line)
+        longer = [arc._replace(metres=round(1.25 * arc.metres, 2)) for arc in arcs]
+        arcs = [arc._replace(weight=round(100 * arc.metres)) for arc in longer] if kind == "distance" else longer
     turns = [(a, b) for a, one in enumerate(arcs) for b, other in enumerate(arcs) if one.end == other.start]
     forbidden = draw(st.sets(st.sampled_from(turns), max_size=4)) if turns and draw(st.integers(0, 2)) == 0 else set()
     roads = Network(nodes, arcs, forbidden, draw(st.booleans()))

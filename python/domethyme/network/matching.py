@@ -25,6 +25,7 @@ from .bearings import BearingRange, bearing_at
 from .columns import UNITS
 from .geo import Point, metres_between
 from .groups import Ints, expand, offsets
+from .leg_geometry import driven_thousandths
 from .leg_tables import Ends
 from .legs import EMPTY_LEG, Between, Leg, find_each, leg_without_nodes
 from .parallel import differs_from_previous
@@ -240,7 +241,7 @@ class Matcher:
         if metres is None or metres < 0:
             return 0.0 if metres is not None and -metres < behind else None
         leg = leg_without_nodes(self._roads, start, end)
-        return metres if leg is not None and leg.weight <= weight else None
+        return driven_thousandths(self._roads.arrays.arc_metres, leg) / 1000 if leg is not None and leg.weight <= weight else None
 
     # The way by these states
 

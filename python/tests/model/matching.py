@@ -126,13 +126,18 @@ def way_metres(network: Network, request: Request, step: tuple[int, int], start:
     """The metres from a state to one of the next point; None where there is no way."""
     if stands(network, start, end, deviations(request)[step[1]]):
         return 0.0
-    found = [sum(network.arcs[arc].metres * (stop - begin) for arc, begin, stop, _ in leg) for leg in network.legs(start, end)]
-    if found and max(found) - min(found) > METRES:
+    found = {sum(millimetres(network.arcs[arc].metres, begin, stop) for arc, begin, stop, _ in leg) for leg in network.legs(start, end)}
+    if len(found) > 1:
         raise Ambiguous
-    more = found[0] - apart(request, *step) if found else math.inf
-    if near(more, DETOUR):
+    metres = found.pop() / 1000 if found else math.inf
+    if near(metres - apart(request, *step), DETOUR):
         raise Ambiguous
-    return found[0] if more <= DETOUR else None
+    return metres if metres - apart(request, *step) <= DETOUR else None
+
+
+def millimetres(metres: float, begin: float, stop: float) -> int:
+    """Those between two shares of an arc: whole ones before each, as answers have them."""
+    return round(stop * round(1000 * metres)) - round(begin * round(1000 * metres))
 
 
 def chain(network: Network, request: Request, numbers: Sequence[int]) -> tuple[list[int], list[tuple[list[SnappedPoint], float]]]:
