@@ -96,21 +96,6 @@ def test_island_lake_and_bridge(made_town):
     assert not area.contains(Point(middle[0] - 180 / MILLI / 1000, middle[1]))
 
 
-def test_nodes_in_one_place_that_differ(made_town):
-    """The motorway over the street: many squares of the grid have nodes of both kinds."""
-    net, _ = made_town
-    found = lengths(net, {430: 0})
-    reach = Reach(net, found, [80_000])
-    (mesh,) = meshes_of(reach)
-    of_square = {}
-    for points, levels in reach.nodes_near(mesh.box):
-        numbers, is_on = mesh.nearest(points)
-        rows, columns = np.divmod(numbers, mesh.width)
-        for square, level in zip(zip((rows // 2).tolist(), (columns // 2).tolist()), levels[is_on].tolist()):
-            of_square.setdefault(square, set()).add(level)
-    assert sum(len(levels) > 1 for levels in of_square.values()) > 3
-
-
 def test_limits_that_differ_much(made_roads):
     """Some grids, one within the other: contours are nested, of one piece where their boxes meet, and drawn on the grid of
     the smallest box that they pass."""

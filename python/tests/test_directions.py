@@ -11,11 +11,11 @@ import numpy as np
 import pandas
 import pytest
 from comparing import difference, is_same_line
-from draws import drawn, networks, places, write_network
+from draws import Drawn, drawn, networks, places, write_network
 from hypothesis import given
 from hypothesis import strategies as st
 from model.answers import Refused, figures, leg_line, straight_legs
-from model.network import Ambiguous, Network
+from model.network import Ambiguous, Arc, Network, Node
 from reach_case import Road, prepared
 from tool_case import VILLAGE, ToolCase
 
@@ -91,12 +91,33 @@ def test_points_of_another_network(made: Any, data: Any) -> None:
             hierarchy.directions(hierarchy.network.points_on_roads(spots, math.inf), bearings=[None] * len(spots))
 
 
-@drawn(60)
+@st.composite
+def forks(draw: Any) -> Drawn:
+    """A way of three arcs, from node 0 to node 3, and others that leave it, or one another, and come back with little more weight."""
+    ways, nodes, arcs = [[0, 1, 2, 3]], [(0.004 * number, 0.0) for number in range(4)], dict[tuple[int, int], int]()
+    for step in itertools.pairwise(ways[0]):
+        arcs[step] = draw(st.integers(300, 900))
+    for number in range(1, draw(st.integers(3, 6))):
+        way = draw(st.sampled_from(ways))
+        begin, end = sorted(draw(st.lists(st.integers(0, len(way) - 1), min_size=2, max_size=2, unique=True)))
+        whole = sum(arcs[step] for step in itertools.pairwise(way[begin : end + 1])) * draw(st.integers(101, 125)) // 100
+        inner = [len(nodes), len(nodes) + 1]
+        nodes += [(0.003 + 0.003 * side, 0.001 * number) for side in (0, 1)]
+        new = way[begin], *inner, way[end]
+        arcs |= zip(itertools.pairwise(new), (whole // 20, whole - whole // 20 * 2, whole // 20))
+        ways.append([*way[:begin], *new, *way[end + 1 :]])
+    rows = [Arc(*step, weight, 0.0, 100.0, (nodes[step[0]], nodes[step[1]]), row + 1) for row, (step, weight) in enumerate(arcs.items())]
+    roads = Network([Node(*place) for place in nodes], rows)
+    return Drawn(roads, roads, False)
+
+
+@drawn(120)
 @given(st.data())
 def test_alternatives(data: Any) -> None:
     """Each other leg is a path, differs enough, and has a plateau, by the model's lengths; no part that weighs less could be shorter."""
-    made = data.draw(networks())
-    spots = data.draw(places(made.roads, 2))
+    made = data.draw(st.one_of(networks(), forks()))
+    is_fork = made.roads.unit == "weight" and len(made.roads.nodes) > 8
+    spots = [made.roads.nodes[node].place for node in (0, 3)] if is_fork else data.draw(places(made.roads, 2))
     with tempfile.TemporaryDirectory() as folder:
         write_network(made, pathlib.Path(folder) / "net")
         hierarchy = domethyme.Hierarchy(f"{folder}/net.rch", network=f"{folder}/net")

@@ -7,7 +7,8 @@ import json
 import re
 import xml.etree.ElementTree as xml
 
-from tool_case import ToolCase
+from draws import run_tool
+from tool_case import ToolCase, contrast
 
 from domethyme.drawing import geometry
 
@@ -38,13 +39,6 @@ NO_WAY = {"type": "Feature", "properties": {"trip": "nowhere", "metres": None, "
 ACROSS = [[0, 0], [0.01, 0.0056], [0, 0.0056], [0.01, 0], [0, 0]]
 
 
-def luminance(colour):
-    """The relative luminance of a colour #rrggbb, by WCAG 2."""
-    parts = [int(colour[place : place + 2], 16) / 255 for place in (1, 3, 5)]
-    linear = [part / 12.92 if part <= 0.04045 else ((part + 0.055) / 1.055) ** 2.4 for part in parts]
-    return 0.2126 * linear[0] + 0.7152 * linear[1] + 0.0722 * linear[2]
-
-
 def told(legend_or_title):
     return "".join(legend_or_title.itertext())
 
@@ -66,12 +60,12 @@ class DrawCase(ToolCase):
 
     def picture_of(self, *features, words=("--label", "trip")):
         """The root of a picture of the features, without the names of its space."""
-        self.run_tool("draw", "net", self.routes(*features), "out.svg", *words)
+        run_tool("draw", self.folder / "net", self.routes(*features), self.folder / "out.svg", *words)
         return xml.fromstring((self.folder / "out.svg").read_text().replace(' xmlns="http://www.w3.org/2000/svg"', ""))
 
     def page_of(self, *features, words=("--label", "trip")):
         """The text of a page of the features, and what its script is given."""
-        self.run_tool("draw", "net", self.routes(*features), "out.html", *words)
+        run_tool("draw", self.folder / "net", self.routes(*features), self.folder / "out.html", *words)
         text = (self.folder / "out.html").read_text()
         data = re.search(r'<script type="application/json" id="data">\n(.*)\n</script>', text)
         return text, json.loads(data[1])
@@ -187,7 +181,7 @@ class Picture(DrawCase):
         self.assertEqual(len(set(colours) - {"#fff"}), 11)
         for colour in set(colours) - {"#fff"}:
             with self.subTest(colour=colour):
-                self.assertGreaterEqual((luminance("#fbfaf8") + 0.05) / (luminance(colour) + 0.05), 3)
+                self.assertGreaterEqual(contrast("#fbfaf8", colour), 3)
 
     def test_tunnels_are_dashed(self):
         rows = ARCS.replace(",WKT", ",structure,WKT").replace(',"LINE', ',,"LINE').replace("Slip,,", "Slip,tunnel,")
@@ -293,7 +287,7 @@ class Page(DrawCase):
         found = re.findall(r"^\.colour-\d { --light: (#\w{6}); --dark: (#\w{6}); }$", text, re.M)
         self.assertEqual(len(found), 8)
         for colour in [dark for _, dark in found] + [road["dark"] for road in data["roads"]]:
-            self.assertGreaterEqual((luminance(colour) + 0.05) / (luminance("#1b1c1f") + 0.05), 3, colour)
+            self.assertGreaterEqual(contrast("#1b1c1f", colour), 3, colour)
 
     def test_nothing_is_asked_of_a_network(self):
         text, data = self.page_of(EAST)
@@ -443,23 +437,13 @@ class Geometry(ToolCase):
         self.assertAlmostEqual(north, 0.359725, 6)
         self.assertAlmostEqual(south, 1, 4)
 
-    def test_view(self):
-        view = geometry.View(geometry.Box(0.25, 0.25, 0.5, 0.75), 100)
-        self.assertEqual(view.height, 200)
-        self.assertEqual(view.pixels([(0.25, 0.25), (0.5, 0.75), (0.3125, 0.5)]), [(0, 0), (100, 200), (25, 100)])
-
     def test_pixel_on_the_ground(self):
         # At 60 degrees north a degree of longitude is half of 111195.08 m; the line is a tenth of a degree, in 100 pixels.
         view = geometry.View(geometry.box_of(geometry.to_mercator([(9, 60), (9.1, 60)])), 100)
         self.assertAlmostEqual(view.metres_of_a_pixel, 55.59754, 4)
 
-    def test_box(self):
-        box = geometry.box_of([(0.5, 0.25), (0.25, 0.5)])
-        self.assertEqual(box, geometry.Box(0.25, 0.25, 0.5, 0.5))
-        self.assertEqual(box.grown(0.25), geometry.Box(0, 0, 0.75, 0.75))
-        self.assertEqual(box.shaped(2, 4), geometry.Box(0.25, 0.125, 0.5, 0.625))
-        self.assertEqual(box.shaped(0.25, 0.5), geometry.Box(0.125, 0.25, 0.625, 0.5))
-        self.assertEqual(box.shaped(0.5, 2), box)
+    def test_boxes_that_meet(self):
+        box = geometry.Box(0.25, 0.25, 0.5, 0.5)
         self.assertTrue(box.meets(geometry.Box(0.5, 0, 1, 0.25)))
         self.assertFalse(box.meets(geometry.Box(0.51, 0, 1, 1)))
         self.assertFalse(box.meets(geometry.Box(0, 0.51, 1, 1)))
@@ -475,10 +459,6 @@ class Geometry(ToolCase):
         self.assertEqual(found[2], [(0, [b, c])])
         self.assertEqual(geometry.overlap_pieces([[a, b], [a, b], [a, b], []], 1)[0], [(1, [a, b])])
 
-    def test_path(self):
-        self.assertEqual(geometry.path_of([(1, 2), (1.04, 2), (3.5, -2.26)]), "M1 2l2.5 -4.3")
-        self.assertEqual(geometry.path_of([(1, 2), (1, 2)]), "M1 2l0 0")
-
     def test_arrows(self):
         bent = [(0, 0), (10, 0), (10, 10)]
         self.assertEqual(geometry.arrows(bent, 8), [((4, 0), (1, 0)), ((10, 2), (0, 1))])
@@ -492,10 +472,6 @@ class Geometry(ToolCase):
             self.assertAlmostEqual(found[0], place[0])
             self.assertAlmostEqual(found[1], place[1])
         self.assertEqual(geometry.point_at_fraction([(5, 6), (5, 6)], 0.5), (5, 6))
-
-    def test_differences(self):
-        line = [(9.5, 47.1), (9.500001, 47.0999996), (9.4, 47.1)]
-        self.assertEqual(geometry.delta_encode(line), [9500000, 47100000, 1, 0, -100001, 0])
 
     def test_scale_bars(self):
         found = [geometry.scale_bar_metres(metres) for metres in (1, 1.99, 4.9, 5, 999, 1000, 2500, 0.3)]

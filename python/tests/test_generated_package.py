@@ -5,6 +5,7 @@ import pathlib
 import shutil
 import tempfile
 from typing import Any
+from unittest import mock
 
 import numpy as np
 import pandas
@@ -18,6 +19,7 @@ from model.reach import reached_lines
 from model.sphere import Point, along
 
 import domethyme
+from domethyme import batch
 
 # Kinds of keys: none, texts that programs take for something else, pairs, and numbers that are others' numbers of nodes.
 ODD = ("NA", "007", "7", "=x", "-1", "a,b", "nan", "", "None")
@@ -49,7 +51,8 @@ class Asked:
 @given(st.data())
 def test_lengths_routes_and_tables(data: Any) -> None:
     made, kind = data.draw(networks([*KINDS, HEAVY])), data.draw(st.sampled_from(sorted(KEYS)))
-    with tempfile.TemporaryDirectory() as folder:
+    rows = mock.patch.object(batch, "rows_at_a_time", return_value=data.draw(st.sampled_from([1, 2, 512])))
+    with tempfile.TemporaryDirectory() as folder, rows:
         asked = Asked(made, pathlib.Path(folder), kind)
         nodes = st.sampled_from(range(len(asked.keys)))
         with asked.hierarchy:

@@ -15,13 +15,14 @@ from draws import (
 )
 from hypothesis import assume, given
 from hypothesis import strategies as st
-from model import answers
+from model import answers, matching
 from model.answers import Refused
 from comparing import decoded, difference
 from model.network import Ambiguous, Arc, Network, Node
 from model.request import Request
 from model.steps import modifier_of
 
+import domethyme
 from domethyme_service import osrm_tables
 from domethyme_service.access import AccessPolicy
 from domethyme_service.dataset import DatasetPaths, open_dataset
@@ -95,8 +96,25 @@ def test_traces(data: Any) -> None:
     made = data.draw(networks(most=5))
     with tempfile.TemporaryDirectory() as folder:
         service = serve(made, pathlib.Path(folder))
-        for _ in range(REQUESTS):
-            check(made, service, *data.draw(requests(made, "match")))
+        with domethyme.Hierarchy(f"{folder}/net.rch", network=f"{folder}/net") as hierarchy:
+            for _ in range(REQUESTS):
+                request, codes = data.draw(requests(made, "match"))
+                check(made, service, request, codes)
+                if not codes:
+                    check_match(hierarchy, request, ask(service, target(request._replace(query={**request.query, "skip_waypoints": "false", "waypoints": ""})))[1])
+
+
+def check_match(hierarchy: domethyme.Hierarchy, request: Request, found: Any) -> None:
+    """The package matches the same points as the service."""
+    seconds = [int(word) for word in request.words("timestamps") if word] or None
+    more: Any = {"gaps": request.value("gaps", "split"), "tidy": request.value("tidy") == "true"}
+    match = hierarchy.match(request.places, seconds, deviation=matching.deviations(request), bearings=request.bearings(), **more)
+    ways: list[list[int]] = [[] for _ in found.get("matchings", [])]
+    for number, point in enumerate(found.get("tracepoints", [])):
+        assert (point is None) == (match.places[number] is None)
+        if point is not None:
+            ways[point["matchings_index"]].append(number)
+    assert [way.points for way in match.matchings] == ways and (ways or not any(match.places))
 
 
 @drawn(40)
@@ -108,6 +126,9 @@ def test_isochrones(data: Any) -> None:
         service = serve(made, pathlib.Path(folder))
         for _ in range(2):
             request, codes = data.draw(requests(made, "isochrone"))
+            ends = sorted({arc.end for arc in made.roads.arcs} - {arc.start for arc in made.roads.arcs})
+            if ends and data.draw(st.booleans()):  # (from which nothing is reached)
+                request = request._replace(places=[made.roads.nodes[data.draw(st.sampled_from(ends))].place])
             limits = {"contours_minutes": ["0.02,0.5", "1,2", "0.1", "1,2,3,4"], "contours_meters": ["50,300", "700"]}
             own = "contours_minutes" if made.roads.unit == "duration" else "contours_meters"
             text, code = data.draw(st.sampled_from([*((text, "") for text in 9 * limits[own]), *((text, "InvalidValue") for text in (*LIMITS, *WRONG))]))
@@ -162,6 +183,8 @@ def test_tiles(data: Any) -> None:
     found = []
     with tempfile.TemporaryDirectory() as folder:
         service = serve(made, pathlib.Path(folder))
+        sides = [*zip(*(point for edge in made.tables.edges for point in edge.line))]
+        assert ask(service, "/map/about")[1]["box"] == [min(sides[0]), min(sides[1]), max(sides[0]), max(sides[1])]
         assert {ask(service, f"/map/roads/{zoom}/{x}/{y}")[0] for x, y in ((1 << zoom, 0), (0, 1 << zoom))} == {400}
         for x, y in itertools.product(range(columns[0] - 1, columns[-1] + 2), range(rows[0] - 1, rows[-1] + 2)):
             for road in ask(service, f"/map/roads/{zoom}/{x}/{y}")[1]["roads"]:

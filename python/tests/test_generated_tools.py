@@ -15,9 +15,11 @@ import pytest
 from draws import ORIGINS, drawn, networks, places, points_near, run_tool, write_network
 from hypothesis import assume, given
 from hypothesis import strategies as st
+from model import matching
 from model.answers import figures, leg_line
-from comparing import Line, difference
+from comparing import Line, Near, difference
 from model.network import Ambiguous, Network, Part, SnappedPoint
+from model.request import Request
 from model.sphere import Point, along, nearest_on_segment
 from tool_case import SECONDS
 
@@ -83,7 +85,7 @@ def test_trips_and_tables(data: Any) -> None:
         write_rows(path / "trips.csv", ["trip", *SOURCES], ([number, *a, *b] for number, (a, b) in enumerate(trips)))
         for name, end in (("sources", 0), ("targets", 1)):
             write_rows(path / f"{name}.csv", ["lon", "lat"], (trip[end] for trip in trips))
-        check_between_nodes(made.tables, path, trips)
+        check_between_nodes(made.tables, path, trips, made.has_keys)
         with contextlib.suppress(Ambiguous):
             check_on_roads(made.roads, path, trips)
 
@@ -93,7 +95,7 @@ def one_junction(network: Network, one: int, other: int) -> bool:
     return one == other or bool(first.ends and last.ends) and (first.place, first.osm) == (last.place, last.osm)
 
 
-def check_between_nodes(network: Network, path: pathlib.Path, trips: list[tuple[Point, Point]]) -> None:
+def check_between_nodes(network: Network, path: pathlib.Path, trips: list[tuple[Point, Point]], has_keys: bool) -> None:
     """`nearest` and its `--snapped`, `table`, and `to_geojson` of what routecli answers."""
     near = [[network.nearest(place, side) for place, side in zip(trip, ("from", "to"))] for trip in trips]
     if any(metres > 1000 for ends in near for _, metres in ends):
@@ -111,12 +113,15 @@ def check_between_nodes(network: Network, path: pathlib.Path, trips: list[tuple[
         assert start in starts and (end == start if stays == {True} else end in ends or True in stays and end == start)
         found = dict(zip(columns, row))
         assert (found["from_node"], found["to_node"]) == (str(start + 1), str(end + 1))
+        assert (found.get("from_key"), found.get("to_key")) == tuple(network.nodes[node].key if has_keys else None for node in (start, end))
         assert abs(float(found["from_metres"]) - away) < 0.051 and abs(float(found["to_metres"]) - end_away) < 0.051
     (path / "answers").write_text(routecli("route", path / "net.rch", path / "pairs"))
     run_tool("to_geojson", path / "net", path / "answers", "--trips", path / "snapped.csv", "-o", path / "routes")
     features = json.loads((path / "routes").read_text())["features"]
     for pair, feature in zip(pairs, features, strict=True):
         length = network.lengths({pair[0]: 0}).get(pair[1])
+        keys = [network.nodes[node].key if has_keys else None for node in pair]
+        assert [feature["properties"].get(name) for name in ("from_key", "to_key")] == keys
         assert feature["properties"]["length"] == length and (feature["geometry"] is None) == (length is None)
         assert (feature["properties"]["seconds"] is None) == (length is None or not network.has_seconds)
         assert length is None or feature["properties"]["arcs"] == network.fewest_arcs(*pair)
@@ -181,10 +186,14 @@ def is_leg(roads: Network, feature: Any, start: SnappedPoint, leg: list[Part], e
     names = [name for name, _ in itertools.groupby(roads.arcs[arc].name for arc, *_ in leg)]
     if [step["name"] for step in found["steps"]] != names:
         return False
+    return has_line(geometry, leg_line(roads, start, leg, end))
+
+
+def has_line(geometry: Any, points: list[Point]) -> bool:
+    """Whether a geometry, in parts where it crosses the 180th meridian, has these points."""
     parts = [geometry["coordinates"]] if geometry["type"] == "LineString" else geometry["coordinates"]
     line = [[lon, lat] for part in parts for lon, lat in part if len(parts) == 1 or abs(lon) != 180]
-    form = {"type": "LineString", "coordinates": line}
-    return not difference(form, Line(leg_line(roads, start, leg, end), "geojson"))
+    return not difference({"type": "LineString", "coordinates": line}, Line(points, "geojson"))
 
 
 @drawn(15)
@@ -214,6 +223,45 @@ def test_reach(data: Any) -> None:
         expected = hierarchy.within(where, shape=shape, **style, **{option: limits})
         assert json.loads((path / "out").read_text()) == json.loads(json.dumps(expected))
         assert expected["attribution"] == "© the town"
+
+
+@drawn(120)
+@given(st.data())
+def test_match(data: Any) -> None:
+    """The ways of a trace, by the deviation of each row, or --deviation where that is empty, and times, where there are any."""
+    made = data.draw(networks(most=3))
+    trace = data.draw(places(made.roads, data.draw(st.sampled_from([2, 3, 4]))))
+    own, common = [data.draw(st.sampled_from(["", "", "5", "20", "1.5"])) for _ in trace], data.draw(st.sampled_from(["", "1", "40"]))
+    times = [*itertools.accumulate(data.draw(st.sampled_from([1, 1, 1, 100])) for _ in trace)] if data.draw(st.booleans()) else []
+    words = {word: data.draw(st.booleans()) for word in ("--tidy", "--ignore-gaps")}
+    query = {"radiuses": ";".join(each or common for each in own), "timestamps": ";".join(map(str, times))}
+    query |= {"tidy": "true"} if words["--tidy"] else {}
+    request = Request("match", trace, query | ({"gaps": "ignore"} if words["--ignore-gaps"] else {}))
+    with tempfile.TemporaryDirectory() as folder:
+        path = pathlib.Path(folder)
+        write_network(made, path / "net")
+        rows = ([lon, deviation, lat, *time] for (lon, lat), deviation, *time in zip(trace, own, *([times] if times else [])))
+        write_rows(path / "trace.csv", ["lon", "deviation", "lat", *(["seconds"] if times else [])], rows)
+        more = [*(["--deviation", common] if common else []), *(word for word in words if words[word])]
+        run_tool("match", path / "net", path / "net.rch", path / "trace.csv", "-o", path / "out", *more)
+        features = json.loads((path / "out").read_text())["features"]
+    with contextlib.suppress(Ambiguous):
+        wanted = matching.ways(made.roads, request)
+        assert len(features) == len(wanted), (features, wanted)
+        for feature, options in zip(features, wanted):
+            assert any(is_way(made.roads, feature, way) for way in options), (feature, options)
+
+
+def is_way(roads: Network, feature: Any, way: matching.Way) -> bool:
+    found, total = feature["properties"], figures(roads, *way.legs)
+    expected = {
+        "weight": sum(part[3] for leg in way.legs for part in leg), "seconds": total["duration"], "metres": total["distance"],
+        "confidence": Near(0.5, 0.5), "rows": [number + 2 for number in way.numbers]
+    }
+    steps = zip(itertools.pairwise(way.places), way.legs)
+    return not difference(found, expected) and has_line(feature["geometry"], [
+        point for (start, end), leg in steps for point in leg_line(roads, start, leg, end)
+    ])
 
 
 @st.composite

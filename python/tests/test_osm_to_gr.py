@@ -15,7 +15,6 @@ from domethyme.network.tables import ALL_ARC_COLUMNS, read_attribution
 # 400302.289 ms; so 1 step at 50 km/h 8006.05 ms, at 30 km/h 13343.41, at 15 km/h 26686.82, at 30 mph (48.28032 km/h)
 # 8291.21; 2 steps at 30 km/h 26686.82, at 40 km/h 20015.11, at 50 km/h 16012.09, at 60 km/h 13343.41, at 120 km/h
 # 6671.70, at 130 km/h 6158.50; and 5/3 steps at 100 km/h 6671.70.
-CENTIMETRES = {0: 1, 1: 11120, 5 / 3: 18533, 2: 22239}
 FIRST_CUT, SECOND_CUT, RING_CUT = "(-1.667, 0.000)", "(-3.333, 0.000)", "(-5.500, 0.500)"
 
 # The pieces of road: way, from, to, steps, and the milliseconds forward and backward. Nodes are named as in the map, and
@@ -63,13 +62,6 @@ def arcs_by_time(pieces):
     return collections.Counter(forward + backward)
 
 
-def arcs_by_length(pieces):
-    """The same by length."""
-    forward = [(way, start, end, CENTIMETRES[steps]) for way, start, end, steps, there, _ in pieces if there]
-    backward = [(way, end, start, CENTIMETRES[steps]) for way, start, end, steps, _, back in pieces if back]
-    return collections.Counter(forward + backward)
-
-
 class NetworkCase(ToolCase):
     """Tests that read the network that they have made in their folder."""
 
@@ -102,10 +94,6 @@ class Village(NetworkCase):
     def test_arcs_are_those_of_the_drawing(self):
         self.convert()
         self.assertEqual(self.drawn(), arcs_by_time(DRAWING))
-
-    def test_weights_by_length(self):
-        self.convert("--weight", "length")
-        self.assertEqual(self.drawn(), arcs_by_length(DRAWING))
 
     def test_islands_are_kept_where_asked_for(self):
         self.convert("--keep-islands")
@@ -203,35 +191,26 @@ class Village(NetworkCase):
 class Forms(NetworkCase):
     """The village in other orders and formats gives the same files."""
 
-    def assert_the_same_network(self, source):
-        self.convert()
-        self.convert(source=source, out="other")
-        self.assertEqual(self.files("other"), self.files())
-
-    def test_bzip2(self):
+    def test_formats_and_orders(self):
+        """Of bzip2, of PBF, and with ways before nodes and nodes from the last to the first."""
         (self.folder / "village.osm.bz2").write_bytes(bz2.compress(VILLAGE.read_bytes()))
-        self.assert_the_same_network("village.osm.bz2")
-
-    def test_pbf(self):
         write_map(self.folder / "village.osm.pbf", VILLAGE)
-        self.assert_the_same_network("village.osm.pbf")
-
-    def test_ways_before_nodes_and_nodes_from_the_last_to_the_first(self):
         tree = xml.parse(VILLAGE)
-        root = tree.getroot()
-        objects = list(root)
-        root[:] = [entry for entry in objects if entry.tag == "way"] + [
-            entry for entry in reversed(objects) if entry.tag != "way"
-        ]
+        ways, others = ([entry for entry in tree.getroot() if (entry.tag == "way") == is_way] for is_way in (True, False))
+        tree.getroot()[:] = ways + others[::-1]
         tree.write(self.folder / "turned.osm")
-        self.assert_the_same_network("turned.osm")
+        self.convert()
+        for source in ("village.osm.bz2", "village.osm.pbf", "turned.osm"):
+            with self.subTest(source=source):
+                self.convert(source=source, out="other")
+                self.assertEqual(self.files("other"), self.files())
 
     def test_way_order_changes_the_numbers_only(self):
         tree = xml.parse(VILLAGE)
         tree.getroot()[:] = list(reversed(tree.getroot()))
         tree.write(self.folder / "turned.osm")
-        self.convert("--weight", "length", source="turned.osm")
-        self.assertEqual(self.drawn(), arcs_by_length(DRAWING))
+        self.convert(source="turned.osm")
+        self.assertEqual(self.drawn(), arcs_by_time(DRAWING))
 
     def test_negative_ids(self):
         text = VILLAGE.read_text(encoding="utf-8")

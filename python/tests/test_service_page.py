@@ -10,7 +10,7 @@ import unittest
 import pytest
 from browser import Browser
 from service_case import ServiceCase
-from tool_case import PYTHON, read_rows
+from tool_case import PYTHON, contrast, read_rows
 
 import domethyme
 from domethyme.network.geo import parse_linestring
@@ -99,16 +99,6 @@ class ColourTests(unittest.TestCase):
                 for front, back in pairs:
                     with self.subTest(front=front, back=back):
                         self.assertGreaterEqual(contrast(colours[front], colours[back]), least)
-
-
-def contrast(*colours):
-    """The ratio of two colours, by the Web Content Accessibility Guidelines."""
-    lights = []
-    for colour in colours:
-        parts = [int(colour[place : place + 2], 16) / 255 for place in (1, 3, 5)]
-        linear = [part / 12.92 if part <= 0.04045 else ((part + 0.055) / 1.055) ** 2.4 for part in parts]
-        lights.append(0.2126 * linear[0] + 0.7152 * linear[1] + 0.0722 * linear[2])
-    return (max(lights) + 0.05) / (min(lights) + 0.05)
 
 
 @pytest.mark.needs("chromium")

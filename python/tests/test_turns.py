@@ -1,10 +1,6 @@
-"""Tests of turn restrictions: a crossing with figures by hand, relations of all kinds, and a search over turns."""
-import itertools
-
+"""Tests of turn restrictions: the nodes of a crossing, relations of all kinds, and a search over turns."""
 from tool_case import VILLAGE, ToolCase, read_rows
 
-from domethyme import find_program
-from domethyme.dimacs import read_answers
 from domethyme.maps.turn_restrictions import Member, Restriction, restrictions_of
 from domethyme.network.columns import ENDS
 from domethyme.network.from_tables import read_nodes
@@ -32,30 +28,18 @@ def crossing(*restrictions):
 
 
 class CrossingTests(ToolCase):
-    def lengths(self, *options):
-        """The steps from each of the places to each, by nearest and the program, where who comes from the west may not turn north."""
-        self.write("map.osm", crossing((2, 3, {"restriction": "no_left_turn"})))
-        self.said = self.run_tool("osm_to_gr", "map.osm", "map", "--tables", *options).stderr
-        rows = [f"{x / 1000},{y / 1000}" for x, y in PLACES.values()]
-        self.write("places.csv", "\n".join(["lon,lat", *rows]) + "\n")
-        self.run_tool("nearest", "map", "places.csv", "--matrix", "--radius", "1", "-o", "pairs")
-        self.write("answers", self.run_program([find_program(), "answer", "map.gr", "pairs"]).stdout)
-        pairs = itertools.product(PLACES, repeat=2)
-        return {pair: answer.length / STEP for pair, answer in zip(pairs, read_answers(self.folder / "answers"), strict=True)}
-
     def test_no_turn(self):
-        # from the west not north: on to the east or south, back, and then north; all else is as where each turn may be taken
-        free = {(start, end): (start != end) * ((start != 1) + (end != 1)) for start, end in itertools.product(PLACES, repeat=2)}
-        self.assertEqual(self.lengths(), free | {(2, 3): 4})
-        self.assertIn("osm_to_gr: junctions split by turn restrictions: 1\n", self.said)
+        """A crossing where who comes from the west may not turn north: what is said, and its nodes."""
+        self.write("map.osm", crossing((2, 3, {"restriction": "no_left_turn"})))
+        said = self.run_tool("osm_to_gr", "map.osm", "map", "--tables").stderr
+        self.assertIn("osm_to_gr: junctions split by turn restrictions: 1\n", said)
         # 4 arcs to the crossing lead to 2 nodes each; 4 lead on from where routes begin, and 3 for who came from the west
-        self.assertIn("osm_to_gr: map: 7 nodes, 15 arcs, 0.4 km of road\n", self.said)
+        self.assertIn("osm_to_gr: map: 7 nodes, 15 arcs, 0.4 km of road\n", said)
         self.assertEqual(sorted(node.ends for node in read_rows(self.folder / "map.nodes.csv")), ["", "", "", "", "from", "no", "to"])
         rows = (self.folder / "map.nodes.csv").read_text().splitlines()
         self.write("older.csv", "\n".join(row.rpartition(",")[0] for row in rows) + "\n")  # (without the column ends)
         nodes = read_nodes(self.folder / "older.csv").arrays
         self.assertEqual({ENDS[each] for each in nodes.columns["node_ends"]}, {""})
-        self.assertEqual(self.lengths("--ignore-turn-restrictions"), free)
 
 
 class RelationTests(ToolCase):

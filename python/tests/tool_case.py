@@ -88,6 +88,16 @@ class ToolCase(unittest.TestCase):
         return path
 
 
+def contrast(*colours: str) -> float:
+    """The ratio of two colours, by the Web Content Accessibility Guidelines."""
+    lights = []
+    for colour in colours:
+        parts = [int(colour[place : place + 2], 16) / 255 for place in (1, 3, 5)]
+        linear = [part / 12.92 if part <= 0.04045 else ((part + 0.055) / 1.055) ** 2.4 for part in parts]
+        lights.append(0.2126 * linear[0] + 0.7152 * linear[1] + 0.0722 * linear[2])
+    return (max(lights) + 0.05) / (min(lights) + 0.05)
+
+
 def is_running(number: int) -> bool:
     """Whether a process runs; one that has ended, and that its parent hasn't waited for, doesn't."""
     try:
