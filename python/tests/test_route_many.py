@@ -125,10 +125,10 @@ class RouteManyCase(ToolCase):
         self.before = sorted({*self.before, log})
         return process
 
-    def start_many(self, *words, hierarchy="network.rch", environment=()):
+    def start_many(self, *words, hierarchy="network.rch"):
         """route_many over the pairs into `out`, as it runs beside the test; what it says goes to the file `said`."""
         words = [TOOLS / "route_many", hierarchy, "pairs", "out", "--pairs-per-part", PART, *words]
-        return self.start([*environment, *words], "said")
+        return self.start(words, "said")
 
     def held_at(self, part, *words, **more):
         """A run whose program is held at a part, once it is there; and that program."""
@@ -680,7 +680,7 @@ class DaskTests(RouteManyCase):
 
     def test_the_scheduler_goes_away(self):
         self.start_workers("one")
-        run, program = self.held_at("000003.pairs", "--dask", "scheduler.json", environment=[f"{CONNECT}=2s"])
+        run, program = self.held_at("000003.pairs", "--dask", "scheduler.json")
         end(self.scheduler)
         self.assert_ends(run, 1)
         said = "the scheduler went away; the same call resumes with the parts that are done"
