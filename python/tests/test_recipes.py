@@ -48,6 +48,7 @@ def moved_village(folder):
     return folder / "li.osm"
 
 
+@pytest.mark.needs("curl")
 def test_from_osrm(tmp_path):
     """Each command of docs/FROM_OSRM.md, in a folder with the clone's tools and the village in the place of its map; the service answers."""
     page = (ROOT / "docs/FROM_OSRM.md").read_text(encoding="utf-8")
@@ -175,6 +176,7 @@ class RecipeTests(NginxCase):
         self.wait_for(lambda: is_taken(words[-1].removeprefix("unix:")))
         return process
 
+    @pytest.mark.needs("curl")
     def test_each_night(self):
         self.machine()
         served = self.folder / "var/lib/domethyme"
