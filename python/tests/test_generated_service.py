@@ -4,6 +4,7 @@ import itertools
 import json
 import math
 import pathlib
+import re
 import tempfile
 import urllib.parse
 from collections.abc import Mapping, Sequence
@@ -133,6 +134,19 @@ def test_isochrones(data: Any) -> None:
             own = "contours_minutes" if made.roads.unit == "duration" else "contours_meters"
             text, code = data.draw(st.sampled_from([*((text, "") for text in 9 * limits[own]), *((text, "InvalidValue") for text in (*LIMITS, *WRONG))]))
             check(made, service, request._replace(query={own: text, **request.query}), codes | ({code} - {""}))
+
+
+@drawn(8)
+@given(st.data())
+def test_isochrones_beside_a_pole(data: Any) -> None:
+    """Whatever they have there, it is on the earth."""
+    made = data.draw(networks(["distance"], most=4, origins=[(30.0, 89.9935)]))
+    lon, lat = max((made.roads.nodes[arc.start] for arc in made.roads.arcs), key=lambda node: node.lat).place
+    assume(made.roads.unit == "distance")
+    with tempfile.TemporaryDirectory() as folder:
+        found = ask(serve(made, pathlib.Path(folder)), f"/isochrone/v1/car/{lon:.7f},{lat:.7f}?contours_meters=500")[1]["features"]
+    texts = re.findall(r"\[([-.0-9e]+), ([-.0-9e]+)\]", str(found))
+    assert all(abs(float(east)) <= 180 and abs(float(north)) <= 90 for east, north in texts)
 
 
 def test_each_text_of_a_parameter(tmp_path: pathlib.Path) -> None:

@@ -118,11 +118,12 @@ def are_nested(contours: Sequence[list[Polygon]]) -> bool:
 
 
 def split(polygons: Sequence[Polygon]) -> list[Polygon]:
-    """Polygons whose longitudes may go beyond 180, in parts none of which crosses the 180th meridian (RFC 7946, 3.1.9)."""
+    """Polygons whose longitudes may go beyond 180, in parts none of which crosses the 180th meridian (RFC 7946, 3.1.9), or has what is
+    beyond a pole."""
     found: list[Polygon] = []
     for polygon in polygons:
-        west, _, east, _ = polygon.bounds
-        if -180 <= west and east <= 180:
+        west, south, east, north = polygon.bounds
+        if -180 <= west and east <= 180 and -90 <= south and north <= 90:
             found.append(polygon)
             continue
         for turn in (-360.0, 0.0, 360.0):
