@@ -268,9 +268,10 @@ def cell(
     scale, speed = float(request.value("scale_factor", "1")), float(request.value("fallback_speed", "0"))
     totals = [figures(network, leg) for leg in legs]
     if not legs and speed:
-        places = [point.place for point in points] if request.value("fallback_coordinate") == "snapped" else request.places
-        metres = metres_between(*(places[number] for number in pair))
-        guess: dict[str, Any] = {"duration": Near(metres / speed, METRES), "distance": Near(metres, METRES)}
+        is_snapped = request.value("fallback_coordinate") == "snapped"  # (the metres are between the points as they are shown)
+        metres = metres_between(*(points[number].place if is_snapped else request.places[number] for number in pair))
+        off = (STANDING / speed, STANDING) if is_snapped else (METRES, METRES)
+        guess: dict[str, Any] = {"duration": Near(metres / speed, off[0]), "distance": Near(metres, off[1])}
         totals = [{**guess, "weight": guess.get(network.unit)}]
     for total in totals:
         if duration := total["duration"]:
