@@ -1,4 +1,5 @@
 """Routes, tables and tours between places on roads: by the model on drawn networks, and orders of tours by plain enumeration."""
+import contextlib
 import functools
 import itertools
 import math
@@ -14,6 +15,7 @@ from comparing import difference, is_same_line
 from draws import Drawn, drawn, networks, places, write_network
 from hypothesis import given
 from hypothesis import strategies as st
+from model.alternatives import alternatives as every_alternative
 from model.answers import Refused, figures, leg_line, straight_legs
 from model.network import Ambiguous, Arc, Network, Node
 from reach_case import Road, prepared
@@ -36,12 +38,14 @@ def test_as_the_model(data: Any) -> None:
     bearings = data.draw(st.lists(st.sampled_from([None, None, (0, 60), (90, 20), (270, 180)]), min_size=len(spots), max_size=len(spots)))
     approaches = data.draw(st.lists(st.sampled_from([None, "curb"]), min_size=len(spots), max_size=len(spots)))
     radiuses = data.draw(st.lists(st.sampled_from([None, 60.5, math.inf]), min_size=len(spots), max_size=len(spots)))
+    if data.draw(st.integers(0, 4)) == 0:
+        radiuses[data.draw(st.integers(0, len(spots) - 1))] = data.draw(st.sampled_from([0, 2]))
     with tempfile.TemporaryDirectory() as folder:
         write_network(made, pathlib.Path(folder) / "net")
         hierarchy = domethyme.Hierarchy(f"{folder}/net.rch", network=f"{folder}/net")
         try:
             rows = zip(spots, radiuses, bearings, approaches)
-            points = [made.roads.snap(spot, radius or 1000.0, each, side == "curb") for spot, radius, each, side in rows]
+            points = [made.roads.snap(spot, 1000.0 if radius is None else radius, each, side == "curb") for spot, radius, each, side in rows]
         except Ambiguous:
             return
         if None in points:
@@ -115,9 +119,10 @@ def forks(draw: Any) -> Drawn:
 @given(st.data())
 def test_alternatives(data: Any) -> None:
     """Each other leg is a path, differs enough, and has a plateau, by the model's lengths; no part that weighs less could be shorter."""
-    made = data.draw(st.one_of(networks(), forks()))
-    is_fork = made.roads.unit == "weight" and len(made.roads.nodes) > 8
-    spots = [made.roads.nodes[node].place for node in (0, 3)] if is_fork else data.draw(places(made.roads, 2))
+    is_fork = data.draw(st.booleans())
+    made = data.draw(forks() if is_fork else networks())
+    shares = data.draw(st.tuples(st.sampled_from([0.0, 0.0, 0.7, 1.9, 2.4]), st.sampled_from([12.0, 12.0, 11.2, 10.1, 9.6])))
+    spots = [(0.001 * share, 0.0) for share in shares] if is_fork else data.draw(places(made.roads, 2))
     with tempfile.TemporaryDirectory() as folder:
         write_network(made, pathlib.Path(folder) / "net")
         hierarchy = domethyme.Hierarchy(f"{folder}/net.rch", network=f"{folder}/net")
@@ -141,6 +146,18 @@ def test_alternatives(data: Any) -> None:
             check_alternative(made.tables, hierarchy.network.roads.arrays, leg, sides, first.weight)
             for other in [first, *found[:place]]:
                 assert sum(weight for arc, weight in zip(leg.arcs, leg.weights) if arc in other.arcs) <= 0.75 * first.weight
+        if is_fork:
+            check_all(made.roads, hierarchy.network.roads.arrays, spots, found)
+
+
+def check_all(net: Network, arrays: Any, spots: list[Any], found: list[Any]) -> None:
+    """Of ways that fork none is missing, and they come in order."""
+    points = [net.snap(spot, 1000.0) for spot in spots]
+    assert points[0] and points[1]
+    with contextlib.suppress(Ambiguous):
+        wanted = [[(*net.arcs[arc][:2], weight) for arc, *_, weight in way] for way in every_alternative(net, points[0], points[1])]
+        shown = [zip(arrays.arc_from[leg.arcs].tolist(), arrays.arc_to[leg.arcs].tolist(), leg.weights.tolist()) for leg in found]
+        assert [*map(list, shown)] == wanted
 
 
 def check_alternative(net: Network, arrays: Any, leg: Any, sides: list[dict[int, int]], best: int) -> None:
