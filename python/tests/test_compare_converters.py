@@ -1,4 +1,6 @@
-"""Conversions of drawn maps and of the village are those of compare_converters, the second conversion, which sees what is changed."""
+"""Conversions of drawn maps and of the village are those of compare_converters, the second conversion, which sees what is changed; and with turn
+restrictions those of compare_turns, a search over turns."""
+import contextlib
 import pathlib
 import runpy
 import sys
@@ -14,7 +16,7 @@ from tool_case import MANUAL, VILLAGE, ToolCase
 
 from domethyme.errors import MapError
 
-COMPARE = runpy.run_path(str(MANUAL / "compare_converters"))["main"]
+COMPARE, COMPARE_TURNS = (runpy.run_path(str(MANUAL / name))["main"] for name in ("compare_converters", "compare_turns"))
 FERRIES = ["route=ferry", "route=ferry duration=3", "route=ferry duration=7 oneway=yes", "route=ferry motor_vehicle=no", "route=bus"]
 
 
@@ -51,6 +53,20 @@ def test_drawn_maps(text: str, longest: float, weight: str) -> None:
             return
         with mock.patch.object(sys, "argv", ["compare_converters", str(path), out, *words]):
             COMPARE()
+
+
+@drawn(60)
+@given(maps(), st.integers(1, 9), st.booleans())
+def test_drawn_turns(text: str, restrictions: int, has_penalties: bool) -> None:
+    """Of restrictions from ways into others that meet at one node, which vehicles take or don't."""
+    with tempfile.TemporaryDirectory() as folder:
+        path, words = pathlib.Path(folder, "map.osm"), ["--draw", str(restrictions), *["--penalties"] * has_penalties]
+        path.write_text(text)
+        with mock.patch.object(sys, "argv", ["compare_turns", str(path), *words]), contextlib.redirect_stdout(None):
+            try:
+                COMPARE_TURNS()
+            except MapError as error:
+                assert "has no road that the profile takes" in str(error)
 
 
 class CompareConverters(ToolCase):
