@@ -12,14 +12,18 @@ import sys
 import time
 from unittest import mock
 
+import numpy as np
 import pytest
 from dearest import Climber
+from draws import drawn
+from hypothesis import given
+from hypothesis import strategies as st
 from nginx_case import NginxCase
 from service_case import IMPORT, ServiceCase, workers_of
 from test_generated_service import ask, open_service
 from tool_case import ROOT, SECONDS
 
-from domethyme_service import endpoints, slots, worker
+from domethyme_service import endpoints, queries, slots, worker
 from domethyme_service.costs import MOST, SHORT, Meter, NeedsSlot, Size, Work, expected
 from domethyme_service.errors import RequestError
 from domethyme_service.log_stream import LossyWriter
@@ -63,6 +67,29 @@ def test_costs_on_a_map_of_half_a_million_nodes(service, count, query, low, high
 def test_contours_by_metres_cost_what_is_driven_in_minutes(minutes):
     metres = minutes * 130_000 / 60
     assert cost("isochrone", 1, f"contours_meters={metres:.0f}") == pytest.approx(cost("isochrone", 1, f"contours_minutes={minutes}"), rel=0.01)
+
+
+@drawn(60)
+@given(st.integers(1, 10**7), st.integers(0, 10**8), st.integers(0, 40), st.integers(0, 40))
+def test_what_calls_of_the_library_cost(nodes, links, sources, targets):
+    """By the prices of docs/SERVICE.md, of a hierarchy of any size; and how many queries each is."""
+    router, summer, meter, metrics = mock.MagicMock(nodes=nodes), mock.MagicMock(), Meter(), SharedMetrics()
+    router.between.return_value.nodes, summer.table.return_value = [0] * sources, (0, 0)
+    asked = queries.Queries(router, links, metrics, meter, turned=router, summers={"distance": summer, "duration": summer})
+    sides = np.zeros(sources, np.int64), np.zeros(targets, np.int64)
+    a_row = 2 * (1 + min(links, 10 * math.sqrt(nodes) * targets) / 10_000)
+    for call, count, units in [
+        (lambda: asked.length(0, 0), 1, 250), (lambda: asked.route(0, 0), 1, 250 + 1.3 * sources),
+        (lambda: asked.lengths([(0, 0)] * sources), sources, 250 * sources), (lambda: asked.reach([(0, 0)], 1), 1, 0.1 * nodes),
+        (lambda: asked.reach([(0, 0)], 1, True), 1, 0.1 * nodes), (lambda: asked.table(*sides), sources, sources * a_row),
+        (lambda: asked.table_sums(*sides, ["distance"]), sources, 0.5 * sources * targets),
+        (lambda: asked.table_sums(*sides, ["distance", "duration"]), 2 * sources, sources * targets)
+    ]:
+        meter.begin(0, True)
+        before = metrics.own.queries_total
+        with mock.patch.object(queries, "batch"):
+            call()
+        assert (metrics.own.queries_total - before, meter.spent) == (count, pytest.approx(units))
 
 
 def test_a_meter_ends_what_costs_too_much():
