@@ -3,7 +3,7 @@
 
     bench/figures.py [--ranks] [--nodes N] [--rounds ROUNDS]
 
-ratios.svg has the ratios to programs in C++ (speed-quiet.csv), costs.svg processor time and memory against nodes (speed.csv, scale.csv),
+ratios.svg has the ratios to programs in C++ (speed.csv), costs.svg processor time and memory against nodes (speed.csv, scale.csv),
 workers.svg what the processor time of one worker and of four goes into (workers.csv), and ranks.svg the time and the settled nodes of
 a pair against its Dijkstra rank (ranks.csv): the target is the 2^k-th node that Dijkstra's algorithm settles from its source.
 
@@ -110,7 +110,7 @@ def draw_ranks(left: typing.Any, right: typing.Any) -> None:
 
 
 def draw_ratios(axes: typing.Any) -> None:
-    rows = speed_page.compared(speed_page.earlier())
+    rows = speed_page.compared(speed_page.Measured(speed_page.RUNS, speed_page.FACTS))
     for place, row in enumerate(rows):
         middle = statistics.median(row.ratios)
         axes.plot([row.ratios[0], row.ratios[-1]], [place, place], "-", color="tab:blue")

@@ -29,8 +29,6 @@ from kit.counted import parser
 DOCS = pathlib.Path(__file__).resolve().parent.parent / "docs"
 README = DOCS.parent / "README.md"
 RUNS, FACTS = DOCS / "speed.csv", DOCS / "speed.json"
-# Runs of an earlier build on quiet machines, by `depth`: for ratios and tables, of which both sides are of the same rounds.
-EARLIER_RUNS, EARLIER_FACTS, EARLIER_ORDER = DOCS / "speed-quiet.csv", DOCS / "speed-quiet.json", "depth"
 
 NOT_MEASURED = "not measured"
 KINDS = ["random", "near"]
@@ -46,8 +44,7 @@ Rounds = dict[int, float]
 class Measured:
     """What was measured, by network and job."""
 
-    def __init__(self, runs: pathlib.Path, facts: pathlib.Path, order: str = "balanced") -> None:
-        self.order = order
+    def __init__(self, runs: pathlib.Path, facts: pathlib.Path) -> None:
         told = json.loads(facts.read_text())
         self.about, self.networks, self.counts = told["about"], told["networks"], told["pairs"]
         self.runs = collections.defaultdict(list)
@@ -67,14 +64,14 @@ class Measured:
         found = self.rounds(network, job, "megabytes")
         return f"{max(found.values()):,.0f} MB" if found else NOT_MEASURED
 
-    def links(self, network: str, order: str) -> str:
+    def links(self, network: str) -> str:
         """Links of the hierarchy for each arc of the graph."""
-        found = self.networks[network]["links"].get(f"{order} 1")
+        found = self.networks[network]["links"].get("balanced 1")
         return f"{found:.2f}" if found else NOT_MEASURED
 
-    def pair(self, network: str, order: str, kind: str, program: str = "route") -> Rounds:
+    def pair(self, network: str, kind: str, program: str = "route") -> Rounds:
         """What a pair takes beyond loading the file."""
-        whole, loading = (self.rounds(network, f"{program} {order} {each}") for each in [kind, "none"])
+        whole, loading = (self.rounds(network, f"{program} balanced {each}") for each in [kind, "none"])
         return {each: (whole[each] - loading[each]) / self.counts[kind] for each in whole.keys() & loading.keys()}
 
     def instructions(self, network: str, ours: str, theirs: str, less: str = "") -> float | None:
@@ -160,18 +157,18 @@ def times(measured: Measured) -> str:
         cells = []
         for job in ["prepare balanced 1", "prepare balanced 4", "check balanced", "route balanced none"]:
             cells += [measured.time(name, job), measured.memory(name, job)]
-        cells[4:4] = [measured.links(name, "balanced")]
-        cells += [written(median(measured.pair(name, "balanced", kind))) for kind in KINDS]
+        cells[4:4] = [measured.links(name)]
+        cells += [written(median(measured.pair(name, kind))) for kind in KINDS]
         rows.append([measured.title(name), *cells])
     return table(heads, rows)
 
 
-# What is compared with a program in C++ that does the same: a title, and the names of both jobs, by an order.
+# What is compared with a program in C++ that does the same: a title, and the names of both jobs.
 COMPARED = {
-    "preparing, one worker": ("prepare ORDER 1", "textbook"),
-    "loading": ("route ORDER none", "route.cpp ORDER none"),
-    "a random pair": ("route ORDER random", "route.cpp ORDER random"),
-    "a near pair": ("route ORDER near", "route.cpp ORDER near"),
+    "preparing, one worker": ("prepare balanced 1", "textbook"),
+    "loading": ("route balanced none", "route.cpp balanced none"),
+    "a random pair": ("route balanced random", "route.cpp balanced random"),
+    "a near pair": ("route balanced near", "route.cpp balanced near"),
     "a table of 100 x 100, first call": ("table 100 x 100, random first", "table.cpp 100 x 100, random first"),
     "a table of 1,000 x 1,000, first call": ("table 1,000 x 1,000, random first", "table.cpp 1,000 x 1,000, random first"),
     "a later call": ("table 1,000 x 1,000, random kept", "table.cpp 1,000 x 1,000, random kept"),
@@ -191,11 +188,10 @@ class Compared(typing.NamedTuple):
 
 def compared(measured: Measured) -> list[Compared]:
     found = []
-    for title, pair_of_jobs in COMPARED.items():
-        jobs = [job.replace("ORDER", measured.order) for job in pair_of_jobs]
+    for title, jobs in COMPARED.items():
         for name in measured.large():
             is_pair = title.endswith("pair")
-            rounds = [measured.pair(name, measured.order, job.split()[-1], job.split()[0]) if is_pair else measured.rounds(name, job) for job in jobs]
+            rounds = [measured.pair(name, job.split()[-1], job.split()[0]) if is_pair else measured.rounds(name, job) for job in jobs]
             ratios = sorted(rounds[0][each] / rounds[1][each] for each in rounds[0].keys() & rounds[1].keys() if rounds[1][each])
             counted = [re.sub(" first$", " 1", re.sub(" kept$", " 2", job)) for job in jobs]
             less = "none" if is_pair else str(int(counted[0][-1]) - 1) if job_of_table(jobs[0]) else ""
@@ -240,7 +236,7 @@ def reached(measured: Measured) -> str:
 def figures(measured: Measured) -> str:
     """The figures that PERFORMANCE.md begins with, of the largest network that is shown."""
     name = max(measured.shown(), key=measured.nodes)
-    pair, near = (measured.pair(name, measured.order, kind) for kind in KINDS)
+    pair, near = (measured.pair(name, kind) for kind in KINDS)
     lines = [
         f"- **{measured.time(name, 'prepare balanced 1')}** of a processor to prepare {measured.nodes(name):,} nodes and "
         f"{measured.networks[name]['arcs']:,} arcs, in {measured.memory(name, 'prepare balanced 1')}.",
@@ -250,7 +246,6 @@ def figures(measured: Measured) -> str:
 
 
 TABLES = {"figures": figures, "machine": machine, "times": times, "settled": settled, "tables": tables, "reached": reached}
-OF_EARLIER = {"tables", "reached"}
 
 
 def summary(measured: Measured) -> str:
@@ -258,7 +253,7 @@ def summary(measured: Measured) -> str:
     rows = []
     for name in measured.large():
         cells = [measured.time(name, "prepare balanced 1"), measured.memory(name, "prepare balanced 1"), measured.time(name, "route balanced none")]
-        rows.append([measured.title(name), *cells, *(written(median(measured.pair(name, "balanced", kind))) for kind in KINDS)])
+        rows.append([measured.title(name), *cells, *(written(median(measured.pair(name, kind))) for kind in KINDS)])
     date = min(row["when"] for row in measured.rows)[:10]
     told = f"Processor time, measured on {date} by `--order balanced` on a machine of {measured.about['machine']}."
     heads = ["Nodes", "`prepare`, 1 worker", "memory", "loading", "a random pair", "a near pair"]
@@ -272,15 +267,11 @@ def put(page: str, first: str, last: str, text: str) -> str:
     return page[:begin] + text + page[page.index(last, begin) :]
 
 
-def earlier() -> Measured:
-    return Measured(EARLIER_RUNS, EARLIER_FACTS, EARLIER_ORDER)
-
-
 def pages(measured: Measured) -> dict[pathlib.Path, str]:
     """Both pages as the runs give them."""
     speed = (DOCS / "PERFORMANCE.md").read_text()
     for mark, made in TABLES.items():
-        speed = put(speed, f"<!-- {mark} -->\n", "\n\n", made(earlier() if mark in OF_EARLIER else measured))
+        speed = put(speed, f"<!-- {mark} -->\n", "\n\n", made(measured))
     readme = put(README.read_text(), "<!-- speed: begin -->\n", "<!-- speed: end -->", summary(measured))
     return {DOCS / "PERFORMANCE.md": speed, README: readme}
 
