@@ -200,6 +200,17 @@ def compared(measured: Measured) -> list[Compared]:
     return found
 
 
+def ratios(measured: Measured) -> str:
+    """What is compared, by network: the median, the lowest and the highest ratio of the rounds."""
+    found = compared(measured)
+    names = [measured.title(name) for name in measured.large()]
+    rows = []
+    for title in COMPARED:
+        cells = {row.network: f"{statistics.median(row.ratios):.2f} ({row.ratios[0]:.2f} to {row.ratios[-1]:.2f})" for row in found if row.title == title}
+        rows.append([title, *(cells.get(name, "") for name in names)])
+    return table(["", *names], rows)
+
+
 def job_of_table(job: str) -> bool:
     return job.startswith("table")
 
@@ -245,7 +256,7 @@ def figures(measured: Measured) -> str:
     return "\n".join(lines)
 
 
-TABLES = {"figures": figures, "machine": machine, "times": times, "settled": settled, "tables": tables, "reached": reached}
+TABLES = {"figures": figures, "machine": machine, "times": times, "settled": settled, "ratios": ratios, "tables": tables, "reached": reached}
 
 
 def summary(measured: Measured) -> str:
