@@ -33,7 +33,7 @@ loads are those of the last minute, before and after the run.
 
 All answers are compared: lengths and numbers of arcs with route.cpp, which searches by itself, nodes along the arcs of the
 network, and the first 20 of each text with every search. Each hierarchy that is prepared answers 100 pairs, as that of one
-worker does. At the end the tables of docs/PERFORMANCE.md are printed, of all that was measured; with `--page` they are written, and
+worker does. At the end the tables of docs/PERFORMANCE.md and the ratios to C++ are printed, of all that was measured; with `--page` they are written, and
 the pictures.
 
 It needs g++ and the proved program, which is crates/routecli/out/routecli (README.md says how to build it) or the path in the
@@ -515,7 +515,7 @@ def main():
     if not tried:
         words.error(f"no job has {' or '.join(options.only)} in its name")
     measured = speed_page.Measured(bench.table, bench.facts)
-    print("\n\n".join(made(measured) for made in speed_page.TABLES.values()))
+    print("\n\n".join(made(measured) for made in [*speed_page.TABLES.values(), speed_page.ratios]))
     if options.page:
         subprocess.run([PYTHON, ROOT / "bench/speed_page.py", bench.folder], check=True)
 

@@ -256,7 +256,7 @@ def figures(measured: Measured) -> str:
     return "\n".join(lines)
 
 
-TABLES = {"figures": figures, "machine": machine, "times": times, "settled": settled, "ratios": ratios, "tables": tables, "reached": reached}
+TABLES = {"figures": figures, "machine": machine, "times": times, "settled": settled, "tables": tables, "reached": reached}
 
 
 def summary(measured: Measured) -> str:
