@@ -266,7 +266,7 @@ def summary(measured: Measured) -> str:
         cells = [measured.time(name, "prepare balanced 1"), measured.memory(name, "prepare balanced 1"), measured.time(name, "route balanced none")]
         rows.append([measured.title(name), *cells, *(written(median(measured.pair(name, kind))) for kind in KINDS)])
     date = min(row["when"] for row in measured.rows)[:10]
-    told = f"Processor time, measured on {date} by `--order balanced` on a machine of {measured.about['machine']}."
+    told = f"Processor time, measured on {date} by `--order balanced` on a machine of {measured.about['machine']}. All networks but the map are synthetic."
     heads = ["Nodes", "`prepare`, 1 worker", "memory", "loading", "a random pair", "a near pair"]
     picture = "![Time and settled nodes of a pair against its Dijkstra rank](docs/ranks.svg)"
     return f"{filled(told)}\n\n{table(heads, rows)}\n\n{picture}\n"
