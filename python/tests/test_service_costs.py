@@ -469,7 +469,7 @@ class FairTests(NginxCase):
 
     def test_connections_for_what_is_long(self):
         """A public client has four of them; its other requests, and those of others, are answered."""
-        self.serve_behind_nginx(instead={"client_body_timeout 10s": "client_body_timeout 300s"})
+        self.serve_behind_nginx(instead={"client_body_timeout 10s": f"client_body_timeout {SECONDS}s"})
         mine, other = {"X-Test-Address": "203.0.113.9"}, {"X-Test-Address": "203.0.113.10"}
         with contextlib.ExitStack() as stack:
             self.hold(stack, "/nodes/lengths", "203.0.113.9", 4)

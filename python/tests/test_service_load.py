@@ -303,7 +303,7 @@ class NginxReplacedTests(NginxCase, ReplacedTests):
 
     def begin(self, *words):
         # (a request is repeated however long it was under way)
-        return self.serve_behind_nginx(*words, instead={"proxy_next_upstream_timeout 5s": "proxy_next_upstream_timeout 300s"})
+        return self.serve_behind_nginx(*words, instead={"proxy_next_upstream_timeout 5s": f"proxy_next_upstream_timeout {SECONDS}s"})
 
 
 class NginxTests(NginxCase, LoadCase):
@@ -364,7 +364,7 @@ class NginxTests(NginxCase, LoadCase):
 
     def test_connections(self):
         """A public address has 100 connections, and others aren't kept from theirs."""
-        self.serve_behind_nginx(instead={"client_body_timeout 10s": "client_body_timeout 300s"})
+        self.serve_behind_nginx(instead={"client_body_timeout 10s": f"client_body_timeout {SECONDS}s"})
         with contextlib.ExitStack() as stack:
             self.hold(stack, "/nothing", "203.0.113.9", 100)
             self.assertEqual(self.ask("/nothing", headers={"X-Test-Address": "203.0.113.9"})[0], 429)

@@ -21,7 +21,7 @@ VILLAGE = HERE / "village.osm"
 IN_TABLES = [name for name, column in COLUMNS.items() if not column.is_derived and column.part != "map"]
 
 # What only a hang exceeds, in seconds: no test expects anything sooner.
-SECONDS = 300
+SECONDS = 1800
 # Before the words of a program that is sent signals. What a test inherits may ignore them, as a shell's background job
 # does, and Python makes no KeyboardInterrupt of an interrupt that it was started to ignore.
 TAKES_SIGNALS = ["/usr/bin/env", "--default-signal=HUP,INT,QUIT,TERM"]
