@@ -51,7 +51,7 @@ def run(*words, status=0, **environment):
 @pytest.fixture(scope="module", params=["car", "metres", "weights"])
 def network(request, tmp_path_factory):
     """A folder with the network n and its hierarchy n.rch: the village by time and by length, and a grid of weights alone over the
-    180th meridian, with bends and one-way roads."""
+    180th meridian, with bends, one-way roads and ferries."""
     folder = tmp_path_factory.mktemp("page")
     if request.param == "weights":
         draw, rows, side = random.Random(2), [], 12
@@ -62,10 +62,11 @@ def network(request, tmp_path_factory):
                 if other in place:
                     there, bend = place[other], (lon, lat + draw.gauss(0, 3e-4))
                     wkt = ", ".join(f"{east:.7f} {north:.7f}" for east, north in ((lon, lat), bend, there))
-                    rows.append(f'{number[x, y]},{number[other]},{draw.randrange(2)},{draw.randrange(1, 5000)},"Way {x}","LINESTRING ({wkt})"')
+                    highway = "ferry" if draw.randrange(5) == 0 else "primary"
+                    rows.append(f'{number[x, y]},{number[other]},{draw.randrange(2)},{draw.randrange(1, 5000)},{highway},"Way {x}","LINESTRING ({wkt})"')
         nodes = "node,lon,lat\n" + "".join(f"{index},{lon:.7f},{lat:.7f}\n" for index, (lon, lat) in enumerate(place.values()))
         (folder / "t.nodes.csv").write_text(nodes)
-        (folder / "t.arcs.csv").write_text("from,to,oneway,weight,name,WKT\n" + "\n".join(rows) + "\n")
+        (folder / "t.arcs.csv").write_text("from,to,oneway,weight,highway,name,WKT\n" + "\n".join(rows) + "\n")
         run(TOOLS / "to_network", folder / "t.nodes.csv", folder / "t.arcs.csv", folder / "n")
     else:
         by = ["--weight", "length"] if request.param == "metres" else []

@@ -11,6 +11,7 @@ from numpy.typing import NDArray
 from domethyme.network.columns import ROAD_CLASSES, TEXTS
 from domethyme.network.groups import Ints
 from domethyme.network.net_file import MappedNetwork
+from domethyme.network.snapping import RoadIndex
 from domethyme.network.zoom_levels import road_class
 
 # The numbers of columns, by what network.js calls them.
@@ -41,6 +42,8 @@ def network_bytes(network: MappedNetwork, attribution: str = "") -> bytes:
         "splitNodes": ("u4", split),
         "splitEnds": ("u1", network.node_ends[:][split]),
         "splitGroups": ("u4", groups),
+        # (where no route begins or ends)
+        "ferries": ("u4", np.flatnonzero(RoadIndex(network).are_ferries(network.first_arcs(np.arange(len(begins) - 1))))),
     }
     # (of the seconds and metres those that aren't the weights)
     if network.unit != "distance":
