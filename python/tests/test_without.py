@@ -114,6 +114,16 @@ def serve(prefix: pathlib.Path, excluded: dict[frozenset[str], str], **more: Any
     return Service(dataset, Options(AccessPolicy.from_options(["x"], "none")), SharedMetrics())
 
 
+@pytest.mark.parametrize("turn", [1, -1])
+def test_a_ferry_beside_a_bridge(tmp_path, turn):
+    """Of one line: places are on the bridge, whichever comes first in the table."""
+    (tmp_path / "nodes.csv").write_text("lon,lat\n0,0\n0.01,0\n")
+    (tmp_path / "arcs.csv").write_text("from,to,seconds,highway\n" + "".join(["1,2,600,ferry\n2,1,600,ferry\n", "1,2,60,primary\n2,1,60,primary\n"][::turn]))
+    run_tool("to_network", tmp_path / "nodes.csv", tmp_path / "arcs.csv", tmp_path / "net")
+    (point,) = domethyme.Network(tmp_path / "net").points_on_roads((0.004, 0.0))
+    assert point.fraction == pytest.approx(0.4)
+
+
 # Two islands with a road each, a ferry with a duration and one without, a toll bridge, and a road in a tunnel.
 MAP = """<?xml version="1.0"?><osm version="0.6">
 <node id="1" lon="0" lat="0"/><node id="2" lon="0.01" lat="0"/><node id="3" lon="0.02" lat="0"/><node id="4" lon="0.03" lat="0"/>

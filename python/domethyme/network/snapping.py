@@ -245,7 +245,7 @@ class RoadIndex:
                 ways = self.project(here, part)
                 found.append(np.minimum.reduceat(ways.metres, np.flatnonzero(differs_from_previous(ways.which))))
             away: Floats = np.concatenate(found)
-            away[~self._are_open(edges, is_any)] = np.inf
+            away[~self.are_open(edges, is_any)] = np.inf
             return away
 
         # (metres are rounded to the millionth)
@@ -284,7 +284,7 @@ class RoadIndex:
             return {number: [point] for number, point in near if point is not None}
         which, edges = self.arrays.edge_grid.candidates_of_each(places, reach)
         if self._may_be_closed(is_any):
-            is_there = self._are_open(edges, is_any)
+            is_there = self.are_open(edges, is_any)
             which, edges = which[is_there], edges[is_there]
         pairs = np.sort(which << EDGE_BITS | edges)
         pairs = pairs[differs_from_previous(pairs)]  # (an edge is in several cells)
@@ -307,7 +307,7 @@ class RoadIndex:
             return None
         edges = np.array(sorted({edge for begin, end in slices for edge in things[begin:end].tolist()}), np.int64)
         if self._may_be_closed(is_any):
-            edges = edges[self._are_open(edges, is_any)]
+            edges = edges[self.are_open(edges, is_any)]
         self.on_looked(len(edges))
         begins, ends = self.arrays.edge_begin[edges + SEGMENT_END_OFFSETS].tolist()
         rows = np.fromiter(itertools.chain.from_iterable(map(range, begins, ends)), np.int64)
@@ -340,16 +340,17 @@ class RoadIndex:
         return bool(self.ferry_rows.any())
 
     def _may_be_closed(self, is_any: bool) -> bool:
-        """Whether there are edges for which `_are_open` is false."""
+        """Whether there are edges for which `are_open` is false."""
         return self.arrays.is_partial or not is_any and self._has_ferries
 
-    def _are_open(self, edges: NDArray[Any], is_any: bool) -> NDArray[np.bool_]:
-        """Whether edges have arcs, as they all have unless some arcs are left out, and are no ferries' unless any will do."""
-        found, first = np.ones(len(edges), dtype=bool), self.arrays.edge_first
-        if self.arrays.is_partial:
-            found &= first[edges] < first[edges + 1]
+    def are_open(self, edges: NDArray[Any], is_any: bool = False) -> NDArray[np.bool_]:
+        """Whether edges have arcs, as they all have unless some arcs are left out, and not those of ferries alone unless any will do."""
+        first, is_ferry = self.arrays.edge_first, self.are_ferries
+        found = np.asarray(first[edges] < first[edges + 1]) if self.arrays.is_partial else np.ones(len(edges), dtype=bool)
         if not is_any and self._has_ferries:
-            found &= ~self.are_ferries(self.arrays.first_arcs(edges))
+            for row in np.flatnonzero(is_ferry(self.arrays.first_arcs(edges))).tolist():
+                begin, end = first[int(edges[row]) : int(edges[row]) + 2].tolist()
+                found[row] = not is_ferry(self.arrays.edge_arcs[begin:end]).all()
         return found
 
     def project(self, places: Floats, edges: Ints) -> SegmentProjections:

@@ -42,8 +42,8 @@ def network_bytes(network: MappedNetwork, attribution: str = "") -> bytes:
         "splitNodes": ("u4", split),
         "splitEnds": ("u1", network.node_ends[:][split]),
         "splitGroups": ("u4", groups),
-        # (where no route begins or ends)
-        "ferries": ("u4", np.flatnonzero(RoadIndex(network).are_ferries(network.first_arcs(np.arange(len(begins) - 1))))),
+        # (edges where no route begins or ends)
+        "closed": ("u4", np.flatnonzero(~RoadIndex(network).are_open(np.arange(len(begins) - 1)))),
     }
     # (of the seconds and metres those that aren't the weights)
     if network.unit != "distance":
