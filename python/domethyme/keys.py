@@ -174,7 +174,7 @@ class Keys:
 
         found = [self._names[node] for node in nodes.ravel().tolist()]
         are_whole = all(type(key) is int and abs(key) < 1 << 63 for key in found)
-        keys = np.empty(len(found), dtype=np.int64 if are_whole else object)
+        keys: "NDArray[Any]" = np.empty(len(found), "i8" if are_whole else "O")
         keys[:] = found
         return keys.reshape(nodes.shape)
 

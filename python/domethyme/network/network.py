@@ -315,7 +315,8 @@ def trace_of(places: Any, seconds: Sequence[float] | None, deviation: float | Se
     times = None if seconds is None else [float(each) for each in each_place("seconds", seconds, count)]
     if times is not None and not all(before <= behind < math.inf for before, behind in itertools.pairwise(times)):
         raise ValueError("seconds have to be numbers that don't fall")
-    each_deviation = [deviation] * count if isinstance(deviation, numbers.Real) else each_place("deviation", deviation, count)
+    given: Any = deviation
+    each_deviation: Sequence[Any] = [given] * count if isinstance(given, numbers.Real) else each_place("deviation", given, count)
     deviations = [float(each) for each in each_deviation]
     if not all(0 < each <= MAX_DEVIATION for each in deviations):
         raise ValueError(f"a deviation is above 0 and up to {MAX_DEVIATION:g} metres")

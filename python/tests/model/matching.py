@@ -11,8 +11,8 @@ from .sphere import metres_between
 # Deviations within which roads are near, of a step that is kept, and by which a vehicle that stands may go back.
 REACH, STEP, STAND = 3, 6, 2
 ROADS, DETOUR, LEFT_OUT = 8, 2000, 3
-# Ways that are compared, and densities (their logarithms) and metres by which rounding may decide.
-MOST, EQUAL, NEAR, METRES = 3000, 1e-9, 1e-4, 1e-3
+# Ways that are compared, and densities (their logarithms) and metres by which rounding may decide: the millimetres of each leg are whole.
+MOST, EQUAL, NEAR, METRES = 3000, 1e-9, 2e-3, 1e-3
 
 class Way(NamedTuple):
     """Points of the trace by number, where they are on roads, and the legs between."""
