@@ -21,19 +21,23 @@ FERRIES = ["route=ferry", "route=ferry duration=3", "route=ferry duration=7 onew
 
 
 @st.composite
-def maps(draw: Any) -> str:
-    """A map of ways that meet, pass barriers and the same nodes again, and name nodes that it lacks, with tags of all kinds."""
+def maps(draw: Any, is_dense: bool = False) -> str:
+    """A map of ways that meet, pass barriers and the same nodes again, and name nodes that it lacks, with tags of all kinds; or of many ways
+    from one of few nodes to another, some of which no car may take."""
     def tagged(text: str) -> str:
         return "".join(f'<tag k="{key}" v="{value}"/>' for key, value in tags_of(text).items())
 
-    steps = st.lists(st.tuples(st.integers(-40, 40), st.integers(-40, 40)), min_size=2, max_size=9, unique=True)
+    fewest, most = (3, 5) if is_dense else (2, 9)
+    steps = st.lists(st.tuples(st.integers(-40, 40), st.integers(-40, 40)), min_size=fewest, max_size=most, unique=True)
     barriers, tags = st.sampled_from([text for text, _ in BARRIERS]), st.sampled_from([*(row[0] for row in WAYS["car"]), *FERRIES])
     nodes = [
         f"<node id='{number}' lon='{9.5 + east * 1e-4}' lat='{47.1 + north * 1e-4}'>"
-        f"{tagged(draw(barriers)) if draw(st.integers(0, 3)) == 0 else ''}</node>" for number, (east, north) in enumerate(draw(steps), 1)
+        f"{tagged(draw(barriers)) if not is_dense and draw(st.integers(0, 3)) == 0 else ''}</node>" for number, (east, north) in enumerate(draw(steps), 1)
     ]
     refs, ways = st.lists(st.integers(1, len(nodes) + 1), min_size=2, max_size=6), ["highway=residential"]
-    ways += draw(st.lists(st.one_of(st.just("highway=residential"), tags), min_size=1, max_size=7))
+    if is_dense:
+        refs, tags = st.permutations(range(1, len(nodes) + 1)).map(lambda some: some[:2]), st.one_of(tags, st.just("highway=primary access=private"))
+    ways += draw(st.lists(st.one_of(st.just("highway=residential"), tags), min_size=1, max_size=9 if is_dense else 7))
     lines = [
         f"<way id='{number}'>{''.join(f'<nd ref={str(ref)!r}/>' for ref in draw(refs))}{tagged(text)}</way>" for number, text in enumerate(ways, 1)
     ]
@@ -56,7 +60,7 @@ def test_drawn_maps(text: str, longest: float, weight: str) -> None:
 
 
 @drawn(60)
-@given(maps(), st.integers(1, 9), st.booleans())
+@given(maps(is_dense=True), st.integers(1, 9), st.booleans())
 def test_drawn_turns(text: str, restrictions: int, has_penalties: bool) -> None:
     """Of restrictions from ways into others that meet at one node, which vehicles take or don't."""
     with tempfile.TemporaryDirectory() as folder:

@@ -5,12 +5,16 @@ import random
 
 import numpy as np
 import pytest
-from draws import Drawn, write_network
+from draws import Drawn, drawn, write_network
+from hypothesis import given
+from hypothesis import strategies as st
+from model import sphere
 from model.network import Arc, Network, Node
 from tool_case import ToolCase
 
 from domethyme.network import grid
 from domethyme.network.snapping import RoadIndex
+from domethyme.network.sphere import nearest_on_segments
 from domethyme_service.tiles import Tiles
 
 
@@ -34,6 +38,27 @@ def test_places_between_short_roads(tmp_path, middle, wide, count):
     for place, spot in zip(places, roads.nearest_batch(places), strict=True):
         edges = [point.edge for _, point in itertools.islice(net.by_distance(place, None), 2)]
         assert [each.edge for each in roads.nearest(place, 2)] == edges and spot.edge == edges[0], place
+
+
+@drawn(150)
+@given(st.data())
+def test_steps_of_all_lengths(data):
+    """The nearest point of each step beside a place, of a metre to thousands of kilometres, is the model's, whatever the others are."""
+    place = data.draw(st.integers(-1800, 1800)) / 10, data.draw(st.integers(-890, 890)) / 10
+
+    def near():
+        degrees = data.draw(st.sampled_from([1e-5, 1e-3, 0.08, 0.15, 3, 40]))
+        east, north = (degrees * data.draw(st.integers(-20, 20)) / 20 for _ in range(2))
+        return place[0] + east, max(-90.0, min(90.0, place[1] + north))
+
+    steps = [(near(), near()) for _ in range(data.draw(st.integers(1, 3)))]
+    metres, shares = nearest_on_segments(np.array([place]), np.array(steps).swapaxes(0, 1))
+    for step, away, share in zip(steps, metres, shares):
+        wanted, at = sphere.nearest_on_segment(place, *step)
+        most = 1e-3 + 8e-6 * min(wanted + sphere.metres_between(*step), 30_000)
+        assert abs(away - wanted) <= most and 0 <= share <= 1
+        found = sphere.interpolate(*step, share)
+        assert abs(sphere.metres_between(place, found) - wanted) <= most, (step, share, at)
 
 
 class NearestTests(ToolCase):

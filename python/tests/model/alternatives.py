@@ -1,4 +1,4 @@
-"""Other routes between two points, by looking at all ways that come to no node twice: docs/PYTHON.md's alternatives."""
+"""Other routes between two points, by looking at all ways that come to no node twice: docs/SERVICE.md's other routes."""
 import itertools
 from collections.abc import Iterator, Sequence
 from typing import NamedTuple
