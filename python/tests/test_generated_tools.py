@@ -12,7 +12,7 @@ from typing import Any, NamedTuple
 
 import numpy as np
 import pytest
-from draws import ORIGINS, drawn, networks, places, points_near, run_tool, write_network
+from draws import ORIGINS, Drawn, drawn, networks, places, points_near, run_tool, write_network
 from hypothesis import assume, given
 from hypothesis import strategies as st
 from model import matching
@@ -29,6 +29,9 @@ from domethyme_tools.cli import ToolError
 # What the words of the column oneway mean: arcs along a row, and back.
 DIRECTIONS = {"": (1, -1), "0": (1, -1), "no": (1, -1), "1": (1,), "yes": (1,), "true": (1,), "-1": (-1,), "reverse": (-1,)}
 SOURCES = ["from_lon", "from_lat", "to_lon", "to_lat"]
+# Texts of a user's column: none that a program for sheets takes for a formula may be written as it is, unless it is a number.
+NUMBERS = ("", "-1", "+1.5e3")
+LABELS = (*NUMBERS, "depot", "=1+1", "+x", "-x", "@a", "'=x", "it's")
 
 
 class Figures(NamedTuple):
@@ -82,10 +85,11 @@ def test_trips_and_tables(data: Any) -> None:
     with tempfile.TemporaryDirectory() as folder:
         path = pathlib.Path(folder)
         write_network(made, path / "net")
-        write_rows(path / "trips.csv", ["trip", *SOURCES], ([number, *a, *b] for number, (a, b) in enumerate(trips)))
+        labels = [data.draw(st.sampled_from(LABELS)) for _ in trips]
+        write_rows(path / "trips.csv", ["label", *SOURCES], ([label, *a, *b] for label, (a, b) in zip(labels, trips)))
         for name, end in (("sources", 0), ("targets", 1)):
             write_rows(path / f"{name}.csv", ["lon", "lat"], (trip[end] for trip in trips))
-        check_between_nodes(made.tables, path, trips, made.has_keys)
+        check_between_nodes(made, path, trips, labels)
         with contextlib.suppress(Ambiguous):
             check_on_roads(made.roads, path, trips)
 
@@ -95,26 +99,32 @@ def one_junction(network: Network, one: int, other: int) -> bool:
     return one == other or bool(first.ends and last.ends) and (first.place, first.osm) == (last.place, last.osm)
 
 
-def check_between_nodes(network: Network, path: pathlib.Path, trips: list[tuple[Point, Point]], has_keys: bool) -> None:
+def check_between_nodes(made: Drawn, path: pathlib.Path, trips: list[tuple[Point, Point]], labels: list[str]) -> None:
     """`nearest` and its `--snapped`, `table`, and `to_geojson` of what routecli answers."""
+    network, has_keys = made.tables, made.has_keys
     near = [[network.nearest(place, side) for place, side in zip(trip, ("from", "to"))] for trip in trips]
-    if any(metres > 1000 for ends in near for _, metres in ends):
+    skipped = {row for row, ends in enumerate(near) for _, metres in ends if metres > 1000}
+    if skipped:
         with pytest.raises(ToolError, match="nearest node"):
             run_tool("nearest", path / "net", path / "trips.csv", "-o", path / "pairs")
         with pytest.raises(ToolError, match="nearest node"):
             run_tool("table", path / "net", path / "net.rch", path / "sources.csv", path / "targets.csv", "-o", path / "t.csv")
-        return
-    run_tool("nearest", path / "net", path / "trips.csv", "-o", path / "pairs", "--snapped", path / "snapped.csv")
+        near, labels = ([each for row, each in enumerate(some) if row not in skipped] for some in (near, labels))
+    skip = ["--skip-far"] * bool(skipped)
+    run_tool("nearest", path / "net", path / "trips.csv", "-o", path / "pairs", "--snapped", path / "snapped.csv", *skip)
     lines = [line.split() for line in (path / "pairs").read_text().splitlines() if line[0] == "q"]
     pairs = [(int(line[1]) - 1, int(line[2]) - 1) for line in lines]
     columns, *rows = read_rows(path / "snapped.csv")
-    for (start, end), ((starts, away), (ends, end_away)), row in zip(pairs, near, rows, strict=True):
+    for (start, end), ((starts, away), (ends, end_away)), row, label in zip(pairs, near, rows, labels, strict=True):
         stays = {one_junction(network, start, each) for each in ends}  # (at the junction where it begins)
         assert start in starts and (end == start if stays == {True} else end in ends or True in stays and end == start)
         found = dict(zip(columns, row))
+        assert found["label"].lstrip("'") == label.lstrip("'") and (found["label"][:1] not in "=+-@" or label in NUMBERS)
         assert (found["from_node"], found["to_node"]) == (str(start + 1), str(end + 1))
         assert (found.get("from_key"), found.get("to_key")) == tuple(network.nodes[node].key if has_keys else None for node in (start, end))
         assert abs(float(found["from_metres"]) - away) < 0.051 and abs(float(found["to_metres"]) - end_away) < 0.051
+    if not pairs:
+        return
     (path / "answers").write_text(routecli("route", path / "net.rch", path / "pairs"))
     run_tool("to_geojson", path / "net", path / "answers", "--trips", path / "snapped.csv", "-o", path / "routes")
     features = json.loads((path / "routes").read_text())["features"]
@@ -129,6 +139,8 @@ def check_between_nodes(network: Network, path: pathlib.Path, trips: list[tuple[
             (path / "no_path").write_text(f"n {pair[0] + 1} {pair[1] + 1}\n")
             with pytest.raises(ToolError, match="says that no path leads from"):
                 run_tool("to_geojson", path / "net", path / "no_path", "-o", path / "routes")
+    if skipped:
+        return
     run_tool("table", path / "net", path / "net.rch", path / "sources.csv", path / "targets.csv", "-o", path / "t.npy")
     table = np.load(path / "t.npy")
     for (row, ((starts, _), _)), (column, (_, (ends, _))) in itertools.product(enumerate(near), enumerate(near)):
