@@ -15,7 +15,7 @@ from service_case import ServiceCase
 from tool_case import TOOLS, VILLAGE, ToolCase
 
 import domethyme
-from domethyme import belonging
+from domethyme import belonging, links
 from domethyme.network import net_file
 from domethyme_tools import nearest, reach, table, to_geojson
 
@@ -84,6 +84,9 @@ class HierarchyTests(ToolCase):
                     arrays = net_file.read(f"{self.network('other', text(changed, by), nodes)}.net")
                     with self.subTest(changed=changed, by=by), self.assertRaisesRegex(domethyme.WrongHierarchy, FOREIGN):
                         belonging.compare(file.fileno(), "town.rch", arrays)
+                    few = unittest.mock.patch.multiple(links, DRAWN=1, ROUNDS=1), unittest.mock.patch.object(belonging, "MAX_COMPARED", 0)
+                    with few[0], few[1], self.subTest(changed=changed, by=by), self.assertRaisesRegex(domethyme.WrongHierarchy, FOREIGN):
+                        belonging.compare(file.fileno(), "town.rch", arrays, True)
             with unittest.mock.patch.object(belonging, "MAX_COMPARED", 0):
                 with self.assertLogs("domethyme.belonging", "WARNING") as logged:
                     belonging.compare(file.fileno(), "town.rch", net_file.read(str(self.folder / "town.net")))

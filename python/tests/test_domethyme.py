@@ -12,7 +12,7 @@ from hypothesis import strategies as st
 from tool_case import PYTHON, ROOT, ToolCase
 
 import domethyme
-from domethyme import find_program
+from domethyme import errors, find_program
 
 # Four nodes: two ways from 0 to 2, of 3 + 4 = 7 and of 9; back from 2 to 0 by 5; node 3 leads to 0 by 6, and nothing to it.
 SQUARE = ([0, 1, 0, 2, 3], [1, 2, 2, 0, 0], [3, 4, 9, 5, 6])
@@ -24,6 +24,19 @@ def test_scaled_weights(values):
     """Hundredths are integers, whatever their floats are."""
     graph = domethyme.Graph.from_keys(range(len(values)), range(1, len(values) + 1), [float(value) for value in values], scale=100)
     assert graph.weights.tolist() == [int(100 * value) for value in values]
+
+
+@drawn(200)
+@given(st.integers(1, 10), st.lists(st.tuples(st.booleans(), st.sampled_from(["a", "b  c", "d\xe9"])), max_size=4), st.sampled_from(["", "net.rch"]))
+def test_errors_of_what_the_program_says(status, lines, file):
+    """The message is the first line that is no warning, and others explain it, in their order."""
+    said = "".join(f"{'routecli: warning: ' * is_warning}{text}\n" for is_warning, text in lines)
+    at = next((row for row, (is_warning, _) in enumerate(lines) if not is_warning), None)
+    texts = [" ".join(text.split()) for _, text in lines]
+    wanted = f"routecli ended with status {status}" if at is None else f"{file}: ".removeprefix(": ") * (status == 4) + texts.pop(at)
+    kind = {3: errors.GraphError, 4: errors.HierarchyError, 6: errors.OutOfMemory, 7: errors.ReadWriteError}.get(status, errors.ProgramError)
+    error = errors.error_from_exit(status, said.encode(), file)
+    assert (type(error), error.message, error.status, error.explanation) == (kind, wanted, status, texts)
 
 
 class DomethymeTests(ToolCase):
