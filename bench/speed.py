@@ -27,7 +27,7 @@ A job that takes less than a second has three turns in a row, of which the middl
 waits until other programs leave the machine alone, for `--wait` seconds at most; if they don't, a line says so, and the run goes
 on. Each run is a line of runs.csv in the folder, and what was measured isn't measured again. Rerun the same command to resume an
 interrupted run, or with more rounds to add them. Figures of another program, another machine or other networks are refused;
-`--anew` drops them. With `--only` those jobs alone whose names have one of the words, as "route balanced". Seconds are of the wall clock and
+`--anew` drops them. With `--only` those jobs alone whose names begin with one of the words, as "route balanced". Seconds are of the wall clock and
 of the processors; memory is the greatest resident size; `others` is how many processors other programs kept busy meanwhile; the
 loads are those of the last minute, before and after the run.
 
@@ -501,7 +501,7 @@ def main():
         bench.enter(network)
     for number in range(1, options.rounds + 1):
         for network in made:
-            jobs = {job: go for job, go in bench.jobs(network).items() if any(word in job for word in options.only)}
+            jobs = {job: go for job, go in bench.jobs(network).items() if any(job.startswith(word) for word in options.only)}
             tried = tried or bool(jobs)
             left = {job: go for job, go in jobs.items() if is_left(bench, network, job, number)}
             if left:
