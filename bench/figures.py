@@ -118,7 +118,8 @@ def draw_ratios(axes: typing.Any) -> None:
         if row.instructions:
             axes.plot([row.instructions], [place], "d", color="black", markersize=3.5, fillstyle="none")
         axes.text(1.02, place, f"{middle:.2f} ({row.ratios[0]:.2f} to {row.ratios[-1]:.2f})", transform=axes.get_yaxis_transform(), va="center", fontsize=7)
-    axes.plot([], [], "d", color="black", markersize=3.5, fillstyle="none", label="instructions")
+    if any(row.instructions for row in rows):
+        axes.plot([], [], "d", color="black", markersize=3.5, fillstyle="none", label="instructions")
     axes.axvline(1, color="black", linewidth=0.8)
     names = [row.network if place and rows[place - 1].title == row.title else f"{row.title}: {row.network}" for place, row in enumerate(rows)]
     axes.set_yticks(range(len(rows)), names, fontsize=7)
