@@ -3,7 +3,7 @@ import ctypes
 import typing
 from collections.abc import Sequence
 
-from .counted import Failed
+from .counted import need
 from .program import built_library
 
 # The faults of a file, by the numbers that the library has for them, the first of which is FIRST_FAULT (packaging/library).
@@ -61,8 +61,7 @@ class Handle:
 
     def ask(self, name: str, *words: object, answers: tuple[int, ...] = (OK,)) -> int:
         code = int(getattr(self.calls, name)(ctypes.byref(self.handle), *words))
-        if code not in answers:
-            raise Failed(f"{name} returned {code}")
+        need(code in answers, f"{name} returned {code}")
         return code
 
     def fault(self, data: bytes, call: str = "domethyme_open") -> str | None:
@@ -96,8 +95,7 @@ class Handle:
         count, width = len(sources) * len(targets), len(targets)
         lengths = (ctypes.c_uint64 * (count + 1))(*[7] * (count + 1))
         self.ask("domethyme_table", *lists_of(sources, targets), lengths, ctypes.c_size_t(count + 1))
-        if lengths[count] != 7:
-            raise Failed("a table wrote behind its end")
+        need(lengths[count] == 7, "a table wrote behind its end")
         return [lengths[row * width : (row + 1) * width] for row in range(len(sources))]
 
     def arcs(self) -> list[tuple[int, int]]:
@@ -114,8 +112,7 @@ class Handle:
         self.ask("domethyme_links", ctypes.byref(links))
         found = (ctypes.c_uint64 * (links.value + 2))(*[7] * (links.value + 2))
         self.ask("domethyme_numbers", *lists_of(numbers), found, ctypes.c_size_t(links.value + 2), answers=(code,))
-        if found[links.value + 1] != 7:
-            raise Failed("a set was written behind its end")
+        need(found[links.value + 1] == 7, "a set was written behind its end")
         return (ctypes.c_uint64 * (links.value + 1))(*found[: links.value + 1])
 
     def sums(
@@ -147,8 +144,7 @@ class Handle:
 
 def cells_of(cells: ctypes.Array[SumOfC], written: int) -> list[tuple[int, int]]:
     """The first cells, as many as were written."""
-    if any((cell.length, cell.sum) != (7, 7) for cell in cells[written:]):
-        raise Failed("a call with sums wrote what it doesn't answer")
+    need(all((cell.length, cell.sum) == (7, 7) for cell in cells[written:]), "a call with sums wrote what it doesn't answer")
     return [(cell.length, cell.sum) for cell in cells[:written]]
 
 
