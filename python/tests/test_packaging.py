@@ -26,11 +26,7 @@ class CommandTests(ToolCase):
         self.libraries = self.folder / "libraries"
         self.libraries.mkdir()
         text = (PACKAGING / "routecli").read_text(encoding="utf-8")
-        self.write("accounting", "0\n")
-        for path, instead in (
-            ("/usr/libexec/domethyme/routecli", "program"), ("/usr/lib/x86_64-linux-gnu", "libraries"),
-            ("/proc/sys/vm/overcommit_memory", "accounting")
-        ):
+        for path, instead in (("/usr/libexec/domethyme/routecli", "program"), ("/usr/lib/x86_64-linux-gnu", "libraries")):
             self.assertEqual(text.count(f"={path}\n"), 1)
             text = text.replace(f"={path}\n", f"={self.folder / instead}\n")
         self.write("command", text).chmod(0o755)
@@ -40,20 +36,20 @@ class CommandTests(ToolCase):
         for name in names:
             shutil.copy(LIBRARY, self.libraries / name)
 
-    def ran(self, *words, status=7, limit=None, **environment):
-        """What the command prints on both streams; `limit` are words of prlimit."""
+    def ran(self, *words, status=7, **environment):
+        """What the command prints on both streams."""
         ended = self.run_program(
-            [*(limit or ()), "/usr/bin/env", "-u", "LD_PRELOAD", "-u", "GLIBC_TUNABLES", "-u", "ROUTECLI_ALLOCATOR",
+            ["/usr/bin/env", "-u", "LD_PRELOAD", "-u", "GLIBC_TUNABLES", "-u", "ROUTECLI_ALLOCATOR",
              *(f"{name}={value}" for name, value in environment.items()), self.folder / "command", *words],
             status,
         )
         return ended.stdout, ended.stderr
 
     def test_arguments_and_status_are_kept(self):
-        self.installed(JEMALLOC)
+        self.installed(MIMALLOC)
         self.assertEqual(self.ran("route", "a b", "", "*"), ("nothing|route|a b||*|", ""))
         self.assertEqual(self.ran(), ("nothing|", ""))
-        self.assertEqual(self.ran("prepare", "a b", ""), (f"{self.libraries / JEMALLOC}|prepare|a b||", ""))
+        self.assertEqual(self.ran("prepare", "a b", ""), (f"{self.libraries / MIMALLOC}|prepare|a b||", ""))
 
     def test_only_prepare_gets_an_allocator(self):
         self.installed(JEMALLOC, MIMALLOC)
@@ -62,7 +58,7 @@ class CommandTests(ToolCase):
 
     def test_each_choice_is_said_where_it_is_asked_for(self):
         self.installed(JEMALLOC, MIMALLOC)
-        for word, library in (("auto", JEMALLOC), ("jemalloc", JEMALLOC), ("mimalloc", MIMALLOC)):
+        for word, library in (("auto", MIMALLOC), ("mimalloc", MIMALLOC), ("jemalloc", JEMALLOC)):
             path = self.libraries / library
             said = f"routecli: ROUTECLI_ALLOCATOR: {path}\n"
             self.assertEqual(self.ran("prepare", ROUTECLI_ALLOCATOR=word), (f"{path}|prepare|", said))
@@ -70,17 +66,6 @@ class CommandTests(ToolCase):
         self.assertEqual(self.ran("prepare", ROUTECLI_ALLOCATOR="none"), ("nothing|prepare|", f"{said}\n"))
         for word, tunables in (("tuned", TUNED), ("compact", COMPACT)):
             self.assertEqual(self.ran("prepare", ROUTECLI_ALLOCATOR=word), (f"{tunables}|prepare|", f"{said}, {tunables}\n"))
-
-    def test_where_memory_is_limited_only_who_asks_gets_jemalloc(self):
-        self.installed(JEMALLOC)
-        path = self.libraries / JEMALLOC
-        for limit in (["/usr/bin/prlimit", "--as=1000000000"], None):
-            if limit is None:
-                self.write("accounting", "2\n")
-            self.assertEqual(self.ran("prepare", limit=limit), (f"{TUNED}|prepare|", ""))
-            said = f"routecli: ROUTECLI_ALLOCATOR: the allocator of the C library, {TUNED}\n"
-            self.assertEqual(self.ran("prepare", limit=limit, ROUTECLI_ALLOCATOR="auto"), (f"{TUNED}|prepare|", said))
-            self.assertEqual(self.ran("prepare", limit=limit, ROUTECLI_ALLOCATOR="jemalloc")[0], f"{path}|prepare|")
 
     def test_none_is_installed(self):
         self.assertEqual(self.ran("prepare"), (f"{TUNED}|prepare|", ""))
@@ -91,12 +76,12 @@ class CommandTests(ToolCase):
             self.assertEqual(self.ran("prepare", status=2, ROUTECLI_ALLOCATOR=word), ("", said))
 
     def test_other_words_are_refused(self):
-        said = "routecli: ROUTECLI_ALLOCATOR: 'tcmalloc' isn't one of auto, jemalloc, mimalloc, tuned, compact and none\n"
+        said = "routecli: ROUTECLI_ALLOCATOR: 'tcmalloc' isn't one of auto, mimalloc, jemalloc, tuned, compact and none\n"
         self.assertEqual(self.ran("prepare", status=2, ROUTECLI_ALLOCATOR="tcmalloc"), ("", said))
 
     def test_what_is_loaded_already_stays(self):
         # (the loader warns on standard error, since there is no such library, and goes on)
-        self.installed(JEMALLOC)
+        self.installed(MIMALLOC)
         self.assertEqual(self.ran("prepare", LD_PRELOAD="/none.so")[0], "/none.so|prepare|")
         self.assertIn("stays as it is", self.ran("prepare", LD_PRELOAD="/none.so", ROUTECLI_ALLOCATOR="auto")[1])
         own = "glibc.malloc.arena_max=2"
