@@ -66,7 +66,7 @@ class Hierarchy:
         self, path: StrPath, *, keys: "Keys | Mapping[Any, int] | Iterable[Hashable] | None" = None,
         network: "Network | StrPath | None" = None, compare_all: bool = False
     ) -> None:
-        """Reads the file, which takes 0.9 seconds for a million nodes, and some 250 bytes of memory per node.
+        """Reads the file, which takes 0.65 seconds for a million nodes, and some 250 bytes of memory per node.
 
         keys         a key for each node, in order, or a mapping from keys to nodes from 0; Keys.load has those that Graph.prepare
                      saved. Saved keys of another file are refused, and others that contradict those saved beside it, or the keys
