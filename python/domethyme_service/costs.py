@@ -144,6 +144,8 @@ def expected(size: Size, places: Sequence[Point], values: Values, unit: str) -> 
     found: dict[str, float] = {"S": 0, "P": len(places), "B": sum(map(bool, values[BEARINGS])), "N": size.nodes}
     if NUMBER in values:
         return {**found, "K": values[NUMBER]}
+    # (each place is the lesser way round from the one before, so longitudes may go beyond 180)
+    places = [*itertools.accumulate(places, lambda last, place: (last[0] + math.remainder(place[0] - last[0], 360), place[1]))]
     legs, rows, cells = [math.dist(*ends) for ends in itertools.pairwise(places)], 0, 0
     if SOURCES in values:
         sources, destinations = values[SOURCES], values[DESTINATIONS]

@@ -38,9 +38,9 @@ DRAW = random.Random(1)
 FAR = [f"{DRAW.uniform(8.36, 9.64):.3f},{DRAW.uniform(46.55, 47.45):.3f}" for _ in range(1000)]
 
 
-def cost(service, count, query):
+def cost(service, count, query, places=FAR):
     """The cost of a request by the first of these places on that map, in units."""
-    path = f"/{service}/v1/car/{';'.join(FAR[:count])}"
+    path = f"/{service}/v1/car/{';'.join(places[:count])}"
     endpoint = endpoints.find_endpoint(path)
     request = parse_request(endpoint, path, dict(word.split("=") for word in query.split("&") if word), 1000.0)
     return endpoint.formula(expected(BIG, request.places, request.values, "duration"))
@@ -67,6 +67,13 @@ def test_costs_on_a_map_of_half_a_million_nodes(service, count, query, low, high
 def test_contours_by_metres_cost_what_is_driven_in_minutes(minutes):
     metres = minutes * 130_000 / 60
     assert cost("isochrone", 1, f"contours_meters={metres:.0f}") == pytest.approx(cost("isochrone", 1, f"contours_minutes={minutes}"), rel=0.01)
+
+
+@pytest.mark.parametrize("service", ["route", "trip", "match"])
+def test_places_on_both_sides_of_the_180th_meridian_cost_what_others_do(service):
+    moved = [f"{(float(lon) + 171 + 180) % 360 - 180:.3f},{lat}" for lon, lat in (each.split(",") for each in FAR)]
+    assert {each[0] == "-" for each in moved[:9]} == {True, False}
+    assert cost(service, 9, "", moved) == pytest.approx(cost(service, 9, ""))
 
 
 @drawn(60)
