@@ -7,7 +7,7 @@ from numpy.typing import ArrayLike, NDArray
 
 from .errors import NoSuchNode
 from .extras import load
-from .keys import Keys, as_list
+from .keys import Keys, as_list, to_python_scalar
 from .limits import MAX_NODES
 
 Numbers = NDArray[np.int64]
@@ -22,9 +22,12 @@ def whole_numbers(name: str, values: "ArrayLike | list[Hashable]", low: int, hig
     array: NDArray[Any] = np.asarray(values)
     if array.size == 0:
         return array.astype(np.int64)
-    if array.dtype.kind not in "iu" and not (array.dtype == object and all(type(value) is int for value in array.flat)):
-        places = f": {OF_PLACES[name]}" if array.dtype.kind == "f" and name in OF_PLACES else ""
-        raise ValueError(f"{name} have to be integers, and are {array.dtype}{places}")
+    if array.dtype.kind not in "iu":
+        objects = np.asarray(values, object)  # (of unsigned integers beside others numpy makes floats)
+        if not all(type(to_python_scalar(value)) is int for value in objects.flat):
+            places = f": {OF_PLACES[name]}" if array.dtype.kind == "f" and name in OF_PLACES else ""
+            raise ValueError(f"{name} have to be integers, and are {array.dtype}{places}")
+        array = objects
     if array.min() < low or array.max() > high:
         raise ValueError(f"{name} have to be from {low} to {high}, and are from {array.min()} to {array.max()}")
     return array.astype(np.int64)
@@ -38,7 +41,8 @@ def pairs_of(pairs: Any, keys: Keys | None, nodes: int) -> Numbers:
         firsts, seconds = columns if columns is not None else split(pairs)
         found = np.column_stack([keys.nodes(firsts), keys.nodes(seconds)])
     else:
-        found = whole_numbers("pairs", pairs if columns is None else np.column_stack(columns), 0, MAX_NODES - 1)
+        rows = pairs if columns is None else np.column_stack([whole_numbers("pairs", each, 0, MAX_NODES - 1) for each in columns])
+        found = whole_numbers("pairs", rows, 0, MAX_NODES - 1)
         found = found.reshape(0, 2) if found.size == 0 else found
         if found.ndim != 2 or found.shape[1] != 2:
             raise ValueError("pairs have to be rows of two nodes")
@@ -62,9 +66,10 @@ def columns_of(pairs: Any) -> list[Any] | None:
 
 
 def split(pairs: Iterable[Any]) -> tuple[list[Hashable], list[Hashable]]:
-    rows = [tuple(row) for row in pairs]
-    if any(len(row) != 2 for row in rows):
-        raise ValueError("pairs have to be rows of two nodes")
+    try:
+        rows = [(source, target) for source, target in pairs]
+    except (TypeError, ValueError):
+        raise ValueError("pairs have to be rows of two nodes") from None
     return [row[0] for row in rows], [row[1] for row in rows]
 
 

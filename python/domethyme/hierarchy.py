@@ -225,9 +225,9 @@ class Hierarchy:
         need("numpy")
         from . import arrays, batch
 
-        for name, nodes in (("sources", sources), ("targets", targets)):
-            if isinstance(nodes, (int, float, str)):
-                raise ValueError(f"{name} are nodes in a list, as [{nodes!r}]")
+        need_list("sources", sources)
+        if targets is not None:
+            need_list("targets", targets)
         sources = sources if hasattr(sources, "__array__") else as_list(sources)
         targets = sources if targets is None else targets if hasattr(targets, "__array__") else as_list(targets)
         starts = arrays.nodes_of("sources", sources, self.keys, self.nodes)
@@ -299,8 +299,6 @@ class Hierarchy:
             limit = self._limit_of(minutes, limit)
         if limit is not None and not (is_whole(limit) and 0 <= limit <= MAX_LIMIT):
             raise ValueError(f"limit has to be an integer from 0 to 2^62, or None, and is {limit!r}")
-        if isinstance(starts, (int, float)) and not isinstance(starts, bool):
-            raise ValueError(f"starts are nodes in a list, as [{starts!r}]")
         ends = self._ends("starts", starts)
         if not is_with_metres(sums):
             lengths = batch.reach(self._towards() if towards else self._router, ends, limit)
@@ -595,6 +593,7 @@ class Hierarchy:
 
     def _ends(self, name: str, ends: Ends) -> list[tuple[int, int]]:
         """One side of `between`: nodes from 0, and what is added at each."""
+        need_list(name, ends)
         rows = ends.items() if isinstance(ends, Mapping) else [
             row if isinstance(row, tuple) and len(row) == 2 and not self._is_key(row) else (row, 0) for row in ends
         ]
@@ -634,6 +633,18 @@ def reopened(path: str, keys: Keys | None, network: "Network | None", compare_al
     return hierarchy
 
 
+def need_list(name: str, nodes: Any) -> None:
+    """Raises ValueError for a node alone, or a key that is a text."""
+    if isinstance(nodes, str) or not isinstance(nodes, Iterable) or getattr(nodes, "ndim", 1) == 0:
+        raise ValueError(f"{name} are nodes in a list, as [{nodes!r}]")
+
+
 def is_whole(value: Any) -> bool:
     """Whether a value is an integer, of Python or numpy, and no truth value."""
-    return hasattr(value, "__index__") and not isinstance(value, bool) and getattr(value, "dtype", None) != bool
+    if isinstance(value, bool) or getattr(value, "dtype", None) == bool:
+        return False
+    try:
+        operator.index(value)
+    except TypeError:  # (as of arrays of numpy, all of which have __index__)
+        return False
+    return True

@@ -154,7 +154,7 @@ class Keys:
         """The node of a key, from 0. Raises NoSuchNode."""
         if is_hashable(key) and key in self._nodes:
             return self._nodes[key]
-        other = next((each for each in (str(key), parse_key(str(key))) if each != key and each in self._nodes), None)
+        other = next((each for each in (str(key), parse_key(str(key))) if each in self._nodes and each != key), None)
         doubt = "" if other is None else f"; there is {other!r}, {'a number' if type(other) is int else 'a text'}"
         raise NoSuchNode(f"key {key!r} names {'several nodes' if self.names_any(key) else 'no node'}{doubt}", key)
 

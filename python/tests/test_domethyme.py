@@ -196,16 +196,33 @@ print(domethyme.Hierarchy("--help").length(0, 2))
         for node in (4, -1, np.uint64(1 << 63)):
             with self.assertRaisesRegex(domethyme.NoSuchNode, "nodes 0 to 3"):
                 hierarchy.length(0, node)
-        for node in ("0", 0.0, None, True, np.True_):
+        for node in ("0", 0.0, None, True, np.True_, np.float64(0), np.array([0]), np.array(0.0), np.zeros((1, 2), int)):
             with self.assertRaisesRegex(ValueError, "is no node"):
                 hierarchy.route(node, 0)
+            with self.assertRaisesRegex(ValueError, "is no node"):
+                hierarchy.between([node], [0])
+            with self.assertRaisesRegex(ValueError, "must be integers"):
+                hierarchy.between([(0, node)], [0])
         for starts, ends, says in [
             ([], [0], "a node or more"), ([0], {}, "a node or more"), ({0: -1}, [0], "from 0 to 4294967295"),
             ({0: 1.5}, [0], "must be integers, not 1.5"), ([0], {0: 1 << 32}, "from 0 to 4294967295"), ([7], [0], "nodes 0 to 3"),
+            (np.zeros((2, 2), int), [0], "is no node"), ([0], np.zeros((1, 1), int), "is no node"), (0, [0], r"starts are nodes in a list, as \[0\]"),
+            ([0], np.uint32(1), r"ends are nodes in a list, as \[1\]"), (None, [0], r"as \[None\]"), (np.array(0), [0], r"in a list, as \[array\(0\)\]"),
         ]:
             with self.subTest(says=says), self.assertRaisesRegex(ValueError, says):
                 hierarchy.between(starts, ends)
         self.assertEqual(hierarchy.between([3] * 20 + [(3, 1)], [2] * 20).length, 13)
+
+    def test_unsigned_numbers_beside_others(self):
+        """numpy makes floats of such a list, and of two such columns."""
+        hierarchy, mixed = self.square(), [np.uint64(0), 2, np.int8(1)]
+        self.assertEqual(hierarchy.matrix(mixed).tolist(), hierarchy.matrix([0, 2, 1]).tolist())
+        self.assertEqual(hierarchy.matrix(np.array(mixed, object)).tolist(), hierarchy.matrix([0, 2, 1]).tolist())
+        frame = pd.DataFrame({"from": np.array([0, 1], np.uint64), "to": [2, 1]})
+        self.assertEqual(hierarchy.lengths(frame).tolist(), hierarchy.lengths([[0, 2], [1, 1]]).tolist())
+        for nodes in ([0, 2.0], [0.0, np.uint64(2)], np.array([0, 2.0], object), np.array([True, 2], object)):
+            with self.subTest(nodes=nodes), self.assertRaisesRegex(ValueError, "have to be integers"):
+                hierarchy.matrix(nodes)
 
     def test_slices_and_equality(self):
         hierarchy, pairs = self.square(), [[0, 2], [0, 3], [3, 2], [1, 1]]
@@ -225,6 +242,12 @@ print(domethyme.Hierarchy("--help").length(0, 2))
             with domethyme.Hierarchy(self.folder / "square.rch", keys=keys) as hierarchy:
                 self.assertEqual(hierarchy.routes([[1 << 40, 7]])[0].tolist(), [1 << 40, -5, 7])
                 self.assertEqual(hierarchy.length(np.int64(1 << 40), -5), 3)
+                for pairs in (5, None, [7, 9], np.array([7, 9]), [[7, 9, 7]], [(7, 9), None]):
+                    with self.subTest(pairs=pairs), self.assertRaisesRegex(ValueError, "rows of two nodes"):
+                        hierarchy.lengths(pairs)
+                for key in (pd.NA, np.zeros((2, 2)), np.array([7])):
+                    with self.subTest(key=key), self.assertRaisesRegex(domethyme.NoSuchNode, "names no node"):
+                        hierarchy.length(key, 7)
         for keys, says in [([1, 1], "key 1 names two nodes"), (range(5), "has 4"), ({"a": 0, "b": 0}, "name one node"),
                            ({"a": -1}, "is no node"), (large[:3], "keys of 3 nodes, and the hierarchy has 4")]:
             with self.subTest(says=says), self.assertRaisesRegex(ValueError, says):

@@ -96,6 +96,8 @@ PLACE = 47.1, 9.5
     (lambda h: h.within(PLACE, 10), r"minutes are a list, as \[10\]"), (lambda h: h.within(9.5, 47.1), r"a place is \(lon, lat\)"),
     (lambda h: h.within(PLACE, ["5"]), "have to be numbers"), (lambda h: h.within(PLACE, [600000]), "there may be 600"),
     (lambda h: h.reach(0, 5), r"starts are nodes in a list, as \[0\]"), (lambda h: h.matrix(5), r"sources are nodes in a list, as \[5\]"),
+    (lambda h: h.reach(np.int64(3)), r"starts are nodes in a list, as \[3\]"), (lambda h: h.reach("a"), r"starts are nodes in a list, as \['a'\]"),
+    (lambda h: h.matrix([0], np.int64(5)), r"targets are nodes in a list, as \[5\]"), (lambda h: h.reach([0], np.array([5])), "limit has to be"),
     (lambda h: h.reach([0], 5, minutes=3), "one of both"), (lambda h: h.matrix(np.array([9.5])), "table.sources, targets. takes places"),
     (lambda h: h.route(PLACE, PLACE), "directions.places. takes places"), (lambda h: h.routes([PLACE, PLACE]), "directions.places. takes places"),
     (lambda h: h.directions([(*PLACE, 5), PLACE]), "rows .lon, lat., or points"), (lambda h: h.directions(["9.5,47.1", "9.6,47.1"]), "rows .lon, lat."),

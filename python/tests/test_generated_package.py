@@ -28,6 +28,8 @@ KEYS: dict[str, Any] = {
     "pairs": lambda node: (node // 3, node % 3), "numbers": lambda node: node * 7 % 1009,
     "mixed": lambda node: [node, f"{node}", (node, 0)][node % 3]
 }
+# What numbers of nodes may be.
+NUMBERS = [int, np.int64, np.int32, np.uint32, np.uint64]
 # The columns of frames of pairs.
 FRAMES = {"nodes": ("from_node", "to_node"), "ends": ("from", "to"), "graph": ("source", "target")}
 
@@ -35,10 +37,10 @@ FRAMES = {"nodes": ("from_node", "to_node"), "ends": ("from", "to"), "graph": ("
 class Asked:
     """A hierarchy of a drawn network, and the model's nodes for the package's keys."""
 
-    def __init__(self, made: Drawn, folder: pathlib.Path, kind: str) -> None:
+    def __init__(self, made: Drawn, folder: pathlib.Path, kind: str, number: type = int) -> None:
         write_network(made, folder / "net")
         self.net, count = made.tables, len(made.tables.nodes)
-        self.keys = [KEYS[kind](node) for node in range(count)] if KEYS[kind] else list(range(count))
+        self.keys = [KEYS[kind](node) for node in range(count)] if KEYS[kind] else [*map(number, range(count))]
         keys = self.keys if KEYS[kind] else None
         self.hierarchy = domethyme.Hierarchy(folder / "net.rch", keys=keys, network=folder / "net")
         self.lengths = [self.net.lengths({node: 0}) for node in range(count)]
@@ -53,7 +55,7 @@ def test_lengths_routes_and_tables(data: Any) -> None:
     made, kind = data.draw(networks([*KINDS, HEAVY])), data.draw(st.sampled_from(sorted(KEYS)))
     rows = mock.patch.object(batch, "rows_at_a_time", return_value=data.draw(st.sampled_from([1, 2, 512])))
     with tempfile.TemporaryDirectory() as folder, rows:
-        asked = Asked(made, pathlib.Path(folder), kind)
+        asked = Asked(made, pathlib.Path(folder), kind, data.draw(st.sampled_from(NUMBERS)))
         nodes = st.sampled_from(range(len(asked.keys)))
         with asked.hierarchy:
             pairs = data.draw(st.lists(st.tuples(nodes, nodes), min_size=1, max_size=5))
