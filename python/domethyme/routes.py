@@ -1,4 +1,5 @@
 """The routes of many pairs, as arrays. Needs numpy."""
+import operator
 from collections.abc import Iterator
 from typing import TYPE_CHECKING, Any, overload
 
@@ -74,7 +75,7 @@ class Routes:
         """The nodes of a route from 0, whatever keys there are."""
         if not -len(self) <= row < len(self):
             raise IndexError(f"there is no route {row} among {len(self)}")
-        row %= len(self)
+        row = operator.index(row) % len(self)
         return self.nodes[self.offsets[row] : self.offsets[row + 1]]
 
     numbers = old_word("Routes.numbers", "Routes.node_indices")

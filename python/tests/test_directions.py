@@ -345,7 +345,7 @@ class FramesTests(ToolCase):
             hierarchy.directions(places, approaches=["left", None, "curb"])
         with pytest.raises(ValueError, match="a bearing is"):
             hierarchy.directions(places, bearings=[(400, 10), None, None])
-        for stops in ([], [0, 1], [1, 2], [0, 2, 1, 2], [0, 1, 1, 2], [0, 3]):
+        for stops in ([], [0, 1], [1, 2], [0, 2, 1, 2], [0, 1, 1, 2], [0, 3], [0, 2.0], [0, None], 2):
             with pytest.raises(ValueError, match="waypoints have to be numbers of places that rise from 0 to the last, 2"):
                 hierarchy.directions(places, waypoints=stops)
         assert [leg.weight for leg in hierarchy.directions(places, waypoints=[0, 2]).legs] == [hierarchy.directions(places).weight]

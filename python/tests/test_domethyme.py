@@ -220,6 +220,7 @@ print(domethyme.Hierarchy("--help").length(0, 2))
         self.assertEqual(hierarchy.matrix(np.array(mixed, object)).tolist(), hierarchy.matrix([0, 2, 1]).tolist())
         frame = pd.DataFrame({"from": np.array([0, 1], np.uint64), "to": [2, 1]})
         self.assertEqual(hierarchy.lengths(frame).tolist(), hierarchy.lengths([[0, 2], [1, 1]]).tolist())
+        self.assertEqual(hierarchy.routes(frame)[np.uint64(1)].tolist(), [1])
         for nodes in ([0, 2.0], [0.0, np.uint64(2)], np.array([0, 2.0], object), np.array([True, 2], object)):
             with self.subTest(nodes=nodes), self.assertRaisesRegex(ValueError, "have to be integers"):
                 hierarchy.matrix(nodes)

@@ -190,9 +190,12 @@ def alternatives(
 
 def stops_of(waypoints: Sequence[int], count: int) -> list[int]:
     """The stops of a route by so many places, of those that were chosen. Raises ValueError where the first and the last aren't among them."""
-    stops = [operator.index(each) for each in waypoints]
+    try:
+        stops = [operator.index(each) for each in waypoints]
+    except TypeError:
+        stops = []
     if stops[:1] != [0] or stops[-1:] != [count - 1] or any(before >= behind for before, behind in itertools.pairwise(stops)):
-        raise ValueError(f"waypoints have to be numbers of places that rise from 0 to the last, {count - 1}, and are {stops}")
+        raise ValueError(f"waypoints have to be numbers of places that rise from 0 to the last, {count - 1}, and are {waypoints}")
     return stops
 
 
