@@ -143,14 +143,15 @@ class RecipeTests(NginxCase):
         self.assertNotIn("/run/domethyme/", unit + sockets)
 
         self.serve_both(self.folder / "var/lib/domethyme/bicycle")
-        times = {}
-        for word in ("car", "bicycle"):
-            status, answer = self.ask(PLACE.format(word))
-            self.assertEqual(status, 200, answer)
-            times[word] = answer["routes"][0]["duration"]
-        self.assertGreater(times["bicycle"], times["car"])
-        status, answer = self.ask(PLACE.format("lorry"))
-        self.assertEqual((status, answer["message"]), (404, "the vehicles are car and bicycle"))
+        for service, member in (("route", "routes"), ("trip", "trips"), ("match", "matchings")):
+            path, times = PLACE.replace("route", service), {}
+            for word in ("car", "bicycle"):
+                status, answer = self.ask(path.format(word))
+                self.assertEqual(status, 200, answer)
+                times[word] = answer[member][0]["duration"]
+            self.assertGreater(times["bicycle"], times["car"], service)
+            status, answer = self.ask(path.format("lorry"))
+            self.assertEqual((status, answer["message"]), (404, "the vehicles are car and bicycle"))
         self.assertEqual(self.ask("/health")[1]["nodes"], self.graph.nodes)
 
     def serve_both(self, bicycles):
@@ -158,7 +159,7 @@ class RecipeTests(NginxCase):
         sockets = self.folder / "domethyme-bicycle"
         sockets.mkdir()
         self.start(f"{bicycles}.rch", "--network", bicycles, "--bind", f"unix:{sockets}/serve.sock")
-        (upstream,), (locations,) = blocks(PAGE, "upstream domethyme_bicycle"), blocks(PAGE, "    location ~ ^/(route|nearest|table|isochrone)/v1/bicycle/")
+        (upstream,), (locations,) = blocks(PAGE, "upstream domethyme_bicycle"), blocks(PAGE, "    location ~ ^/(route")
         text = SHIPPED.read_text(encoding="utf-8")
         for before, lines in (("server {\n", upstream), ("    location / {\n", locations)):
             self.assertEqual(text.count(f"\n{before}"), 1)
