@@ -444,9 +444,9 @@ def classify_head(received: bytes) -> HeadState:
     length = BODY_LENGTH.search(lowered)
     if length is None or int(length[1]) > SHORT_BODY or len(received) - end - 4 >= int(length[1]):
         return HeadState.WHOLE
-    # (one with several lengths is refused by gunicorn)
-    has_other_length = b"\ntransfer-encoding" in lowered or lowered.count(b"\ncontent-length") > 1
-    return HeadState.WHOLE if has_other_length else HeadState.PARTIAL
+    # (one with several lengths is refused by gunicorn, which says `100 Continue` to who waits for that)
+    is_read_now = b"\ntransfer-encoding" in lowered or b"\nexpect" in lowered or lowered.count(b"\ncontent-length") > 1
+    return HeadState.WHOLE if is_read_now else HeadState.PARTIAL
 
 
 def send_error(client: socket.socket, error: RequestError) -> None:

@@ -326,12 +326,13 @@ class InProcess:
 
 
 def test_a_short_body_is_waited_for() -> None:
-    """A request is read once its body is there, to the last byte; and before a long body."""
+    """A request is read once its body is there, to the last byte; before a long body, and one whose client waits for `100 Continue`."""
     for length in (1, 4, 5, SHORT_BODY):
         head = f"POST / HTTP/1.1\r\nContent-Length: {length}\r\n\r\n".encode()
         states = [classify_head(head + bytes(count)) for count in (0, max(0, length - 4), length - 1, length)]
         assert states == [HeadState.PARTIAL] * 3 + [HeadState.WHOLE]
-    assert classify_head(b"POST / HTTP/1.1\r\nContent-Length: %d\r\n\r\n" % (SHORT_BODY + 1)) is HeadState.WHOLE
+    for length, more in ((SHORT_BODY + 1, b""), (5, b"Expect: 100-continue\r\n")):
+        assert classify_head(b"POST / HTTP/1.1\r\n%bContent-Length: %d\r\n\r\n" % (more, length)) is HeadState.WHOLE
 
 
 class MalformedTests(ServiceCase):
