@@ -32,6 +32,8 @@ MAX_FIELDS = 50
 # Targets of requests, and lengths of bodies.
 TARGET = re.compile(r"/[!-~]{0,65535}|https?://[!-~]{1,65528}")
 LENGTH = re.compile("[0-9]{1,18}")
+# What a target has before its query: a polyline may have question marks.
+PATH = re.compile(r"(?:[^?(]*polyline6?\([^)]*\))?[^?]*")
 STATUS_LINES = {status.value: f"{status.value} {status.phrase}" for status in http.HTTPStatus}
 StartResponse = Callable[..., object]
 log = logging.getLogger("domethyme_service")
@@ -163,7 +165,8 @@ def parse_target(environ: Environ) -> tuple[str | None, str, dict[str, str]]:
     if target[0] != "/":
         host, _, target = target.partition("://")[2].partition("/")
         target = f"/{target}"
-    path, _, query = target.partition("?")
+    path = PATH.findall(target)[0]
+    query = target[len(path) + 1 :]
     try:
         pairs = parse_query(query)
     except ValueError:

@@ -385,7 +385,7 @@ class PatternTests(unittest.TestCase):
         "PLACE": ("9", "9.", "+9", "9e", ".9", "9,9"), "PROFILE": ("a", "a.", "."), "POLYLINE": ("polyline(", "(", "polyline6("),
         "TILE": ("/map/roads/9/", "9/", "/"), "HOST": ("a", "a.", "[:", "a:9", "["), "ORIGIN": ("a", "a:", "://"),
         "TARGET": ("/", "http://", "a"), "LENGTH": ("9",), "BODY_LENGTH": ("\r\ncontent-length:", " ", "9"),
-        "DECIMAL": ("9", "9.", "."), "COLOR": ("a", "9"), "TIMESTAMP": ("9",),
+        "DECIMAL": ("9", "9.", "."), "COLOR": ("a", "9"), "TIMESTAMP": ("9",), "PATH": ("polyline", "polyline(", "polyline()", "?", "()"),
     }
 
     def test_each_is_linear(self):
