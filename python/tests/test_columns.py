@@ -185,6 +185,19 @@ def test_keys_take_no_memory_of_a_process(tmp_path, is_old):
             keys.node(key, "from_key")
 
 
+@pytest.mark.parametrize("names", ["123", "213"])
+def test_names_that_are_numbers(names, tmp_path):
+    """Names are keys whatever they are, also the numbers of rows from 1: a question by them would else be one by nodes from 0."""
+    (tmp_path / "nodes.csv").write_text("node,lon,lat\n" + "".join(f"{name},0.00{row},0\n" for row, name in enumerate(names)))
+    (tmp_path / "arcs.csv").write_text("from,to,weight\n1,2,10\n2,3,20\n")
+    for tables, out in (("", "net"), ("net.", "again")):
+        words = f"{tables}nodes.csv", f"{tables}arcs.csv", out, "--tables"
+        subprocess.run([TOOLS / "to_network", *words], cwd=tmp_path, check=True, capture_output=True)
+        domethyme.prepare(tmp_path / f"{out}.gr", tmp_path / f"{out}.rch").close()
+        with domethyme.open(tmp_path / out) as hierarchy:
+            assert (hierarchy.length(1, 2), hierarchy.length(1, 3), [*hierarchy.network.keys()]) == (10, 30, [*map(int, names)])
+
+
 def test_keys_of_a_table_that_was_replaced(tmp_path):
     """Another column of the table beside the network is read later, and has to be of the same table."""
     table = tmp_path / "firm.nodes.csv"

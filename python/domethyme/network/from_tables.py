@@ -131,8 +131,9 @@ def read_nodes(path: StrPath, say: Say = lambda line: None, form: Form = Form(),
                     raise fields.error(f"{name} {excerpt(fields[name])} comes twice")
     if not 0 < len(values["lon"]) <= MAX_NODES:
         raise NetworkError(f"has {len(values['lon'])} nodes, and a network has from 1 to {MAX_NODES}", path)
-    told = keys or rows
-    shown_keys = () if all(name == str(node + 1) for name, node in told.items()) else list(told)
+    # (in a table as tools write it numbers are no names: without other keys its nodes have none)
+    is_numbered = {*NODE_COLUMNS} <= {*columns} and all(name == str(node + 1) for name, node in rows.items())
+    shown_keys = list(keys) or ([] if is_numbered else list(rows))
     own = {f"node_{name}": np.array(column) for name, column in values.items()}
     own |= {name: np.round(own[name] * UNITS).astype(np.int32) for name in ("node_lon", "node_lat")}
     return Nodes(NodeArrays(own, shown_keys), rows if is_named else None, path, columns)
