@@ -149,15 +149,21 @@ def metres_of(millimetres: Numbers) -> "NDArray[np.float64]":
 
 def by_keys(values: NDArray[Any], keys: Keys) -> Any:
     """The length of each node as a Series by the nodes' keys, or its metres as floats."""
-    index = load("pandas").Index(keys.of(np.arange(len(values))), tupleize_cols=False)
+    index = labels(keys)
     return series(values, index) if values.dtype.kind == "i" else load("pandas").Series(values, index)
 
 
 def axis(values: Any) -> Any:
     """The labels of an axis for values that a caller gave: those of a Series or Index are its values."""
-    if hasattr(values, "__array__"):
+    if hasattr(values, "__array__") and not hasattr(values, "levels"):
         return load("pandas").Index(getattr(values, "array", values))
-    return load("pandas").Index(as_list(values), tupleize_cols=False)
+    return labels(as_list(values))
+
+
+def labels(keys: Iterable[Hashable]) -> Any:
+    """An Index of keys. It has objects where these are of several types, as numbers and None, of which pandas makes floats."""
+    found = [to_python_scalar(key) for key in keys]
+    return load("pandas").Index(found, dtype=object if len({*map(type, found)}) > 1 else None, tupleize_cols=False)
 
 
 def with_missing(lengths: Numbers) -> Any:

@@ -21,12 +21,13 @@ from model.sphere import Point, along
 import domethyme
 from domethyme import batch
 
-# Kinds of keys: none, texts that programs take for something else, pairs, and numbers that are others' numbers of nodes.
+# Kinds of keys: none, texts that programs take for something else, pairs, numbers that are others' numbers of nodes, and such that
+# floats can't have, beside floats.
 ODD = ("NA", "007", "7", "=x", "-1", "a,b", "nan", "", "None")
 KEYS: dict[str, Any] = {
     "none": None, "texts": lambda node: ODD[node] if node < len(ODD) else f"key {node}",
     "pairs": lambda node: (node // 3, node % 3), "numbers": lambda node: node * 7 % 1009,
-    "mixed": lambda node: [node, f"{node}", (node, 0)][node % 3]
+    "mixed": lambda node: [node, f"{node}", (node, 0)][node % 3], "great": lambda node: [(1 << 60) + node, node + 0.5][node % 2]
 }
 # What numbers of nodes may be.
 NUMBERS = [int, np.int64, np.int32, np.uint32, np.uint64]
