@@ -155,15 +155,10 @@ def check_table(asked: Asked, sources: list[int], targets: list[int], form: str,
     lengths = [[asked.lengths[source].get(target, math.inf) for target in targets] for source in sources]
     assert np.asarray(domethyme.unscaled(summed["length"]), float).tolist() == lengths
     for (row, column), metres in np.ndenumerate(np.asarray(summed["metres"], float)):
-        ways = millimetres(asked.net, asked.net.search({sources[row]: 0}), targets[column])
+        source, target = sources[row], targets[column]
+        reached = asked.lengths[source]
+        ways = millimetres_reached(asked.net, reached, {source: 0}, target) if target in reached else set[int]()
         assert round(1000 * metres) in ways if ways else math.isnan(metres)
-
-
-def millimetres(net: Network, found: dict[int, tuple[int, int]], node: int) -> set[int]:
-    """Those along each shortest path to a node with the fewest arcs, by the length and the arcs to each."""
-    length, arcs = found.get(node, (0, -1))
-    ends = [arc for arc in net.arcs if arc.end == node and found.get(arc.start) == (length - arc.weight, arcs - 1)] if arcs > 0 else []
-    return {0} if arcs == 0 else {round(1000 * arc.metres) + more for arc in ends for more in millimetres(net, found, arc.start)}
 
 
 def check_between(asked: Asked, starts: dict[int, int], ends: dict[int, int], form: str) -> None:
