@@ -41,8 +41,9 @@ def pairs_of(pairs: Any, keys: Keys | None, nodes: int) -> Numbers:
         firsts, seconds = columns if columns is not None else split(pairs)
         found = np.column_stack([keys.nodes(firsts), keys.nodes(seconds)])
     else:
-        rows = pairs if columns is None else np.column_stack([whole_numbers("pairs", each, 0, MAX_NODES - 1) for each in columns])
-        found = whole_numbers("pairs", rows, 0, MAX_NODES - 1)
+        parts = [pairs] if columns is None else columns  # (by themselves: numpy makes floats of columns of int64 and uint64)
+        found, *others = [whole_numbers("pairs", part, 0, MAX_NODES - 1) for part in parts]
+        found = np.column_stack([found, *others]) if others else found
         found = found.reshape(0, 2) if found.size == 0 else found
         if found.ndim != 2 or found.shape[1] != 2:
             raise ValueError("pairs have to be rows of two nodes")
@@ -97,7 +98,10 @@ def places_of(places: Any) -> NDArray[np.float64]:
     if is_pandas(places) and places.ndim == 2:
         if not {"lon", "lat"} <= set(places.columns):
             raise ValueError("a frame of places has to have the columns lon and lat")
-        return np.asarray(places[["lon", "lat"]], float)
+        try:
+            return np.asarray(places[["lon", "lat"]], float)
+        except TypeError:
+            raise ValueError("lon and lat have to be numbers, and some are missing") from None
     several = [places] if getattr(places, "geom_type", None) == "Point" else places
     try:
         rows = np.array([(each.x, each.y) if getattr(each, "geom_type", None) == "Point" else each for each in several], float)

@@ -6,7 +6,7 @@ import pathlib
 import subprocess
 import tempfile
 import warnings
-from collections.abc import Callable, Iterator, Sequence
+from collections.abc import Callable, Hashable, Iterable, Iterator, Mapping, Sequence
 from typing import TYPE_CHECKING, Any, Literal
 
 from . import dimacs, library
@@ -41,7 +41,7 @@ class Graph:
 
     def __init__(
         self, from_nodes: "ArrayLike", to_nodes: "ArrayLike", weights: "ArrayLike", nodes: int | None = None,
-        keys: Keys | None = None
+        keys: "Keys | Mapping[Any, int] | Iterable[Hashable] | None" = None
     ) -> None:
         """Nodes are integers from 0, weights from 0 to 4294967295. Without `nodes` there are those up to the greatest
         of an arc. Raises ValueError for arrays that can't be meant so."""
@@ -58,7 +58,8 @@ class Graph:
         least = int(max(self.from_nodes.max(initial=-1), self.to_nodes.max(initial=-1))) + 1
         if nodes is not None and not least <= nodes <= MAX_NODES:
             raise ValueError(f"the number of nodes has to be from {least}, by the arcs, to {MAX_NODES}")
-        self.nodes, self.keys = least if nodes is None else int(nodes), keys
+        self.nodes = least if nodes is None else int(nodes)
+        self.keys = keys if keys is None or isinstance(keys, Keys) else Keys(keys, self.nodes)
         if nodes is None and len(self.weights) and min(self.from_nodes.min(), self.to_nodes.min()) > 0:
             warnings.warn("node 0 has no arc: nodes count from 0", stacklevel=2)
 
@@ -147,7 +148,7 @@ def whole_or_scaled(weights: "ArrayLike", scale: float | None) -> "ArrayLike":
 
     if scale is not None:
         return scaled(weights, scale)
-    if np.asarray(weights).dtype.kind == "f":
+    if np.size(weights) and np.asarray(weights).dtype.kind == "f":
         raise ValueError("weights have to be integers, and are floats: scale=1000 makes thousandths of them")
     return weights
 

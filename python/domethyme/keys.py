@@ -1,6 +1,7 @@
 """Keys of nodes: the names that a user has for them, of any hashable kind, and the file in which they are saved."""
 import hashlib
 import json
+import numbers
 import os
 from collections import Counter
 from collections.abc import Hashable, Iterable, Iterator, Mapping, Sequence
@@ -26,7 +27,7 @@ class Keys:
     whose graph had them, and are refused for others."""
 
     def __init__(self, keys: "Keys | Mapping[Any, int] | Iterable[Hashable]", nodes: int | None = None) -> None:
-        """Of a mapping from keys to nodes, counted from 0, or of a key for each node in order, None for no key.
+        """Of a mapping from keys to nodes, counted from 0, or of a key for each node in order, None or a missing value of pandas for no key.
 
         Raises ValueError where two nodes have one key, or where there aren't as many keys as `nodes`; a mapping may have fewer.
         """
@@ -43,8 +44,11 @@ class Keys:
             self._names = keys_by_node(keys, MAX_NODES if nodes is None else nodes)
             self._nodes = {to_python_scalar(key): int(node) for key, node in keys.items()}
         else:
-            self._names = [to_python_scalar(key) for key in keys]
-            self._nodes, self._ambiguous = index_keys(self._names)
+            self._names = [None if is_hashable(key) and is_missing(key) else key for key in map(to_python_scalar, keys)]
+            try:
+                self._nodes, self._ambiguous = index_keys(self._names)
+            except TypeError as error:
+                raise ValueError(f"keys have to be hashable: {error}") from None
             if self._ambiguous:
                 raise ValueError(f"key {next(iter(self._ambiguous))!r} names two nodes")
         if nodes is not None:
@@ -215,7 +219,7 @@ def as_json(saved: Mapping[str, Any]) -> str:
 def keys_by_node(nodes: Mapping[Any, int], count: int) -> list[Hashable]:
     """The key of each node of a mapping from keys to nodes, of which there are `count` at most."""
     for key, node in nodes.items():
-        if int(node) != node or not 0 <= node < count:
+        if not isinstance(node, numbers.Real) or not 0 <= node < count or int(node) != node:
             raise ValueError(f"key {key!r} names {node!r}, which is no node")
     names: list[Hashable] = [None] * (max(map(int, nodes.values()), default=-1) + 1)
     for key, node in nodes.items():

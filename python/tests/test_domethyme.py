@@ -196,7 +196,7 @@ print(domethyme.Hierarchy("--help").length(0, 2))
         for node in (4, -1, np.uint64(1 << 63)):
             with self.assertRaisesRegex(domethyme.NoSuchNode, "nodes 0 to 3"):
                 hierarchy.length(0, node)
-        for node in ("0", 0.0, None, True, np.True_, np.float64(0), np.array([0]), np.array(0.0), np.zeros((1, 2), int)):
+        for node in ("0", 0.0, None, True, np.True_, np.float64(0), np.array([0]), np.array(0.0), np.array([0, 1]), np.zeros((1, 2), int)):
             with self.assertRaisesRegex(ValueError, "is no node"):
                 hierarchy.route(node, 0)
             with self.assertRaisesRegex(ValueError, "is no node"):
@@ -204,7 +204,7 @@ print(domethyme.Hierarchy("--help").length(0, 2))
             with self.assertRaisesRegex(ValueError, "must be integers"):
                 hierarchy.between([(0, node)], [0])
         for starts, ends, says in [
-            ([], [0], "a node or more"), ([0], {}, "a node or more"), ({0: -1}, [0], "from 0 to 4294967295"),
+            ([], [0], "a node or more"), ([0], {}, "a node or more"), ([0], None, "ends are nodes in a list"), ({0: -1}, [0], "from 0 to 4294967295"),
             ({0: 1.5}, [0], "must be integers, not 1.5"), ([0], {0: 1 << 32}, "from 0 to 4294967295"), ([7], [0], "nodes 0 to 3"),
             (np.zeros((2, 2), int), [0], "is no node"), ([0], np.zeros((1, 1), int), "is no node"), (0, [0], r"starts are nodes in a list, as \[0\]"),
             ([0], np.uint32(1), r"ends are nodes in a list, as \[1\]"), (None, [0], r"as \[None\]"), (np.array(0), [0], r"in a list, as \[array\(0\)\]"),
@@ -249,10 +249,25 @@ print(domethyme.Hierarchy("--help").length(0, 2))
                 for key in (pd.NA, np.zeros((2, 2)), np.array([7])):
                     with self.subTest(key=key), self.assertRaisesRegex(domethyme.NoSuchNode, "names no node"):
                         hierarchy.length(key, 7)
+        for missing in (None, np.nan, pd.NA, pd.NaT):
+            with domethyme.Hierarchy(self.folder / "square.rch", keys=pd.Series(["a", missing, "c", missing], dtype=object)) as hierarchy:
+                self.assertEqual(([*hierarchy.keys], hierarchy.length("a", "c")), (["a", None, "c", None], 7))
+                with self.assertRaisesRegex(domethyme.NoSuchNode, "names no node"):
+                    hierarchy.matrix(pd.Series(["a", missing], dtype=object))
         for keys, says in [([1, 1], "key 1 names two nodes"), (range(5), "has 4"), ({"a": 0, "b": 0}, "name one node"),
-                           ({"a": -1}, "is no node"), (large[:3], "keys of 3 nodes, and the hierarchy has 4")]:
+                           ({"a": -1}, "is no node"), ({"a": float("inf")}, "is no node"), ({"a": None}, "is no node"),
+                           ([["a"], ["b"], ["c"], ["d"]], "have to be hashable"), (large[:3], "keys of 3 nodes, and the hierarchy has 4")]:
             with self.subTest(says=says), self.assertRaisesRegex(ValueError, says):
                 domethyme.Hierarchy(self.folder / "square.rch", keys=keys)
+
+    def test_graphs_without_arcs_and_with_keys_of_a_list(self):
+        for frame in (pd.DataFrame({"from": [], "to": [], "weight": []}), pd.DataFrame(columns=["from", "to", "weight"])):
+            with domethyme.Graph.from_frame(frame).prepare(self.folder / "few.rch", program=find_program()) as hierarchy:
+                self.assertEqual(hierarchy.nodes, 0)
+        with domethyme.Graph([0], [1], [5], keys=["a", "b"]).prepare(self.folder / "few.rch", program=find_program()) as hierarchy:
+            self.assertEqual(hierarchy.length("a", "b"), 5)
+        with self.assertRaisesRegex(ValueError, "keys of 1 nodes"):
+            domethyme.Graph([0], [1], [5], keys=["a"])
 
     def test_weights_that_are_no_whole_numbers(self):
         for weights in ([1.0, -1.0], [1.0, 5e6], [1.0, float("nan")]):
@@ -304,6 +319,7 @@ print(domethyme.Hierarchy("--help").length(0, 2))
         self.assertEqual(domethyme.Graph.from_frame(frame).weights.tolist(), [3, 4])
         with self.square() as hierarchy:
             self.assertEqual(hierarchy.lengths(frame[["from", "to"]]).tolist(), [3, 9])
+            self.assertEqual(hierarchy.lengths(frame.astype({"from": np.uint64, "to": np.int64})).tolist(), [3, 9])
             for missing in (pd.NA, None):
                 with self.assertRaisesRegex(ValueError, "integers"):
                     hierarchy.lengths(pd.DataFrame({"from": [0, missing], "to": [1, 1]}, dtype="Int64"))
