@@ -117,7 +117,7 @@ class Matcher:
     # Which points are taken
 
     def _tidied(self) -> list[int]:
-        """The points without those that are near the last one that is kept; the first and the last one stay."""
+        """The first point, and each later one that is far from the last one that is kept, in metres and in seconds if there are any."""
         kept = [0]
         for number in range(1, len(self._vectors)):
             is_far = self._apart(kept[-1], number) >= TIDY_METRES
