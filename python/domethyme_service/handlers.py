@@ -128,8 +128,8 @@ def lengths(call: Call) -> Response:
 
 
 def batch(call: Call, has_routes: bool) -> Response:
-    """Reads the whole body, since a client may send all of it before it reads, and answers in blocks. An error before the
-    first block is an error response; after it the connection is broken."""
+    """Reads the whole body, since a client may send all of it before it reads, and answers in blocks, or whole if that is one. An
+    error before the first block is an error response; after it the connection is broken."""
     call.endpoint.values(call.query)
     check_content_type(call.environ.get("CONTENT_TYPE", ""))
     lines = int(call.environ.get("CONTENT_LENGTH") or 0) / LINE_BYTES
@@ -139,7 +139,7 @@ def batch(call: Call, has_routes: bool) -> Response:
     body = call.environ["domethyme.body"]
     blocks = node_queries.batch_answer(call.service.queries, has_routes, body, lambda block: unchanged(call, block))
     first = next(blocks, b"")
-    return Response(itertools.chain([first], blocks), LINES)
+    return Response(first if body.count(b"\n", 0, -1) < node_queries.BLOCK_LINES else itertools.chain([first], blocks), LINES)
 
 
 def health(call: Call) -> Response:

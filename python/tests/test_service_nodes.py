@@ -26,6 +26,14 @@ class NodesTests(ServiceCase):
         self.assertEqual(found[9]["message"], "a name is there twice")
         self.assertEqual(self.ask("/nodes/lengths", "POST", ""), (200, ""))
 
+    def test_a_batch_of_one_block_is_sent_whole(self):
+        """With its length, so a client, and nginx, knows where it ends."""
+        self.serve()
+        line = '{"from": 1, "to": 2}'
+        for count, end, is_whole in ((1, "", True), (256, "", True), (256, "\n", True), (257, "", False), (257, "\n", False)):
+            status, text = self.ask("/nodes/lengths", "POST", "\n".join([line] * count) + end)
+            self.assertEqual((status, text.count("\n"), "Content-Length" in self.headers), (200, count, is_whole), (count, end))
+
     def test_too_many_faults_in_a_batch(self):
         """The answer ends with the first error beyond the limit, after the lines before it."""
         self.serve()
