@@ -3,6 +3,7 @@ import importlib.machinery
 import importlib.util
 import json
 import sys
+from unittest import mock
 
 import numpy as np
 import pandas as pd
@@ -188,3 +189,8 @@ def test_the_container(tmp_path, run, monkeypatch):
     text = module.nginx_file("/tmp/here")
     assert "listen 5000;" in text and text.count("unix:/tmp/here/serve.sock") == 3
     assert not any(place in text for place in ("listen 80;", "/run/domethyme/", "/var/log/"))
+    monkeypatch.setattr(module.tempfile, "tempdir", str(tmp_path))
+    for words in ([], ["--allowed-host", "a"], ["--allowed-host=a"]):
+        with mock.patch.object(module.subprocess, "Popen") as started, mock.patch.object(module.signal, "signal"):
+            module.Pair("v", words)
+        assert ("*" in started.call_args_list[0].args[0]) == (not words)
