@@ -243,7 +243,7 @@ def test_one_waiting_request_for_each_turn():
 
 
 def test_the_queue_is_bounded():
-    """64 wait, 32 of one client; others are refused at once."""
+    """64 wait, 32 of one client; others are refused at once. Once all have waited too long none waits any more, and the metric says so."""
     case = Waiting(0.1)
     with case.clock():
         case.worker.slots.is_taken = True
@@ -252,6 +252,11 @@ def test_the_queue_is_bounded():
                 case.worker.serve_or_queue(case.connection(owner))
     assert (len(case.worker.queue), len(case.refused)) == (64, 236)
     assert [sum(each.owner == owner for each in case.worker.queue) for owner in (A, B, OTHER)] == [32, 32, 0]
+    assert case.worker.row.requests_waiting == 64
+    case.now += worker.SLOT_SECONDS + 0.1
+    with case.clock():
+        assert not case.worker.take_turn()
+    assert (case.worker.queue, case.worker.row.requests_waiting, len(case.refused)) == ([], 0, 300)
 
 
 def test_a_batch_frees_its_slot_between_blocks():
